@@ -1,0 +1,2 @@
+//! Grammars as data: what they derive, a reader with one token of lookahead, and its laws.
+#![tactic(auto)]

@@ -1,0 +1,67 @@
+-- The printed text of each node.
+use Rattle.std.specs.Prelude.{Bool, true, false, ℕ, List, [], ◌∷◌, ◌++◌, Option, Some, None, codes, if◌then◌else◌}
+use Rattle.std.specs.Fmt.{decimal, signed_decimal}
+use Rattle.wgsl_model.specs.Trees.{Spanned, LiteralExpression, boolean, abstract_int, i32, u32, Expression, literal, TypeExpression, DeclarationKind, constant, Declaration, TypeAlias, GlobalDeclaration, void, declaration, type_alias, TranslationUnit}
+
+-- texts with a separator between them
+abbrev pub joined : List ℕ → List (List ℕ) → List ℕ
+joined separator [] = []
+joined separator (text ∷ []) = text
+joined separator (text ∷ (next ∷ texts)) = text ++ separator ++ joined separator (next ∷ texts)
+
+-- a number in decimal with its suffix
+abbrev pub print_literal : LiteralExpression → List ℕ
+print_literal (boolean b) = if b then codes "true" else codes "false"
+print_literal (abstract_int n) = signed_decimal n
+print_literal (i32 n) = signed_decimal n ++ codes "i"
+print_literal (u32 n) = decimal n ++ codes "u"
+
+abbrev pub print_expression : Expression → List ℕ
+print_expression (literal l) = print_literal l
+
+abbrev pub print_type : TypeExpression → List ℕ
+print_type t = t.ident
+
+abbrev pub print_kind : DeclarationKind → List ℕ
+print_kind constant = codes "const"
+
+-- the type behind a colon, if there is one
+abbrev pub print_typed : Option TypeExpression → List ℕ
+print_typed None = []
+print_typed (Some t) = codes ": " ++ print_type t
+
+-- the value behind an equals sign, if there is one
+abbrev pub print_initializer : Option (Spanned Expression) → List ℕ
+print_initializer None = []
+print_initializer (Some e) = codes " = " ++ print_expression e.node
+
+abbrev pub print_declaration : Declaration → List ℕ
+print_declaration d = print_kind d.kind ++ codes " " ++ d.ident ++ print_typed d.ty ++ print_initializer d.initializer ++ codes ";"
+
+abbrev pub print_type_alias : TypeAlias → List ℕ
+print_type_alias a = codes "alias " ++ a.ident ++ codes " = " ++ print_type a.ty ++ codes ";"
+
+abbrev pub print_global_declaration : GlobalDeclaration → List ℕ
+print_global_declaration void = codes ";"
+print_global_declaration (declaration d) = print_declaration d
+print_global_declaration (type_alias a) = print_type_alias a
+
+-- the declaration is empty
+abbrev pub is_void : GlobalDeclaration → Bool
+is_void void = true
+is_void (declaration d) = false
+is_void (type_alias a) = false
+
+-- the declarations that are not empty
+abbrev pub without_voids : List (Spanned GlobalDeclaration) → List (Spanned GlobalDeclaration)
+without_voids [] = []
+without_voids (d ∷ ds) = if is_void d.node then without_voids ds else d ∷ without_voids ds
+
+-- the texts of declarations
+abbrev pub texts_of : List (Spanned GlobalDeclaration) → List (List ℕ)
+texts_of [] = []
+texts_of (d ∷ ds) = print_global_declaration d.node ∷ texts_of ds
+
+-- the declarations that are not empty, with an empty line between them, and a line end
+abbrev pub print : TranslationUnit → List ℕ
+print u = joined (codes "\n\n") (texts_of (without_voids u.global_declarations)) ++ codes "\n"

@@ -1,0 +1,50 @@
+-- What the program owes: its status, and what it writes of the bytes that it read.
+use Rattle.std.specs.Prelude.{◌≡◌, ℕ, List, [], ◌++◌, codes, true, false, chars}
+use Rattle.std.specs.Str.{is_utf8}
+use Rattle.std.specs.Fmt.{decimal}
+use Rattle.grammar.specs.Tokens.{Token, Fault}
+use Rattle.grammar.specs.Grammar.{Mode.full, Derives}
+use Rattle.grammar.specs.Faults.{Ending, Ending.finished}
+use Rattle.wgsl_model.specs.Trees.{TranslationUnit}
+use Rattle.wgsl_model.specs.Units.{Symbol.unit, body}
+use Rattle.wgsl_model.specs.TokenList.{IsTokenList}
+use Rattle.wgsl_model.specs.Named.{IsNamed}
+use Rattle.wgsl_model.specs.Faults.{message}
+use Rattle.wgsl_model.specs.Printing.{print}
+use Rattle.wgsl_model.specs.Emptied.{remove_voids, bare}
+
+-- a status, what goes to the output and what goes to the errors
+pub record Outcome : Type 0 where
+  pub status : ℕ
+  pub output : List ℕ
+  pub errors : List ℕ
+
+-- a text for the errors alone
+abbrev pub complaint : ℕ → List ℕ → Outcome
+complaint status text = record { status = status; output = []; errors = text }
+
+-- a fault with its place, as the program tells it
+abbrev pub shown_fault : Fault → List ℕ
+shown_fault x = codes "chars " ++ decimal x.span.start ++ codes ".." ++ decimal x.span.end ++ codes ": " ++ message x.kind x.texts
+
+-- the source derives the unit
+abbrev pub IsUnit : List ℕ → TranslationUnit → Type 0
+IsUnit source u = (ts : List Token) × IsTokenList source ts finished × Derives full body unit u ts
+
+-- the source is no unit, and this is the fault that is named
+abbrev pub IsFaultOf : List ℕ → Fault → Type 0
+IsFaultOf source x = (ts : List Token) × (ending : Ending) × IsTokenList source ts ending × IsNamed unit ts ending x
+
+-- What the program writes of these bytes: the printed unit, the fault that is named, or that they are no text.
+pub data Formats (bytes : List ℕ) : Outcome → Type 0 where
+  printed : (u : TranslationUnit) → is_utf8 bytes ≡ true → IsUnit (chars bytes) u → Formats bytes (record { status = 0; output = print u; errors = [] })
+  refused : (x : Fault) → is_utf8 bytes ≡ true → IsFaultOf (chars bytes) x → Formats bytes (complaint 1 (shown_fault x ++ codes "\n"))
+  not_utf8 : is_utf8 bytes ≡ false → Formats bytes (complaint 2 (codes "input is not UTF-8\n"))
+
+-- what is written where memory was refused
+abbrev pub out_of_memory : Outcome
+out_of_memory = complaint 3 (codes "out of memory\n")
+
+-- the text reads as the unit without its empty declarations, spans aside
+abbrev pub ReadsBack : List ℕ → TranslationUnit → Type 0
+ReadsBack text u = (again : TranslationUnit) × IsUnit (chars text) again × (bare again ≡ bare (remove_voids u))
