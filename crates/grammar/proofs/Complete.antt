@@ -132,13 +132,13 @@ complete T M D rec B H (checked f g) e v xs ys d w =
 complete T M D rec B H (symbol n) e v xs ys d w = H n v xs ys d w
 complete T M D rec B H (left_chain f g h) e v xs ys d w =
     let l = and_true _ _ e in let l' = and_true _ _ l.0 in let m = and_true _ _ l.1 in let m' = and_true _ _ m.1 in
-    let no : nullable T h ≡ false = not_true _ m.0 in
-    let wr = stops_right (first T h) _ ys w in
-    looping_or f (first T h) (run T M rec g) (run T M rec h) xs v ys (stops_left (first T h) _ ys w)
+    let takes : nullable T h ≡ false = not_true (nullable T h) m.0 in
+    let wr = stops_right (first T h) (goes_on T h ++ goes_on T g) ys w in
+    looping_or f (first T h) (run T M rec g) (run T M rec h) xs v ys (stops_left (first T h) (goes_on T h ++ goes_on T g) ys w)
     (reach f (first T h) (goes_on T g) (goes_on T h) (run T M rec g) (run T M rec h) (Means M D g) (Means M D h)
     (complete T M D rec B H g l'.0) (complete T M D rec B H h l'.1)
-    (λ b us vs q. subst (λ (x : Bool). Begins x (first T h) us vs) no (begins T M D B h l'.1 b us vs q)) m'.0 m'.1 xs v ys d
-    (stops_right (goes_on T h) _ ys wr) (stops_left (goes_on T h) _ ys wr))
+    (λ b us vs q. subst (λ (x : Bool). Begins x (first T h) us vs) takes (begins T M D B h l'.1 b us vs q)) m'.0 m'.1 xs v ys d
+    (stops_right (goes_on T h) (goes_on T g) ys wr) (stops_left (goes_on T h) (goes_on T g) ys wr))
 
 -- derived within some depth, read with any fuel
 pub complete_within : {N : Type 0} {Value : N → Type 0} (T : Tables N) (M : Mode) (body : (n : N) → Grammar N Value (Value n)) → Sane T body

@@ -1,5 +1,5 @@
 -- How checked symbols are guarded: those that nothing goes on with, and those with an end that may be left out.
-use Rattle.std.proofs.Common.{◌≡◌, ℕ, Bool, true, false, List, [], ◌∷◌, ◌++◌, ◌⊎◌, inl, inr, refl, sym, ap, ap₂, subst, ◌∙◌}
+use Rattle.std.proofs.Common.{◌≡◌, ℕ, Bool, true, false, List, [], ◌∷◌, ◌++◌, ◌⊎◌, inl, inr, sym, ap, ap₂, subst, ◌∙◌}
 use Rattle.std.specs.Prelude.{Option, Some, None}
 use Rattle.grammar.specs.Tokens.{Token, Fault, tokens_between}
 use Rattle.grammar.specs.Grammar.{Grammar, Grammar.symbol, Mode.unchecked, is_among, Means, Part, IsViable}
@@ -13,7 +13,7 @@ use Rattle.grammar.proofs.Beginnings.{pick_yes, pick_no, begins_within}
 use Rattle.grammar.proofs.Complete.{OrOut, or_bind, or_same}
 use Rattle.grammar.proofs.Frame.{tokens_append}
 use Rattle.grammar.proofs.Step.{sane}
-use Rattle.grammar.proofs.First.{Guarded, reads_alone, chosen_head}
+use Rattle.grammar.proofs.First.{Guarded, ended_read, reads_alone, chosen_head}
 
 -- a part begins with a token of its table
 pub chosen : {N : Type 0} {Value : N → Type 0} (T : Tables N) (body : (n : N) → Grammar N Value (Value n)) (R : ℕ) → Passes T body R
@@ -23,6 +23,11 @@ chosen T body R p n f v xs ys (k, d) = elim (begins_within T unchecked body (san
 pub faulty_chosen : {N : Type 0} {Value : N → Type 0} (T : Tables N) (body : (n : N) → Grammar N Value (Value n)) (R : ℕ) → Passes T body R
     → (n : N) → T.empty n ≡ false → (x : Fault) (xs ys : List Token) → IsFaulty body n x xs ys → chooses (T.first n) xs ≡ true
 faulty_chosen T body R p n f x xs ys (v, d, e) = chosen T body R p n f v xs ys d
+
+-- a part of a symbol that nothing goes on with is ended
+pub ended_alone : {N : Type 0} {Value : N → Type 0} (T : Tables N) (body : (n : N) → Grammar N Value (Value n)) (R : ℕ) → Passes T body R
+    → (n : N) → T.more n ≡ [] → (v : Value n) (xs ys : List Token) → Part unchecked body n v xs ys → IsEnded body n xs ys
+ended_alone T body R p n m v xs ys d = ended_read T body R p n v xs ys (λ k. reads_alone T body (sane T body R p) n m v xs ys d k)
 
 -- a symbol that nothing goes on with, whose faulty parts begin with an anchor
 pub guarded_alone : {N : Type 0} {Value : N → Type 0} (T : Tables N) (body : (n : N) → Grammar N Value (Value n)) (R : ℕ) → Passes T body R → (apart : N → List ℕ)

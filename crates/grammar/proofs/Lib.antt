@@ -19,3 +19,4 @@ pub mod Lists
 pub mod Named
 pub mod Words
 pub mod Guards
+mod Samples

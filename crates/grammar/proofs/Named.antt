@@ -1,9 +1,9 @@
 -- What is answered of a list and how it ended: the value that it derives, or the fault that is named; and one answer alone.
 use Rattle.std.proofs.Common.{◌≡◌, ℕ, zero, suc, ◌<◌, ◌≤◌, List, [], ◌∷◌, ◌++◌, length, ◌⊎◌, inl, inr, refl, sym, ap, subst, ◌∙◌, append_assoc, append-nil, arith, ap₂, length-append}
-use Rattle.std.specs.Prelude.{Option, Some, None}
+use Rattle.std.specs.Prelude.{Some, None}
 use Rattle.grammar.specs.Tokens.{Token, Span, Fault, span_between}
 use Rattle.grammar.specs.Grammar.{Grammar, Mode.full, Mode.unchecked, Part, Derives, IsSentence, IsViable}
-use Rattle.grammar.specs.Faults.{head_check, IsFaulty, FaultIn, NoFaultBefore, IsFirstFault, IsUnexpected, IsOpen, Ending, Ending.finished, Ending.carried, Wording, IsNamed, IsNamed.first_fault, IsNamed.unexpected_token, IsNamed.carried_fault, IsNamed.missing_token, Answer, Answer.accepted, Answer.denied, Answers}
+use Rattle.grammar.specs.Faults.{head_check, IsFaulty, FaultIn, IsFirstFault, IsUnexpected, IsOpen, Ending, Ending.finished, Ending.carried, Wording, IsNamed, IsNamed.first_fault, IsNamed.unexpected_token, IsNamed.carried_fault, IsNamed.missing_token, Answer, Answer.accepted, Answer.denied, Answers}
 use Rattle.grammar.specs.Tables.{Tables, Passes}
 use Rattle.grammar.specs.Reading.{Outcome, Outcome.ok, Outcome.stuck, Outcome.bad, Outcome.out, Says, read_all}
 use Rattle.grammar.specs.States.{start_state, tag, reads, answer}
@@ -144,6 +144,13 @@ named_once body apart E wording n ts ending x y (missing_token f z p r) (first_f
 named_once body apart E wording n ts ending x y (missing_token f z p r) (unexpected_token u vs g q) = absurd (open_or_unexpected body apart n ts u vs f g)
 named_once body apart E wording n ts ending x y (missing_token f z p r) (carried_fault g q) = absurd (ending_apart y ending p q)
 named_once body apart E wording n ts ending x y (missing_token f z p r) (missing_token g z' q r') = r ∙ sym r'
+
+-- and one answer alone is true
+pub answered_once : {N : Type 0} {Value : N → Type 0} (T : Tables N) (body : (n : N) → Grammar N Value (Value n)) (R : ℕ) (apart : N → List ℕ) → IsTested T body R apart → EndsApart body apart
+    → (wording : Wording) (n : N) (ts : List Token) (ending : Ending) (a b : Answer (Value n)) → Answers body apart wording n ts ending a → Answers body apart wording n ts ending b → a ≡ b
+answered_once T body R apart s E wording n ts ending a (accepted w) h k = accepted_is T body R apart s wording n ts ending a h w k.0 k.1
+answered_once T body R apart s E wording n ts ending (accepted v) (denied y) h k = absurd (named_excludes T body R apart s wording n ts ending y k v h.1 h.0)
+answered_once T body R apart s E wording n ts ending (denied x) (denied y) h k = ap (λ (z : Fault). denied z) (named_once body apart E wording n ts ending x y h k)
 
 -- ---- where no two faults end at one place
 some_is : (x y : Fault) → Some x ≡ Some y → x ≡ y

@@ -1,11 +1,10 @@
 -- What is read is derived.
-use Rattle.std.proofs.Common.{◌≡◌, ℕ, zero, suc, Bool, true, false, cond, List, [], ◌∷◌, length, inl, inr, refl, subst}
+use Rattle.std.proofs.Common.{◌≡◌, ℕ, zero, suc, Bool, true, false, List, [], ◌∷◌, length, inl, inr, refl, subst}
 use Rattle.std.specs.Prelude.{Option, Some, None}
 use Rattle.grammar.specs.Tokens.{Token, Span, Fault, span_between}
 use Rattle.grammar.specs.Grammar.{is_among, Grammar, Grammar.empty, Grammar.token, Grammar.sequence, Grammar.choice, Grammar.mapped, Grammar.node, Grammar.checked, Grammar.symbol, Grammar.left_chain, Mode, found, Chain, Chain.base, Chain.more, Means, Within, Part}
 use Rattle.grammar.specs.Tables.{Tables, first}
 use Rattle.grammar.specs.Reading.{Outcome, Outcome.ok, Outcome.stuck, Outcome.bad, Outcome.out, bind, judge, chooses, loop, run, read}
-
 use Rattle.grammar.proofs.Beginnings.{pick}
 
 -- what is true where a reader takes a value

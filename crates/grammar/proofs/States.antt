@@ -1,11 +1,11 @@
 -- The reader over states is the reader over lists.
-use Rattle.std.proofs.Common.{◌≡◌, ℕ, zero, suc, ◌+◌, ◌*◌, ◌<◌, ◌≤◌, Bool, true, false, cond, eqb, List, [], ◌∷◌, ◌++◌, length, inl, inr, refl, sym, ap, ap₂, subst, ◌∙◌, arith, append_assoc, length-append, subst₂}
+use Rattle.std.proofs.Common.{◌≡◌, ℕ, zero, suc, ◌+◌, ◌-◌, ◌*◌, ◌<◌, ◌≤◌, Bool, true, false, cond, eqb, List, [], ◌∷◌, ◌++◌, length, map, slice_index_or, inl, inr, refl, sym, ap, ap₂, subst, ◌∙◌, arith, append_assoc, length-append}
 use Rattle.std.specs.Prelude.{Option, Some, None}
 use Rattle.grammar.specs.Tokens.{Token, Span, span_of, last_end, tokens_between, span_between}
 use Rattle.grammar.specs.Grammar.{Grammar, Grammar.empty, Grammar.token, Grammar.sequence, Grammar.choice, Grammar.mapped, Grammar.node, Grammar.checked, Grammar.symbol, Grammar.left_chain, Mode.full, is_among, Means, Part, Derives}
 use Rattle.grammar.specs.Tables.{Tables, nullable, first, decides, spans_tokens, Passes}
 use Rattle.grammar.specs.Reading.{Outcome, Outcome.ok, Outcome.stuck, Outcome.bad, Outcome.out, bind, judge, chooses, take_token, loop, run, read_all}
-use Rattle.grammar.specs.States.{State, Read, Read.done, Read.stop, Stop.never, Stop.faulty, ◌>>=◌, refused, is_at, is_any, first_start, start_of, first_of, after, take, take_any, judged, span_from, turns_in, turns, go, placed, tag, reads}
+use Rattle.grammar.specs.States.{State, Read, Read.done, Read.stop, ◌>>=◌, refused, is_at, is_any, first_start, start_of, first_of, after, take, take_any, judged, span_from, turns_in, turns, go, placed, tag, reads}
 use Rattle.grammar.proofs.Sets.{and_true, not_true}
 use Rattle.grammar.proofs.Beginnings.{pick, pick_no, Begins, begins, begins_within}
 use Rattle.grammar.proofs.Sound.{OfOk, of_ok, of_map, IsSound, sound, sound_read}
@@ -20,6 +20,14 @@ tokens_are xs p us e = ap (λ (x : List Token). tokens_between x us) e ∙ token
 last_append : (e : ℕ) (p q : List Token) → last_end e (p ++ q) ≡ last_end (last_end e p) q
 last_append e [] q = refl
 last_append e (t ∷ p) q = last_append t.end p q
+
+-- where the last of a list of items ends, each seen as a token
+pub last_end_is : {A : Type 0} (view : A → Token) (items : List A) (x : A) (place : ℕ) → 0 < length items → x ≡ slice_index_or items (length items - 1) x → last_end place (map view items) ≡ (view x).end
+last_end_is view [] x place k e = absurd (omega (arith, k))
+last_end_is view (y ∷ []) x place k e = ap (λ (z : _). (view z).end) (sym e)
+last_end_is view (y ∷ (z ∷ items)) x place k e =
+    last_end_is view (z ∷ items) x (view y).end (omega arith)
+    (e ∙ (let n : length (y ∷ (z ∷ items)) - 1 ≡ suc (length (z ∷ items) - 1) = omega arith in ap (λ (i : ℕ). slice_index_or (y ∷ (z ∷ items)) i x) n))
 
 -- the tokens before us were taken
 abbrev Advance : List Token → List Token → Type 0
@@ -115,14 +123,14 @@ loop_is f c r r' s H K zero a us g = tag_pick s (chooses c us) (is_any c (placed
 loop_is {A} {B} f c r r' s H K (suc k) a us g =
     let F : B → State → Read A = λ b s'. turns_in k f c r' (start_of s) (f a b (span_from (start_of s) s')) s' in
     let turn : (b : B) (vs : List Token) → Taking us vs → tag s (loop f c r s.rest k (f a b (span_between s.rest vs)) vs) ≡ F b (placed s vs) = λ b vs q.
-      let whole : s.rest ≡ (g.0 ++ q.0) ++ vs = g.1 ∙ ap (λ (x : List Token). g.0 ++ x) q.1 ∙ sym (append_assoc g.0 q.0 vs) in
-      let some : 0 < length q.0 = q.2 in
-      ap (λ (x : Span). tag s (loop f c r s.rest k (f a b x) vs)) (span_is s vs (g.0 ++ q.0, whole, omega (arith, some, length-append g.0 q.0)))
-      ∙ loop_is f c r r' s H K k (f a b (span_from (start_of s) (placed s vs))) vs (g.0 ++ q.0, whole) in
+    let whole : s.rest ≡ (g.0 ++ q.0) ++ vs = g.1 ∙ ap (λ (x : List Token). g.0 ++ x) q.1 ∙ sym (append_assoc g.0 q.0 vs) in
+    let some : 0 < length q.0 = q.2 in
+    ap (λ (x : Span). tag s (loop f c r s.rest k (f a b x) vs)) (span_is s vs (g.0 ++ q.0, whole, omega (arith, some, length-append g.0 q.0)))
+    ∙ loop_is f c r r' s H K k (f a b (span_from (start_of s) (placed s vs))) vs (g.0 ++ q.0, whole) in
     tag_pick s (chooses c us) (is_any c (placed s us)) _ _ _ _ (any_is c (placed s us))
-      (tag_bind s (λ b vs. Taking us vs) (r us) _ F (H us) turn
-        ∙ ap (λ (x : Read B). x >>= F) (retag s us g (r us) (of_map (λ b vs. Taking us vs) (λ b vs. Advance us vs) (r us) (H us) (λ b vs q. (q.0, q.1))) ∙ K (placed s us)))
-      refl
+    (tag_bind s (λ b vs. Taking us vs) (r us) _ F (H us) turn
+    ∙ ap (λ (x : Read B). x >>= F) (retag s us g (r us) (of_map (λ b vs. Taking us vs) (λ b vs. Advance us vs) (r us) (H us) (λ b vs q. (q.0, q.1))) ∙ K (placed s us)))
+    refl
 
 all_sound : {N : Type 0} {Value : N → Type 0} (T : Tables N) (body : (n : N) → Grammar N Value (Value n)) (R : ℕ) (n : N) → IsSound (Part full body n) (read_all T full body R n)
 all_sound T body R n ts = sound_read T full body (R * length ts + suc (T.rank n)) n ts
@@ -144,9 +152,9 @@ takes : {N : Type 0} {Value : N → Type 0} (T : Tables N) (body : (n : N) → G
 takes T body R p g l taken ts =
     of_map (λ a us. Means full (Part full body) g a ts us) (λ a us. Taking ts us) (run T full (read_all T full body R) g ts) (right_side_sound T body R g ts)
     (λ a us d.
-      let w = framed full (Part full body) (framed_part full body) g a ts us d in
-      let b = begins T full (Part full body) (λ n v xs ys e. begins_within T full body (sane T body R p) e.0 n v xs ys e.1) g l a ts us d in
-      taking (first T g) ts us (subst (λ (x : Bool). Begins x (first T g) ts us) taken b) (w.0, w.1))
+    let w = framed full (Part full body) (framed_part full body) g a ts us d in
+    let b = begins T full (Part full body) (λ n v xs ys e. begins_within T full body (sane T body R p) e.0 n v xs ys e.1) g l a ts us d in
+    taking (first T g) ts us (subst (λ (x : Bool). Begins x (first T g) ts us) taken b) (w.0, w.1))
 
 run_is_go : {N : Type 0} {Value : N → Type 0} (T : Tables N) (body : (n : N) → Grammar N Value (Value n)) (R : ℕ) → Passes T body R
     → {A : Type 0} (g : Grammar N Value A) → decides T g ≡ true → spans_tokens T g ≡ true → (s : State) → tag s (run T full (read_all T full body R) g s.rest) ≡ go T (reads T body R) g s
@@ -158,10 +166,10 @@ run_is_go T body R p (sequence {A} {B = C} g h) l w s =
     let l' = and_true _ _ (and_true _ _ l).0 in let w' = and_true _ _ w in
     let F : A → State → Read (A × C) = λ a s'. go T (reads T body R) h s' >>= λ b s''. done (a, b) s'' in
     tag_bind s (λ a us. Advance s.rest us) (read_g s.rest) (λ a us. bind (read_h us) (λ b vs. ok (a, b) vs)) F (advances T body R g s.rest) (λ a us q.
-      let last : C → List Token → Outcome (A × C) = λ b vs. ok (a, b) vs in
-      let last' : C → State → Read (A × C) = λ b s''. done (a, b) s'' in
-      tag_bind s (λ b vs. Advance us vs) (read_h us) last last' (advances T body R h us) (λ b vs q'. refl)
-      ∙ ap (λ (x : Read C). x >>= last') (retag s us q (read_h us) (advances T body R h us) ∙ run_is_go T body R p h l'.1 w'.1 (placed s us)))
+    let last : C → List Token → Outcome (A × C) = λ b vs. ok (a, b) vs in
+    let last' : C → State → Read (A × C) = λ b s''. done (a, b) s'' in
+    tag_bind s (λ b vs. Advance us vs) (read_h us) last last' (advances T body R h us) (λ b vs q'. refl)
+    ∙ ap (λ (x : Read C). x >>= last') (retag s us q (read_h us) (advances T body R h us) ∙ run_is_go T body R p h l'.1 w'.1 (placed s us)))
     ∙ ap (λ (x : Read A). x >>= F) (run_is_go T body R p g l'.0 w'.0 s)
 run_is_go T body R p (choice g h) l w s =
     let l' = and_true _ _ (and_true _ _ l).0 in let w' = and_true _ _ w in
@@ -174,13 +182,13 @@ run_is_go T body R p (node {A} {B = C} f g) l w s =
     let w' = and_true _ _ w in
     let F : A → State → Read C = λ a s'. done (f a (span_from (start_of s) s')) s' in
     tag_bind s (λ a us. Taking s.rest us) (run T full (read_all T full body R) g s.rest) (λ a us. ok (f a (span_between s.rest us)) us) F (takes T body R p g l (not_true _ w'.1) s.rest)
-      (λ a us q. ap (λ (x : Span). done (f a x) (placed s us)) (span_is s us q))
+    (λ a us q. ap (λ (x : Span). done (f a x) (placed s us)) (span_is s us q))
     ∙ ap (λ (x : Read A). x >>= F) (run_is_go T body R p g l w'.0 s)
 run_is_go T body R p (checked {A} f g) l w s =
     let w' = and_true _ _ w in
     let F : A → State → Read A = λ a s'. judged (f a (span_from (start_of s) s')) a s' in
     tag_bind s (λ a us. Taking s.rest us) (run T full (read_all T full body R) g s.rest) (λ a us. judge (f a (span_between s.rest us)) a us) F (takes T body R p g l (not_true _ w'.1) s.rest)
-      (λ a us q. tag_judge s (f a (span_between s.rest us)) a us ∙ ap (λ (x : Span). judged (f a x) a (placed s us)) (span_is s us q))
+    (λ a us q. tag_judge s (f a (span_between s.rest us)) a us ∙ ap (λ (x : Span). judged (f a x) a (placed s us)) (span_is s us q))
     ∙ ap (λ (x : Read A). x >>= F) (run_is_go T body R p g l w'.0 s)
 run_is_go T body R p (symbol n) l w s = refl
 run_is_go T body R p (left_chain {A} {B = C} f g h) l w s =
@@ -188,7 +196,7 @@ run_is_go T body R p (left_chain {A} {B = C} f g h) l w s =
     let read_h = run T full (read_all T full body R) h in
     let F : A → State → Read A = λ a s'. turns f (first T h) (go T (reads T body R) h) (start_of s) a s' in
     tag_bind s (λ a us. Advance s.rest us) (run T full (read_all T full body R) g s.rest) (λ a us. loop f (first T h) read_h s.rest (length us) a us) F (advances T body R g s.rest) (λ a us q.
-      loop_is f (first T h) read_h (go T (reads T body R) h) s (takes T body R p h l'.1 (not_true _ (and_true _ _ l0.1).0)) (run_is_go T body R p h l'.1 w'.1) (length us) a us q)
+    loop_is f (first T h) read_h (go T (reads T body R) h) s (takes T body R p h l'.1 (not_true _ (and_true _ _ l0.1).0)) (run_is_go T body R p h l'.1 w'.1) (length us) a us q)
     ∙ ap (λ (x : Read A). x >>= F) (run_is_go T body R p g l'.0 w'.0 s)
 
 -- the reader's equation over states, with no fuel

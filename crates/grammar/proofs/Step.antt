@@ -1,10 +1,11 @@
 -- The reader's equation, with no fuel.
-use Rattle.std.proofs.Common.{◌≡◌, ℕ, zero, suc, ◌+◌, ◌≤◌, Bool, true, false, cond, List, length, ◌⊎◌, inl, inr, refl, sym, ap, subst, ◌∙◌, arith, ◌*◌, le_refl}
+use Rattle.std.proofs.Common.{◌≡◌, ℕ, zero, suc, ◌+◌, ◌≤◌, Bool, true, false, List, length, ◌⊎◌, inl, inr, refl, sym, ap, subst, ◌∙◌, arith, ◌*◌, le_refl}
 use Rattle.grammar.specs.Tokens.{Token, Span, span_between}
 use Rattle.grammar.specs.Grammar.{Grammar, Grammar.empty, Grammar.token, Grammar.sequence, Grammar.choice, Grammar.mapped, Grammar.node, Grammar.checked, Grammar.symbol, Grammar.left_chain, Mode}
 use Rattle.grammar.specs.Tables.{Tables, first, Passes}
 use Rattle.grammar.specs.Reading.{Outcome, Outcome.ok, Outcome.stuck, Outcome.bad, Outcome.out, bind, chooses, loop, run, read, read_all}
 use Rattle.grammar.proofs.Beginnings.{pick, Sane}
+use Rattle.grammar.proofs.Depth.{deeper}
 use Rattle.grammar.proofs.Enough.{not_out, enough_read}
 
 pub sane : {N : Type 0} {Value : N → Type 0} (T : Tables N) (body : (n : N) → Grammar N Value (Value n)) (R : ℕ) → Passes T body R → Sane T body
@@ -54,10 +55,6 @@ below_suc T M body (suc k) n ts = below T M (read T M body k) (read T M body (su
 below_trans : {A : Type 0} (a b c : Outcome A) → Below a b → Below b c → Below a c
 below_trans a b c (inl e) h = inl e
 below_trans a b c (inr e) h = subst (λ (x : Outcome _). Below x c) (sym e) h
-
-abbrev deeper : ℕ → ℕ → ℕ
-deeper zero k = k
-deeper (suc j) k = suc (deeper j k)
 
 below_deeper : {N : Type 0} {Value : N → Type 0} (T : Tables N) (M : Mode) (body : (n : N) → Grammar N Value (Value n)) (j k : ℕ) (n : N) (ts : List Token) → Below (read T M body k n ts) (read T M body (deeper j k) n ts)
 below_deeper T M body zero k n ts = inr refl

@@ -1,5 +1,5 @@
 -- Grammars as data, and what they derive.
-use Rattle.std.specs.Prelude.{◌≡◌, ℕ, zero, suc, Bool, true, false, cond, eqb, List, [], ◌∷◌, ◌++◌, ◌⊎◌, Option, Some, None}
+use Rattle.std.specs.Prelude.{◌≡◌, ℕ, zero, suc, Bool, true, false, cond, eqb, List, [], ◌∷◌, ◌++◌, ◌⊎◌, Option, None}
 use Rattle.grammar.specs.Tokens.{Token, Span, Fault, span_between}
 
 -- right sides over symbols N, whose values are of the types Value

@@ -1,5 +1,5 @@
 -- The reader over states, in which the code reads: each state knows where the last token ended, so that no span needs a list.
-use Rattle.std.specs.Prelude.{◌≡◌, ℕ, zero, suc, ◌-◌, Bool, true, false, cond, eqb, List, [], ◌∷◌, length, Option, Some, None}
+use Rattle.std.specs.Prelude.{ℕ, zero, suc, Bool, true, false, cond, eqb, List, [], ◌∷◌, length, Option, Some, None}
 use Rattle.grammar.specs.Tokens.{Payload.nothing, Token, Span, Fault, last_end, tokens_between}
 use Rattle.grammar.specs.Grammar.{Grammar, Grammar.empty, Grammar.token, Grammar.sequence, Grammar.choice, Grammar.mapped, Grammar.node, Grammar.checked, Grammar.symbol, Grammar.left_chain, Mode.full}
 use Rattle.grammar.specs.Faults.{Ending, Ending.finished, Ending.carried, Wording, Answer, Answer.accepted, Answer.denied}
@@ -135,17 +135,17 @@ tag s out = stop never
 unfoldable pub reads : {N : Type 0} {Value : N → Type 0} (T : Tables N) (body : (n : N) → Grammar N Value (Value n)) (R : ℕ) (n : N) → State → Read (Value n)
 reads T body R n s = tag s (read_all T full body R n s.rest)
 
--- the end of a list of tokens, where a value was read or a token is missing
+-- what is answered at the end of a list: what the list carried goes first
 abbrev pub at_end : {A : Type 0} → Ending → Answer A → Answer A
 at_end finished a = a
 at_end (carried x) a = denied x
 
--- a value behind which nothing is left
+-- a value, where nothing is left behind it
 abbrev pub whole_answer : {A : Type 0} → Wording → Ending → A → List Token → Answer A
 whole_answer wording ending a [] = at_end ending (accepted a)
 whole_answer wording ending a (t ∷ ts) = denied (wording.unexpected t)
 
--- what is answered where a list ended so, and this was read of it
+-- what is answered where a list ended so, and this was read of it (the last case is never met)
 abbrev pub answer : {A : Type 0} → Wording → List Token → Ending → Read A → Answer A
 answer wording ts ending (done a s) = whole_answer wording ending a s.rest
 answer wording ts ending (stop (unexpected t)) = denied (wording.unexpected t)
