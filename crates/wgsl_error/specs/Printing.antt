@@ -1,0 +1,32 @@
+-- The printed text of each error.
+use Rattle.std.specs.Prelude.{ℕ, List, ◌++◌, codes}
+use Rattle.std.specs.Fmt.{decimal}
+use Rattle.wgsl_model.specs.Faults.{message, quoted}
+use Rattle.wgsl_model.specs.Printing.{joined}
+use Rattle.wgsl_error.specs.declared.Error.{Error}
+use Rattle.wgsl_error.specs.declared.ErrorKind.{ErrorKind}
+use Rattle.wgsl_error.specs.declared.display.WithoutExpected.{WithoutExpected}
+use Rattle.wgsl_error.specs.declared.ErrorKind.TheVariants as error
+use Rattle.wgsl_error.specs.View.{kind_number, kind_texts, expected_texts}
+
+-- the message of a kind, without what was expected
+abbrev pub print_message : ErrorKind → List ℕ
+print_message kind = message (kind_number kind) (kind_texts kind)
+
+-- what was expected, with commas between
+abbrev pub print_expected : List (List ℕ) → List ℕ
+print_expected texts = codes ", expected " ++ quoted (joined (codes ", ") texts)
+
+-- the message of a kind, and for an unexpected token or end what was expected
+abbrev pub print_error_kind : ErrorKind → List ℕ
+print_error_kind (error.UnexpectedToken token expected) = print_message (error.UnexpectedToken token expected) ++ print_expected (expected_texts (error.UnexpectedToken token expected))
+print_error_kind (error.UnexpectedEof expected) = print_message (error.UnexpectedEof expected) ++ print_expected (expected_texts (error.UnexpectedEof expected))
+print_error_kind kind = print_message kind
+
+-- the place, then the kind
+abbrev pub print_error : Error → List ℕ
+print_error e = codes "chars " ++ decimal e.span.start ++ codes ".." ++ decimal e.span.end ++ codes ": " ++ print_error_kind e.error
+
+-- the error that is shown without what was expected
+abbrev pub shown_error : WithoutExpected → Error
+shown_error shown = shown.error.now

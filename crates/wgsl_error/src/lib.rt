@@ -1,0 +1,56 @@
+//! What can be wrong with a text, and how it is told.
+#![tactic(auto)]
+
+mod clones;
+mod conversions;
+mod display;
+
+pub use display::WithoutExpected;
+use wgsl_span::Span;
+
+/// What is wrong with a text.
+#[derive(PartialEq, Debug, Drop)]
+pub enum ErrorKind {
+    InvalidToken,
+    ReservedWord(String),
+    UnexpectedToken {
+        token: String,
+        expected: Vec<String>,
+    },
+    UnexpectedEof {
+        expected: Vec<String>,
+    },
+    /// No parser reports this one.
+    ExtraToken(String),
+    DiagnosticSeverity,
+    /// An attribute and what is wrong with its arguments.
+    Attribute(&'static str, &'static str),
+    VarTemplate(&'static str),
+    OutOfMemory,
+}
+
+/// What is wrong with a list of tokens.
+#[derive(PartialEq, Debug, Default, Drop)]
+pub enum ParseError {
+    #[default]
+    LexerError,
+    ReservedWord(String),
+    DiagnosticSeverity,
+    Attribute(&'static str, &'static str),
+    VarTemplate(&'static str),
+    OutOfMemory,
+}
+
+/// What is wrong with a text, and where.
+#[derive(PartialEq, Debug, Drop)]
+pub struct Error {
+    pub error: ErrorKind,
+    pub span: Span,
+}
+
+impl std::error::Error for ErrorKind {}
+
+impl std::error::Error for Error {}
+
+#[cfg(test)]
+mod tests;

@@ -1,0 +1,5 @@
+pub mod Cuts
+pub mod Lists
+pub mod InOrder
+pub mod Lefts
+pub mod Collects

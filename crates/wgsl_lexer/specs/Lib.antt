@@ -1,0 +1,4 @@
+pub mod InOrder
+pub mod Placed
+pub mod Given
+pub mod Left

@@ -1,0 +1,19 @@
+//! Iterators that give tokens.
+
+ghost use Rattle.std.specs.Iterator.{IsFiniteIterable};
+ghost use Rattle.std.proofs.Common.{rules};
+
+use wgsl_error::ParseError;
+use wgsl_token::token::Token;
+
+/// A token, or what is wrong in its place; each with the byte where it starts and the byte where it ends.
+pub type TokenItem = Result<(usize, Token, usize), (usize, ParseError, usize)>;
+
+/// What gives tokens: a finite iterator that may be dropped and always be asked for the next item.
+pub trait TokenIterator: IntoIterator<Item = TokenItem, IntoIter: Drop> {
+    ghost is_finite: { (tokens : Self) → IsFiniteIterable Self.into_iter_gives Self.IntoIter.can_next Self.IntoIter.remaining tokens };
+}
+
+impl TokenIterator for Vec<TokenItem> {
+    ghost is_finite = { Prim.search rules };
+}

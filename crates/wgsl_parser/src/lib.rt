@@ -1,0 +1,13 @@
+//! The parser: the unit that a text is, or the fault that is named.
+#![tactic(auto)]
+
+mod cursor;
+mod expected;
+mod fault;
+pub mod laws;
+mod parse;
+#[cfg(test)]
+mod tests;
+mod unit;
+
+pub use parse::parse_str;

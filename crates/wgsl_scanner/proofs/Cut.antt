@@ -1,0 +1,29 @@
+-- Where the longest spelling cuts a text.
+use Rattle.std.proofs.Common.{◌≡◌, ℕ, zero, suc, ◌-◌, refl, sym, ap, List, [], ◌∷◌, ◌++◌, length, take, Option, Some, None, ◌∙◌, arith, length-append}
+use Rattle.wgsl_model.specs.Kind.{Kind}
+use Rattle.wgsl_model.specs.Pattern.{after_spelling}
+use Rattle.wgsl_model.specs.Raw.{invalid, front, value, spelled, valued, raw_at}
+use Rattle.wgsl_model.specs.Spelling.{spelling}
+
+pub take-append_front : (xs ys : List ℕ) (n : ℕ) → n ≡ length xs → take n (xs ++ ys) ≡ xs
+take-append_front [] ys zero e = refl
+take-append_front [] ys (suc n) e = absurd (omega (arith, e))
+take-append_front (x ∷ xs) ys zero e = absurd (omega (arith, e))
+take-append_front (x ∷ xs) ys (suc n) e = ap (λ zs. x ∷ zs) (take-append_front xs ys n (omega (arith, e)))
+
+pub front-append : (xs ys : List ℕ) → front (xs ++ ys) ys ≡ xs
+front-append xs ys = take-append_front xs ys (length (xs ++ ys) - length ys) (omega (arith, length-append xs ys))
+
+-- what stands before a rest is a front
+pub front-whole : (xs text rest : List ℕ) → text ≡ xs ++ rest → text ≡ front text rest ++ rest
+front-whole xs text rest e = e ∙ ap (λ zs. zs ++ rest) (sym (ap (λ t. front t rest) e ∙ front-append xs rest))
+
+-- the token of a spelling that is known
+pub found : (c : ℕ) (cs rest : List ℕ) (kind : Option Kind) → after_spelling spelling ((c ∷ cs) ++ rest) ≡ Some rest → value (c ∷ cs) ≡ kind → raw_at ((c ∷ cs) ++ rest) ≡ valued ((c ∷ cs) ++ rest) rest kind
+found c cs rest kind e v =
+    let text : List ℕ = (c ∷ cs) ++ rest in
+    ap (spelled text (cs ++ rest)) e ∙ ap (λ w. valued text rest (value w)) (front-append (c ∷ cs) rest) ∙ ap (valued text rest) v
+
+-- a character that begins no spelling
+pub missed : (c : ℕ) (cs : List ℕ) → after_spelling spelling (c ∷ cs) ≡ None → raw_at (c ∷ cs) ≡ invalid (c ∷ cs) cs
+missed c cs e = ap (spelled (c ∷ cs) cs) e

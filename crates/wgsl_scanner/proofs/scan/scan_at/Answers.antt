@@ -1,0 +1,14 @@
+use Rattle.std.proofs.Common.{chars, sym, ◌∙◌}
+use Rattle.wgsl_scanner.proofs.Bytes.{bytes_of}
+use Rattle.wgsl_scanner.proofs.Front.{scan_at-word}
+use Rattle.wgsl_scanner.proofs.Words.{word-cut}
+use Rattle.wgsl_scanner.proofs.scan.scan_at.Goals as goal
+
+pub before-requires : goal.before-requires
+before-requires c = rw (c.in-Some.ensures.parts, c.after_word-after.ensures.rest) (word-cut c.in-Some.c (chars c.in-Some.rest.now))
+
+pub returns-then-starts_word-clause-value : goal.returns-then-starts_word-clause-value
+returns-then-starts_word-clause-value c =
+    let starts = sym c.starts_word.ensures ∙ c.if-starts_word.true in
+    let bytes = bytes_of c.before-then-starts_word.result.now _ c.before-then-starts_word.utf8 c.before-then-starts_word.ensures.value in
+    rw (c.word.ensures, bytes, c.in-Some.ensures.parts, c.after_word-after.ensures.rest) (scan_at-word c.in-Some.c (chars c.in-Some.rest.now) starts)

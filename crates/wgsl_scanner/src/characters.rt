@@ -1,0 +1,40 @@
+//! The classes of characters. ASCII is tested first.
+
+ghost use Rattle.std.specs.Prelude.{◌≡◌, ◌==◌, ◌||◌};
+ghost use Rattle.unicode_ident.specs.Ident.{is_xid_start, is_xid_continue};
+ghost use Rattle.wgsl_model.specs.Characters.{is_blank, is_line_break};
+
+pub(crate) fn is_blank(c: char) -> bool
+    ensures { result ≡ is_blank c }
+{
+    c.is_whitespace() || c == '\u{200E}' || c == '\u{200F}'
+}
+
+pub(crate) fn is_line_break(c: char) -> bool
+    ensures { result ≡ is_line_break c }
+{
+    matches!(
+        c,
+        '\n' | '\u{B}' | '\u{C}' | '\r' | '\u{85}' | '\u{2028}' | '\u{2029}'
+    )
+}
+
+#[tactic(auto, using(crate::proofs::CharacterClasses::ascii_start, crate::proofs::CharacterClasses::other_start))]
+pub(crate) fn starts_word(c: char) -> bool
+    ensures { result ≡ (is_xid_start c || c == 95) }
+{
+    if c.is_ascii() {
+        return c.is_ascii_alphabetic() || c == '_';
+    }
+    unicode_ident::is_xid_start(c)
+}
+
+#[tactic(auto, using(crate::proofs::CharacterClasses::ascii_continue))]
+pub(crate) fn continues_word(c: char) -> bool
+    ensures { result ≡ is_xid_continue c }
+{
+    if c.is_ascii() {
+        return c.is_ascii_alphanumeric() || c == '_';
+    }
+    unicode_ident::is_xid_continue(c)
+}

@@ -1,0 +1,50 @@
+//! A token whose name is still a part of the source.
+
+ghost use Rattle.std.specs.Prelude.{◌≡◌, IfOk};
+ghost use Rattle.wgsl_token.specs.View.{class_of_kind, kind_view};
+ghost use Rattle.wgsl_scanner.specs.View.{lexeme_view};
+
+use std::alloc::{AllocError, Global};
+use wgsl_token::kind::TokenKind;
+use wgsl_token::token::Token;
+
+/// A token whose name is still a part of the source. A plain one holds nothing.
+#[derive(Clone, Copy, Debug, PartialEq)]
+pub enum Lexeme<'s> {
+    Plain(TokenKind),
+    Ident(&'s str),
+    ReservedWord(&'s str),
+    AbstractInt(i64),
+    I32(i32),
+    U32(u32),
+}
+
+impl<'s> Lexeme<'s> {
+    /// Which token it is.
+    pub fn kind(self) -> TokenKind
+        ensures { class_of_kind result ≡ (lexeme_view self.entry).class }
+    {
+        match self {
+            Lexeme::Plain(kind) => kind,
+            Lexeme::Ident(_) => TokenKind::Ident,
+            Lexeme::ReservedWord(_) => TokenKind::ReservedWord,
+            Lexeme::AbstractInt(_) => TokenKind::AbstractInt,
+            Lexeme::I32(_) => TokenKind::I32,
+            Lexeme::U32(_) => TokenKind::U32,
+        }
+    }
+
+    /// The token, with a name of its own.
+    pub fn to_token(self, alloc: Global) -> Result<Token, AllocError>
+        ensures { IfOk result (λ token. kind_view token ≡ lexeme_view self.entry) }
+    {
+        Ok(match self {
+            Lexeme::Plain(kind) => Token::from_kind(alloc, kind),
+            Lexeme::Ident(name) => Token::Ident(String::from_str(alloc, name)?),
+            Lexeme::ReservedWord(word) => Token::ReservedWord(String::from_str(alloc, word)?),
+            Lexeme::AbstractInt(number) => Token::AbstractInt(number),
+            Lexeme::I32(number) => Token::I32(number),
+            Lexeme::U32(number) => Token::U32(number),
+        })
+    }
+}

@@ -1,0 +1,16 @@
+//! The token at the front of a text.
+#![tactic(auto)]
+
+mod characters;
+mod keyword;
+pub mod laws;
+pub mod lexeme;
+mod number;
+mod reserved;
+pub mod scan;
+mod symbol;
+#[cfg(test)]
+mod tests;
+mod text;
+mod trivia;
+mod word;

@@ -1,0 +1,74 @@
+//! Blank space and comments.
+
+ghost use Rattle.std.specs.Prelude.{◌≡◌, ◌≤◌, chars, length};
+ghost use Rattle.wgsl_model.specs.Trivia.{after_trivia, outside, in_line, in_block};
+
+use crate::characters::{is_blank, is_line_break};
+use crate::text::split_first;
+
+/// The text after the blank space and the comments at its front.
+#[tactic(auto, unfolding(wgsl_model::specs::Trivia::after_trivia))]
+pub(crate) fn after_trivia(text: &str) -> &str
+    ensures rest { chars result.now ≡ after_trivia outside (chars text.now) }
+    ensures within { length result.now ≤ length text.now }
+{
+    let mut rest = text;
+    while let Some((c, after)) = split_first(rest) {
+        if is_blank(c) {
+            rest = after;
+        } else if c == '/' {
+            match split_first(after) {
+                Some(('/', comment)) => rest = after_line(comment),
+                Some(('*', comment)) => rest = after_block(comment),
+                _ => return rest,
+            }
+        } else {
+            return rest;
+        }
+    }
+    rest
+}
+
+/// The text from the end of the line on.
+#[tactic(auto, unfolding(wgsl_model::specs::Trivia::after_trivia))]
+fn after_line(text: &str) -> &str
+    ensures rest { after_trivia outside (chars result.now) ≡ after_trivia in_line (chars text.now) }
+    ensures within { length result.now ≤ length text.now }
+{
+    let mut rest = text;
+    while let Some((c, after)) = split_first(rest) {
+        if is_line_break(c) {
+            return rest;
+        }
+        rest = after;
+    }
+    rest
+}
+
+/// The text after the end of a block comment that is open.
+#[tactic(auto, unfolding(wgsl_model::specs::Trivia::after_trivia))]
+fn after_block(text: &str) -> &str
+    ensures rest { after_trivia outside (chars result.now) ≡ after_trivia (in_block 0) (chars text.now) }
+    ensures within { length result.now ≤ length text.now }
+{
+    let mut rest = text;
+    let mut depth = 0usize;
+    while let Some((c, after)) = split_first(rest) {
+        rest = after;
+        match (c, split_first(after)) {
+            ('/', Some(('*', comment))) => {
+                depth += 1;
+                rest = comment;
+            }
+            ('*', Some(('/', comment))) => {
+                rest = comment;
+                if depth == 0 {
+                    return rest;
+                }
+                depth -= 1;
+            }
+            _ => {}
+        }
+    }
+    rest
+}

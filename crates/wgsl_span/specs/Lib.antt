@@ -1,0 +1,3 @@
+pub mod Spanned
+pub mod Lending
+pub mod View

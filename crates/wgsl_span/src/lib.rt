@@ -1,0 +1,200 @@
+//! Places in a text, and nodes that carry them.
+#![tactic(auto)]
+
+ghost use Rattle.std.specs.Prelude.{◌≡◌, IfOk};
+ghost use Rattle.std.specs.Borrow.{sem};
+ghost use Rattle.std.specs.Cmp.{on_per};
+ghost use Rattle.wgsl_span.specs.Spanned.{spanned_node, spanned_span};
+ghost use Rattle.wgsl_span.specs.Lending.{LendsNode};
+
+use std::alloc::{AllocError, Global};
+use std::fmt;
+use std::ops::Range;
+
+/// The number of a file, for those who keep several.
+pub type Id = u32;
+
+/// A part of a text in bytes, from the start up to the end.
+#[derive(Clone, Copy, PartialEq, Eq, Default, Debug)]
+pub struct Span {
+    pub start: usize,
+    pub end: usize,
+}
+
+impl Span {
+    pub fn new(range: Range<usize>) -> Self
+        ensures { result ≡ record { start = range.start; end = range.end } }
+    {
+        Span {
+            start: range.start,
+            end: range.end,
+        }
+    }
+
+    pub fn range(&self) -> Range<usize>
+        ensures { result ≡ record { start = self.now.start; end = self.now.end } }
+    {
+        self.start..self.end
+    }
+
+    /// The span from this one's start to the other's end.
+    pub fn extend(&self, other: Span) -> Self
+        ensures { result ≡ record { start = self.now.start; end = other.end } }
+    {
+        Span {
+            start: self.start,
+            end: other.end,
+        }
+    }
+}
+
+impl From<Range<usize>> for Span {
+    ghost from_gives = { λ range span. span ≡ record { start = range.start; end = range.end } };
+
+    fn from(range: Range<usize>) -> Self {
+        Span::new(range)
+    }
+}
+
+/// A node and where it stands. Two are equal where their nodes are.
+#[derive(Drop)]
+#[derive_where(Debug; T)]
+pub struct Spanned<T> {
+    node: Box<T>,
+    span: Span,
+}
+
+impl<T: Drop> Spanned<T> {
+    pub fn new(alloc: Global, node: T, span: Span) -> Result<Self, AllocError>
+        ensures node { IfOk result (λ made. spanned_node made ≡ node) }
+        ensures span { IfOk result (λ made. spanned_span made ≡ span) }
+    {
+        Ok(Spanned {
+            node: Box::new(alloc, node)?,
+            span,
+        })
+    }
+
+    /// A node that stands nowhere.
+    pub fn with_default_span(alloc: Global, node: T) -> Result<Self, AllocError>
+        ensures node { IfOk result (λ made. spanned_node made ≡ node) }
+        ensures span { IfOk result (λ made. spanned_span made ≡ record { start = 0; end = 0 }) }
+    {
+        Spanned::new(alloc, node, Span { start: 0, end: 0 })
+    }
+}
+
+impl<T> Spanned<T> {
+    pub fn new_boxed(node: Box<T>, span: Span) -> Self
+        ensures node { spanned_node result ≡ node.value }
+        ensures span { spanned_span result ≡ span }
+    {
+        Spanned { node, span }
+    }
+
+    pub fn span(&self) -> Span
+        ensures { result ≡ spanned_span self.now }
+    {
+        self.span
+    }
+
+    pub fn node(&self) -> &T
+        ensures { result.now ≡ spanned_node self.now }
+    {
+        &*self.node
+    }
+
+    pub fn node_mut(&mut self) -> &mut T
+        ensures* writes_back { sem 𝓛 (LendsNode T.row self.entry result) }
+        ensures value { result.now ≡ spanned_node self.old }
+    {
+        &mut *self.node
+    }
+
+    pub fn into_inner(self) -> T
+        ensures { result ≡ spanned_node self }
+    {
+        Box::into_inner(self.node)
+    }
+}
+
+impl<T: PartialEq> PartialEq for Spanned<T> {
+    ghost eq = { λ a b. T.eq (spanned_node a) (spanned_node b) };
+
+    ghost laws = { on_per spanned_node T.laws };
+
+    fn eq(&self, other: &Self) -> bool {
+        *self.node == *other.node
+    }
+}
+
+impl<T: fmt::Display> fmt::Display for Spanned<T> {
+    ghost output = { λ s. T.output (spanned_node s) };
+
+    fn fmt<W: fmt::Write>(&self, f: &mut fmt::Formatter<W>) -> fmt::Result {
+        self.node.fmt(f)
+    }
+}
+
+/// A copy that asks for memory and is equal to the original field by field, spans included.
+pub trait CloneWith: Sized + Drop {
+    // The second is a copy of the first.
+    ghost copies: { Self → Self → Type 0 };
+
+    fn clone_with(&self, alloc: Global) -> Result<Self, AllocError>
+        ensures copy { IfOk result (λ copy. copies self.now copy) };
+}
+
+impl<T: CloneWith> CloneWith for Spanned<T> {
+    ghost copies = { λ s copy. (spanned_span copy ≡ spanned_span s) × T.copies (spanned_node s) (spanned_node copy) };
+
+    fn clone_with(&self, alloc: Global) -> Result<Self, AllocError> {
+        Spanned::new(alloc, self.node.clone_with(alloc)?, self.span())
+    }
+}
+
+impl<T: CloneWith> Spanned<T> {
+    pub fn clone(&self, alloc: Global) -> Result<Self, AllocError>
+        ensures span { IfOk result (λ copy. spanned_span copy ≡ spanned_span self.now) }
+        ensures node { IfOk result (λ copy. T.copies (spanned_node self.now) (spanned_node copy)) }
+    {
+        self.clone_with(alloc)
+    }
+}
+
+#[cfg(test)]
+mod tests {
+    use super::*;
+    use std::test::Fail;
+
+    #[test]
+    fn spans(rt: HostRuntime) {
+        let span = Span::new(2..14);
+        assert_eq!(rt; span, Span { start: 2, end: 14 });
+        assert_eq!(rt; Span::from(2..14), span);
+        assert_eq!(rt; Span::new(span.range()), span);
+        assert_eq!(rt; span.extend(Span::new(15..30)), Span::new(2..30));
+        assert_eq!(rt; Span::default(), Span::new(0..0));
+    }
+
+    #[test]
+    fn nodes(rt: HostRuntime) -> Result<(), Fail> {
+        let mut node = Spanned::new(rt.alloc(), 31u32, Span::new(25..29))?;
+        let default = Spanned::with_default_span(rt.alloc(), 31u32)?;
+        let boxed = Spanned::new_boxed(Box::new(rt.alloc(), 32u32)?, Span::new(25..29));
+        assert_eq!(rt; node.span(), Span::new(25..29));
+        assert_eq!(rt; default.span(), Span::new(0..0));
+        assert_eq!(rt; boxed.span(), node.span());
+        assert_eq!(rt; *node.node(), 31);
+        assert_eq!(rt; format!(in rt.alloc(); "{node}")?.as_str(), "31");
+
+        // Where two nodes stand does not tell them apart.
+        assert!(rt; node == default);
+        assert!(rt; node != boxed);
+
+        *node.node_mut() = 32;
+        assert!(rt; node == boxed);
+        assert_eq!(rt; node.into_inner(), 32);
+        Ok(())
+    }
+}

@@ -1,0 +1,175 @@
+-- The pieces of a printed module: each is the token at the front of what follows, and their text is the printed one.
+use Rattle.std.proofs.Common.{◌≡◌, ℕ, ◌^◌, Bool, true, false, cond, refl, sym, ap, ap₂, subst, List, [], ◌∷◌, ◌++◌, Option, Some, None, ◌∙◌, lit<, append_assoc, chars}
+use Rattle.std.specs.Prelude.{codes}
+use Rattle.std.proofs.lemmas.Bool.{true≢false}
+use Rattle.unicode_ident.specs.Ident.{is_xid_continue}
+use Rattle.unicode_ident.proofs.IdentLemmas.{is_xid_continue-ascii}
+use Rattle.wgsl_model.specs.Classes.{KwAlias, KwConst, Ident, SymEqual, SymColon, SymSemicolon}
+use Rattle.wgsl_model.specs.Kind.{Kind, plain, named}
+use Rattle.wgsl_model.specs.Trees.{Spanned, LiteralExpression, boolean, abstract_int, i32, u32, Expression, literal, TypeExpression, DeclarationKind, constant, Declaration, TypeAlias, GlobalDeclaration, void, declaration, type_alias}
+use Rattle.wgsl_model.specs.Printing.{print_literal, is_void, without_voids}
+use Rattle.wgsl_theory.specs.Canonical.{literal_token, expression_tokens, kind_tokens, typed_tokens, initializer_tokens, declaration_tokens, global_declaration_tokens, all_tokens}
+use Rattle.wgsl_theory.proofs.Steps.{Ends}
+use Rattle.wgsl_theory.proofs.Names.{IsName, name_stands, alias_stands, const_stands, true_stands, false_stands, equal_stands, semicolon_stands, integer_stands, signed_stands, unsigned_stands}
+use Rattle.wgsl_theory.proofs.Pieces.{Piece, blank, word, render, kinds, Stands, Fits, kinds-append}
+use Rattle.wgsl_theory.proofs.Sound.{at_whole, IsSoundLiteral, IsSoundExpression, IsSoundInitializer, IsSound, AllSound}
+
+-- ---- the pieces
+
+-- an expression
+abbrev pub expression_pieces : Expression → List Piece
+expression_pieces (literal l) = word (print_literal l) (literal_token l) ∷ []
+
+-- a name, by its characters
+abbrev pub name_piece : List ℕ → Piece
+name_piece bytes = word (chars bytes) (named Ident bytes)
+
+-- `;`
+abbrev pub semicolon : Piece
+semicolon = word (codes ";") (plain SymSemicolon)
+
+-- `:` and a type, if there is one
+abbrev pub typed_pieces : Option TypeExpression → List Piece
+typed_pieces None = []
+typed_pieces (Some t) = word (codes ":") (plain SymColon) ∷ (blank 32 ∷ (name_piece t.ident ∷ []))
+
+-- `=` and a value, if there is one
+abbrev pub initializer_pieces : Option (Spanned Expression) → List Piece
+initializer_pieces None = []
+initializer_pieces (Some e) = blank 32 ∷ (word (codes "=") (plain SymEqual) ∷ (blank 32 ∷ expression_pieces e.node))
+
+-- the keyword of a kind of value
+abbrev pub kind_pieces : DeclarationKind → List Piece
+kind_pieces constant = word (codes "const") (plain KwConst) ∷ []
+
+-- the declaration of a value
+abbrev pub declaration_pieces : Declaration → List Piece
+declaration_pieces d = kind_pieces d.kind ++ (blank 32 ∷ (name_piece d.ident ∷ (typed_pieces d.ty ++ (initializer_pieces d.initializer ++ (semicolon ∷ [])))))
+
+-- a type alias
+abbrev pub type_alias_pieces : TypeAlias → List Piece
+type_alias_pieces a = word (codes "alias") (plain KwAlias) ∷ (blank 32 ∷ (name_piece a.ident ∷ (blank 32 ∷ (word (codes "=") (plain SymEqual) ∷ (blank 32 ∷ (name_piece a.ty.ident ∷ (semicolon ∷ [])))))))
+
+-- a declaration
+abbrev pub global_pieces : GlobalDeclaration → List Piece
+global_pieces void = semicolon ∷ []
+global_pieces (declaration d) = declaration_pieces d
+global_pieces (type_alias a) = type_alias_pieces a
+
+-- declarations with an empty line between them, and a line end
+abbrev pub all_pieces : List (Spanned GlobalDeclaration) → List Piece
+all_pieces [] = blank 10 ∷ []
+all_pieces (d ∷ []) = global_pieces d.node ++ (blank 10 ∷ [])
+all_pieces (d ∷ (e ∷ ds)) = global_pieces d.node ++ (blank 10 ∷ (blank 10 ∷ all_pieces (e ∷ ds)))
+
+-- ---- the declarations that are printed of a derived unit
+
+-- sound, and not empty
+abbrev pub IsKept : GlobalDeclaration → Type 0
+IsKept n = (is_void n ≡ false) × IsSound n
+
+-- each is sound and not empty
+abbrev pub AllKept : List (Spanned GlobalDeclaration) → Type 0
+AllKept [] = Unit {0}
+AllKept (d ∷ ds) = IsKept d.node × AllKept ds
+
+kept_more : (b : Bool) (d : Spanned GlobalDeclaration) (ds : List (Spanned GlobalDeclaration)) → is_void d.node ≡ b → IsSound d.node → AllKept ds → AllKept (cond b ds (d ∷ ds))
+kept_more true d ds e h rest = rest
+kept_more false d ds e h rest = ((e, h), rest)
+
+-- taking the empty declarations away leaves those
+pub without_voids-kept : (ds : List (Spanned GlobalDeclaration)) → AllSound ds → AllKept (without_voids ds)
+without_voids-kept [] h = tt
+without_voids-kept (d ∷ ds) h = kept_more (is_void d.node) d (without_voids ds) refl h.0 (without_voids-kept ds h.1)
+
+-- ---- they fit
+
+-- a space and `;` continue no word
+space_ends : is_xid_continue 32 ≡ false
+space_ends = is_xid_continue-ascii 32 (lit< tt)
+
+semicolon_ends : is_xid_continue 59 ≡ false
+semicolon_ends = is_xid_continue-ascii 59 (lit< tt)
+
+literal_stands : (l : LiteralExpression) (text : List ℕ) → IsSoundLiteral l → Stands (print_literal l) (literal_token l) (59 ∷ text)
+literal_stands (boolean true) text h = true_stands (59 ∷ text) semicolon_ends
+literal_stands (boolean false) text h = false_stands (59 ∷ text) semicolon_ends
+literal_stands (abstract_int z) text h = at_whole (2 ^ 63) (λ y. Stands (print_literal (abstract_int y)) (literal_token (abstract_int y)) (59 ∷ text)) z h (λ n l. integer_stands n (59 ∷ text) l semicolon_ends)
+literal_stands (i32 z) text h = at_whole (2 ^ 31) (λ y. Stands (print_literal (i32 y)) (literal_token (i32 y)) (59 ∷ text)) z h (λ n l. signed_stands n (59 ∷ text) l)
+literal_stands (u32 n) text h = unsigned_stands n (59 ∷ text) h
+
+expression_fits : (e : Expression) (more : List Piece) → IsSoundExpression e → Fits more → Fits (expression_pieces e ++ (semicolon ∷ more))
+expression_fits (literal l) more h rest = (literal_stands l (render more) h, (semicolon_stands (render more), rest))
+
+initializer_fits : (ty : Option TypeExpression) (i : Option (Spanned Expression)) (more : List Piece) → ty ≡ None → IsSoundInitializer i → Fits more
+    → Ends is_xid_continue (render ((typed_pieces ty ++ (initializer_pieces i ++ (semicolon ∷ []))) ++ more)) × Fits ((typed_pieces ty ++ (initializer_pieces i ++ (semicolon ∷ []))) ++ more)
+initializer_fits (Some t) i more e h rest = absurd (cc)
+initializer_fits None None more e h rest = absurd h
+initializer_fits None (Some v) more e h rest =
+    let value : Fits ((expression_pieces v.node ++ (semicolon ∷ [])) ++ more) = subst Fits (sym (append_assoc (expression_pieces v.node) (semicolon ∷ []) more)) (expression_fits v.node more h rest) in
+    (space_ends, (refl, (equal_stands _ refl, (refl, value))))
+
+const_fits : (k : DeclarationKind) (name : List ℕ) (rest more : List Piece) → IsName name → Ends is_xid_continue (render (rest ++ more)) → Fits (rest ++ more) → Fits ((kind_pieces k ++ (blank 32 ∷ (name_piece name ∷ rest))) ++ more)
+const_fits constant name rest more n ends fits = (const_stands _ space_ends, (refl, (name_stands name (render (rest ++ more)) n ends, fits)))
+
+declaration_fits : (n : GlobalDeclaration) (more : List Piece) → IsKept n → Fits more → Fits (global_pieces n ++ more)
+declaration_fits void more h fits = absurd (true≢false h.0)
+declaration_fits (declaration d) more h fits =
+    let rest = initializer_fits d.ty d.initializer more h.1.untyped h.1.value fits in
+    const_fits d.kind d.ident (typed_pieces d.ty ++ (initializer_pieces d.initializer ++ (semicolon ∷ []))) more h.1.name rest.0 rest.1
+declaration_fits (type_alias a) more h fits =
+    (alias_stands _ space_ends, (refl, (name_stands a.ident _ h.1.0 space_ends, (refl, (equal_stands _ refl, (refl, (name_stands a.ty.ident _ h.1.1 semicolon_ends, (semicolon_stands _, fits))))))))
+
+-- each word of them is the token at the front of what follows
+pub all_fit : (ds : List (Spanned GlobalDeclaration)) → AllKept ds → Fits (all_pieces ds)
+all_fit [] h = (refl, tt)
+all_fit (d ∷ []) h = declaration_fits d.node (blank 10 ∷ []) h.0 (refl, tt)
+all_fit (d ∷ (e ∷ ds)) h = declaration_fits d.node (blank 10 ∷ (blank 10 ∷ all_pieces (e ∷ ds))) h.0 (refl, (refl, all_fit (e ∷ ds) h.1))
+
+-- ---- their kinds are the tokens that are written from the tree
+
+expression_kinds : (e : Expression) → kinds (expression_pieces e) ≡ expression_tokens e
+expression_kinds (literal l) = refl
+
+typed_kinds : (t : Option TypeExpression) → kinds (typed_pieces t) ≡ typed_tokens t
+typed_kinds None = refl
+typed_kinds (Some t) = refl
+
+initializer_kinds : (i : Option (Spanned Expression)) → kinds (initializer_pieces i) ≡ initializer_tokens i
+initializer_kinds None = refl
+initializer_kinds (Some e) = ap (λ ks. plain SymEqual ∷ ks) (expression_kinds e.node)
+
+kind_kinds : (k : DeclarationKind) → kinds (kind_pieces k) ≡ kind_tokens k
+kind_kinds constant = refl
+
+declaration_kinds : (d : Declaration) → kinds (declaration_pieces d) ≡ declaration_tokens d
+declaration_kinds d =
+    kinds-append (kind_pieces d.kind) _
+    ∙ ap₂ (λ (a b : List Kind). a ++ (named Ident d.ident ∷ b)) (kind_kinds d.kind)
+    (kinds-append (typed_pieces d.ty) _ ∙ ap₂ (λ (a b : List Kind). a ++ b) (typed_kinds d.ty)
+    (kinds-append (initializer_pieces d.initializer) _ ∙ ap (λ (a : List Kind). a ++ (plain SymSemicolon ∷ [])) (initializer_kinds d.initializer)))
+
+global_kinds : (n : GlobalDeclaration) → IsKept n → kinds (global_pieces n) ≡ global_declaration_tokens n
+global_kinds void h = absurd (true≢false h.0)
+global_kinds (declaration d) h = declaration_kinds d
+global_kinds (type_alias a) h = refl
+
+-- their words have the kinds that are written from the tree
+pub all_kinds : (ds : List (Spanned GlobalDeclaration)) → AllKept ds → kinds (all_pieces ds) ≡ all_tokens ds
+all_kinds [] h = refl
+all_kinds (d ∷ []) h = kinds-append (global_pieces d.node) (blank 10 ∷ []) ∙ ap (λ (a : List Kind). a ++ []) (global_kinds d.node h.0)
+all_kinds (d ∷ (e ∷ ds)) h = kinds-append (global_pieces d.node) _ ∙ ap₂ (λ (a b : List Kind). a ++ b) (global_kinds d.node h.0) (all_kinds (e ∷ ds) h.1)
+
+tokens_without : (b : Bool) (d : Spanned GlobalDeclaration) (ds es : List (Spanned GlobalDeclaration)) → is_void d.node ≡ b → all_tokens ds ≡ all_tokens es → all_tokens (cond b ds (d ∷ ds)) ≡ all_tokens (d ∷ es)
+tokens_without true d ds es e h = h ∙ go d.node e
+  where
+    go : (n : GlobalDeclaration) → is_void n ≡ true → all_tokens es ≡ global_declaration_tokens n ++ all_tokens es
+    go void e = refl
+    go (declaration d) e = absurd (cc)
+    go (type_alias a) e = absurd (cc)
+tokens_without false d ds es e h = ap (λ (a : List Kind). global_declaration_tokens d.node ++ a) h
+
+-- an empty declaration has no tokens
+pub without_voids-tokens : (ds : List (Spanned GlobalDeclaration)) → all_tokens (without_voids ds) ≡ all_tokens ds
+without_voids-tokens [] = refl
+without_voids-tokens (d ∷ ds) = tokens_without (is_void d.node) d (without_voids ds) ds refl (without_voids-tokens ds)

@@ -1,0 +1,155 @@
+-- The printed text is UTF-8, and its characters are those of its pieces.
+use Rattle.std.proofs.Common.{◌≡◌, ℕ, ◌^◌, ◌<◌, true, false, refl, sym, ap, ap₂, subst, List, [], ◌∷◌, ◌++◌, Option, Some, None, ◌∙◌, arith, append_assoc, append-nil}
+use Rattle.std.specs.Prelude.{codes}
+use Rattle.std.specs.Fmt.{decimal}
+use Rattle.std.specs.Str.{IsUtf8, chars}
+use lib.Utf8.{encode}
+use Rattle.std.proofs.lemmas.Str.{IsUtf8-append, IsUtf8-from_ascii, chars-append, chars-IsAscii}
+use Rattle.std.proofs.lemmas.Bool.{true≢false}
+use Rattle.std.proofs.lemmas.Fmt.{IsAscii-decimal}
+use Rattle.wgsl_model.specs.Trees.{Spanned, LiteralExpression, boolean, abstract_int, i32, u32, Expression, literal, TypeExpression, DeclarationKind, constant, Declaration, GlobalDeclaration, void, declaration, type_alias}
+use Rattle.wgsl_model.specs.Printing.{joined, print_literal, print_expression, print_kind, print_typed, print_initializer, print_declaration, print_global_declaration, texts_of}
+use Rattle.wgsl_theory.proofs.Names.{IsName}
+use Rattle.wgsl_theory.proofs.Pieces.{Piece, blank, render, render-append}
+use Rattle.wgsl_theory.proofs.Sound.{at_whole, IsSoundLiteral, IsSoundExpression, IsSoundInitializer}
+use Rattle.wgsl_theory.proofs.Printed.{expression_pieces, typed_pieces, initializer_pieces, kind_pieces, name_piece, semicolon, declaration_pieces, global_pieces, all_pieces, IsKept, AllKept}
+
+-- bytes that are a text with these characters
+pub record Reads (bytes characters : List ℕ) : Type 0 where
+  pub utf8 : IsUtf8 bytes
+  pub chars_of : chars bytes ≡ characters
+
+Reads-append : (a b x y : List ℕ) → Reads a x → Reads b y → Reads (a ++ b) (x ++ y)
+Reads-append a b x y h k = record {
+  utf8 = IsUtf8-append a b h.utf8 k.utf8;
+  chars_of = chars-append a b h.utf8 ∙ ap₂ (λ (u v : List ℕ). u ++ v) h.chars_of k.chars_of;
+}
+
+name_reads : (bytes : List ℕ) → IsName bytes → Reads bytes (chars bytes)
+name_reads bytes h = record { utf8 = h.utf8; chars_of = refl }
+
+decimal_reads : (n : ℕ) → n < 2 ^ 64 → Reads (decimal n) (decimal n)
+decimal_reads n h = record { utf8 = IsUtf8-from_ascii (decimal n) (IsAscii-decimal n h); chars_of = chars-IsAscii (decimal n) (IsAscii-decimal n h) }
+
+-- ---- the words that are written out
+
+nil_reads : Reads [] []
+unfolding chars
+nil_reads = record { utf8 = ([], (refl, refl)); chars_of = refl }
+
+true_reads : Reads (codes "true") (codes "true")
+unfolding chars encode
+true_reads = record { utf8 = (codes "true", (refl, refl)); chars_of = refl }
+
+false_reads : Reads (codes "false") (codes "false")
+unfolding chars encode
+false_reads = record { utf8 = (codes "false", (refl, refl)); chars_of = refl }
+
+i_reads : Reads (codes "i") (codes "i")
+unfolding chars encode
+i_reads = record { utf8 = (codes "i", (refl, refl)); chars_of = refl }
+
+u_reads : Reads (codes "u") (codes "u")
+unfolding chars encode
+u_reads = record { utf8 = (codes "u", (refl, refl)); chars_of = refl }
+
+semicolon_reads : Reads (codes ";") (codes ";")
+unfolding chars encode
+semicolon_reads = record { utf8 = (codes ";", (refl, refl)); chars_of = refl }
+
+const_reads : Reads (codes "const") (codes "const")
+unfolding chars encode
+const_reads = record { utf8 = (codes "const", (refl, refl)); chars_of = refl }
+
+space_reads : Reads (codes " ") (codes " ")
+unfolding chars encode
+space_reads = record { utf8 = (codes " ", (refl, refl)); chars_of = refl }
+
+equal_reads : Reads (codes " = ") (codes " = ")
+unfolding chars encode
+equal_reads = record { utf8 = (codes " = ", (refl, refl)); chars_of = refl }
+
+alias_reads : Reads (codes "alias ") (codes "alias ")
+unfolding chars encode
+alias_reads = record { utf8 = (codes "alias ", (refl, refl)); chars_of = refl }
+
+line_reads : Reads (codes "\n") (codes "\n")
+unfolding chars encode
+line_reads = record { utf8 = (codes "\n", (refl, refl)); chars_of = refl }
+
+lines_read : Reads (codes "\n\n") (codes "\n\n")
+unfolding chars encode
+lines_read = record { utf8 = (codes "\n\n", (refl, refl)); chars_of = refl }
+
+-- ---- declarations
+
+literal_reads : (l : LiteralExpression) → IsSoundLiteral l → Reads (print_literal l) (print_literal l)
+literal_reads (boolean true) h = true_reads
+literal_reads (boolean false) h = false_reads
+literal_reads (abstract_int z) h = at_whole (2 ^ 63) (λ y. Reads (print_literal (abstract_int y)) (print_literal (abstract_int y))) z h (λ n l. decimal_reads n (omega (arith, l)))
+literal_reads (i32 z) h = at_whole (2 ^ 31) (λ y. Reads (print_literal (i32 y)) (print_literal (i32 y))) z h (λ n l. Reads-append (decimal n) (codes "i") (decimal n) (codes "i") (decimal_reads n (omega (arith, l))) i_reads)
+literal_reads (u32 n) h = Reads-append (decimal n) (codes "u") (decimal n) (codes "u") (decimal_reads n (omega (arith, h))) u_reads
+
+expression_reads : (e : Expression) → IsSoundExpression e → Reads (print_expression e) (render (expression_pieces e))
+expression_reads (literal l) h = subst (Reads (print_literal l)) (sym (append-nil (print_literal l))) (literal_reads l h)
+
+initializer_reads : (i : Option (Spanned Expression)) → IsSoundInitializer i → Reads (print_initializer i) (render (initializer_pieces i))
+initializer_reads None h = absurd h
+initializer_reads (Some e) h = Reads-append (codes " = ") (print_expression e.node) (codes " = ") (render (expression_pieces e.node)) equal_reads (expression_reads e.node h)
+
+typed_reads : (t : Option TypeExpression) → t ≡ None → Reads (print_typed t) (render (typed_pieces t))
+typed_reads None e = nil_reads
+typed_reads (Some t) e = absurd (cc)
+
+kind_reads : (k : DeclarationKind) → Reads (print_kind k) (render (kind_pieces k))
+kind_reads constant = const_reads
+
+-- sums of texts in a row
+row_of_six : (a b c d e f : List ℕ) → ((((a ++ b) ++ c) ++ d) ++ e) ++ f ≡ a ++ (b ++ (c ++ (d ++ (e ++ f))))
+row_of_six a b c d e f = simp append_assoc
+
+row_of_five : (a b c d e : List ℕ) → (((a ++ b) ++ c) ++ d) ++ e ≡ a ++ (b ++ (c ++ (d ++ e)))
+row_of_five a b c d e = simp append_assoc
+
+row_of_four : (a b c d : List ℕ) → ((a ++ b) ++ c) ++ d ≡ a ++ (b ++ (c ++ d))
+row_of_four a b c d = simp append_assoc
+
+declaration_text : (d : Declaration) → render (declaration_pieces d) ≡ render (kind_pieces d.kind) ++ (codes " " ++ (chars d.ident ++ (render (typed_pieces d.ty) ++ (render (initializer_pieces d.initializer) ++ codes ";"))))
+declaration_text d =
+    let tail : List Piece = initializer_pieces d.initializer ++ (semicolon ∷ []) in
+    render-append (kind_pieces d.kind) (blank 32 ∷ (name_piece d.ident ∷ (typed_pieces d.ty ++ tail)))
+    ∙ ap (λ x. render (kind_pieces d.kind) ++ (codes " " ++ (chars d.ident ++ x))) (render-append (typed_pieces d.ty) tail ∙ ap (λ x. render (typed_pieces d.ty) ++ x) (render-append (initializer_pieces d.initializer) (semicolon ∷ [])))
+
+global_reads : (n : GlobalDeclaration) → IsKept n → Reads (print_global_declaration n) (render (global_pieces n))
+global_reads void h = absurd (true≢false h.0)
+global_reads (declaration d) h =
+    subst (Reads (print_declaration d)) (row_of_six (render (kind_pieces d.kind)) (codes " ") (chars d.ident) (render (typed_pieces d.ty)) (render (initializer_pieces d.initializer)) (codes ";") ∙ sym (declaration_text d))
+    (Reads-append _ (codes ";") _ (codes ";")
+    (Reads-append _ (print_initializer d.initializer) _ (render (initializer_pieces d.initializer))
+    (Reads-append _ (print_typed d.ty) _ (render (typed_pieces d.ty))
+    (Reads-append _ d.ident _ (chars d.ident)
+    (Reads-append (print_kind d.kind) (codes " ") (render (kind_pieces d.kind)) (codes " ") (kind_reads d.kind) space_reads)
+    (name_reads d.ident h.1.name)) (typed_reads d.ty h.1.untyped)) (initializer_reads d.initializer h.1.value)) semicolon_reads)
+global_reads (type_alias a) h =
+    subst (Reads (print_global_declaration (type_alias a))) (row_of_five (codes "alias ") (chars a.ident) (codes " = ") (chars a.ty.ident) (codes ";"))
+    (Reads-append _ (codes ";") _ (codes ";")
+    (Reads-append _ a.ty.ident _ (chars a.ty.ident)
+    (Reads-append _ (codes " = ") _ (codes " = ")
+    (Reads-append (codes "alias ") a.ident (codes "alias ") (chars a.ident) alias_reads (name_reads a.ident h.1.0))
+    equal_reads) (name_reads a.ty.ident h.1.1)) semicolon_reads)
+
+-- the whole printed text
+pub all_read : (ds : List (Spanned GlobalDeclaration)) → AllKept ds → Reads (joined (codes "\n\n") (texts_of ds) ++ codes "\n") (render (all_pieces ds))
+all_read [] h = line_reads
+all_read (d ∷ []) h =
+    let text = print_global_declaration d.node in
+    subst (Reads (text ++ codes "\n")) (sym (render-append (global_pieces d.node) (blank 10 ∷ [])))
+    (Reads-append text (codes "\n") (render (global_pieces d.node)) (codes "\n") (global_reads d.node h.0) line_reads)
+all_read (d ∷ (e ∷ ds)) h =
+    let text = print_global_declaration d.node in
+    let more = joined (codes "\n\n") (texts_of (e ∷ ds)) in
+    let rest = all_pieces (e ∷ ds) in
+    let all = Reads-append text (codes "\n\n" ++ (more ++ codes "\n")) (render (global_pieces d.node)) (codes "\n\n" ++ render rest) (global_reads d.node h.0)
+    (Reads-append (codes "\n\n") (more ++ codes "\n") (codes "\n\n") (render rest) lines_read (all_read (e ∷ ds) h.1)) in
+    subst (λ x. Reads x (render (global_pieces d.node ++ (blank 10 ∷ (blank 10 ∷ rest))))) (sym (row_of_four text (codes "\n\n") more (codes "\n")))
+    (subst (Reads (text ++ (codes "\n\n" ++ (more ++ codes "\n")))) (sym (render-append (global_pieces d.node) (blank 10 ∷ (blank 10 ∷ rest)))) all)

@@ -1,0 +1,68 @@
+-- The tokens that a printed module has, written from its tree: no empty declaration, and no places.
+use Rattle.std.specs.Prelude.{◌≡◌, ℕ, pos, if◌then◌else◌, List, [], ◌∷◌, ◌++◌, Option, Some, None, map, chars}
+use Rattle.grammar.specs.Tokens.{Token, Payload.number}
+use Rattle.grammar.specs.Faults.{Ending.finished}
+use Rattle.wgsl_model.specs.Classes.{SymEqual, SymColon, SymSemicolon, KwAlias, KwConst, KwTrue, KwFalse, Ident, AbstractInt, I32, U32}
+use Rattle.wgsl_model.specs.Kind.{Kind, plain, named}
+use Rattle.wgsl_model.specs.Trees.{Spanned, LiteralExpression, boolean, abstract_int, i32, u32, Expression, literal, TypeExpression, DeclarationKind, constant, Declaration, TypeAlias, GlobalDeclaration, void, declaration, type_alias, TranslationUnit}
+use Rattle.wgsl_model.specs.TokenList.{IsTokenList}
+
+-- a literal: `true`, `false` or a number
+abbrev pub literal_token : LiteralExpression → Kind
+literal_token (boolean b) = plain (if b then KwTrue else KwFalse)
+literal_token (abstract_int n) = record { class = AbstractInt; payload = number n }
+literal_token (i32 n) = record { class = I32; payload = number n }
+literal_token (u32 n) = record { class = U32; payload = number (pos n) }
+
+-- an expression
+abbrev pub expression_tokens : Expression → List Kind
+expression_tokens (literal l) = literal_token l ∷ []
+
+-- a type: its name
+abbrev pub type_tokens : TypeExpression → List Kind
+type_tokens t = named Ident t.ident ∷ []
+
+-- the keyword of a kind of value
+abbrev pub kind_tokens : DeclarationKind → List Kind
+kind_tokens constant = plain KwConst ∷ []
+
+-- `:` and a type, if there is one
+abbrev pub typed_tokens : Option TypeExpression → List Kind
+typed_tokens None = []
+typed_tokens (Some t) = plain SymColon ∷ type_tokens t
+
+-- `=` and a value, if there is one
+abbrev pub initializer_tokens : Option (Spanned Expression) → List Kind
+initializer_tokens None = []
+initializer_tokens (Some e) = plain SymEqual ∷ expression_tokens e.node
+
+-- the declaration of a value
+abbrev pub declaration_tokens : Declaration → List Kind
+declaration_tokens d = kind_tokens d.kind ++ (named Ident d.ident ∷ (typed_tokens d.ty ++ (initializer_tokens d.initializer ++ (plain SymSemicolon ∷ []))))
+
+-- a type alias
+abbrev pub type_alias_tokens : TypeAlias → List Kind
+type_alias_tokens a = plain KwAlias ∷ (named Ident a.ident ∷ (plain SymEqual ∷ (type_tokens a.ty ++ (plain SymSemicolon ∷ []))))
+
+-- a declaration; an empty one has none
+abbrev pub global_declaration_tokens : GlobalDeclaration → List Kind
+global_declaration_tokens void = []
+global_declaration_tokens (declaration d) = declaration_tokens d
+global_declaration_tokens (type_alias a) = type_alias_tokens a
+
+-- the declarations' tokens one after another
+abbrev pub all_tokens : List (Spanned GlobalDeclaration) → List Kind
+all_tokens [] = []
+all_tokens (d ∷ ds) = global_declaration_tokens d.node ++ all_tokens ds
+
+-- the tokens that the printed module has, written from its tree
+abbrev pub canonical : TranslationUnit → List Kind
+canonical u = all_tokens u.global_declarations
+
+-- a token without its place
+abbrev pub without_place : Token → Kind
+without_place t = record { class = t.class; payload = t.payload }
+
+-- the tokens of a text, places aside, are these, and end with the text
+abbrev pub HasTokens : List ℕ → List Kind → Type 0
+HasTokens text kinds = (ts : List Token) × IsTokenList (chars text) ts finished × (map without_place ts ≡ kinds)

@@ -1,0 +1,2 @@
+//! What holds of the definitions of tokens, grammar and printed text alone.
+#![tactic(auto)]
