@@ -23,7 +23,7 @@ IsFaulty {Value} body n x xs ys = (v : Value n) × Part unchecked body n v xs ys
 abbrev pub IsEnded : {N : Type 0} {Value : N → Type 0} (body : (n : N) → Grammar N Value (Value n)) → N → List Token → List Token → Type 0
 IsEnded body n xs ys = (t : Token) (zs : List Token) → ys ≡ t ∷ zs → IsViable body n (tokens_between xs ys ++ (t ∷ [])) → ⊥
 
--- the class of the last token, or c where there is none
+-- the class of the last token, or c where there is none; no class that a symbol stands apart from may be c
 abbrev pub last_class : ℕ → List Token → ℕ
 last_class c [] = c
 last_class c (t ∷ ts) = last_class t.class ts
@@ -50,7 +50,7 @@ IsFirstFault body apart n ts x us = (p : List Token) × (ts ≡ p ++ us) × IsVi
 abbrev pub IsUnexpected : {N : Type 0} {Value : N → Type 0} (body : (n : N) → Grammar N Value (Value n)) (apart : N → List ℕ) (n : N) → List Token → Token → List Token → Type 0
 IsUnexpected body apart n ts t us = (p : List Token) × (ts ≡ p ++ (t ∷ us)) × IsViable body n p × (IsViable body n (p ++ (t ∷ [])) → ⊥) × NoFaultBefore body apart ts (suc (length us))
 
--- all tokens begin a sentence, and none is faulty
+-- all tokens begin a sentence, and there is no checked fault
 abbrev pub IsOpen : {N : Type 0} {Value : N → Type 0} (body : (n : N) → Grammar N Value (Value n)) (apart : N → List ℕ) (n : N) → List Token → Type 0
 IsOpen body apart n ts = IsViable body n ts × NoFaultBefore body apart ts 0
 

@@ -1,7 +1,7 @@
 -- Errors as plain data.
 use Rattle.std.specs.Prelude.{ℕ, List, [], ◌∷◌, map, string_bytes}
 use Rattle.grammar.specs.Tokens as plain
-use Rattle.wgsl_model.specs.Faults.{extra_token_kind, diagnostic_severity_kind, attribute_kind, var_template_kind, out_of_memory_kind}
+use Rattle.wgsl_model.specs.Faults.{invalid_token_kind, reserved_word_kind, unexpected_token_kind, unexpected_end_kind, extra_token_kind, diagnostic_severity_kind, attribute_kind, var_template_kind, out_of_memory_kind}
 use Rattle.wgsl_span.specs.View.{span_view}
 use Rattle.wgsl_error.specs.declared.Error.{Error}
 use Rattle.wgsl_error.specs.declared.ErrorKind.{ErrorKind}
@@ -11,10 +11,10 @@ use Rattle.wgsl_error.specs.Kinds.{kind_of}
 
 -- the number of a kind
 abbrev pub kind_number : ErrorKind → ℕ
-kind_number error.InvalidToken = 1
-kind_number (error.ReservedWord word) = 2
-kind_number (error.UnexpectedToken token expected) = 3
-kind_number (error.UnexpectedEof expected) = 4
+kind_number error.InvalidToken = invalid_token_kind
+kind_number (error.ReservedWord word) = reserved_word_kind
+kind_number (error.UnexpectedToken token expected) = unexpected_token_kind
+kind_number (error.UnexpectedEof expected) = unexpected_end_kind
 kind_number (error.ExtraToken token) = extra_token_kind
 kind_number error.DiagnosticSeverity = diagnostic_severity_kind
 kind_number (error.Attribute name problem) = attribute_kind

@@ -87,7 +87,8 @@ fn write_message<W: fmt::Write>(kind: &ErrorKind, f: &mut fmt::Formatter<W>) -> 
 
 /// Writes what was expected, with commas between.
 fn write_expected<W: fmt::Write>(expected: &[String], f: &mut fmt::Formatter<W>) -> fmt::Result
-    ensures { let text = print_expected (map string_bytes expected.now) in DisplaysOnOk W.write_str_gives f.old result (Some text) f.new }
+    ensures { let text = print_expected (map string_bytes expected.now) in
+        DisplaysOnOk W.write_str_gives f.old result (Some text) f.new }
 {
     f.write_str(", expected `")?;
     let mut before = "";

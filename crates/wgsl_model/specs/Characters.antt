@@ -1,8 +1,8 @@
--- Blank space and line breaks (WGSL, section 3.2).
+-- Blank space and line breaks (WGSL, section 3.2). Blank space is wider here than in the draft, which has Unicode's pattern white space.
 use Rattle.std.specs.Prelude.{ℕ, Bool, ◌||◌, ◌==◌}
 use Rattle.std.specs.Char.{is_whitespace}
 
--- blank space: Unicode's white space, and the marks U+200E and U+200F
+-- blank space: every character of Unicode's White_Space, and the marks U+200E and U+200F
 abbrev pub is_blank : ℕ → Bool
 is_blank c = is_whitespace c || (c == 0x200E || c == 0x200F)
 

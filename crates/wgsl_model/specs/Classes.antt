@@ -1,4 +1,4 @@
--- The classes of tokens, as numbers: 46 symbols, 26 keywords, and the tokens that hold something (WGSL, section 3).
+-- The classes of tokens, as numbers: 46 symbols, 26 keywords, and the others (WGSL, section 3.4).
 use Rattle.std.specs.Prelude.{ℕ}
 
 -- the symbol `&`

@@ -15,21 +15,18 @@ next_place p = if nat_lt p last_place then p + 1 else p
 abbrev pub span_of_token : Token → Span
 span_of_token t = record { start = t.start; end = t.end }
 
--- text that begins no token, or a whole number out of range
-abbrev pub invalid_token : Span → Fault
-invalid_token span = record { kind = 1; texts = []; span = span }
+-- the kinds of faults
+abbrev pub invalid_token_kind : ℕ
+invalid_token_kind = 1
 
--- a reserved word where a name is wanted
-abbrev pub reserved_word : List ℕ → Span → Fault
-reserved_word word span = record { kind = 2; texts = word ∷ []; span = span }
+abbrev pub reserved_word_kind : ℕ
+reserved_word_kind = 2
 
--- a token that cannot stand where it stands
-abbrev pub unexpected_token : Token → Fault
-unexpected_token t = record { kind = 3; texts = token_text t ∷ []; span = span_of_token t }
+abbrev pub unexpected_token_kind : ℕ
+unexpected_token_kind = 3
 
--- the tokens end where more is wanted: one byte behind the last token's end
-abbrev pub unexpected_end : ℕ → Fault
-unexpected_end place = record { kind = 4; texts = []; span = record { start = place; end = next_place place } }
+abbrev pub unexpected_end_kind : ℕ
+unexpected_end_kind = 4
 
 -- a token too many, which no parser reports
 abbrev pub extra_token_kind : ℕ
@@ -51,11 +48,28 @@ var_template_kind = 8
 abbrev pub out_of_memory_kind : ℕ
 out_of_memory_kind = 9
 
--- the first text, and the second
+-- text that begins no token, or a whole number out of range
+abbrev pub invalid_token : Span → Fault
+invalid_token span = record { kind = invalid_token_kind; texts = []; span = span }
+
+-- a reserved word where a name is wanted
+abbrev pub reserved_word : List ℕ → Span → Fault
+reserved_word word span = record { kind = reserved_word_kind; texts = word ∷ []; span = span }
+
+-- a token that cannot stand where it stands
+abbrev pub unexpected_token : Token → Fault
+unexpected_token t = record { kind = unexpected_token_kind; texts = token_text t ∷ []; span = span_of_token t }
+
+-- the tokens end where more is wanted; the fault is one byte long, from where the last token ends
+abbrev pub unexpected_end : ℕ → Fault
+unexpected_end place = record { kind = unexpected_end_kind; texts = []; span = record { start = place; end = next_place place } }
+
+-- the first text
 abbrev pub first_text : List (List ℕ) → List ℕ
 first_text [] = []
 first_text (text ∷ texts) = text
 
+-- the second text
 abbrev pub second_text : List (List ℕ) → List ℕ
 second_text [] = []
 second_text (text ∷ texts) = first_text texts
@@ -67,12 +81,12 @@ quoted text = codes "`" ++ text ++ codes "`"
 -- the message of a fault, without what was expected
 abbrev pub message : ℕ → List (List ℕ) → List ℕ
 message kind texts =
-    if kind == 1 then codes "invalid token"
-    else if kind == 2 then codes "use of a reserved word " ++ quoted (first_text texts)
-    else if kind == 3 then codes "unexpected token " ++ quoted (first_text texts)
-    else if kind == 4 then codes "unexpected end of file"
-    else if kind == 5 then codes "extra token " ++ quoted (first_text texts) ++ codes " at the end of the file"
-    else if kind == 6 then codes "invalid diagnostic severity"
-    else if kind == 7 then codes "invalid " ++ quoted (first_text texts) ++ codes " attribute, " ++ second_text texts
-    else if kind == 8 then codes "invalid `var` template arguments, " ++ first_text texts
+    if kind == invalid_token_kind then codes "invalid token"
+    else if kind == reserved_word_kind then codes "use of a reserved word " ++ quoted (first_text texts)
+    else if kind == unexpected_token_kind then codes "unexpected token " ++ quoted (first_text texts)
+    else if kind == unexpected_end_kind then codes "unexpected end of file"
+    else if kind == extra_token_kind then codes "extra token " ++ quoted (first_text texts) ++ codes " at the end of the file"
+    else if kind == diagnostic_severity_kind then codes "invalid diagnostic severity"
+    else if kind == attribute_kind then codes "invalid " ++ quoted (first_text texts) ++ codes " attribute, " ++ second_text texts
+    else if kind == var_template_kind then codes "invalid `var` template arguments, " ++ first_text texts
     else codes "out of memory"

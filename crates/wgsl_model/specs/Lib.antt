@@ -1,3 +1,4 @@
+-- The definitions, in the order in which they are read.
 pub mod Classes
 pub mod Kind
 pub mod Words
@@ -9,10 +10,10 @@ pub mod Spelling
 pub mod Raw
 pub mod Texts
 pub mod Faults
-pub mod Trees
-pub mod Printing
 pub mod TokenList
+pub mod Trees
 pub mod Units
 pub mod Named
+pub mod Printing
 pub mod Emptied
 pub mod Program

@@ -26,10 +26,11 @@ hexadecimal_number suffix = code 48 then (one is_x then (one is_ascii_hexdigit t
 abbrev pub whole_number : Pattern → Pattern
 whole_number suffix = decimal_number suffix or hexadecimal_number suffix
 
--- the suffixes `i` and `u`
+-- the suffix of a signed number
 abbrev pub i_suffix : Pattern
 i_suffix = code 105
 
+-- the suffix of an unsigned number
 abbrev pub u_suffix : Pattern
 u_suffix = code 117
 

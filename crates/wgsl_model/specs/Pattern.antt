@@ -1,6 +1,7 @@
 -- Patterns of spellings, and the longest front of a text that spells one (WGSL, section 3.1).
 use Rattle.std.specs.Prelude.{◌≡◌, ℕ, ◌≤◌, Bool, true, false, ◌&&◌, ◌||◌, ◌==◌, if◌then◌else◌, List, [], ◌∷◌, ◌++◌, length, Option, Some, None, MatchOption}
 
+-- a pattern of spellings
 pub data Pattern : Type 0 where
   -- no spelling
   nothing : Pattern
@@ -40,6 +41,7 @@ abbrev pub any_of : List (List ℕ) → Pattern
 any_of [] = nothing
 any_of (word ∷ words) = literal word or any_of words
 
+-- there is no character
 abbrev pub is_empty : List ℕ → Bool
 is_empty [] = true
 is_empty (c ∷ cs) = false

@@ -9,19 +9,22 @@ joined separator [] = []
 joined separator (text ∷ []) = text
 joined separator (text ∷ (next ∷ texts)) = text ++ separator ++ joined separator (next ∷ texts)
 
--- a number in decimal with its suffix
+-- `true`, `false`, or a number in decimal with its suffix
 abbrev pub print_literal : LiteralExpression → List ℕ
 print_literal (boolean b) = if b then codes "true" else codes "false"
 print_literal (abstract_int n) = signed_decimal n
 print_literal (i32 n) = signed_decimal n ++ codes "i"
 print_literal (u32 n) = decimal n ++ codes "u"
 
+-- an expression
 abbrev pub print_expression : Expression → List ℕ
 print_expression (literal l) = print_literal l
 
+-- a type
 abbrev pub print_type : TypeExpression → List ℕ
 print_type t = t.ident
 
+-- the keyword of a declaration
 abbrev pub print_kind : DeclarationKind → List ℕ
 print_kind constant = codes "const"
 
@@ -35,12 +38,15 @@ abbrev pub print_initializer : Option (Spanned Expression) → List ℕ
 print_initializer None = []
 print_initializer (Some e) = codes " = " ++ print_expression e.node
 
+-- the declaration of a value
 abbrev pub print_declaration : Declaration → List ℕ
 print_declaration d = print_kind d.kind ++ codes " " ++ d.ident ++ print_typed d.ty ++ print_initializer d.initializer ++ codes ";"
 
+-- a type alias
 abbrev pub print_type_alias : TypeAlias → List ℕ
 print_type_alias a = codes "alias " ++ a.ident ++ codes " = " ++ print_type a.ty ++ codes ";"
 
+-- a declaration of a module
 abbrev pub print_global_declaration : GlobalDeclaration → List ℕ
 print_global_declaration void = codes ";"
 print_global_declaration (declaration d) = print_declaration d

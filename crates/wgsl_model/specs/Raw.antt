@@ -42,12 +42,12 @@ pub data Raw : Type 0 where
   invalid : List ℕ → List ℕ → Raw
   token : Kind → List ℕ → List ℕ → Raw
 
--- by what a spelling stands for
+-- the token that a spelling is, or an invalid one where it stands for nothing
 abbrev pub valued : List ℕ → List ℕ → Option Kind → Raw
 valued text rest None = invalid text rest
 valued text rest (Some kind) = token kind text rest
 
--- by what follows the longest spelling; where there is no spelling, one character is invalid
+-- the token of the longest spelling, by what follows it; where there is no spelling, one character is an invalid token
 abbrev pub spelled : List ℕ → List ℕ → Option (List ℕ) → Raw
 spelled text cs None = invalid text cs
 spelled text cs (Some rest) = valued text rest (value (front text rest))

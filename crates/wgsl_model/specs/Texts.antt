@@ -35,5 +35,6 @@ text_of class payload =
     else if class == F16 then text_held payload ++ codes "h"
     else word_in (symbols ++ (keywords ++ special_texts)) class
 
+-- the same of a token
 abbrev pub token_text : Token → List ℕ
 token_text t = text_of t.class t.payload

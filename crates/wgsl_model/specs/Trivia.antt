@@ -13,7 +13,7 @@ pub data Place : Type 0 where
   -- on the second character of a sign of two, which leads to a place
   second : Place → Place
 
--- where the end of a block comment leads that stands in so many others
+-- where a character stands behind the end of a block comment that stands in so many others
 abbrev pub closed : ℕ → Place
 closed zero = outside
 closed (suc n) = in_block n
@@ -23,7 +23,7 @@ abbrev pub first_or_zero : List ℕ → ℕ
 first_or_zero [] = 0
 first_or_zero (c ∷ cs) = c
 
--- What follows the blank space and the comments at the front. A line comment ends before a line break; block comments nest, and one that is not closed runs to the end.
+-- What follows the blank space and the comments at the front. A line comment ends before a line break; block comments nest. One that is not closed, which the draft does not allow, runs to the end.
 unfoldable pub after_trivia : Place → List ℕ → List ℕ
 after_trivia p [] = []
 after_trivia outside (c ∷ cs) =

@@ -15,7 +15,7 @@ pub data Symbol : Type 0 where
   literal_expression : Symbol
   ident : Symbol
 
--- what each symbol derives
+-- the type of what each symbol derives
 abbrev pub Value : Symbol → Type 0
 Value unit = TranslationUnit
 Value global_declarations = List (Spanned GlobalDeclaration)
@@ -37,6 +37,7 @@ text_in nothing = []
 text_in (name text) = text
 text_in (number n) = []
 
+-- the bytes of the name that a token is
 abbrev pub text_of : Token → List ℕ
 text_of t = text_in t.payload
 
@@ -46,7 +47,7 @@ number_in nothing = pos 0
 number_in (name text) = pos 0
 number_in (number n) = n
 
--- a number that has no sign
+-- a number that is not negative, or 0
 abbrev pub magnitude : ℤ → ℕ
 magnitude (pos n) = n
 magnitude (negsuc n) = 0

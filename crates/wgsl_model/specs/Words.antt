@@ -1,4 +1,4 @@
--- The spellings of symbols, keywords and reserved words (WGSL, "Keyword and Token Summary").
+-- The spellings of symbols and keywords (WGSL, "Keyword and Token Summary"), and the words that this library reserves.
 use Rattle.std.specs.Prelude.{ℕ, Bool, true, false, if◌then◌else◌, List, [], ◌∷◌, Option, Some, None, codes, bytes_eq}
 use Rattle.wgsl_model.specs.Classes.{SymAnd, SymAndAnd, SymArrow, SymAttr, SymForwardSlash, SymBang, SymBracketLeft, SymBracketRight, SymBraceLeft, SymBraceRight, SymColon, SymComma, SymEqual, SymEqualEqual, SymNotEqual, SymGreaterThan, SymGreaterThanEqual, SymShiftRight, SymLessThan, SymLessThanEqual, SymShiftLeft, SymModulo, SymMinus, SymMinusMinus, SymPeriod, SymPlus, SymPlusPlus, SymOr, SymOrOr, SymParenLeft, SymParenRight, SymSemicolon, SymStar, SymTilde, SymUnderscore, SymXor, SymPlusEqual, SymMinusEqual, SymTimesEqual, SymDivisionEqual, SymModuloEqual, SymAndEqual, SymOrEqual, SymXorEqual, SymShiftRightAssign, SymShiftLeftAssign, KwAlias, KwBreak, KwCase, KwConst, KwConstAssert, KwContinue, KwContinuing, KwDefault, KwDiagnostic, KwDiscard, KwElse, KwEnable, KwFalse, KwFn, KwFor, KwIf, KwLet, KwLoop, KwOverride, KwRequires, KwReturn, KwStruct, KwSwitch, KwTrue, KwVar, KwWhile}
 
@@ -34,7 +34,7 @@ keywords =
     (codes "return", KwReturn) ∷ (codes "struct", KwStruct) ∷ (codes "switch", KwSwitch) ∷ (codes "true", KwTrue) ∷ (codes "var", KwVar) ∷
     (codes "while", KwWhile) ∷ []
 
--- the words that no name may be
+-- the words that no name may be; the list is the library's own, close to the draft's
 abbrev pub reserved_words : List (List ℕ)
 reserved_words =
     codes "NULL" ∷ codes "Self" ∷ codes "abstract" ∷ codes "active" ∷ codes "alignas" ∷ codes "alignof" ∷ codes "as" ∷ codes "asm" ∷

@@ -43,9 +43,11 @@ pub carried_is : {A : Type 0} (ts : List Token) (error : Option PlacedError) (re
 carried_is ts error read a y e w n k =
     answer_whole ts (ending_view error) read ∙ ap (answer wording ts (ending_view error)) w ∙ ap (λ (o : Option PlacedError). at_end (ending_view o) (accepted a)) n ∙ sym (ap (λ (e : Error). denied (fault_view e)) k)
 
+-- reading stopped
 stopped_is : {A : Type 0} (ts : List Token) (ending : Ending) (read : Read A) (e : Stop) (x : Fault) → whole read ≡ stop e → x ≡ fault_of e ending (last_end 0 ts) → answer wording ts ending read ≡ denied x
 stopped_is ts ending read e x w t = answer_whole ts ending read ∙ ap (answer wording ts ending) w ∙ answer_stop ts ending e ∙ ap denied (sym t)
 
+-- and the fault is told of it
 pub told_is : {A : Type 0} (ts : List Token) (ending : Ending) (read : Read A) (e : declared.Fault) (x : Fault) → Fails e (whole read) → IsTold e x ending (last_end 0 ts) → answer wording ts ending read ≡ denied x
 told_is ts ending read (fault.UnexpectedToken t expected) x w h = stopped_is ts ending read _ x w h
 told_is ts ending read (fault.UnexpectedEnd expected) x w h = stopped_is ts ending read _ x w h

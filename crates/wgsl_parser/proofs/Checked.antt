@@ -1,4 +1,4 @@
--- The checked faults of a list of tokens are its reserved words, and no two end at one place.
+-- The checked faults of a list of tokens are its reserved words.
 use Rattle.std.proofs.Common.{◌≡◌, ◌↔◌, ℕ, true, false, eqb-true, eq-eqb, List, [], ◌∷◌, ◌++◌, ◌⊎◌, inl, inr, refl, sym, ap, subst, ◌∙◌}
 use Rattle.std.specs.Prelude.{Some, None, ◌==◌}
 use Rattle.grammar.specs.Tokens.{Token, Span, Fault, span_between, span_of}
@@ -8,11 +8,14 @@ use Rattle.grammar.proofs.Sets.{cases}
 use Rattle.grammar.proofs.Beginnings.{cond_yes, cond_no}
 use Rattle.grammar.proofs.Depth.{roll, unroll}
 use Rattle.grammar.proofs.Frame.{tokens_append}
+use Rattle.grammar.proofs.Guards.{ended_alone}
 use Rattle.wgsl_model.specs.Classes.{SymAttr, ReservedWord, Ident}
 use Rattle.wgsl_model.specs.Faults.{reserved_word, span_of_token}
 use Rattle.wgsl_model.specs.Units.{Symbol, Symbol.unit, Symbol.global_declarations, Symbol.global_declaration, Symbol.literal_expression, Symbol.ident, Value, body, text_of, unreserved}
 use Rattle.wgsl_model.specs.Named.{IsCheckedFault}
+use Rattle.wgsl_parser.specs.Tables.{tables}
 use Rattle.wgsl_parser.specs.Wording.{apart}
+use Rattle.wgsl_parser.proofs.Passes.{passes}
 
 -- a name is one token
 pub one_token : (v : Token) (xs ys : List Token) → Part unchecked body ident v xs ys → (is_among v.class (Ident ∷ ReservedWord ∷ []) ≡ true) × (xs ≡ v ∷ ys)
@@ -37,19 +40,17 @@ reserved_is t s x e = elim (cases (t.class == ReservedWord)) [
 reserved_found : (t : Token) (s : Span) → t.class ≡ ReservedWord → unreserved t s ≡ Some (reserved_word (text_of t) s)
 reserved_found t s e = cond_yes (t.class == ReservedWord) (Some (reserved_word (text_of t) s)) None (eq-eqb t.class ReservedWord e)
 
+-- its class is one of a name's
 reserved_among : (t : Token) → t.class ≡ ReservedWord → is_among t.class (Ident ∷ ReservedWord ∷ []) ≡ true
 reserved_among t e = ap (λ (c : ℕ). is_among c (Ident ∷ ReservedWord ∷ [])) e
 
+-- the span of one token
 one_span : (t : Token) (ys : List Token) → span_between (t ∷ ys) ys ≡ span_of_token t
 one_span t ys = ap span_of (tokens_append (t ∷ []) ys)
 
--- two tokens are no name
-pub no_two : (t u : Token) (zs : List Token) → IsViable body ident (t ∷ u ∷ zs) → ⊥
-no_two t u zs (more, (v, d)) = let w = (one_token v (t ∷ u ∷ (zs ++ more)) [] d).1 in cc
-
--- a reserved word goes no further as a name
-ended : (t : Token) (ys : List Token) → IsEnded body ident (t ∷ ys) ys
-ended t ys u zs e v = no_two t u [] (subst (λ (x : List Token). IsViable body ident (x ++ (u ∷ []))) (tokens_append (t ∷ []) ys) v)
+-- a reserved word is a name
+reserved_part : (t : Token) (ys : List Token) → t.class ≡ ReservedWord → Part unchecked body ident t (t ∷ ys) ys
+reserved_part t ys e = roll unchecked body ident t (t ∷ ys) ys (refl, (reserved_among t e, refl))
 
 -- a fault that a check finds is a reserved word
 of_faulty : (ts : List Token) (x : Fault) (ys before from : List Token) → ts ≡ before ++ from → is_among (last_class 0 before) (SymAttr ∷ []) ≡ false → IsFaulty body ident x from ys → IsCheckedFault ts x ys
@@ -69,6 +70,7 @@ to_plain ts x ys f = at_symbol f.symbol_of f.not_after f.faulty
     at_symbol literal_expression a (v, d, e) = absurd cc
     at_symbol ident a h = of_faulty ts x ys f.before f.from f.whole a h
 
+-- and a reserved word is a fault of the engine
 pub from_plain : (ts : List Token) (x : Fault) (ys : List Token) → IsCheckedFault ts x ys → FaultIn body apart ts x ys
 from_plain ts x ys (before, t, w, a, c, e) = record {
   symbol_of = ident;
@@ -76,8 +78,8 @@ from_plain ts x ys (before, t, w, a, c, e) = record {
   from = t ∷ ys;
   whole = w;
   not_after = a;
-  ended = ended t ys;
-  faulty = (t, roll unchecked body ident t (t ∷ ys) ys (refl, (reserved_among t c, refl)), ap (unreserved t) (one_span t ys) ∙ reserved_found t (span_of_token t) c ∙ ap Some (sym e));
+  ended = ended_alone tables body 2 passes ident refl t (t ∷ ys) ys (reserved_part t ys c);
+  faulty = (t, reserved_part t ys c, ap (unreserved t) (one_span t ys) ∙ reserved_found t (span_of_token t) c ∙ ap Some (sym e));
 }
 
 -- the checked faults, in the engine's words and in plain ones

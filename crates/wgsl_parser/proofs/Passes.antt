@@ -6,6 +6,7 @@ use Rattle.grammar.proofs.States.{reads_is}
 use Rattle.wgsl_model.specs.Units.{Symbol, Symbol.unit, Symbol.global_declarations, Symbol.global_declaration, Symbol.literal_expression, Symbol.ident, body}
 use Rattle.wgsl_parser.specs.Tables.{tables, reader}
 
+-- the tables are those of the rules
 pub passes : Passes tables body 2
 passes = record {
   begins = elim [ unit ↦ refl | global_declarations ↦ refl | global_declaration ↦ refl | literal_expression ↦ refl | ident ↦ refl ];

@@ -6,9 +6,10 @@ use Rattle.grammar.specs.Faults.{IsFaulty}
 use Rattle.grammar.specs.Tables.{subset}
 use Rattle.grammar.specs.Anchors.{IsAnchored}
 use Rattle.grammar.specs.Reading.{chooses}
-use Rattle.grammar.proofs.Sound.{sound_read}
+use Rattle.grammar.proofs.Words.{builds, all_sentences}
 use Rattle.grammar.proofs.Faults.{KeepsApart}
-use Rattle.grammar.proofs.First.{IsGuarded, Guarded, reads_alone}
+use Rattle.grammar.proofs.First.{IsGuarded}
+use Rattle.grammar.proofs.Guards.{guarded_alone}
 use Rattle.grammar.proofs.Viable.{HasSentences}
 use Rattle.grammar.proofs.Outcomes.{IsTested}
 use Rattle.grammar.proofs.Step.{sane}
@@ -20,20 +21,21 @@ use Rattle.wgsl_parser.specs.Wording.{apart}
 use Rattle.wgsl_parser.proofs.Passes.{passes}
 use Rattle.wgsl_parser.proofs.Checked.{one_token, reserved_is}
 
-abbrev token_of : ℕ → Token
-token_of c = record { class = c; payload = nothing; start = 0; end = 0 }
+-- how deep the shallowest tree of a symbol is
+abbrev heights : Symbol → ℕ
+heights unit = 1
+heights global_declarations = 0
+heights global_declaration = 0
+heights literal_expression = 0
+heights ident = 0
 
--- a token by itself, as its span stands
-abbrev nowhere : Span
-nowhere = record { start = 0; end = 0 }
-
--- each symbol has a sentence
-sentences : HasSentences body
-sentences unit = ([], (record { global_declarations = [] }, sound_read tables unchecked body 3 unit []))
-sentences global_declarations = ([], ([], sound_read tables unchecked body 2 global_declarations []))
-sentences global_declaration = (token_of SymSemicolon ∷ [], (spanned void nowhere, sound_read tables unchecked body 1 global_declaration (token_of SymSemicolon ∷ [])))
-sentences literal_expression = (token_of KwTrue ∷ [], (spanned (literal (boolean true)) nowhere, sound_read tables unchecked body 1 literal_expression (token_of KwTrue ∷ [])))
-sentences ident = (token_of Ident ∷ [], (token_of Ident, sound_read tables unchecked body 1 ident (token_of Ident ∷ [])))
+-- so each symbol has a tree
+built : (n : Symbol) → builds heights (heights n) (body n) ≡ true
+built unit = refl
+built global_declarations = refl
+built global_declaration = refl
+built literal_expression = refl
+built ident = refl
 
 -- reserved words are taken as names alone
 anchored : IsAnchored body (ReservedWord ∷ []) (SymAttr ∷ []) ident
@@ -49,22 +51,13 @@ starts x xs ys (v, d, e) =
     subst (λ (z : List Token). chooses (ReservedWord ∷ []) z ≡ true) (sym (one_token v xs ys d).1)
     (ap (λ (c : ℕ). is_among c (ReservedWord ∷ [])) (reserved_is v (span_between xs ys) x e).0)
 
-names_guarded : Guarded tables body apart ident
-names_guarded = record {
-  anchor = ReservedWord ∷ [];
-  anchored = anchored;
-  nonempty = refl;
-  starts = starts;
-  reads = λ v xs ys d i k. reads_alone tables body (sane tables body 2 passes) ident refl v xs ys d k;
-}
-
 -- names are guarded, and nothing else is checked
 guarded : IsGuarded tables body apart
 guarded unit = inl (λ v s. refl)
 guarded global_declarations = inl (λ v s. refl)
 guarded global_declaration = inl (λ v s. refl)
 guarded literal_expression = inl (λ v s. refl)
-guarded ident = inr names_guarded
+guarded ident = inr (guarded_alone tables body 2 passes apart ident refl refl (ReservedWord ∷ []) anchored starts)
 
 -- no token of the classes apart stands before a symbol
 keeps : KeepsApart body (SymAttr ∷ [])
@@ -74,6 +67,7 @@ keeps global_declaration = refl
 keeps literal_expression = refl
 keeps ident = refl
 
+-- no other class is apart
 within : (n : Symbol) → subset (apart n) (SymAttr ∷ []) ≡ true
 within unit = refl
 within global_declarations = refl
@@ -81,5 +75,14 @@ within global_declaration = refl
 within literal_expression = refl
 within ident = refl
 
+-- all tests
 pub tested : IsTested tables body 2 apart
-tested = record { passes = passes; sentences = sentences; guarded = guarded; behind = SymAttr ∷ []; within = within; keeps = keeps; no_token = refl }
+tested = record {
+  passes = passes;
+  sentences = all_sentences heights body built;
+  guarded = guarded;
+  behind = SymAttr ∷ [];
+  within = within;
+  keeps = keeps;
+  no_token = refl;
+}

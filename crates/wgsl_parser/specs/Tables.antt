@@ -45,6 +45,7 @@ ranks global_declaration = 0
 ranks literal_expression = 0
 ranks ident = 0
 
+-- the tables of the grammar
 abbrev pub tables : Tables Symbol
 tables = record { first = firsts; empty = empties; more = mores; rank = ranks }
 

@@ -6,8 +6,6 @@ mod expected;
 mod fault;
 pub mod laws;
 mod parse;
-#[cfg(test)]
-mod tests;
 mod unit;
 
 pub use parse::parse_str;

@@ -131,8 +131,8 @@ fn is_out_of_memory(error: &Option<(usize, ParseError, usize)>) -> bool
     matches!(error, Some((_, ParseError::OutOfMemory, _)))
 }
 
-/// The module that a text is. Otherwise the fault that is named: of the reserved words in place of names and the tokens
-/// that can't stand where they stand, the first; else what can't be read as a token; else that the text ends too early.
+/// The module that a text is, or what is wrong with it: the first token that can't stand where it stands, a reserved
+/// word in place of a name among them; else the text that is no token; else that the text ends too early.
 pub fn parse_str(alloc: Global, source: &str) -> Result<TranslationUnit, Error>
     ensures accepted { IfOk result (λ unit. IsUnit (chars source.now) (unit_view unit)) }
     ensures refused { IfErr result (λ e. IsOutOfMemory e ⊎ IsFaultOf (chars source.now) (fault_view e)) }

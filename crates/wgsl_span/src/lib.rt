@@ -146,7 +146,8 @@ pub trait CloneWith: Sized + Drop {
 }
 
 impl<T: CloneWith> CloneWith for Spanned<T> {
-    ghost copies = { λ s copy. (spanned_span copy ≡ spanned_span s) × T.copies (spanned_node s) (spanned_node copy) };
+    ghost copies = { λ s copy. (spanned_span copy ≡ spanned_span s)
+        × T.copies (spanned_node s) (spanned_node copy) };
 
     fn clone_with(&self, alloc: Global) -> Result<Self, AllocError> {
         Spanned::new(alloc, self.node.clone_with(alloc)?, self.span())

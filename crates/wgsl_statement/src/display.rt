@@ -32,7 +32,8 @@ impl fmt::Display for Declaration {
 
 /// Writes the type behind a colon, if there is one.
 fn write_type<W: fmt::Write>(ty: &Option<TypeExpression>, f: &mut fmt::Formatter<W>) -> fmt::Result
-    ensures { DisplaysOnOk W.write_str_gives f.old result (Some (print_typed (declared_type_view ty.now))) f.new }
+    ensures { let text = print_typed (declared_type_view ty.now) in
+        DisplaysOnOk W.write_str_gives f.old result (Some text) f.new }
 {
     match ty {
         Some(ty) => write!(f, ": {ty}"),
@@ -45,7 +46,8 @@ fn write_initializer<W: fmt::Write>(
     initializer: &Option<ExpressionNode>,
     f: &mut fmt::Formatter<W>,
 ) -> fmt::Result
-    ensures { DisplaysOnOk W.write_str_gives f.old result (Some (print_initializer (initializer_view initializer.now))) f.new }
+    ensures { let text = print_initializer (initializer_view initializer.now) in
+        DisplaysOnOk W.write_str_gives f.old result (Some text) f.new }
 {
     match initializer {
         Some(initializer) => write!(f, " = {initializer}"),

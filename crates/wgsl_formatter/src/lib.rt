@@ -1,0 +1,84 @@
+//! The formatter: reads WGSL from a reader, and writes it printed anew, or why it is refused.
+#![tactic(auto)]
+
+mod report;
+mod streams;
+#[cfg(test)]
+mod tests;
+
+ghost use Rattle.std.specs.Prelude.{◌≡◌, ◌≤◌, ◌<◌, ℕ, List};
+ghost use Rattle.std.specs.Io.KnownBytes.{Appends, IsAtEnd};
+ghost use Rattle.wgsl_model.specs.Program.{Outcome, out_of_memory};
+ghost use Rattle.wgsl_formatter.specs.Ending.{IsInput, Ends, GoesOut, IsReprinted, no_arguments};
+
+use report::{Report, deliver, report_on};
+use std::alloc::Global;
+use std::io::{Read, Write};
+use streams::{FAILED, ReadError, read_all, tell};
+
+/// Reads all of the input, then writes what it asks for to the output or to the errors, and flushes
+/// that one.
+pub fn run<R: Read, W: Write, E: Write>(
+    alloc: Global,
+    input: &mut R,
+    output: &mut W,
+    errors: &mut E,
+) -> u8
+    ensures status { result ≤ 4 }
+    ensures ends { (end : Outcome) × Ends (R.remaining input.old) end × (result ≡ end.status)
+        × Appends (W.contents output.old) (W.contents output.new) end.output
+        × Appends (E.contents errors.old) (E.contents errors.new) end.errors }
+    ensures all_read { result < 3 → IsAtEnd (R.remaining input.new) }
+    ensures reads_back { result ≡ 0 → (bytes : List ℕ) × (text : List ℕ)
+        × IsInput (R.remaining input.old) bytes × IsReprinted bytes text
+        × Appends (W.contents output.old) (W.contents output.new) text }
+{
+    match read_all(alloc, input) {
+        Ok(source) => {
+            let report = report_on(alloc, &source).unwrap_or(Report::OutOfMemory);
+            deliver(&report, output, errors)
+        }
+        Err(ReadError::OutOfMemory) => deliver(&Report::OutOfMemory, output, errors),
+        Err(ReadError::Failed) => FAILED,
+    }
+}
+
+/// `run` where the program was given no arguments. Otherwise nothing is read.
+pub fn start<R: Read, W: Write, E: Write>(
+    alloc: Global,
+    arguments: usize,
+    input: &mut R,
+    output: &mut W,
+    errors: &mut E,
+) -> u8
+    // With no arguments, all that `run` ensures.
+    ensures status { arguments ≡ 0 → result ≤ 4 }
+    ensures ends { arguments ≡ 0 → (end : Outcome)
+        × Ends (R.remaining input.old) end × (result ≡ end.status)
+        × Appends (W.contents output.old) (W.contents output.new) end.output
+        × Appends (E.contents errors.old) (E.contents errors.new) end.errors }
+    ensures all_read { arguments ≡ 0 → result < 3 → IsAtEnd (R.remaining input.new) }
+    ensures reads_back { arguments ≡ 0 → result ≡ 0 → (bytes : List ℕ) × (text : List ℕ)
+        × IsInput (R.remaining input.old) bytes × IsReprinted bytes text
+        × Appends (W.contents output.old) (W.contents output.new) text }
+
+    // With arguments, the input and the output are not touched.
+    ensures unread { 0 < arguments → input.new ≡ input.old }
+    ensures unwritten { 0 < arguments → output.new ≡ output.old }
+    ensures told { 0 < arguments → (end : Outcome) × GoesOut no_arguments end × (result ≡ end.status)
+        × Appends (E.contents errors.old) (E.contents errors.new) end.errors }
+{
+    if arguments == 0 {
+        run(alloc, input, output, errors)
+    } else {
+        tell(errors, b"wgslfmt takes no arguments\n", 5)
+    }
+}
+
+/// Tells that memory was refused: status 3, or 4 where the line could not be written.
+pub fn refuse_memory<E: Write>(errors: &mut E) -> u8
+    ensures { (end : Outcome) × GoesOut out_of_memory end × (result ≡ end.status)
+        × Appends (E.contents errors.old) (E.contents errors.new) end.errors }
+{
+    tell(errors, b"out of memory\n", 3)
+}

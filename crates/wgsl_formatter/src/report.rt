@@ -1,0 +1,56 @@
+//! What the program has to tell of its input.
+
+ghost use Rattle.std.specs.Prelude.{◌≡◌, IfOk};
+ghost use Rattle.std.specs.Io.KnownBytes.{Appends};
+ghost use Rattle.wgsl_model.specs.Program.{Outcome, Formats};
+ghost use Rattle.wgsl_formatter.specs.Ending.{GoesOut};
+ghost use Rattle.wgsl_formatter.specs.Report.{outcome_of};
+
+use crate::streams::tell;
+use std::alloc::{AllocError, Global};
+use std::io::Write;
+use wgsl_error::ErrorKind;
+use wgsl_parser::parse_str;
+
+/// What is to be written, and the status that goes with it.
+#[derive(Drop)]
+pub enum Report {
+    /// The printed unit, for the output: status 0.
+    Printed(String),
+    /// The line of the fault that is named, for the errors: status 1.
+    Refused(String),
+    /// The source is no text: status 2.
+    NotUtf8,
+    /// Memory was refused: status 3.
+    OutOfMemory,
+}
+
+/// What the source asks to be written.
+pub fn report_on(alloc: Global, source: &[u8]) -> Result<Report, AllocError>
+    ensures { IfOk result (λ report. Formats source.now (outcome_of report)) }
+{
+    let Ok(text) = std::str::from_utf8(source) else {
+        return Ok(Report::NotUtf8);
+    };
+    match parse_str(alloc, text) {
+        Ok(unit) => Ok(Report::Printed(unit.to_string(alloc)?)),
+        Err(error) => match error.error {
+            ErrorKind::OutOfMemory => Err(AllocError),
+            _ => Ok(Report::Refused(format!(in alloc; "{}\n", error.without_expected())?)),
+        },
+    }
+}
+
+/// Sends the report to the writer that it is for, and answers its status, or `FAILED`.
+pub fn deliver<W: Write, E: Write>(report: &Report, output: &mut W, errors: &mut E) -> u8
+    ensures { (end : Outcome) × GoesOut (outcome_of report.now) end × (result ≡ end.status)
+        × Appends (W.contents output.old) (W.contents output.new) end.output
+        × Appends (E.contents errors.old) (E.contents errors.new) end.errors }
+{
+    match report {
+        Report::Printed(text) => tell(output, text.as_bytes(), 0),
+        Report::Refused(line) => tell(errors, line.as_bytes(), 1),
+        Report::NotUtf8 => tell(errors, b"input is not UTF-8\n", 2),
+        Report::OutOfMemory => tell(errors, b"out of memory\n", 3),
+    }
+}
