@@ -1,5 +1,5 @@
 -- A run that ends by want of memory, or by a read that failed.
-use Rattle.std.proofs.Common.{◌≡◌, inl, inr, ℕ, List, [], Option, None, Some, refl}
+use Rattle.std.proofs.Common.{inr, ℕ, List, [], Option, None, Some, refl}
 use Rattle.wgsl_model.specs.Program.{Outcome, out_of_memory}
 use Rattle.wgsl_formatter.specs.Ending.{IsInput, GoesOut, Ends, cut}
 

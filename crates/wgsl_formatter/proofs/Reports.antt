@@ -6,9 +6,9 @@ use Rattle.std.specs.declared.alloc.AllocError.{AllocError}
 use Rattle.std.specs.Str.{is_utf8, IsUtf8}
 use Rattle.std.proofs.lemmas.Str.{IsUtf8-from_is_utf8, is_utf8-from_IsUtf8}
 use Rattle.grammar.specs.Tokens.{Fault}
-use Rattle.wgsl_model.specs.Trees.{TranslationUnit}
+use Rattle.wgsl_model.specs.Units.{TranslationUnit}
 use Rattle.wgsl_model.specs.Printing.{print}
-use Rattle.wgsl_model.specs.Program.{Outcome, complaint, Formats, Formats.printed, Formats.refused, Formats.not_utf8, IsUnit, IsFaultOf, shown_fault}
+use Rattle.wgsl_model.specs.Program.{complaint, Formats, Formats.printed, Formats.refused, Formats.not_utf8, IsUnit, IsFaultOf, shown_fault}
 use Rattle.wgsl_formatter.specs.declared.report.Report.{Report}
 use Rattle.wgsl_formatter.specs.declared.report.Report.TheVariants.{OutOfMemory}
 use Rattle.wgsl_formatter.specs.Ending.{IsDue}

@@ -1,10 +1,8 @@
 -- What goes out with status 0 reads as the unit that was read.
-use Rattle.std.proofs.Common.{◌≡◌, ◌⊎◌, inl, inr, ℕ, List, Option, chars, refl, sym, ◌∙◌, ap, arith, subst}
-use Rattle.wgsl_model.specs.Trees.{TranslationUnit}
-use Rattle.wgsl_model.specs.Printing.{print}
-use Rattle.wgsl_model.specs.Program.{Outcome, out_of_memory, Formats, Formats.printed, Formats.refused, Formats.not_utf8, IsUnit, ReadsBack}
+use Rattle.std.proofs.Common.{◌≡◌, inl, inr, ℕ, List, chars, refl, sym, ◌∙◌, ap, arith, subst}
+use Rattle.wgsl_model.specs.Program.{Outcome, Formats, Formats.printed, Formats.refused, Formats.not_utf8}
 use Rattle.wgsl_theory.proofs.RoundTrip.{printed_is_utf8, printed_parse}
-use Rattle.wgsl_formatter.specs.Ending.{IsInput, IsDue, GoesOut, Ends, IsReprinted, cut}
+use Rattle.wgsl_formatter.specs.Ending.{IsDue, GoesOut, IsReprinted}
 
 abbrev status : Outcome → ℕ
 status o = o.status

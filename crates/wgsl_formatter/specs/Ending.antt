@@ -1,7 +1,7 @@
 -- How a run of the program ends.
-use Rattle.std.specs.Prelude.{◌≡◌, ◌⊎◌, ℕ, true, List, [], take, codes, chars, Option, IfSome}
+use Rattle.std.specs.Prelude.{◌≡◌, ◌⊎◌, ℕ, true, List, take, codes, chars, Option, IfSome}
 use Rattle.std.specs.Str.{is_utf8}
-use Rattle.wgsl_model.specs.Trees.{TranslationUnit}
+use Rattle.wgsl_model.specs.Units.{TranslationUnit}
 use Rattle.wgsl_model.specs.Printing.{print}
 use Rattle.wgsl_model.specs.Program.{Outcome, complaint, Formats, out_of_memory, IsUnit, ReadsBack}
 

@@ -1,6 +1,6 @@
 //! All that a reader gives, and a text to a writer.
 
-ghost use Rattle.std.specs.Prelude.{◌≡◌, ℕ, List, take, IfOk, OnOk};
+ghost use Rattle.std.specs.Prelude.{ℕ, List, take, IfOk, OnOk};
 ghost use Rattle.std.specs.Io.KnownBytes.{Appends, IsAtEnd};
 ghost use Rattle.wgsl_formatter.specs.Ending.{IsInput};
 ghost use Rattle.wgsl_formatter.specs.Told.{IsTold};

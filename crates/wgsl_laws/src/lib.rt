@@ -3,7 +3,7 @@
 
 ghost use Rattle.std.specs.Prelude.{◌≡◌, ℕ, List, [], true, chars};
 ghost use Rattle.std.specs.Str.{is_utf8};
-ghost use Rattle.wgsl_model.specs.Trees.{TranslationUnit};
+ghost use Rattle.wgsl_model.specs.Units.{TranslationUnit};
 ghost use Rattle.wgsl_model.specs.Printing.{print};
 ghost use Rattle.wgsl_model.specs.Emptied.{remove_voids};
 ghost use Rattle.wgsl_model.specs.Program.{IsUnit, Formats, ReadsBack, Outcome};

@@ -64,6 +64,18 @@ unexpected_token t = record { kind = unexpected_token_kind; texts = token_text t
 abbrev pub unexpected_end : ℕ → Fault
 unexpected_end place = record { kind = unexpected_end_kind; texts = []; span = record { start = place; end = next_place place } }
 
+-- a severity that is none
+abbrev pub diagnostic_severity : Span → Fault
+diagnostic_severity span = record { kind = diagnostic_severity_kind; texts = []; span = span }
+
+-- an attribute whose arguments do not fit, by its name
+abbrev pub invalid_attribute : List ℕ → List ℕ → Span → Fault
+invalid_attribute name text span = record { kind = attribute_kind; texts = name ∷ (text ∷ []); span = span }
+
+-- a `var` template whose arguments do not fit
+abbrev pub invalid_var_template : List ℕ → Span → Fault
+invalid_var_template text span = record { kind = var_template_kind; texts = text ∷ []; span = span }
+
 -- the first text
 abbrev pub first_text : List (List ℕ) → List ℕ
 first_text [] = []

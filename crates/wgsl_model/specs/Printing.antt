@@ -1,7 +1,10 @@
--- The printed text of each node.
+-- The printed text of each node that is read so far; others have none yet.
 use Rattle.std.specs.Prelude.{Bool, true, false, ℕ, List, [], ◌∷◌, ◌++◌, Option, Some, None, codes, if◌then◌else◌}
 use Rattle.std.specs.Fmt.{decimal, signed_decimal}
-use Rattle.wgsl_model.specs.Trees.{Spanned, LiteralExpression, boolean, abstract_int, i32, u32, Expression, literal, TypeExpression, DeclarationKind, constant, Declaration, TypeAlias, GlobalDeclaration, void, declaration, type_alias, TranslationUnit}
+use Rattle.wgsl_model.specs.Spanned.{Spanned}
+use Rattle.wgsl_model.specs.Expressions.{LiteralExpression, boolean, abstract_int, i32, u32, abstract_float, f32, f16, ExpressionNode, expression_node, Expression, literal, TypeExpression, type_expression}
+use Rattle.wgsl_model.specs.Statements.{DeclarationKind, const_kind, override_kind, let_kind, var_kind, Declaration}
+use Rattle.wgsl_model.specs.Units.{TypeAlias, GlobalDeclaration, GlobalDeclaration.void, GlobalDeclaration.declaration, GlobalDeclaration.type_alias, TranslationUnit}
 
 -- texts with a separator between them
 abbrev pub joined : List ℕ → List (List ℕ) → List ℕ
@@ -15,18 +18,25 @@ print_literal (boolean b) = if b then codes "true" else codes "false"
 print_literal (abstract_int n) = signed_decimal n
 print_literal (i32 n) = signed_decimal n ++ codes "i"
 print_literal (u32 n) = decimal n ++ codes "u"
+print_literal (abstract_float text) = text
+print_literal (f32 text) = text ++ codes "f"
+print_literal (f16 text) = text ++ codes "h"
 
 -- an expression
 abbrev pub print_expression : Expression → List ℕ
 print_expression (literal l) = print_literal l
+print_expression e = []
 
 -- a type
 abbrev pub print_type : TypeExpression → List ℕ
-print_type t = t.ident
+print_type (type_expression name arguments) = name
 
 -- the keyword of a declaration
 abbrev pub print_kind : DeclarationKind → List ℕ
-print_kind constant = codes "const"
+print_kind const_kind = codes "const"
+print_kind override_kind = codes "override"
+print_kind let_kind = codes "let"
+print_kind (var_kind space) = codes "var"
 
 -- the type behind a colon, if there is one
 abbrev pub print_typed : Option TypeExpression → List ℕ
@@ -34,9 +44,9 @@ print_typed None = []
 print_typed (Some t) = codes ": " ++ print_type t
 
 -- the value behind an equals sign, if there is one
-abbrev pub print_initializer : Option (Spanned Expression) → List ℕ
+abbrev pub print_initializer : Option ExpressionNode → List ℕ
 print_initializer None = []
-print_initializer (Some e) = codes " = " ++ print_expression e.node
+print_initializer (Some (expression_node e s)) = codes " = " ++ print_expression e
 
 -- the declaration of a value
 abbrev pub print_declaration : Declaration → List ℕ
@@ -51,12 +61,12 @@ abbrev pub print_global_declaration : GlobalDeclaration → List ℕ
 print_global_declaration void = codes ";"
 print_global_declaration (declaration d) = print_declaration d
 print_global_declaration (type_alias a) = print_type_alias a
+print_global_declaration d = []
 
 -- the declaration is empty
 abbrev pub is_void : GlobalDeclaration → Bool
 is_void void = true
-is_void (declaration d) = false
-is_void (type_alias a) = false
+is_void d = false
 
 -- the declarations that are not empty
 abbrev pub without_voids : List (Spanned GlobalDeclaration) → List (Spanned GlobalDeclaration)

@@ -5,10 +5,10 @@ use Rattle.std.specs.Fmt.{decimal}
 use Rattle.grammar.specs.Tokens.{Token, Fault}
 use Rattle.grammar.specs.Grammar.{Mode.full, Derives}
 use Rattle.grammar.specs.Faults.{Ending, Ending.finished}
-use Rattle.wgsl_model.specs.Trees.{TranslationUnit}
-use Rattle.wgsl_model.specs.Units.{Symbol.unit, body}
+use Rattle.wgsl_model.specs.Units.{TranslationUnit}
+use Rattle.wgsl_model.specs.FirstUnits.{Symbol.unit, body}
 use Rattle.wgsl_model.specs.TokenList.{IsTokenList}
-use Rattle.wgsl_model.specs.Named.{IsNamed}
+use Rattle.wgsl_model.specs.FirstNamed.{IsNamed}
 use Rattle.wgsl_model.specs.Faults.{message}
 use Rattle.wgsl_model.specs.Printing.{print}
 use Rattle.wgsl_model.specs.Emptied.{remove_voids, bare}

@@ -1,6 +1,9 @@
 pub use Rattle.wgsl_model.specs.Program
-pub use Rattle.wgsl_model.specs.Units
+pub use Rattle.wgsl_model.specs.FirstUnits
 pub use Rattle.wgsl_model.specs.TokenList
-pub use Rattle.wgsl_model.specs.Named
+pub use Rattle.wgsl_model.specs.FirstNamed
 pub use Rattle.wgsl_model.specs.Printing
-pub use Rattle.wgsl_model.specs.Trees
+pub use Rattle.wgsl_model.specs.Spanned
+pub use Rattle.wgsl_model.specs.Expressions
+pub use Rattle.wgsl_model.specs.Statements
+pub use Rattle.wgsl_model.specs.Units

@@ -1,9 +1,9 @@
 -- The checked faults of a list of tokens are its reserved words.
-use Rattle.std.proofs.Common.{◌≡◌, ◌↔◌, ℕ, true, false, eqb-true, eq-eqb, List, [], ◌∷◌, ◌++◌, ◌⊎◌, inl, inr, refl, sym, ap, subst, ◌∙◌}
+use Rattle.std.proofs.Common.{◌≡◌, ◌↔◌, ℕ, true, false, eqb-true, eq-eqb, List, [], ◌∷◌, ◌++◌, ◌⊎◌, inl, inr, refl, sym, ap, ◌∙◌}
 use Rattle.std.specs.Prelude.{Some, None, ◌==◌}
 use Rattle.grammar.specs.Tokens.{Token, Span, Fault, span_between, span_of}
-use Rattle.grammar.specs.Grammar.{is_among, Mode.unchecked, Part, IsViable}
-use Rattle.grammar.specs.Faults.{last_class, head_check, IsFaulty, IsEnded, FaultIn}
+use Rattle.grammar.specs.Grammar.{is_among, Mode.unchecked, Part}
+use Rattle.grammar.specs.Faults.{last_class, head_check, IsFaulty, FaultIn}
 use Rattle.grammar.proofs.Sets.{cases}
 use Rattle.grammar.proofs.Beginnings.{cond_yes, cond_no}
 use Rattle.grammar.proofs.Depth.{roll, unroll}
@@ -11,8 +11,10 @@ use Rattle.grammar.proofs.Frame.{tokens_append}
 use Rattle.grammar.proofs.Guards.{ended_alone}
 use Rattle.wgsl_model.specs.Classes.{SymAttr, ReservedWord, Ident}
 use Rattle.wgsl_model.specs.Faults.{reserved_word, span_of_token}
-use Rattle.wgsl_model.specs.Units.{Symbol, Symbol.unit, Symbol.global_declarations, Symbol.global_declaration, Symbol.literal_expression, Symbol.ident, Value, body, text_of, unreserved}
-use Rattle.wgsl_model.specs.Named.{IsCheckedFault}
+use Rattle.wgsl_model.specs.TokenValues.{text_of}
+use Rattle.wgsl_model.specs.Checks.{unreserved}
+use Rattle.wgsl_model.specs.FirstUnits.{Symbol, Symbol.unit, Symbol.global_declarations, Symbol.global_declaration, Symbol.literal_expression, Symbol.ident, Value, body}
+use Rattle.wgsl_model.specs.FirstNamed.{IsCheckedFault}
 use Rattle.wgsl_parser.specs.Tables.{tables}
 use Rattle.wgsl_parser.specs.Wording.{apart}
 use Rattle.wgsl_parser.proofs.Passes.{passes}

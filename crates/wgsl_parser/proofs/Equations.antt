@@ -3,8 +3,9 @@ use Rattle.std.proofs.Common.{◌≡◌, ℕ, List, refl}
 use Rattle.grammar.specs.Grammar.{Grammar.symbol}
 use Rattle.grammar.specs.States.{State}
 use Rattle.grammar.proofs.States.{turns_are, shortens}
-use Rattle.wgsl_model.specs.Trees.{Spanned, GlobalDeclaration}
-use Rattle.wgsl_model.specs.Units.{Symbol.unit, Symbol.global_declarations, Symbol.global_declaration, Symbol.literal_expression, Symbol.ident, body}
+use Rattle.wgsl_model.specs.Spanned.{Spanned}
+use Rattle.wgsl_model.specs.Units.{GlobalDeclaration}
+use Rattle.wgsl_model.specs.FirstUnits.{Symbol.unit, Symbol.global_declarations, Symbol.global_declaration, Symbol.literal_expression, Symbol.ident, body}
 use Rattle.wgsl_parser.specs.Tables.{tables, reader}
 use Rattle.wgsl_parser.specs.Rules.{translation_unit_at, declarations_from, declarations_turn, global_declarations_at, global_declaration_at, literal_expression_at, ident_at}
 use Rattle.wgsl_parser.proofs.Passes.{step, passes}

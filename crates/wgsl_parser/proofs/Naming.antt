@@ -3,8 +3,8 @@ use Rattle.std.proofs.Common.{ℕ, List, refl, sym, subst}
 use Rattle.grammar.specs.Tokens.{Token, Fault}
 use Rattle.grammar.specs.Faults as engine
 use Rattle.grammar.specs.Faults.{IsNamed.first_fault, IsNamed.unexpected_token, IsNamed.carried_fault, IsNamed.missing_token, Ending}
-use Rattle.wgsl_model.specs.Units.{Symbol, body}
-use Rattle.wgsl_model.specs.Named.{NoFaultBefore, IsNamed, IsNamed.checked_first, IsNamed.unexpected_first, IsNamed.carried_last, IsNamed.missing_last}
+use Rattle.wgsl_model.specs.FirstUnits.{Symbol, body}
+use Rattle.wgsl_model.specs.FirstNamed.{NoFaultBefore, IsNamed, IsNamed.checked_first, IsNamed.unexpected_first, IsNamed.carried_last, IsNamed.missing_last}
 use Rattle.wgsl_parser.specs.Wording.{apart, wording}
 use Rattle.wgsl_parser.proofs.Checked.{to_plain, from_plain}
 

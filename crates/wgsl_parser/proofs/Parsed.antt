@@ -5,7 +5,7 @@ use Rattle.std.specs.Str.{IsUtf8}
 use Rattle.grammar.specs.Tokens.{Token}
 use Rattle.grammar.specs.Faults.{Ending}
 use Rattle.grammar.specs.States.{answer, start_state}
-use Rattle.wgsl_model.specs.Units.{Symbol.unit}
+use Rattle.wgsl_model.specs.FirstUnits.{Symbol.unit}
 use Rattle.wgsl_model.specs.TokenList.{IsTokenList}
 use Rattle.wgsl_model.specs.Program.{IsUnit, IsFaultOf}
 use Rattle.wgsl_error.specs.declared.Error.{Error}

@@ -3,7 +3,7 @@ use Rattle.std.proofs.Common.{◌≡◌, refl, arith}
 use Rattle.grammar.specs.Tables.{Passes}
 use Rattle.grammar.specs.States.{State, go}
 use Rattle.grammar.proofs.States.{reads_is}
-use Rattle.wgsl_model.specs.Units.{Symbol, Symbol.unit, Symbol.global_declarations, Symbol.global_declaration, Symbol.literal_expression, Symbol.ident, body}
+use Rattle.wgsl_model.specs.FirstUnits.{Symbol, Symbol.unit, Symbol.global_declarations, Symbol.global_declaration, Symbol.literal_expression, Symbol.ident, body}
 use Rattle.wgsl_parser.specs.Tables.{tables, reader}
 
 -- the tables are those of the rules

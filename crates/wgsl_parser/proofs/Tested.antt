@@ -1,7 +1,7 @@
 -- The tests by which the engine's laws hold of the grammar.
 use Rattle.std.proofs.Common.{◌≡◌, ℕ, true, List, [], ◌∷◌, inl, inr, refl, sym, ap, subst}
-use Rattle.grammar.specs.Tokens.{Token, Span, Fault, Payload.nothing, span_between}
-use Rattle.grammar.specs.Grammar.{is_among, Mode.unchecked}
+use Rattle.grammar.specs.Tokens.{Token, Fault, span_between}
+use Rattle.grammar.specs.Grammar.{is_among}
 use Rattle.grammar.specs.Faults.{IsFaulty}
 use Rattle.grammar.specs.Tables.{subset}
 use Rattle.grammar.specs.Anchors.{IsAnchored}
@@ -10,12 +10,9 @@ use Rattle.grammar.proofs.Words.{builds, all_sentences}
 use Rattle.grammar.proofs.Faults.{KeepsApart}
 use Rattle.grammar.proofs.First.{IsGuarded}
 use Rattle.grammar.proofs.Guards.{guarded_alone}
-use Rattle.grammar.proofs.Viable.{HasSentences}
 use Rattle.grammar.proofs.Outcomes.{IsTested}
-use Rattle.grammar.proofs.Step.{sane}
-use Rattle.wgsl_model.specs.Classes.{SymAttr, SymSemicolon, KwTrue, Ident, ReservedWord}
-use Rattle.wgsl_model.specs.Trees.{boolean, literal, void}
-use Rattle.wgsl_model.specs.Units.{Symbol, Symbol.unit, Symbol.global_declarations, Symbol.global_declaration, Symbol.literal_expression, Symbol.ident, body, spanned}
+use Rattle.wgsl_model.specs.Classes.{SymAttr, ReservedWord}
+use Rattle.wgsl_model.specs.FirstUnits.{Symbol, Symbol.unit, Symbol.global_declarations, Symbol.global_declaration, Symbol.literal_expression, Symbol.ident, body}
 use Rattle.wgsl_parser.specs.Tables.{tables}
 use Rattle.wgsl_parser.specs.Wording.{apart}
 use Rattle.wgsl_parser.proofs.Passes.{passes}

@@ -10,10 +10,10 @@ use Rattle.grammar.specs.States.{answer, start_state}
 use Rattle.grammar.proofs.Exact.{one_tree}
 use Rattle.grammar.proofs.Named.{EndsApart, answers, named_excludes, named_once, one_token_ends_apart}
 use Rattle.wgsl_model.specs.Faults.{span_of_token, next_place, last_place}
-use Rattle.wgsl_model.specs.Trees.{TranslationUnit}
-use Rattle.wgsl_model.specs.Units.{Symbol, Symbol.unit, Symbol.ident, Value, body}
+use Rattle.wgsl_model.specs.Units.{TranslationUnit}
+use Rattle.wgsl_model.specs.FirstUnits.{Symbol, Symbol.unit, Symbol.ident, Value, body}
+use Rattle.wgsl_model.specs.FirstNamed.{IsNamed, IsNamed.checked_first, IsNamed.unexpected_first, IsNamed.carried_last, IsNamed.missing_last}
 use Rattle.wgsl_model.specs.TokenList.{IsTokenList, width}
-use Rattle.wgsl_model.specs.Named.{IsNamed, IsNamed.checked_first, IsNamed.unexpected_first, IsNamed.carried_last, IsNamed.missing_last}
 use Rattle.wgsl_model.specs.Program.{IsUnit, IsFaultOf}
 use Rattle.wgsl_lexer.specs.InOrder.{AreInOrder, IsFaultBehind}
 use Rattle.wgsl_lexer.proofs.Lists.{token_list_exists, token_list_unique}

@@ -2,8 +2,10 @@
 use Rattle.std.specs.Prelude.{ℕ, List, [], ◌∷◌, ◌++◌, cond}
 use Rattle.grammar.specs.Tokens.{Token}
 use Rattle.grammar.specs.States.{State, Read, Read.done, ◌>>=◌, is_any, start_of, turns, go}
-use Rattle.wgsl_model.specs.Trees.{Spanned, Expression, GlobalDeclaration, TranslationUnit}
-use Rattle.wgsl_model.specs.Units.{Symbol.unit, Symbol.global_declaration, Symbol.literal_expression, Symbol.ident, body, empty_declaration, alias_declaration, const_declaration}
+use Rattle.wgsl_model.specs.Spanned.{Spanned}
+use Rattle.wgsl_model.specs.Expressions.{ExpressionNode}
+use Rattle.wgsl_model.specs.Units.{GlobalDeclaration, TranslationUnit}
+use Rattle.wgsl_model.specs.FirstUnits.{Symbol.unit, Symbol.global_declaration, Symbol.literal_expression, Symbol.ident, body, empty_declaration, alias_declaration, const_declaration}
 use Rattle.wgsl_parser.specs.Tables.{declaration_first, tables, reader}
 
 -- a module
@@ -39,7 +41,7 @@ unfoldable pub const_declaration_at : State → Read (Spanned GlobalDeclaration)
 const_declaration_at s = go tables reader const_declaration s
 
 -- a literal
-unfoldable pub literal_expression_at : State → Read (Spanned Expression)
+unfoldable pub literal_expression_at : State → Read ExpressionNode
 literal_expression_at s = go tables reader (body literal_expression) s
 
 -- a name

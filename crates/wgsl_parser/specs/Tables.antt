@@ -3,7 +3,7 @@ use Rattle.std.specs.Prelude.{ℕ, Bool, true, false, List, [], ◌∷◌}
 use Rattle.grammar.specs.Tables.{Tables}
 use Rattle.grammar.specs.States.{State, Read, reads}
 use Rattle.wgsl_model.specs.Classes.{SymSemicolon, KwAlias, KwConst, KwTrue, KwFalse, Ident, ReservedWord, AbstractInt, I32, U32}
-use Rattle.wgsl_model.specs.Units.{Symbol, Symbol.unit, Symbol.global_declarations, Symbol.global_declaration, Symbol.literal_expression, Symbol.ident, Value, body}
+use Rattle.wgsl_model.specs.FirstUnits.{Symbol, Symbol.unit, Symbol.global_declarations, Symbol.global_declaration, Symbol.literal_expression, Symbol.ident, Value, body}
 
 -- what begins a declaration
 abbrev pub declaration_first : List ℕ

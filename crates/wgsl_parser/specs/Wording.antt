@@ -3,7 +3,7 @@ use Rattle.std.specs.Prelude.{ℕ, List, [], ◌∷◌}
 use Rattle.grammar.specs.Faults.{Wording}
 use Rattle.wgsl_model.specs.Classes.{SymAttr}
 use Rattle.wgsl_model.specs.Faults.{unexpected_token, unexpected_end}
-use Rattle.wgsl_model.specs.Units.{Symbol, Symbol.unit, Symbol.global_declarations, Symbol.global_declaration, Symbol.literal_expression, Symbol.ident}
+use Rattle.wgsl_model.specs.FirstUnits.{Symbol, Symbol.unit, Symbol.global_declarations, Symbol.global_declaration, Symbol.literal_expression, Symbol.ident}
 
 -- the classes directly after which the check of a symbol does not count
 abbrev pub apart : Symbol → List ℕ

@@ -3,7 +3,8 @@
 ghost use Rattle.std.specs.Prelude.{◌≡◌, ◌↔◌, ◌<◌, [], length, map, OnOk, IfOk, IsTrue, if◌then◌else◌, string_bytes};
 ghost use Rattle.grammar.specs.Tokens.{Token};
 ghost use Rattle.grammar.specs.States.{is_at, start_of, first_of, after, take, take_any, refused};
-ghost use Rattle.wgsl_model.specs.Units.{Symbol.ident, text_of, literal_of};
+ghost use Rattle.wgsl_model.specs.TokenValues.{text_of, literal_of};
+ghost use Rattle.wgsl_model.specs.FirstUnits.{Symbol.ident};
 ghost use Rattle.wgsl_token.specs.View.{class_of_kind};
 ghost use Rattle.wgsl_lexer.specs.Placed.{placed_view};
 ghost use Rattle.wgsl_expression.specs.View.{ident_name, literal_view};

@@ -5,9 +5,9 @@ ghost use Rattle.grammar.specs.Tokens.{Token, Fault};
 ghost use Rattle.grammar.specs.Grammar.{Mode.full, Derives};
 ghost use Rattle.grammar.specs.Faults as engine;
 ghost use Rattle.grammar.specs.Faults.{Ending, FaultIn};
-ghost use Rattle.wgsl_model.specs.Trees.{TranslationUnit};
-ghost use Rattle.wgsl_model.specs.Units.{Symbol, Value, body};
-ghost use Rattle.wgsl_model.specs.Named.{IsCheckedFault, IsNamed};
+ghost use Rattle.wgsl_model.specs.Units.{TranslationUnit};
+ghost use Rattle.wgsl_model.specs.FirstUnits.{Symbol, Value, body};
+ghost use Rattle.wgsl_model.specs.FirstNamed.{IsCheckedFault, IsNamed};
 ghost use Rattle.wgsl_model.specs.Program.{IsUnit, IsFaultOf};
 ghost use Rattle.wgsl_parser.specs.Wording.{apart, wording};
 

@@ -3,7 +3,7 @@
 ghost use Rattle.std.specs.Prelude.{◌≡◌, ◌⊎◌, ◌↔◌, chars, length, map, IfOk, IfErr, IsTrue};
 ghost use Rattle.grammar.specs.Tokens.{last_end};
 ghost use Rattle.grammar.specs.States.{answer, start_state};
-ghost use Rattle.wgsl_model.specs.Units.{Symbol.unit};
+ghost use Rattle.wgsl_model.specs.FirstUnits.{Symbol.unit};
 ghost use Rattle.wgsl_model.specs.Faults.{unexpected_token, unexpected_end};
 ghost use Rattle.wgsl_model.specs.Program.{IsUnit, IsFaultOf};
 ghost use Rattle.wgsl_lexer.specs.Placed.{placed_view, ending_view};

@@ -2,9 +2,9 @@
 
 ghost use Rattle.std.specs.Prelude.{◌≡◌, ◌<◌, ◌≤◌, length, map, OnOk};
 ghost use Rattle.grammar.specs.States.{is_any};
-ghost use Rattle.wgsl_model.specs.Units.{Symbol.unit, Symbol.global_declarations, Symbol.global_declaration, Symbol.literal_expression};
+ghost use Rattle.wgsl_model.specs.FirstUnits.{Symbol.unit, Symbol.global_declarations, Symbol.global_declaration, Symbol.literal_expression};
 ghost use Rattle.wgsl_span.specs.View.{spanned_view};
-ghost use Rattle.wgsl_expression.specs.View.{expression_view};
+ghost use Rattle.wgsl_expression.specs.View.{expression_node_view};
 ghost use Rattle.wgsl_unit.specs.View.{global_declaration_view, unit_view};
 ghost use Rattle.wgsl_parser.specs.Tables.{declaration_first, reader};
 ghost use Rattle.wgsl_parser.specs.Rules.{empty_declaration_at, alias_declaration_at, const_declaration_at};
@@ -131,7 +131,7 @@ fn parse_const_declaration(
 
 #[tactic(auto, unfolding(crate::specs::Rules::literal_expression_at), using(crate::proofs::Equations::literal_expression_is))]
 fn parse_literal_expression(alloc: Global, tokens: &mut Cursor) -> Result<ExpressionNode, Fault>
-    ensures value { Gives (spanned_view expression_view) result (state tokens.new) (reader literal_expression (state tokens.old)) }
+    ensures value { Gives expression_node_view result (state tokens.new) (reader literal_expression (state tokens.old)) }
     ensures shorter { OnOk result (length (state tokens.new).rest < length (state tokens.old).rest) }
 {
     let start = tokens.start();

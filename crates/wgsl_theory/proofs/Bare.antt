@@ -1,7 +1,9 @@
 -- The printed text tells nothing of spans and of empty declarations.
 use Rattle.std.proofs.Common.{◌≡◌, Bool, true, false, cond, refl, sym, ap, ap₂, List, [], ◌∷◌, Option, Some, None, ◌∙◌, ℕ, ◌++◌}
 use Rattle.std.specs.Prelude.{codes}
-use Rattle.wgsl_model.specs.Trees.{Spanned, Expression, GlobalDeclaration, void, declaration, type_alias, TranslationUnit}
+use Rattle.wgsl_model.specs.Spanned.{Spanned}
+use Rattle.wgsl_model.specs.Expressions.{ExpressionNode, expression_node}
+use Rattle.wgsl_model.specs.Units.{GlobalDeclaration, GlobalDeclaration.void, GlobalDeclaration.declaration, TranslationUnit}
 use Rattle.wgsl_model.specs.Printing.{joined, print_kind, print_typed, print_initializer, print_global_declaration, is_void, without_voids, texts_of, print}
 use Rattle.wgsl_model.specs.Emptied.{remove_voids, bare_initializer, bare_declaration, bare_declarations, no_span, bare}
 
@@ -17,7 +19,7 @@ without_voids-twice (d ∷ ds) = voids_once (is_void d.node) d (without_voids ds
 
 -- taking empty declarations away twice is taking them away once
 pub remove_voids-twice : (u : TranslationUnit) → remove_voids (remove_voids u) ≡ remove_voids u
-remove_voids-twice u = ap (λ ds. record { global_declarations = ds }) (without_voids-twice u.global_declarations)
+remove_voids-twice u = ap (λ ds. record { global_directives = u.global_directives; global_declarations = ds }) (without_voids-twice u.global_declarations)
 
 -- taking them away never changes the printed text
 pub print-remove_voids : (u : TranslationUnit) → print (remove_voids u) ≡ print u
@@ -25,19 +27,19 @@ print-remove_voids u = ap (λ ds. joined (codes "\n\n") (texts_of ds) ++ codes "
 
 -- ---- spans
 
-initializer_bare : (i : Option (Spanned Expression)) → print_initializer (bare_initializer i) ≡ print_initializer i
+initializer_bare : (i : Option ExpressionNode) → print_initializer (bare_initializer i) ≡ print_initializer i
 initializer_bare None = refl
-initializer_bare (Some e) = refl
+initializer_bare (Some (expression_node e s)) = refl
 
 declaration_bare : (n : GlobalDeclaration) → print_global_declaration (bare_declaration n) ≡ print_global_declaration n
 declaration_bare void = refl
 declaration_bare (declaration d) = ap (λ x. print_kind d.kind ++ codes " " ++ d.ident ++ print_typed d.ty ++ x ++ codes ";") (initializer_bare d.initializer)
-declaration_bare (type_alias a) = refl
+declaration_bare n = refl
 
 void_bare : (n : GlobalDeclaration) → is_void (bare_declaration n) ≡ is_void n
 void_bare void = refl
 void_bare (declaration d) = refl
-void_bare (type_alias a) = refl
+void_bare n = refl
 
 texts_with : (b : Bool) (d e : Spanned GlobalDeclaration) (ds es : List (Spanned GlobalDeclaration)) → print_global_declaration d.node ≡ print_global_declaration e.node → texts_of ds ≡ texts_of es → texts_of (cond b ds (d ∷ ds)) ≡ texts_of (cond b es (e ∷ es))
 texts_with true d e ds es h rest = rest

@@ -10,8 +10,8 @@ use Rattle.wgsl_model.specs.Kind.{Kind, placed}
 use Rattle.wgsl_model.specs.Program.{IsUnit}
 use Rattle.wgsl_model.specs.Raw.{raw, none_left, token}
 use Rattle.wgsl_model.specs.TokenList.{TokensOf, at_end, before_more, place, width}
-use Rattle.wgsl_model.specs.Trees.{TranslationUnit}
-use Rattle.wgsl_model.specs.Units.{Symbol, unit, global_declarations, global_declaration, literal_expression, ident, Value, body}
+use Rattle.wgsl_model.specs.Units.{TranslationUnit}
+use Rattle.wgsl_model.specs.FirstUnits.{Symbol, unit, global_declarations, global_declaration, literal_expression, ident, Value, body}
 
 -- ---- one tree
 

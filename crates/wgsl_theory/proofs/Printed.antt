@@ -4,21 +4,25 @@ use Rattle.std.specs.Prelude.{codes}
 use Rattle.std.proofs.lemmas.Bool.{true≢false}
 use Rattle.unicode_ident.specs.Ident.{is_xid_continue}
 use Rattle.unicode_ident.proofs.IdentLemmas.{is_xid_continue-ascii}
-use Rattle.wgsl_model.specs.Classes.{KwAlias, KwConst, Ident, SymEqual, SymColon, SymSemicolon}
+use Rattle.wgsl_model.specs.Classes.{KwAlias, KwConst, KwLet, KwOverride, KwVar, Ident, SymEqual, SymColon, SymSemicolon}
 use Rattle.wgsl_model.specs.Kind.{Kind, plain, named}
-use Rattle.wgsl_model.specs.Trees.{Spanned, LiteralExpression, boolean, abstract_int, i32, u32, Expression, literal, TypeExpression, DeclarationKind, constant, Declaration, TypeAlias, GlobalDeclaration, void, declaration, type_alias}
+use Rattle.wgsl_model.specs.Spanned.{Spanned}
+use Rattle.wgsl_model.specs.Expressions.{LiteralExpression, boolean, abstract_int, i32, u32, ExpressionNode, expression_node, Expression, literal, TypeExpression, type_expression, no_template, template}
+use Rattle.wgsl_model.specs.Statements.{DeclarationKind, const_kind, override_kind, let_kind, var_kind, Declaration}
+use Rattle.wgsl_model.specs.Units.{TypeAlias, GlobalDeclaration, GlobalDeclaration.void, GlobalDeclaration.declaration, GlobalDeclaration.type_alias}
 use Rattle.wgsl_model.specs.Printing.{print_literal, is_void, without_voids}
-use Rattle.wgsl_theory.specs.Canonical.{literal_token, expression_tokens, kind_tokens, typed_tokens, initializer_tokens, declaration_tokens, global_declaration_tokens, all_tokens}
+use Rattle.wgsl_theory.specs.Canonical.{literal_token, expression_tokens, type_tokens, kind_tokens, typed_tokens, initializer_tokens, declaration_tokens, global_declaration_tokens, all_tokens}
 use Rattle.wgsl_theory.proofs.Steps.{Ends}
 use Rattle.wgsl_theory.proofs.Names.{IsName, name_stands, alias_stands, const_stands, true_stands, false_stands, equal_stands, semicolon_stands, integer_stands, signed_stands, unsigned_stands}
 use Rattle.wgsl_theory.proofs.Pieces.{Piece, blank, word, render, kinds, Stands, Fits, kinds-append}
-use Rattle.wgsl_theory.proofs.Sound.{at_whole, IsSoundLiteral, IsSoundExpression, IsSoundInitializer, IsSound, AllSound}
+use Rattle.wgsl_theory.proofs.Sound.{at_whole, IsSoundLiteral, IsSoundExpression, IsSoundInitializer, IsSoundType, IsSound, AllSound}
 
 -- ---- the pieces
 
 -- an expression
 abbrev pub expression_pieces : Expression → List Piece
 expression_pieces (literal l) = word (print_literal l) (literal_token l) ∷ []
+expression_pieces e = []
 
 -- a name, by its characters
 abbrev pub name_piece : List ℕ → Piece
@@ -28,19 +32,26 @@ name_piece bytes = word (chars bytes) (named Ident bytes)
 abbrev pub semicolon : Piece
 semicolon = word (codes ";") (plain SymSemicolon)
 
+-- a type: its name
+abbrev pub type_pieces : TypeExpression → List Piece
+type_pieces (type_expression name arguments) = name_piece name ∷ []
+
 -- `:` and a type, if there is one
 abbrev pub typed_pieces : Option TypeExpression → List Piece
 typed_pieces None = []
-typed_pieces (Some t) = word (codes ":") (plain SymColon) ∷ (blank 32 ∷ (name_piece t.ident ∷ []))
+typed_pieces (Some t) = word (codes ":") (plain SymColon) ∷ (blank 32 ∷ type_pieces t)
 
 -- `=` and a value, if there is one
-abbrev pub initializer_pieces : Option (Spanned Expression) → List Piece
+abbrev pub initializer_pieces : Option ExpressionNode → List Piece
 initializer_pieces None = []
-initializer_pieces (Some e) = blank 32 ∷ (word (codes "=") (plain SymEqual) ∷ (blank 32 ∷ expression_pieces e.node))
+initializer_pieces (Some (expression_node e s)) = blank 32 ∷ (word (codes "=") (plain SymEqual) ∷ (blank 32 ∷ expression_pieces e))
 
 -- the keyword of a kind of value
 abbrev pub kind_pieces : DeclarationKind → List Piece
-kind_pieces constant = word (codes "const") (plain KwConst) ∷ []
+kind_pieces const_kind = word (codes "const") (plain KwConst) ∷ []
+kind_pieces override_kind = word (codes "override") (plain KwOverride) ∷ []
+kind_pieces let_kind = word (codes "let") (plain KwLet) ∷ []
+kind_pieces (var_kind space) = word (codes "var") (plain KwVar) ∷ []
 
 -- the declaration of a value
 abbrev pub declaration_pieces : Declaration → List Piece
@@ -48,13 +59,14 @@ declaration_pieces d = kind_pieces d.kind ++ (blank 32 ∷ (name_piece d.ident �
 
 -- a type alias
 abbrev pub type_alias_pieces : TypeAlias → List Piece
-type_alias_pieces a = word (codes "alias") (plain KwAlias) ∷ (blank 32 ∷ (name_piece a.ident ∷ (blank 32 ∷ (word (codes "=") (plain SymEqual) ∷ (blank 32 ∷ (name_piece a.ty.ident ∷ (semicolon ∷ [])))))))
+type_alias_pieces a = word (codes "alias") (plain KwAlias) ∷ (blank 32 ∷ (name_piece a.ident ∷ (blank 32 ∷ (word (codes "=") (plain SymEqual) ∷ (blank 32 ∷ (type_pieces a.ty ++ (semicolon ∷ [])))))))
 
 -- a declaration
 abbrev pub global_pieces : GlobalDeclaration → List Piece
 global_pieces void = semicolon ∷ []
 global_pieces (declaration d) = declaration_pieces d
 global_pieces (type_alias a) = type_alias_pieces a
+global_pieces d = []
 
 -- declarations with an empty line between them, and a line end
 abbrev pub all_pieces : List (Spanned GlobalDeclaration) → List Piece
@@ -97,28 +109,36 @@ literal_stands (boolean false) text h = false_stands (59 ∷ text) semicolon_end
 literal_stands (abstract_int z) text h = at_whole (2 ^ 63) (λ y. Stands (print_literal (abstract_int y)) (literal_token (abstract_int y)) (59 ∷ text)) z h (λ n l. integer_stands n (59 ∷ text) l semicolon_ends)
 literal_stands (i32 z) text h = at_whole (2 ^ 31) (λ y. Stands (print_literal (i32 y)) (literal_token (i32 y)) (59 ∷ text)) z h (λ n l. signed_stands n (59 ∷ text) l)
 literal_stands (u32 n) text h = unsigned_stands n (59 ∷ text) h
+literal_stands l text h = absurd h
 
 expression_fits : (e : Expression) (more : List Piece) → IsSoundExpression e → Fits more → Fits (expression_pieces e ++ (semicolon ∷ more))
 expression_fits (literal l) more h rest = (literal_stands l (render more) h, (semicolon_stands (render more), rest))
+expression_fits e more h rest = absurd h
 
-initializer_fits : (ty : Option TypeExpression) (i : Option (Spanned Expression)) (more : List Piece) → ty ≡ None → IsSoundInitializer i → Fits more
+initializer_fits : (ty : Option TypeExpression) (i : Option ExpressionNode) (more : List Piece) → ty ≡ None → IsSoundInitializer i → Fits more
     → Ends is_xid_continue (render ((typed_pieces ty ++ (initializer_pieces i ++ (semicolon ∷ []))) ++ more)) × Fits ((typed_pieces ty ++ (initializer_pieces i ++ (semicolon ∷ []))) ++ more)
 initializer_fits (Some t) i more e h rest = absurd (cc)
 initializer_fits None None more e h rest = absurd h
-initializer_fits None (Some v) more e h rest =
-    let value : Fits ((expression_pieces v.node ++ (semicolon ∷ [])) ++ more) = subst Fits (sym (append_assoc (expression_pieces v.node) (semicolon ∷ []) more)) (expression_fits v.node more h rest) in
+initializer_fits None (Some (expression_node v s)) more e h rest =
+    let value : Fits ((expression_pieces v ++ (semicolon ∷ [])) ++ more) = subst Fits (sym (append_assoc (expression_pieces v) (semicolon ∷ []) more)) (expression_fits v more h rest) in
     (space_ends, (refl, (equal_stands _ refl, (refl, value))))
 
-const_fits : (k : DeclarationKind) (name : List ℕ) (rest more : List Piece) → IsName name → Ends is_xid_continue (render (rest ++ more)) → Fits (rest ++ more) → Fits ((kind_pieces k ++ (blank 32 ∷ (name_piece name ∷ rest))) ++ more)
-const_fits constant name rest more n ends fits = (const_stands _ space_ends, (refl, (name_stands name (render (rest ++ more)) n ends, fits)))
+const_fits : (k : DeclarationKind) (name : List ℕ) (rest more : List Piece) → k ≡ const_kind → IsName name → Ends is_xid_continue (render (rest ++ more)) → Fits (rest ++ more) → Fits ((kind_pieces k ++ (blank 32 ∷ (name_piece name ∷ rest))) ++ more)
+const_fits const_kind name rest more e n ends fits = (const_stands _ space_ends, (refl, (name_stands name (render (rest ++ more)) n ends, fits)))
+const_fits k name rest more e n ends fits = absurd (cc)
+
+alias_fits : (name : List ℕ) (ty : TypeExpression) (more : List Piece) → IsName name → IsSoundType ty → Fits more → Fits (type_alias_pieces (record { ident = name; ty = ty }) ++ more)
+alias_fits name (type_expression type_name no_template) more n t fits =
+    (alias_stands _ space_ends, (refl, (name_stands name _ n space_ends, (refl, (equal_stands _ refl, (refl, (name_stands type_name _ t semicolon_ends, (semicolon_stands _, fits))))))))
+alias_fits name (type_expression type_name (template es)) more n t fits = absurd t
 
 declaration_fits : (n : GlobalDeclaration) (more : List Piece) → IsKept n → Fits more → Fits (global_pieces n ++ more)
 declaration_fits void more h fits = absurd (true≢false h.0)
 declaration_fits (declaration d) more h fits =
     let rest = initializer_fits d.ty d.initializer more h.1.untyped h.1.value fits in
-    const_fits d.kind d.ident (typed_pieces d.ty ++ (initializer_pieces d.initializer ++ (semicolon ∷ []))) more h.1.name rest.0 rest.1
-declaration_fits (type_alias a) more h fits =
-    (alias_stands _ space_ends, (refl, (name_stands a.ident _ h.1.0 space_ends, (refl, (equal_stands _ refl, (refl, (name_stands a.ty.ident _ h.1.1 semicolon_ends, (semicolon_stands _, fits))))))))
+    const_fits d.kind d.ident (typed_pieces d.ty ++ (initializer_pieces d.initializer ++ (semicolon ∷ []))) more h.1.kind h.1.name rest.0 rest.1
+declaration_fits (type_alias a) more h fits = alias_fits a.ident a.ty more h.1.0 h.1.1 fits
+declaration_fits n more h fits = absurd h.1
 
 -- each word of them is the token at the front of what follows
 pub all_fit : (ds : List (Spanned GlobalDeclaration)) → AllKept ds → Fits (all_pieces ds)
@@ -130,17 +150,24 @@ all_fit (d ∷ (e ∷ ds)) h = declaration_fits d.node (blank 10 ∷ (blank 10 �
 
 expression_kinds : (e : Expression) → kinds (expression_pieces e) ≡ expression_tokens e
 expression_kinds (literal l) = refl
+expression_kinds e = refl
+
+type_kinds : (t : TypeExpression) → kinds (type_pieces t) ≡ type_tokens t
+type_kinds (type_expression name arguments) = refl
 
 typed_kinds : (t : Option TypeExpression) → kinds (typed_pieces t) ≡ typed_tokens t
 typed_kinds None = refl
-typed_kinds (Some t) = refl
+typed_kinds (Some t) = ap (λ ks. plain SymColon ∷ ks) (type_kinds t)
 
-initializer_kinds : (i : Option (Spanned Expression)) → kinds (initializer_pieces i) ≡ initializer_tokens i
+initializer_kinds : (i : Option ExpressionNode) → kinds (initializer_pieces i) ≡ initializer_tokens i
 initializer_kinds None = refl
-initializer_kinds (Some e) = ap (λ ks. plain SymEqual ∷ ks) (expression_kinds e.node)
+initializer_kinds (Some (expression_node e s)) = ap (λ ks. plain SymEqual ∷ ks) (expression_kinds e)
 
 kind_kinds : (k : DeclarationKind) → kinds (kind_pieces k) ≡ kind_tokens k
-kind_kinds constant = refl
+kind_kinds const_kind = refl
+kind_kinds override_kind = refl
+kind_kinds let_kind = refl
+kind_kinds (var_kind space) = refl
 
 declaration_kinds : (d : Declaration) → kinds (declaration_pieces d) ≡ declaration_tokens d
 declaration_kinds d =
@@ -152,7 +179,9 @@ declaration_kinds d =
 global_kinds : (n : GlobalDeclaration) → IsKept n → kinds (global_pieces n) ≡ global_declaration_tokens n
 global_kinds void h = absurd (true≢false h.0)
 global_kinds (declaration d) h = declaration_kinds d
-global_kinds (type_alias a) h = refl
+global_kinds (type_alias a) h =
+    ap (λ ks. plain KwAlias ∷ (named Ident a.ident ∷ (plain SymEqual ∷ ks))) (kinds-append (type_pieces a.ty) (semicolon ∷ []) ∙ ap (λ ks. ks ++ (plain SymSemicolon ∷ [])) (type_kinds a.ty))
+global_kinds n h = absurd h.1
 
 -- their words have the kinds that are written from the tree
 pub all_kinds : (ds : List (Spanned GlobalDeclaration)) → AllKept ds → kinds (all_pieces ds) ≡ all_tokens ds
@@ -165,8 +194,7 @@ tokens_without true d ds es e h = h ∙ go d.node e
   where
     go : (n : GlobalDeclaration) → is_void n ≡ true → all_tokens es ≡ global_declaration_tokens n ++ all_tokens es
     go void e = refl
-    go (declaration d) e = absurd (cc)
-    go (type_alias a) e = absurd (cc)
+    go n e = absurd (cc)
 tokens_without false d ds es e h = ap (λ (a : List Kind). global_declaration_tokens d.node ++ a) h
 
 -- an empty declaration has no tokens

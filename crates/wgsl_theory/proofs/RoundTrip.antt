@@ -3,14 +3,15 @@ use Rattle.std.proofs.Common.{◌≡◌, ℕ, true, refl, sym, ap, subst, List, 
 use Rattle.std.specs.Str.{is_utf8}
 use Rattle.std.proofs.lemmas.Str.{is_utf8-from_IsUtf8}
 use Rattle.grammar.specs.Faults.{Ending.finished}
-use Rattle.wgsl_model.specs.Trees.{Spanned, GlobalDeclaration, TranslationUnit}
+use Rattle.wgsl_model.specs.Spanned.{Spanned}
+use Rattle.wgsl_model.specs.Units.{GlobalDeclaration, TranslationUnit}
 use Rattle.wgsl_model.specs.Printing.{without_voids, print}
-use Rattle.wgsl_model.specs.Emptied.{remove_voids}
+use Rattle.wgsl_model.specs.Emptied.{remove_voids, bare}
 use Rattle.wgsl_model.specs.TokenList.{TokensOf, width}
 use Rattle.wgsl_model.specs.Program.{Outcome, IsUnit, ReadsBack, Formats, printed, refused, not_utf8}
 use Rattle.wgsl_theory.specs.Canonical.{canonical, all_tokens, HasTokens}
 use Rattle.wgsl_theory.proofs.Pieces.{render, lexed}
-use Rattle.wgsl_theory.proofs.Sound.{unit_sound}
+use Rattle.wgsl_theory.proofs.Sound.{unit_sound, no_directives}
 use Rattle.wgsl_theory.proofs.Printed.{all_pieces, AllKept, without_voids-kept, all_fit, all_kinds, without_voids-tokens}
 use Rattle.wgsl_theory.proofs.Text.{Reads, all_read}
 use Rattle.wgsl_theory.proofs.Again.{unit_again}
@@ -47,7 +48,7 @@ pub printed_parse : (source : List ℕ) (u : TranslationUnit) → IsUnit source 
 printed_parse source u h =
     let found = kept_tokens source u h in
     let again = unit_again (kept u) found.0 (kept_all source u h) found.2 in
-    (again.0, (found.0, found.1, again.1), again.2)
+    (again.0, (found.0, found.1, again.1), again.2 ∙ ap (λ x. bare (record { global_directives = x; global_declarations = kept u })) (sym (no_directives source u h)))
 
 -- the printed text reads as a unit that prints the same
 pub printed_prints : (source : List ℕ) (u : TranslationUnit) → IsUnit source u → (again : TranslationUnit) × IsUnit (chars (print u)) again × (print again ≡ print u)

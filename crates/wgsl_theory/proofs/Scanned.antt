@@ -19,7 +19,8 @@ use Rattle.wgsl_model.specs.Spelling.{spelling}
 use Rattle.wgsl_model.specs.Raw.{token, raw_at, value, valued, spelled, front, word_of, name_of, keyword_or_name}
 use Rattle.wgsl_model.specs.TokenList.{TokensOf, at_end, at_fault, before_more}
 use Rattle.wgsl_model.specs.Trivia.{after_trivia, outside}
-use Rattle.wgsl_model.specs.Units.{text_in, number_in}
+use Rattle.wgsl_model.specs.TokenValues.{number_in}
+use Rattle.wgsl_model.specs.TokenValues as values
 use Rattle.wgsl_theory.specs.Canonical.{without_place}
 use Rattle.wgsl_theory.proofs.Characters.{xid_continue-scalar}
 use Rattle.wgsl_theory.proofs.Steps.{Each}
@@ -33,7 +34,7 @@ IsBelow limit p = (n : ℕ) × (number_in p ≡ pos n) × (n < limit)
 
 -- what a token of a text holds
 pub record IsScanned (k : Kind) : Type 0 where
-  pub names : k.class ≡ Ident → IsName (text_in k.payload)
+  pub names : k.class ≡ Ident → IsName (values.word_of k.class k.payload)
   pub integers : k.class ≡ AbstractInt → IsBelow (2 ^ 63) k.payload
   pub signed : k.class ≡ I32 → IsBelow (2 ^ 31) k.payload
   pub unsigned : k.class ≡ U32 → IsBelow (2 ^ 32) k.payload

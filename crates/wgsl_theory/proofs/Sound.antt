@@ -6,9 +6,15 @@ use Rattle.grammar.specs.Tokens.{Token, Span, Payload, span_between}
 use Rattle.grammar.specs.Grammar.{Grammar.symbol, Mode.full, Means, Chain, Chain.base, Chain.more, Within, is_among, found}
 use Rattle.grammar.specs.Faults.{Ending.finished}
 use Rattle.grammar.specs.Notation.{◌▹◌, ◌◃◌, ◌then◌}
-use Rattle.wgsl_model.specs.Classes.{SymSemicolon, SymEqual, KwAlias, KwConst, KwTrue, KwFalse, Ident, ReservedWord, AbstractInt, I32, U32}
-use Rattle.wgsl_model.specs.Trees.{Spanned, LiteralExpression, boolean, abstract_int, i32, u32, Expression, literal, Declaration, GlobalDeclaration, void, declaration, type_alias, TranslationUnit}
-use Rattle.wgsl_model.specs.Units.{Symbol, unit, global_declarations, global_declaration, literal_expression, ident, Value, Rule, body, text_of, number_in, magnitude, literal_of, unreserved, alias_declaration, const_declaration}
+use Rattle.wgsl_model.specs.Classes.{SymSemicolon, SymEqual, KwAlias, KwConst, KwTrue, KwFalse, Ident, ReservedWord, AbstractInt, I32, U32, AbstractFloat, F32}
+use Rattle.wgsl_model.specs.Spanned.{Spanned}
+use Rattle.wgsl_model.specs.Expressions.{LiteralExpression, boolean, abstract_int, i32, u32, abstract_float, f32, f16, ExpressionNode, expression_node, Expression, literal, TypeExpression, type_expression, no_template, template}
+use Rattle.wgsl_model.specs.Attributes.{Attributes}
+use Rattle.wgsl_model.specs.Statements.{DeclarationKind, const_kind, Declaration}
+use Rattle.wgsl_model.specs.Units.{GlobalDeclaration, GlobalDeclaration.void, GlobalDeclaration.declaration, GlobalDeclaration.type_alias, TranslationUnit}
+use Rattle.wgsl_model.specs.FirstUnits.{Symbol, unit, global_declarations, global_declaration, literal_expression, ident, Value, Rule, body, alias_declaration, const_declaration}
+use Rattle.wgsl_model.specs.TokenValues.{text_of, number_in, magnitude, literal_of}
+use Rattle.wgsl_model.specs.Checks.{unreserved}
 use Rattle.wgsl_model.specs.Program.{IsUnit}
 use Rattle.wgsl_model.specs.TokenList.{width}
 use Rattle.wgsl_theory.specs.Canonical.{without_place}
@@ -28,24 +34,49 @@ IsSoundLiteral (boolean b) = Unit {0}
 IsSoundLiteral (abstract_int z) = IsWhole (2 ^ 63) z
 IsSoundLiteral (i32 z) = IsWhole (2 ^ 31) z
 IsSoundLiteral (u32 n) = n < 2 ^ 32
+IsSoundLiteral l = ⊥
 
 abbrev pub IsSoundExpression : Expression → Type 0
 IsSoundExpression (literal l) = IsSoundLiteral l
+IsSoundExpression e = ⊥
 
-abbrev pub IsSoundInitializer : Option (Spanned Expression) → Type 0
+abbrev pub IsSoundNode : ExpressionNode → Type 0
+IsSoundNode (expression_node e s) = IsSoundExpression e
+
+abbrev pub IsSoundInitializer : Option ExpressionNode → Type 0
 IsSoundInitializer None = ⊥
-IsSoundInitializer (Some e) = IsSoundExpression e.node
+IsSoundInitializer (Some e) = IsSoundNode e
 
--- a constant has a name, no type and a value so far
+-- a type is a name without a template so far
+abbrev pub IsSoundType : TypeExpression → Type 0
+IsSoundType (type_expression name no_template) = IsName name
+IsSoundType (type_expression name (template es)) = ⊥
+
+-- a constant has no attributes, a name, no type and a value so far
 pub record IsSoundDeclaration (d : Declaration) : Type 0 where
+  pub unattributed : d.attributes ≡ []
+  pub kind : d.kind ≡ const_kind
   pub name : IsName d.ident
   pub untyped : d.ty ≡ None
   pub value : IsSoundInitializer d.initializer
 
+-- a constant with a name and a value
+abbrev pub constant : List ℕ → Option ExpressionNode → Declaration
+constant name value = record { attributes = []; kind = const_kind; ident = name; ty = None; initializer = value }
+
+constant_of_parts : (attributes : Attributes) (kind : DeclarationKind) (name : List ℕ) (ty : Option TypeExpression) (value : Option ExpressionNode) → attributes ≡ [] → kind ≡ const_kind → ty ≡ None
+    → record { attributes = attributes; kind = kind; ident = name; ty = ty; initializer = value } ≡ constant name value
+constant_of_parts attributes kind name ty value a k t = rw (a, k, t) refl
+
+-- a sound declaration is one
+pub sound_constant : (d : Declaration) → IsSoundDeclaration d → d ≡ constant d.ident d.initializer
+sound_constant d h = constant_of_parts d.attributes d.kind d.ident d.ty d.initializer h.unattributed h.kind h.untyped
+
 abbrev pub IsSound : GlobalDeclaration → Type 0
 IsSound void = Unit {0}
 IsSound (declaration d) = IsSoundDeclaration d
-IsSound (type_alias a) = IsName a.ident × IsName a.ty.ident
+IsSound (type_alias a) = IsName a.ident × IsSoundType a.ty
+IsSound d = ⊥
 
 abbrev pub AllSound : List (Spanned GlobalDeclaration) → Type 0
 AllSound [] = Unit {0}
@@ -83,7 +114,7 @@ sound_literal t h m = go (t.class == KwTrue) (t.class == KwFalse) (t.class == Ab
 
     go : (a b c d e : Bool) → (t.class == AbstractInt) ≡ c → (t.class == I32) ≡ d → (t.class == U32) ≡ e
         → cond a true (cond b true (cond c true (cond d true (cond e true false)))) ≡ true
-        → IsSoundLiteral (cond a (boolean true) (cond b (boolean false) (cond c (abstract_int (number_in t.payload)) (cond d (i32 (number_in t.payload)) (u32 (magnitude (number_in t.payload)))))))
+        → IsSoundLiteral (cond a (boolean true) (cond b (boolean false) (cond c (abstract_int (number_in t.payload)) (cond d (i32 (number_in t.payload)) (cond e (u32 (magnitude (number_in t.payload))) (cond (t.class == AbstractFloat) (abstract_float (text_of t)) (cond (t.class == F32) (f32 (text_of t)) (f16 (text_of t)))))))))
     go true b c d e x y z f = tt
     go false true c d e x y z f = tt
     go false false true d e x y z f = whole (2 ^ 63) t.payload (h.integers (eqb-true t.class AbstractInt x))
@@ -92,11 +123,11 @@ sound_literal t h m = go (t.class == KwTrue) (t.class == KwFalse) (t.class == Ab
     go false false false false false x y z f = absurd (cc)
 
 -- a literal
-pub derived_literal : (k : ℕ) (e : Spanned Expression) (xs ys : List Token) → D k literal_expression e xs ys → AllScanned xs → IsSoundExpression e.node × AllScanned ys
+pub derived_literal : (k : ℕ) (e : ExpressionNode) (xs ys : List Token) → D k literal_expression e xs ys → AllScanned xs → IsSoundNode e × AllScanned ys
 derived_literal zero e xs ys d h = absurd d
 derived_literal (suc k) e xs ys d h =
     let rest = scanned_rest d.0 xs ys d.2.1 h in
-    (subst (λ (v : Spanned Expression). IsSoundExpression v.node) d.1 (sound_literal d.0 rest.0 d.2.0), rest.1)
+    (subst (λ (v : ExpressionNode). IsSoundNode v) d.1 (sound_literal d.0 rest.0 d.2.0), rest.1)
 
 -- the parts of the rules for declarations, behind the keyword and behind `=`
 abbrev pub alias_end : Rule Token
@@ -105,10 +136,10 @@ alias_end = symbol ident ◃ SymSemicolon
 abbrev pub alias_rest : Rule (Token × Token)
 alias_rest = symbol ident then (SymEqual ▹ alias_end)
 
-abbrev pub const_end : Rule (Spanned Expression)
+abbrev pub const_end : Rule ExpressionNode
 const_end = symbol literal_expression ◃ SymSemicolon
 
-abbrev pub const_rest : Rule (Token × Spanned Expression)
+abbrev pub const_rest : Rule (Token × ExpressionNode)
 const_rest = symbol ident then (SymEqual ▹ const_end)
 
 -- a declaration
@@ -134,7 +165,7 @@ derived_const k v xs ys d h =
     let u = scanned_rest sign.0 names.0 sign.1 sign.3 first.1 in
     let end = before_token full (D k) SymSemicolon (symbol literal_expression) d.0.1 sign.1 ys sign.4 in
     let second = derived_literal k d.0.1 sign.1 end.1 end.2 u.1 in
-    (subst (λ (w : Spanned GlobalDeclaration). IsSound w.node) d.1 (record { name = first.0; untyped = refl; value = second.0 }), (scanned_rest end.0 end.1 ys end.4 second.1).1)
+    (subst (λ (w : Spanned GlobalDeclaration). IsSound w.node) d.1 (record { unattributed = refl; kind = refl; name = first.0; untyped = refl; value = second.0 }), (scanned_rest end.0 end.1 ys end.4 second.1).1)
 
 pub derived_declaration : (k : ℕ) (v : Spanned GlobalDeclaration) (xs ys : List Token) → D k global_declaration v xs ys → AllScanned xs → IsSound v.node × AllScanned ys
 derived_declaration zero v xs ys d h = absurd d
@@ -169,3 +200,11 @@ derived_unit (suc k) u xs ys d h = subst (λ (v : TranslationUnit). AllSound v.g
 -- the declarations of a unit that is derived from a text
 pub unit_sound : (source : List ℕ) (u : TranslationUnit) → IsUnit source u → AllSound u.global_declarations
 unit_sound source u (ts, lexed, (k, d)) = derived_unit k u ts [] d (tokens_scanned (width source) source ts finished lexed)
+
+directives_of_unit : (k : ℕ) (u : TranslationUnit) (xs ys : List Token) → D k unit u xs ys → u.global_directives ≡ []
+directives_of_unit zero u xs ys d = absurd d
+directives_of_unit (suc k) u xs ys d = subst (λ (v : TranslationUnit). v.global_directives ≡ []) d.1 refl
+
+-- a unit that is derived from a text has no directives so far
+pub no_directives : (source : List ℕ) (u : TranslationUnit) → IsUnit source u → u.global_directives ≡ []
+no_directives source u (ts, lexed, (k, d)) = directives_of_unit k u ts [] d

@@ -7,12 +7,15 @@ use lib.Utf8.{encode}
 use Rattle.std.proofs.lemmas.Str.{IsUtf8-append, IsUtf8-from_ascii, chars-append, chars-IsAscii}
 use Rattle.std.proofs.lemmas.Bool.{true≢false}
 use Rattle.std.proofs.lemmas.Fmt.{IsAscii-decimal}
-use Rattle.wgsl_model.specs.Trees.{Spanned, LiteralExpression, boolean, abstract_int, i32, u32, Expression, literal, TypeExpression, DeclarationKind, constant, Declaration, GlobalDeclaration, void, declaration, type_alias}
-use Rattle.wgsl_model.specs.Printing.{joined, print_literal, print_expression, print_kind, print_typed, print_initializer, print_declaration, print_global_declaration, texts_of}
+use Rattle.wgsl_model.specs.Spanned.{Spanned}
+use Rattle.wgsl_model.specs.Expressions.{LiteralExpression, boolean, abstract_int, i32, u32, ExpressionNode, expression_node, Expression, literal, TypeExpression, type_expression, no_template, template}
+use Rattle.wgsl_model.specs.Statements.{DeclarationKind, const_kind, Declaration}
+use Rattle.wgsl_model.specs.Units.{GlobalDeclaration, GlobalDeclaration.void, GlobalDeclaration.declaration, GlobalDeclaration.type_alias}
+use Rattle.wgsl_model.specs.Printing.{joined, print_literal, print_expression, print_kind, print_typed, print_initializer, print_declaration, print_type_alias, print_global_declaration, texts_of}
 use Rattle.wgsl_theory.proofs.Names.{IsName}
 use Rattle.wgsl_theory.proofs.Pieces.{Piece, blank, render, render-append}
-use Rattle.wgsl_theory.proofs.Sound.{at_whole, IsSoundLiteral, IsSoundExpression, IsSoundInitializer}
-use Rattle.wgsl_theory.proofs.Printed.{expression_pieces, typed_pieces, initializer_pieces, kind_pieces, name_piece, semicolon, declaration_pieces, global_pieces, all_pieces, IsKept, AllKept}
+use Rattle.wgsl_theory.proofs.Sound.{at_whole, IsSoundLiteral, IsSoundExpression, IsSoundInitializer, IsSoundType}
+use Rattle.wgsl_theory.proofs.Printed.{expression_pieces, typed_pieces, initializer_pieces, kind_pieces, name_piece, semicolon, declaration_pieces, type_alias_pieces, global_pieces, all_pieces, IsKept, AllKept}
 
 -- bytes that are a text with these characters
 pub record Reads (bytes characters : List ℕ) : Type 0 where
@@ -89,20 +92,23 @@ literal_reads (boolean false) h = false_reads
 literal_reads (abstract_int z) h = at_whole (2 ^ 63) (λ y. Reads (print_literal (abstract_int y)) (print_literal (abstract_int y))) z h (λ n l. decimal_reads n (omega (arith, l)))
 literal_reads (i32 z) h = at_whole (2 ^ 31) (λ y. Reads (print_literal (i32 y)) (print_literal (i32 y))) z h (λ n l. Reads-append (decimal n) (codes "i") (decimal n) (codes "i") (decimal_reads n (omega (arith, l))) i_reads)
 literal_reads (u32 n) h = Reads-append (decimal n) (codes "u") (decimal n) (codes "u") (decimal_reads n (omega (arith, h))) u_reads
+literal_reads l h = absurd h
 
 expression_reads : (e : Expression) → IsSoundExpression e → Reads (print_expression e) (render (expression_pieces e))
 expression_reads (literal l) h = subst (Reads (print_literal l)) (sym (append-nil (print_literal l))) (literal_reads l h)
+expression_reads e h = absurd h
 
-initializer_reads : (i : Option (Spanned Expression)) → IsSoundInitializer i → Reads (print_initializer i) (render (initializer_pieces i))
+initializer_reads : (i : Option ExpressionNode) → IsSoundInitializer i → Reads (print_initializer i) (render (initializer_pieces i))
 initializer_reads None h = absurd h
-initializer_reads (Some e) h = Reads-append (codes " = ") (print_expression e.node) (codes " = ") (render (expression_pieces e.node)) equal_reads (expression_reads e.node h)
+initializer_reads (Some (expression_node e s)) h = Reads-append (codes " = ") (print_expression e) (codes " = ") (render (expression_pieces e)) equal_reads (expression_reads e h)
 
 typed_reads : (t : Option TypeExpression) → t ≡ None → Reads (print_typed t) (render (typed_pieces t))
 typed_reads None e = nil_reads
 typed_reads (Some t) e = absurd (cc)
 
-kind_reads : (k : DeclarationKind) → Reads (print_kind k) (render (kind_pieces k))
-kind_reads constant = const_reads
+kind_reads : (k : DeclarationKind) → k ≡ const_kind → Reads (print_kind k) (render (kind_pieces k))
+kind_reads const_kind e = const_reads
+kind_reads k e = absurd (cc)
 
 -- sums of texts in a row
 row_of_six : (a b c d e f : List ℕ) → ((((a ++ b) ++ c) ++ d) ++ e) ++ f ≡ a ++ (b ++ (c ++ (d ++ (e ++ f))))
@@ -120,6 +126,17 @@ declaration_text d =
     render-append (kind_pieces d.kind) (blank 32 ∷ (name_piece d.ident ∷ (typed_pieces d.ty ++ tail)))
     ∙ ap (λ x. render (kind_pieces d.kind) ++ (codes " " ++ (chars d.ident ++ x))) (render-append (typed_pieces d.ty) tail ∙ ap (λ x. render (typed_pieces d.ty) ++ x) (render-append (initializer_pieces d.initializer) (semicolon ∷ [])))
 
+alias_text : (ident : List ℕ) (ty : TypeExpression) → IsName ident → IsSoundType ty
+    → Reads (print_type_alias (record { ident = ident; ty = ty })) (render (type_alias_pieces (record { ident = ident; ty = ty })))
+alias_text ident (type_expression name no_template) n t =
+    subst (Reads (print_type_alias (record { ident = ident; ty = type_expression name no_template }))) (row_of_five (codes "alias ") (chars ident) (codes " = ") (chars name) (codes ";"))
+    (Reads-append _ (codes ";") _ (codes ";")
+    (Reads-append _ name _ (chars name)
+    (Reads-append _ (codes " = ") _ (codes " = ")
+    (Reads-append (codes "alias ") ident (codes "alias ") (chars ident) alias_reads (name_reads ident n))
+    equal_reads) (name_reads name t)) semicolon_reads)
+alias_text ident (type_expression name (template es)) n t = absurd t
+
 global_reads : (n : GlobalDeclaration) → IsKept n → Reads (print_global_declaration n) (render (global_pieces n))
 global_reads void h = absurd (true≢false h.0)
 global_reads (declaration d) h =
@@ -128,15 +145,10 @@ global_reads (declaration d) h =
     (Reads-append _ (print_initializer d.initializer) _ (render (initializer_pieces d.initializer))
     (Reads-append _ (print_typed d.ty) _ (render (typed_pieces d.ty))
     (Reads-append _ d.ident _ (chars d.ident)
-    (Reads-append (print_kind d.kind) (codes " ") (render (kind_pieces d.kind)) (codes " ") (kind_reads d.kind) space_reads)
+    (Reads-append (print_kind d.kind) (codes " ") (render (kind_pieces d.kind)) (codes " ") (kind_reads d.kind h.1.kind) space_reads)
     (name_reads d.ident h.1.name)) (typed_reads d.ty h.1.untyped)) (initializer_reads d.initializer h.1.value)) semicolon_reads)
-global_reads (type_alias a) h =
-    subst (Reads (print_global_declaration (type_alias a))) (row_of_five (codes "alias ") (chars a.ident) (codes " = ") (chars a.ty.ident) (codes ";"))
-    (Reads-append _ (codes ";") _ (codes ";")
-    (Reads-append _ a.ty.ident _ (chars a.ty.ident)
-    (Reads-append _ (codes " = ") _ (codes " = ")
-    (Reads-append (codes "alias ") a.ident (codes "alias ") (chars a.ident) alias_reads (name_reads a.ident h.1.0))
-    equal_reads) (name_reads a.ty.ident h.1.1)) semicolon_reads)
+global_reads (type_alias a) h = alias_text a.ident a.ty h.1.0 h.1.1
+global_reads n h = absurd h.1
 
 -- the whole printed text
 pub all_read : (ds : List (Spanned GlobalDeclaration)) → AllKept ds → Reads (joined (codes "\n\n") (texts_of ds) ++ codes "\n") (render (all_pieces ds))

@@ -1,7 +1,8 @@
 -- The texts of the declarations that are not empty, one declaration more at a time.
 use Rattle.std.proofs.Common.{ℕ, ◌+◌, ◌<◌, ◌≡◌, ◌≢◌, refl, sym, ◌∙◌, ap, true, false, if◌then◌else◌, List, [], ◌∷◌, ◌++◌, length, take, map, get_or}
 use Rattle.std.proofs.lemmas.List.{append-nil, append_assoc}
-use Rattle.wgsl_model.specs.Trees as plain
+use Rattle.wgsl_model.specs.Spanned as spanned
+use Rattle.wgsl_model.specs.Units as plain
 use Rattle.wgsl_model.specs.Printing.{print_global_declaration, is_void, without_voids, texts_of}
 use Rattle.wgsl_span.specs.declared.Spanned.{Spanned}
 use Rattle.wgsl_span.specs.View.{spanned_view}
@@ -10,21 +11,21 @@ use Rattle.wgsl_unit.specs.declared.GlobalDeclaration.TheVariants as variant
 use Rattle.wgsl_unit.specs.View.{global_declaration_view}
 use Rattle.wgsl_span.proofs.Joined.{map-take_more}
 
-abbrev pub views : List (Spanned GlobalDeclaration) → List (plain.Spanned plain.GlobalDeclaration)
+abbrev pub views : List (Spanned GlobalDeclaration) → List (spanned.Spanned plain.GlobalDeclaration)
 views declarations = map (spanned_view global_declaration_view) declarations
 
 -- the texts of those that are not empty
-abbrev pub shown : List (plain.Spanned plain.GlobalDeclaration) → List (List ℕ)
+abbrev pub shown : List (spanned.Spanned plain.GlobalDeclaration) → List (List ℕ)
 shown declarations = texts_of (without_voids declarations)
 
 -- the text of one, if it is not empty
 abbrev pub shown_one : plain.GlobalDeclaration → List (List ℕ)
 shown_one d = if is_void d then [] else print_global_declaration d ∷ []
 
-shown-cons : (d : plain.Spanned plain.GlobalDeclaration) (ds : List (plain.Spanned plain.GlobalDeclaration)) → shown (d ∷ ds) ≡ shown_one d.node ++ shown ds
+shown-cons : (d : spanned.Spanned plain.GlobalDeclaration) (ds : List (spanned.Spanned plain.GlobalDeclaration)) → shown (d ∷ ds) ≡ shown_one d.node ++ shown ds
 shown-cons d ds = elim (is_void d.node) as (λ b. texts_of (if b then without_voids ds else d ∷ without_voids ds) ≡ (if b then [] else print_global_declaration d.node ∷ []) ++ shown ds) [ true ↦ refl | false ↦ refl ]
 
-pub shown-append : (ds : List (plain.Spanned plain.GlobalDeclaration)) (d : plain.Spanned plain.GlobalDeclaration) → shown (ds ++ (d ∷ [])) ≡ shown ds ++ shown_one d.node
+pub shown-append : (ds : List (spanned.Spanned plain.GlobalDeclaration)) (d : spanned.Spanned plain.GlobalDeclaration) → shown (ds ++ (d ∷ [])) ≡ shown ds ++ shown_one d.node
 shown-append [] d = shown-cons d [] ∙ append-nil (shown_one d.node)
 shown-append (first ∷ ds) d =
     shown-cons first (ds ++ (d ∷ []))

@@ -1,6 +1,6 @@
 -- Declarations of a module, and modules, as plain data.
-use Rattle.std.specs.Prelude.{map}
-use Rattle.wgsl_model.specs.Trees as plain
+use Rattle.std.specs.Prelude.{map, []}
+use Rattle.wgsl_model.specs.Units as plain
 use Rattle.wgsl_span.specs.View.{spanned_view}
 use Rattle.wgsl_expression.specs.View.{ident_name, type_view}
 use Rattle.wgsl_statement.specs.View.{declaration_view}
@@ -21,4 +21,4 @@ global_declaration_view (global.TypeAlias a) = plain.type_alias (type_alias_view
 
 -- a module
 abbrev pub unit_view : TranslationUnit → plain.TranslationUnit
-unit_view u = record { global_declarations = map (spanned_view global_declaration_view) u.global_declarations.items }
+unit_view u = record { global_directives = []; global_declarations = map (spanned_view global_declaration_view) u.global_declarations.items }

@@ -1,4 +1,3 @@
-use Rattle.std.proofs.Common.{sym}
 use Rattle.wgsl_unit.specs.View.{unit_view}
 use Rattle.wgsl_error.specs.View.{fault_view}
 use Rattle.wgsl_formatter.proofs.Reports.{formats_unit, formats_fault, formats_no_text, other_side}

@@ -1,6 +1,6 @@
 use Rattle.std.proofs.Common.{inr, map}
 use Rattle.grammar.specs.States.{start_state}
-use Rattle.wgsl_model.specs.Units.{Symbol.unit}
+use Rattle.wgsl_model.specs.FirstUnits.{Symbol.unit}
 use Rattle.wgsl_lexer.specs.Placed.{placed_view}
 use Rattle.wgsl_unit.specs.View.{unit_view}
 use Rattle.wgsl_parser.specs.Tables.{reader}

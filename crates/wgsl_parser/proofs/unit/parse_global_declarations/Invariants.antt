@@ -1,6 +1,6 @@
 use Rattle.std.proofs.Common.{◌≡◌, ◌≤◌, length, map}
 use Rattle.grammar.specs.States.{start_of}
-use Rattle.wgsl_model.specs.Units.{Symbol.global_declarations}
+use Rattle.wgsl_model.specs.FirstUnits.{Symbol.global_declarations}
 use Rattle.wgsl_span.specs.View.{spanned_view}
 use Rattle.wgsl_unit.specs.View.{global_declaration_view}
 use Rattle.wgsl_parser.specs.Tables.{reader}

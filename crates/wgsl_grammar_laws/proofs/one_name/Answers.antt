@@ -1,0 +1,9 @@
+-- The law is proved in the theory.
+use Rattle.wgsl_grammar_theory.proofs.NamedOnce.{named_once, named_excludes}
+use Rattle.wgsl_grammar_laws.proofs.one_name.Goals as goal
+
+pub returns-clause-once : goal.returns-clause-once
+returns-clause-once c = named_once
+
+pub returns-clause-no_tree : goal.returns-clause-no_tree
+returns-clause-no_tree c = named_excludes

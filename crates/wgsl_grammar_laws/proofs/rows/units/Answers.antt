@@ -1,0 +1,15 @@
+-- The law is proved in the theory.
+use Rattle.grammar.specs.Faults.{Ending.finished}
+use Rattle.wgsl_model.specs.Symbols.{Symbol.unit}
+use Rattle.wgsl_grammar_laws.specs.UnitsRows.{empty_unit_tokens, three_declarations_tokens, directive_behind_a_declaration_tokens}
+use Rattle.wgsl_grammar_theory.proofs.Answers.{answers_are_true}
+use Rattle.wgsl_grammar_laws.proofs.rows.units.Goals as goal
+
+pub returns-clause-empty_unit : goal.returns-clause-empty_unit
+returns-clause-empty_unit c = (answers_are_true unit empty_unit_tokens finished).1
+
+pub returns-clause-three_declarations : goal.returns-clause-three_declarations
+returns-clause-three_declarations c = (answers_are_true unit three_declarations_tokens finished).1
+
+pub returns-clause-directive_behind_a_declaration : goal.returns-clause-directive_behind_a_declaration
+returns-clause-directive_behind_a_declaration c = answers_are_true unit directive_behind_a_declaration_tokens finished

@@ -1,0 +1,23 @@
+-- The theory of the grammar, in the order in which it is proved.
+pub mod Passes
+pub mod Guards
+pub mod Outcomes
+pub mod ListLinks
+pub mod Levels
+pub mod Taking
+pub mod Shifts
+pub mod LevelLinks
+pub mod LeftSides
+pub mod StatementLinks
+pub mod BlockLinks
+pub mod Links
+pub mod SameTrees
+pub mod WrittenTree
+pub mod PlainFaults
+pub mod Avoids
+pub mod WrittenEnds
+pub mod FaultEnds
+pub mod Answers
+pub mod Faultless
+pub mod SmallAnswers
+pub mod NamedOnce

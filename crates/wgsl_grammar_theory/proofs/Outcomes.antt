@@ -1,0 +1,17 @@
+-- The reader over the factored grammar: at most one tree, exactly what is derived, and true outcomes.
+use Rattle.std.proofs.Common.{[], ◌∷◌, refl}
+use Rattle.grammar.proofs.Outcomes.{IsTested}
+use Rattle.grammar.proofs.Words.{all_sentences}
+use Rattle.wgsl_model.specs.Classes.{SymAttr}
+use Rattle.wgsl_grammar_theory.specs.Factored.{body}
+use Rattle.wgsl_grammar_theory.specs.FactoredSmall.{small_body}
+use Rattle.wgsl_grammar_theory.specs.Apart.{apart, nowhere}
+use Rattle.wgsl_grammar_theory.specs.Tables.{heights, rank_limit, tables}
+use Rattle.wgsl_grammar_theory.proofs.Passes.{builds_hold, keeps_hold, passes, small_builds_hold, small_keeps_hold, small_passes, within_hold}
+use Rattle.wgsl_grammar_theory.proofs.Guards.{guarded, small_guarded}
+
+pub tested : IsTested tables body rank_limit apart
+tested = record { passes = passes; sentences = all_sentences heights body builds_hold; guarded = guarded; behind = SymAttr ∷ []; within = within_hold; keeps = keeps_hold; no_token = refl }
+
+pub small_tested : IsTested tables small_body rank_limit nowhere
+small_tested = record { passes = small_passes; sentences = all_sentences heights small_body small_builds_hold; guarded = small_guarded; behind = []; within = λ n. refl; keeps = small_keeps_hold; no_token = refl }

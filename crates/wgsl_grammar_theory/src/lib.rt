@@ -1,0 +1,2 @@
+//! What holds of the grammar of WGSL.
+#![tactic(auto)]

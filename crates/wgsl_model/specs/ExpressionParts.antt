@@ -1,0 +1,88 @@
+-- The trees that the rules of expressions make, and their operators.
+use Rattle.std.specs.Prelude.{ℕ, List, Option}
+use Rattle.grammar.specs.Tokens.{Token, Span}
+use Rattle.grammar.specs.Grammar.{Grammar.left_chain}
+use Rattle.grammar.specs.Notation.{◌means◌, ◌or◌, ◌then◌, ◌makes◌}
+use Rattle.wgsl_model.specs.Classes.{SymAnd, SymBang, SymEqualEqual, SymForwardSlash, SymGreaterThan, SymGreaterThanEqual, SymLessThan, SymLessThanEqual, SymMinus, SymModulo, SymNotEqual, SymPlus, SymStar, SymTilde}
+use Rattle.wgsl_model.specs.Faults.{next_place}
+use Rattle.wgsl_model.specs.Operators.{UnaryOperator, UnaryOperator.logical_negation, UnaryOperator.negation, UnaryOperator.bitwise_complement, UnaryOperator.address_of, UnaryOperator.indirection, BinaryOperator, BinaryOperator.addition, BinaryOperator.subtraction, BinaryOperator.multiplication, BinaryOperator.division, BinaryOperator.remainder, BinaryOperator.equality, BinaryOperator.inequality, BinaryOperator.less_than, BinaryOperator.less_than_equal, BinaryOperator.greater_than, BinaryOperator.greater_than_equal}
+use Rattle.wgsl_model.specs.Expressions.{ExpressionNode, ExpressionNode.expression_node, Expression, Expression.named_component, Expression.indexing, Expression.unary, Expression.binary, Expression.type_or_identifier, FunctionCall, FunctionCall.call, TypeExpression, TypeExpression.type_expression, TemplateArguments.no_template, expressions_of, template_of}
+use Rattle.wgsl_model.specs.TokenValues.{text_of}
+use Rattle.wgsl_model.specs.Symbols.{Rule}
+
+-- an expression and where it stands
+abbrev pub placed_expression : Expression → Span → ExpressionNode
+placed_expression e span = expression_node e span
+
+-- a type of a name, with the arguments of its template
+abbrev pub type_of : Token × Option (List ExpressionNode) → TypeExpression
+type_of p = type_expression (text_of p.0) (template_of p.1)
+
+-- a call of a type with its arguments
+abbrev pub call_of : TypeExpression × List ExpressionNode → FunctionCall
+call_of p = call p.0 (expressions_of p.1)
+
+-- an identifier alone
+abbrev pub variable : List ℕ → Expression
+variable name = type_or_identifier (type_expression name no_template)
+
+-- `[` and an index behind a base, or `.` and a name
+abbrev pub index_of : ExpressionNode → ExpressionNode → Expression
+index_of index base = indexing base index
+
+-- `.` and a name behind a base
+abbrev pub component_of : Token → ExpressionNode → Expression
+component_of t base = named_component base (text_of t)
+
+-- a component behind a base
+abbrev pub with_component : ExpressionNode → (ExpressionNode → Expression) → Span → ExpressionNode
+with_component base component span = expression_node (component base) span
+
+-- an operator before an operand
+abbrev pub unary_of : UnaryOperator × ExpressionNode → Span → ExpressionNode
+unary_of p span = expression_node (unary p.0 p.1) span
+
+-- an operator and an operand behind an operand
+abbrev pub binary_of : ExpressionNode → BinaryOperator × ExpressionNode → Span → ExpressionNode
+binary_of left p span = expression_node (binary p.0 left p.1) span
+
+-- two operands with an operator between
+abbrev pub operation_of : ExpressionNode × (BinaryOperator × ExpressionNode) → Span → ExpressionNode
+operation_of p span = binary_of p.0 p.1 span
+
+-- a span from its second byte on, as from the second minus of `--`
+abbrev pub later : Span → Span
+later span = record { start = next_place span.start; end = span.end }
+
+-- the negation that the second minus of `--` begins, and a product of it
+abbrev pub negation_of : ExpressionNode → Span → ExpressionNode
+negation_of operand span = expression_node (unary negation operand) (later span)
+
+-- a product of a negation that the second minus of `--` begins
+abbrev pub negated_product_of : ExpressionNode → BinaryOperator × ExpressionNode → Span → ExpressionNode
+negated_product_of left p span = binary_of left p (later span)
+
+-- the operators before an operand
+abbrev pub unary_operator : Rule UnaryOperator
+unary_operator = SymMinus means negation or SymBang means logical_negation or SymTilde means bitwise_complement or SymStar means indirection or SymAnd means address_of
+
+-- the operators of products, sums and comparisons
+abbrev pub multiplicative_operator : Rule BinaryOperator
+multiplicative_operator = SymStar means multiplication or SymForwardSlash means division or SymModulo means remainder
+
+-- the operators of sums
+abbrev pub additive_operator : Rule BinaryOperator
+additive_operator = SymPlus means addition or SymMinus means subtraction
+
+-- the operators of comparisons
+abbrev pub relational_operator : Rule BinaryOperator
+relational_operator = SymLessThan means less_than or SymGreaterThan means greater_than or SymLessThanEqual means less_than_equal
+    or SymGreaterThanEqual means greater_than_equal or SymEqualEqual means equality or SymNotEqual means inequality
+
+-- X operator X
+abbrev pub two : ℕ → BinaryOperator → Rule ExpressionNode → Rule ExpressionNode
+two class operator x = x then class means operator then x makes operation_of
+
+-- X (operator X)+
+abbrev pub two_or_more : ℕ → BinaryOperator → Rule ExpressionNode → Rule ExpressionNode
+two_or_more class operator x = left_chain binary_of (two class operator x) (class means operator then x)

@@ -1,0 +1,125 @@
+-- The trees that the rules of statements make, and the parts that these rules share.
+use Rattle.std.specs.Prelude.{ℕ, List, Option, codes}
+use Rattle.grammar.specs.Tokens.{Token, Span}
+use Rattle.grammar.specs.Grammar.{Grammar.symbol}
+use Rattle.grammar.specs.Notation.{◌means◌, ◌or◌, ◌then◌, ◌gives◌, ◌▹◌, ◌◃◌, many}
+use Rattle.wgsl_model.specs.Classes.{SymAndEqual, SymDivisionEqual, SymEqual, SymMinusEqual, SymModuloEqual, SymOrEqual, SymPlusEqual, SymSemicolon, SymShiftLeftAssign, SymShiftRightAssign, SymTimesEqual, SymXorEqual, KwBreak, KwElse, KwIf}
+use Rattle.wgsl_model.specs.Operators.{AssignmentOperator, AssignmentOperator.equal, AssignmentOperator.plus_equal, AssignmentOperator.minus_equal, AssignmentOperator.times_equal, AssignmentOperator.division_equal, AssignmentOperator.modulo_equal, AssignmentOperator.and_equal, AssignmentOperator.or_equal, AssignmentOperator.xor_equal, AssignmentOperator.shift_right_assign, AssignmentOperator.shift_left_assign}
+use Rattle.wgsl_model.specs.Expressions.{ExpressionNode, ExpressionNode.expression_node, Expression.parenthesized, TypeExpression, FunctionCall}
+use Rattle.wgsl_model.specs.Attributes.{Attributes}
+use Rattle.wgsl_model.specs.Statements as tree
+use Rattle.wgsl_model.specs.Statements.{DeclarationKind, Declaration, ElseIfClause, ElseClause, BreakIfStatement, ContinuingStatement, CompoundStatement, StatementNode, Statement, CaseSelector, SwitchClause, ConstAssert, statements_of, else_ifs_of, else_of, clauses_of, continuing_of, maybe_statement}
+use Rattle.wgsl_model.specs.Checks.{attribute_node, var_kind_of}
+use Rattle.wgsl_model.specs.TokenValues.{text_of}
+use Rattle.wgsl_model.specs.ExpressionParts.{variable}
+use Rattle.wgsl_model.specs.Symbols.{Rule, Symbol.attribute, Symbol.statement, Symbol.compound_statement, Symbol.expression, Symbol.var_template}
+
+-- a statement and where it stands
+abbrev pub placed_statement : Statement → Span → StatementNode
+placed_statement s span = tree.statement_node s span
+
+-- A*
+abbrev pub attributes : Rule Attributes
+attributes = many (symbol attribute gives attribute_node)
+
+-- Statement*
+abbrev pub statements : Rule (List StatementNode)
+statements = many (symbol statement)
+
+-- "=" Expression
+abbrev pub initializer : Rule ExpressionNode
+initializer = SymEqual ▹ symbol expression
+
+-- `var` TemplateList?
+abbrev pub var_kind : Rule DeclarationKind
+var_kind = symbol var_template gives var_kind_of
+
+-- the declaration of a value: its attributes, its kind, its name and type, and its first value
+abbrev pub declaration_of : Attributes → DeclarationKind → List ℕ × Option TypeExpression → Option ExpressionNode → Declaration
+declaration_of attributes kind ident initializer = record { attributes = attributes; kind = kind; ident = ident.0; ty = ident.1; initializer = initializer }
+
+-- attributes, and statements in braces
+abbrev pub compound_of : Attributes → List StatementNode → CompoundStatement
+compound_of attributes statements = tree.compound_statement attributes (statements_of statements)
+
+-- "=" or a compound operator
+abbrev pub assignment_operator : Rule AssignmentOperator
+assignment_operator = SymEqual means equal or SymPlusEqual means plus_equal or SymMinusEqual means minus_equal or SymTimesEqual means times_equal
+    or SymDivisionEqual means division_equal or SymModuloEqual means modulo_equal or SymAndEqual means and_equal or SymOrEqual means or_equal
+    or SymXorEqual means xor_equal or SymShiftRightAssign means shift_right_assign or SymShiftLeftAssign means shift_left_assign
+
+-- what is assigned to a left side, by an operator
+abbrev pub assignment_of : ExpressionNode → AssignmentOperator → ExpressionNode → Statement
+assignment_of lhs operator rhs = tree.assignment (record { operator = operator; lhs = lhs; rhs = rhs })
+
+-- `++` behind a left side
+abbrev pub increment_of : ExpressionNode → Statement
+increment_of e = tree.increment (record { expression = e })
+
+-- `--` behind a left side
+abbrev pub decrement_of : ExpressionNode → Statement
+decrement_of e = tree.decrement (record { expression = e })
+
+-- the left side of a phony assignment: the identifier `_`
+abbrev pub underscore_at : Token → Span → ExpressionNode
+underscore_at t span = expression_node (variable (codes "_")) span
+
+-- an identifier as a left side
+abbrev pub variable_at : Token → Span → ExpressionNode
+variable_at t span = expression_node (variable (text_of t)) span
+
+-- a left side in parentheses
+abbrev pub parenthesized_at : ExpressionNode → Span → ExpressionNode
+parenthesized_at e span = expression_node (parenthesized e) span
+
+-- a call as a statement
+abbrev pub call_statement_of : FunctionCall → Statement
+call_statement_of c = tree.function_call_statement (record { call = c })
+
+-- `return`, with a value if there is one
+abbrev pub return_of : Option ExpressionNode → Statement
+return_of e = tree.return_statement (record { expression = e })
+
+-- attributes, a condition and a block, the clauses with `else if`, and the block of a last `else`
+abbrev pub if_of : Attributes → ExpressionNode → CompoundStatement → List ElseIfClause × Option ElseClause → Statement
+if_of attributes condition block elses = tree.if_statement (tree.if_else attributes (tree.if_clause condition block) (else_ifs_of elses.0) (else_of elses.1))
+
+-- `else if` Expression Block
+abbrev pub else_if : Rule ElseIfClause
+else_if = KwElse ▹ KwIf ▹ symbol expression then symbol compound_statement gives λ p. tree.else_if_clause p.0 p.1
+
+-- `else` Block
+abbrev pub else_block : Rule ElseClause
+else_block = KwElse ▹ symbol compound_statement gives tree.else_clause
+
+-- `const_assert` of an expression
+abbrev pub assert_of : ExpressionNode → ConstAssert
+assert_of e = record { expression = e }
+
+-- what a clause selects, and its block
+abbrev pub clause_of : List CaseSelector → CompoundStatement → SwitchClause
+clause_of selectors block = tree.switch_clause selectors block
+
+-- attributes, what is compared, the attributes of the body, and the clauses
+abbrev pub switch_of : Attributes → ExpressionNode → Attributes → List SwitchClause → Statement
+switch_of attributes selected body_attributes clauses = tree.switch_statement (tree.switch attributes selected body_attributes (clauses_of clauses))
+
+-- attributes, the attributes and statements of the body, and its `continuing`
+abbrev pub loop_of : Attributes → Attributes → List StatementNode → Option ContinuingStatement → Statement
+loop_of attributes body_attributes statements continuing = tree.loop_statement (tree.repeat attributes (compound_of body_attributes statements) (continuing_of continuing))
+
+-- `break if` Expression ";"
+abbrev pub break_if : Rule BreakIfStatement
+break_if = KwBreak ▹ KwIf ▹ symbol expression ◃ SymSemicolon gives λ e. record { expression = e }
+
+-- attributes, statements, and the condition of a `break if`
+abbrev pub continuing_part : Attributes → List StatementNode → Option BreakIfStatement → ContinuingStatement
+continuing_part attributes statements condition = tree.continuing (compound_of attributes statements) condition
+
+-- attributes, the three parts of the header, and the block
+abbrev pub for_of : Attributes → Option StatementNode → Option ExpressionNode → Option StatementNode → CompoundStatement → Statement
+for_of attributes init condition update block = tree.for_statement (tree.repeat_for attributes (maybe_statement init) condition (maybe_statement update) block)
+
+-- attributes, the condition and the block
+abbrev pub while_of : Attributes → ExpressionNode → CompoundStatement → Statement
+while_of attributes condition block = tree.while_statement (tree.repeat_while attributes condition block)

@@ -1,0 +1,77 @@
+-- The trees that the rules of declarations and directives make, and the parts that these rules share.
+use Rattle.std.specs.Prelude.{ℕ, List, [], ◌∷◌, ◌++◌, Option, Some, None, codes}
+use Rattle.grammar.specs.Tokens.{Token, Span}
+use Rattle.grammar.specs.Grammar.{Grammar.symbol}
+use Rattle.grammar.specs.Notation.{◌then◌, ◌▹◌, ◌◃◌}
+use Rattle.wgsl_model.specs.Classes.{SymArrow, SymColon}
+use Rattle.wgsl_model.specs.Spanned.{Spanned, spanned}
+use Rattle.wgsl_model.specs.Expressions.{ExpressionNode, TypeExpression}
+use Rattle.wgsl_model.specs.Attributes.{Attributes}
+use Rattle.wgsl_model.specs.Statements.{DeclarationKind, CompoundStatement}
+use Rattle.wgsl_model.specs.Units as tree
+use Rattle.wgsl_model.specs.Units.{GlobalDirective, StructMember, FormalParameter, Function, GlobalDeclaration}
+use Rattle.wgsl_model.specs.Checks.{severity_of}
+use Rattle.wgsl_model.specs.TokenValues.{text_of}
+use Rattle.wgsl_model.specs.StatementParts.{attributes, declaration_of}
+use Rattle.wgsl_model.specs.Symbols.{Rule, Symbol.ident, Symbol.type_specifier}
+
+-- A* Ident ":" TypeSpecifier
+abbrev pub attributed_ident : Rule (Attributes × (Token × TypeExpression))
+attributed_ident = attributes then symbol ident ◃ SymColon then symbol type_specifier
+
+-- a member of a structure
+abbrev pub member_of : Attributes × (Token × TypeExpression) → Span → Spanned StructMember
+member_of p span = spanned (record { attributes = p.0; ident = text_of p.1.0; ty = p.1.1 }) span
+
+-- a parameter of a function
+abbrev pub parameter_of : Attributes × (Token × TypeExpression) → FormalParameter
+parameter_of p = record { attributes = p.0; ident = text_of p.1.0; ty = p.1.1 }
+
+-- the declaration of a value
+abbrev pub value_of : Attributes → DeclarationKind → List ℕ × Option TypeExpression → Option ExpressionNode → GlobalDeclaration
+value_of attributes kind typed initializer = tree.declaration (declaration_of attributes kind typed initializer)
+
+-- `alias` with a name and a type
+abbrev pub alias_of : Token × TypeExpression → GlobalDeclaration
+alias_of p = tree.type_alias (record { ident = text_of p.0; ty = p.1 })
+
+-- `struct` with a name and its members
+abbrev pub struct_of : Token × List (Spanned StructMember) → GlobalDeclaration
+struct_of p = tree.structure (record { ident = text_of p.0; members = p.1 })
+
+-- "->" A* TypeSpecifier
+abbrev pub return_part : Rule (Attributes × TypeExpression)
+return_part = SymArrow ▹ attributes then symbol type_specifier
+
+-- a function with its parameters, what it returns, and its body
+abbrev pub function_parts : Attributes → Token → List FormalParameter → Option (Attributes × TypeExpression) → CompoundStatement → Function
+function_parts attributes name parameters None block =
+    record { attributes = attributes; ident = text_of name; parameters = parameters; return_attributes = []; return_type = None; body = block }
+function_parts attributes name parameters (Some r) block =
+    record { attributes = attributes; ident = text_of name; parameters = parameters; return_attributes = r.0; return_type = Some r.1; body = block }
+
+-- a function as a declaration
+abbrev pub function_of : Attributes → Token → List FormalParameter → Option (Attributes × TypeExpression) → CompoundStatement → GlobalDeclaration
+function_of attributes name parameters returned block = tree.function (function_parts attributes name parameters returned block)
+
+-- names as texts
+abbrev pub texts_of : List Token → List (List ℕ)
+texts_of [] = []
+texts_of (t ∷ ts) = text_of t ∷ texts_of ts
+
+-- `enable` with its names
+abbrev pub enable_of : List Token → GlobalDirective
+enable_of names = tree.enable (record { extensions = texts_of names })
+
+-- `requires` with its names
+abbrev pub requires_of : List Token → GlobalDirective
+requires_of names = tree.requires (record { extensions = texts_of names })
+
+-- the name of a rule: a name, or two with `.` between
+abbrev pub rule_of : Token → Option Token → List ℕ
+rule_of first None = text_of first
+rule_of first (Some second) = text_of first ++ (codes "." ++ text_of second)
+
+-- `diagnostic` with a severity and the name of a rule
+abbrev pub diagnostic_of : Token → Token → Option Token → GlobalDirective
+diagnostic_of severity first second = tree.diagnostic (record { severity = severity_of severity; rule_name = rule_of first second })
