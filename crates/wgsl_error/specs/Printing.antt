@@ -2,7 +2,7 @@
 use Rattle.std.specs.Prelude.{ℕ, List, ◌++◌, codes}
 use Rattle.std.specs.Fmt.{decimal}
 use Rattle.wgsl_model.specs.Faults.{message, quoted}
-use Rattle.wgsl_model.specs.Printing.{joined}
+use Rattle.wgsl_model.specs.Joining.{joined}
 use Rattle.wgsl_error.specs.declared.Error.{Error}
 use Rattle.wgsl_error.specs.declared.ErrorKind.{ErrorKind}
 use Rattle.wgsl_error.specs.declared.display.WithoutExpected.{WithoutExpected}

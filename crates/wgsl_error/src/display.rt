@@ -8,6 +8,8 @@ ghost use Rattle.wgsl_error.specs.Printing.{print_expected, print_message, print
 
 use crate::{Error, ErrorKind};
 use std::fmt;
+use std::fmt::Write;
+use wgsl_writer::write_joined;
 
 /// An error that is shown without what was expected.
 #[derive(Drop)]
@@ -91,10 +93,6 @@ fn write_expected<W: fmt::Write>(expected: &[String], f: &mut fmt::Formatter<W>)
         DisplaysOnOk W.write_str_gives f.old result (Some text) f.new }
 {
     f.write_str(", expected `")?;
-    let mut before = "";
-    'texts: for text in expected {
-        write!(f, "{before}{text}")?;
-        before = ", ";
-    }
+    write_joined(expected, ", ", f)?;
     f.write_str("`")
 }

@@ -1,0 +1,5 @@
+mod Views
+mod Texts
+mod Copies
+mod Equalities
+mod DerivedEqualities

@@ -1,1 +1,3 @@
 pub mod View
+pub mod Variants
+pub mod Equality

@@ -1,56 +1,156 @@
 //! Copies that ask for memory.
 
 ghost use Rattle.std.specs.Prelude.{◌≡◌, IfOk};
-ghost use Rattle.wgsl_expression.specs.View.{ident_name, literal_view, expression_view, type_view};
+ghost use Rattle.wgsl_expression.specs.View.{expression_node_view, expression_view, parenthesized_expression_view, named_component_expression_view, indexing_expression_view, unary_expression_view, binary_expression_view, function_call_view, type_expression_view, template_arg_view};
 
-use crate::{Expression, Ident, LiteralExpression, TypeExpression};
+use crate::expression::{
+    BinaryExpression, Expression, ExpressionNode, FunctionCall, IndexingExpression,
+    NamedComponentExpression, ParenthesizedExpression, TemplateArg, TypeExpression,
+    UnaryExpression,
+};
 use std::alloc::{AllocError, Global};
-use wgsl_span::CloneWith;
+use wgsl_span::{CloneWith, Spanned};
 
-impl CloneWith for Ident {
-    ghost copies = { λ i copy. ident_name copy ≡ ident_name i };
+#[cycle(clone)]
+fn clone_node(node: &ExpressionNode, alloc: Global) -> Result<ExpressionNode, AllocError>
+    ensures { IfOk result (λ copy. expression_node_view copy ≡ expression_node_view node.now) }
+{
+    Spanned::new(alloc, node.node().clone_with(alloc)?, node.span())
+}
 
+impl CloneWith for Expression {
+    ghost copies = { λ original copy. expression_view copy ≡ expression_view original };
+
+    #[cycle(clone)]
     fn clone_with(&self, alloc: Global) -> Result<Self, AllocError> {
-        Ok(Ident::new(String::from_str(alloc, self.name())?))
+        match self {
+            Expression::Literal(inner) => Ok(Expression::Literal(inner.clone_with(alloc)?)),
+            Expression::Parenthesized(inner) => Ok(Expression::Parenthesized(inner.clone_with(
+                alloc,
+            )?)),
+            Expression::NamedComponent(inner) => Ok(Expression::NamedComponent(inner.clone_with(
+                alloc,
+            )?)),
+            Expression::Indexing(inner) => Ok(Expression::Indexing(inner.clone_with(alloc)?)),
+            Expression::Unary(inner) => Ok(Expression::Unary(inner.clone_with(alloc)?)),
+            Expression::Binary(inner) => Ok(Expression::Binary(inner.clone_with(alloc)?)),
+            Expression::FunctionCall(inner) => Ok(Expression::FunctionCall(inner.clone_with(
+                alloc,
+            )?)),
+            Expression::TypeOrIdentifier(inner) => Ok(Expression::TypeOrIdentifier(inner.clone_with(
+                alloc,
+            )?)),
+        }
     }
 }
 
-impl Ident {
-    pub fn clone(&self, alloc: Global) -> Result<Self, AllocError>
-        ensures { IfOk result (λ copy. ident_name copy ≡ ident_name self.now) }
-    {
-        self.clone_with(alloc)
-    }
-}
+impl CloneWith for ParenthesizedExpression {
+    ghost copies = { λ original copy. parenthesized_expression_view copy ≡ parenthesized_expression_view original };
 
-impl CloneWith for LiteralExpression {
-    ghost copies = { λ l copy. literal_view copy ≡ literal_view l };
-
-    fn clone_with(&self, _alloc: Global) -> Result<Self, AllocError> {
-        Ok(match self {
-            LiteralExpression::Bool(value) => LiteralExpression::Bool(*value),
-            LiteralExpression::AbstractInt(value) => LiteralExpression::AbstractInt(*value),
-            LiteralExpression::I32(value) => LiteralExpression::I32(*value),
-            LiteralExpression::U32(value) => LiteralExpression::U32(*value),
+    #[cycle(clone)]
+    fn clone_with(&self, alloc: Global) -> Result<Self, AllocError> {
+        Ok(ParenthesizedExpression {
+            expression: clone_node(&self.expression, alloc)?,
         })
     }
 }
 
-impl LiteralExpression {
-    pub fn clone(&self, alloc: Global) -> Result<Self, AllocError>
-        ensures { IfOk result (λ copy. literal_view copy ≡ literal_view self.now) }
-    {
-        self.clone_with(alloc)
+impl CloneWith for NamedComponentExpression {
+    ghost copies = { λ original copy. named_component_expression_view copy ≡ named_component_expression_view original };
+
+    #[cycle(clone)]
+    fn clone_with(&self, alloc: Global) -> Result<Self, AllocError> {
+        Ok(NamedComponentExpression {
+            base: clone_node(&self.base, alloc)?,
+            component: self.component.clone_with(alloc)?,
+        })
     }
 }
 
-impl CloneWith for Expression {
-    ghost copies = { λ e copy. expression_view copy ≡ expression_view e };
+impl CloneWith for IndexingExpression {
+    ghost copies = { λ original copy. indexing_expression_view copy ≡ indexing_expression_view original };
 
+    #[cycle(clone)]
     fn clone_with(&self, alloc: Global) -> Result<Self, AllocError> {
-        match self {
-            Expression::Literal(literal) => Ok(Expression::Literal(literal.clone_with(alloc)?)),
+        Ok(IndexingExpression {
+            base: clone_node(&self.base, alloc)?,
+            index: clone_node(&self.index, alloc)?,
+        })
+    }
+}
+
+impl CloneWith for UnaryExpression {
+    ghost copies = { λ original copy. unary_expression_view copy ≡ unary_expression_view original };
+
+    #[cycle(clone)]
+    fn clone_with(&self, alloc: Global) -> Result<Self, AllocError> {
+        Ok(UnaryExpression {
+            operator: self.operator,
+            operand: clone_node(&self.operand, alloc)?,
+        })
+    }
+}
+
+impl CloneWith for BinaryExpression {
+    ghost copies = { λ original copy. binary_expression_view copy ≡ binary_expression_view original };
+
+    #[cycle(clone)]
+    fn clone_with(&self, alloc: Global) -> Result<Self, AllocError> {
+        Ok(BinaryExpression {
+            operator: self.operator,
+            left: clone_node(&self.left, alloc)?,
+            right: clone_node(&self.right, alloc)?,
+        })
+    }
+}
+
+impl CloneWith for FunctionCall {
+    ghost copies = { λ original copy. function_call_view copy ≡ function_call_view original };
+
+    #[cycle(clone)]
+    fn clone_with(&self, alloc: Global) -> Result<Self, AllocError> {
+        let ty = self.ty.clone_with(alloc)?;
+        let mut arguments = Vec::new(alloc);
+        'arguments: for argument in &self.arguments {
+            arguments.push(clone_node(argument, alloc)?)?;
         }
+        Ok(FunctionCall { ty, arguments })
+    }
+}
+
+impl CloneWith for TypeExpression {
+    ghost copies = { λ original copy. type_expression_view copy ≡ type_expression_view original };
+
+    #[cycle(clone)]
+    fn clone_with(&self, alloc: Global) -> Result<Self, AllocError> {
+        let ident = self.ident.clone_with(alloc)?;
+        match &self.template_args {
+            None => Ok(TypeExpression {
+                ident,
+                template_args: None,
+            }),
+            Some(template_args) => {
+                let mut copied = Vec::new(alloc);
+                'arguments: for argument in template_args {
+                    copied.push(argument.clone_with(alloc)?)?;
+                }
+                Ok(TypeExpression {
+                    ident,
+                    template_args: Some(copied),
+                })
+            }
+        }
+    }
+}
+
+impl CloneWith for TemplateArg {
+    ghost copies = { λ original copy. template_arg_view copy ≡ template_arg_view original };
+
+    #[cycle(clone)]
+    fn clone_with(&self, alloc: Global) -> Result<Self, AllocError> {
+        Ok(TemplateArg {
+            expression: clone_node(&self.expression, alloc)?,
+        })
     }
 }
 
@@ -62,17 +162,65 @@ impl Expression {
     }
 }
 
-impl CloneWith for TypeExpression {
-    ghost copies = { λ t copy. type_view copy ≡ type_view t };
+impl ParenthesizedExpression {
+    pub fn clone(&self, alloc: Global) -> Result<Self, AllocError>
+        ensures { IfOk result (λ copy. parenthesized_expression_view copy ≡ parenthesized_expression_view self.now) }
+    {
+        self.clone_with(alloc)
+    }
+}
 
-    fn clone_with(&self, alloc: Global) -> Result<Self, AllocError> {
-        Ok(TypeExpression::new(self.ident.clone_with(alloc)?))
+impl NamedComponentExpression {
+    pub fn clone(&self, alloc: Global) -> Result<Self, AllocError>
+        ensures { IfOk result (λ copy. named_component_expression_view copy ≡ named_component_expression_view self.now) }
+    {
+        self.clone_with(alloc)
+    }
+}
+
+impl IndexingExpression {
+    pub fn clone(&self, alloc: Global) -> Result<Self, AllocError>
+        ensures { IfOk result (λ copy. indexing_expression_view copy ≡ indexing_expression_view self.now) }
+    {
+        self.clone_with(alloc)
+    }
+}
+
+impl UnaryExpression {
+    pub fn clone(&self, alloc: Global) -> Result<Self, AllocError>
+        ensures { IfOk result (λ copy. unary_expression_view copy ≡ unary_expression_view self.now) }
+    {
+        self.clone_with(alloc)
+    }
+}
+
+impl BinaryExpression {
+    pub fn clone(&self, alloc: Global) -> Result<Self, AllocError>
+        ensures { IfOk result (λ copy. binary_expression_view copy ≡ binary_expression_view self.now) }
+    {
+        self.clone_with(alloc)
+    }
+}
+
+impl FunctionCall {
+    pub fn clone(&self, alloc: Global) -> Result<Self, AllocError>
+        ensures { IfOk result (λ copy. function_call_view copy ≡ function_call_view self.now) }
+    {
+        self.clone_with(alloc)
     }
 }
 
 impl TypeExpression {
     pub fn clone(&self, alloc: Global) -> Result<Self, AllocError>
-        ensures { IfOk result (λ copy. type_view copy ≡ type_view self.now) }
+        ensures { IfOk result (λ copy. type_expression_view copy ≡ type_expression_view self.now) }
+    {
+        self.clone_with(alloc)
+    }
+}
+
+impl TemplateArg {
+    pub fn clone(&self, alloc: Global) -> Result<Self, AllocError>
+        ensures { IfOk result (λ copy. template_arg_view copy ≡ template_arg_view self.now) }
     {
         self.clone_with(alloc)
     }

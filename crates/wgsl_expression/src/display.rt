@@ -1,47 +1,180 @@
-//! The printed texts.
+//! The printed texts of expressions and types.
 
-ghost use Rattle.std.specs.Prelude.{Some};
-ghost use Rattle.wgsl_model.specs.Printing.{print_literal, print_expression, print_type};
-ghost use Rattle.wgsl_expression.specs.View.{ident_name, literal_view, expression_view, type_view};
+ghost use Rattle.std.specs.Prelude.{◌≡◌, Some};
+ghost use Rattle.wgsl_model.specs.PrintedExpressions.{print_expression, print_expression_node, print_call, print_type, is_abstract_int, fuses};
+ghost use Rattle.wgsl_named_values.specs.View.{unary_operator_view};
+ghost use Rattle.wgsl_expression.specs.View.{expression_view, parenthesized_expression_view, named_component_expression_view, indexing_expression_view, unary_expression_view, binary_expression_view, function_call_view, type_expression_view, template_arg_view};
 
-use crate::{Expression, Ident, LiteralExpression, TypeExpression};
+use crate::expression::{
+    BinaryExpression, Expression, FunctionCall, IndexingExpression, NamedComponentExpression,
+    ParenthesizedExpression, TemplateArg, TypeExpression, UnaryExpression,
+};
+use crate::literal::LiteralExpression;
 use std::fmt;
-
-impl fmt::Display for Ident {
-    ghost output = { λ i. Some (ident_name i) };
-
-    fn fmt<W: fmt::Write>(&self, f: &mut fmt::Formatter<W>) -> fmt::Result {
-        f.write_str(self.name())
-    }
-}
-
-impl fmt::Display for LiteralExpression {
-    ghost output = { λ l. Some (print_literal (literal_view l)) };
-
-    fn fmt<W: fmt::Write>(&self, f: &mut fmt::Formatter<W>) -> fmt::Result {
-        match self {
-            LiteralExpression::Bool(value) => write!(f, "{value}"),
-            LiteralExpression::AbstractInt(value) => write!(f, "{value}"),
-            LiteralExpression::I32(value) => write!(f, "{value}i"),
-            LiteralExpression::U32(value) => write!(f, "{value}u"),
-        }
-    }
-}
+use std::fmt::Write;
+use wgsl_named_values::UnaryOperator;
 
 impl fmt::Display for Expression {
     ghost output = { λ e. Some (print_expression (expression_view e)) };
 
+    #[cycle(display)]
     fn fmt<W: fmt::Write>(&self, f: &mut fmt::Formatter<W>) -> fmt::Result {
         match self {
             Expression::Literal(literal) => write!(f, "{literal}"),
+            Expression::Parenthesized(inner) => write!(f, "{inner}"),
+            Expression::NamedComponent(inner) => write!(f, "{inner}"),
+            Expression::Indexing(inner) => write!(f, "{inner}"),
+            Expression::Unary(inner) => write!(f, "{inner}"),
+            Expression::Binary(inner) => write!(f, "{inner}"),
+            Expression::FunctionCall(inner) => write!(f, "{inner}"),
+            Expression::TypeOrIdentifier(inner) => write!(f, "{inner}"),
         }
     }
 }
 
-impl fmt::Display for TypeExpression {
-    ghost output = { λ t. Some (print_type (type_view t)) };
+impl fmt::Display for ParenthesizedExpression {
+    ghost output = { λ e. Some (print_expression (parenthesized_expression_view e)) };
 
+    #[cycle(display)]
     fn fmt<W: fmt::Write>(&self, f: &mut fmt::Formatter<W>) -> fmt::Result {
-        write!(f, "{}", self.ident)
+        let expression = &self.expression;
+        write!(f, "({expression})")
+    }
+}
+
+impl fmt::Display for NamedComponentExpression {
+    ghost output = { λ e. Some (print_expression (named_component_expression_view e)) };
+
+    #[cycle(display)]
+    fn fmt<W: fmt::Write>(&self, f: &mut fmt::Formatter<W>) -> fmt::Result {
+        let base = &self.base;
+        let component = &self.component;
+        if self.base.node().is_abstract_int() {
+            write!(f, "{base} .{component}")
+        } else {
+            write!(f, "{base}.{component}")
+        }
+    }
+}
+
+impl fmt::Display for IndexingExpression {
+    ghost output = { λ e. Some (print_expression (indexing_expression_view e)) };
+
+    #[cycle(display)]
+    fn fmt<W: fmt::Write>(&self, f: &mut fmt::Formatter<W>) -> fmt::Result {
+        let base = &self.base;
+        let index = &self.index;
+        write!(f, "{base}[{index}]")
+    }
+}
+
+impl fmt::Display for UnaryExpression {
+    ghost output = { λ e. Some (print_expression (unary_expression_view e)) };
+
+    #[cycle(display)]
+    fn fmt<W: fmt::Write>(&self, f: &mut fmt::Formatter<W>) -> fmt::Result {
+        let operator = self.operator;
+        let operand = &self.operand;
+        if self.operand.node().fuses_with(operator) {
+            write!(f, "{operator} {operand}")
+        } else {
+            write!(f, "{operator}{operand}")
+        }
+    }
+}
+
+impl fmt::Display for BinaryExpression {
+    ghost output = { λ e. Some (print_expression (binary_expression_view e)) };
+
+    #[cycle(display)]
+    fn fmt<W: fmt::Write>(&self, f: &mut fmt::Formatter<W>) -> fmt::Result {
+        let operator = self.operator;
+        let left = &self.left;
+        let right = &self.right;
+        write!(f, "{left} {operator} {right}")
+    }
+}
+
+impl fmt::Display for FunctionCall {
+    ghost output = { λ e. Some (print_call (function_call_view e)) };
+
+    #[cycle(display)]
+    fn fmt<W: fmt::Write>(&self, f: &mut fmt::Formatter<W>) -> fmt::Result {
+        let ty = &self.ty;
+        write!(f, "{ty}(")?;
+        let mut before = "";
+        'arguments: for argument in &self.arguments {
+            write!(f, "{before}{argument}")?;
+            before = ", ";
+        }
+        f.write_str(")")
+    }
+}
+
+impl fmt::Display for TypeExpression {
+    ghost output = { λ e. Some (print_type (type_expression_view e)) };
+
+    #[cycle(display)]
+    fn fmt<W: fmt::Write>(&self, f: &mut fmt::Formatter<W>) -> fmt::Result {
+        let ident = &self.ident;
+        match &self.template_args {
+            None => write!(f, "{ident}"),
+            Some(template_args) => {
+                write!(f, "{ident}<")?;
+                let mut before = "";
+                'arguments: for argument in template_args {
+                    write!(f, "{before}{argument}")?;
+                    before = ", ";
+                }
+                f.write_str(">")
+            }
+        }
+    }
+}
+
+impl fmt::Display for TemplateArg {
+    ghost output = { λ a. Some (print_expression_node (template_arg_view a)) };
+
+    #[cycle(display)]
+    fn fmt<W: fmt::Write>(&self, f: &mut fmt::Formatter<W>) -> fmt::Result {
+        let expression = &self.expression;
+        write!(f, "{expression}")
+    }
+}
+
+impl Expression {
+    fn is_abstract_int(&self) -> bool
+        ensures { result ≡ is_abstract_int (expression_view self.now) }
+    {
+        match self {
+            Expression::Literal(literal) => matches!(literal, LiteralExpression::AbstractInt(_)),
+            Expression::Parenthesized(_)
+            | Expression::NamedComponent(_)
+            | Expression::Indexing(_)
+            | Expression::Unary(_)
+            | Expression::Binary(_)
+            | Expression::FunctionCall(_)
+            | Expression::TypeOrIdentifier(_) => false,
+        }
+    }
+
+    /// Whether the operator would be read as one token with the one that this begins with.
+    fn fuses_with(&self, operator: UnaryOperator) -> bool
+        ensures { result ≡ fuses (unary_operator_view operator) (expression_view self.now) }
+    {
+        match self {
+            Expression::Unary(inner) => match (operator, inner.operator) {
+                (UnaryOperator::Negation, UnaryOperator::Negation) => true,
+                (UnaryOperator::AddressOf, UnaryOperator::AddressOf) => true,
+                _ => false,
+            },
+            Expression::Literal(_)
+            | Expression::Parenthesized(_)
+            | Expression::NamedComponent(_)
+            | Expression::Indexing(_)
+            | Expression::Binary(_)
+            | Expression::FunctionCall(_)
+            | Expression::TypeOrIdentifier(_) => false,
+        }
     }
 }

@@ -7,7 +7,7 @@ use Rattle.std.specs.Str.{is_utf8, IsUtf8}
 use Rattle.std.proofs.lemmas.Str.{IsUtf8-from_is_utf8, is_utf8-from_IsUtf8}
 use Rattle.grammar.specs.Tokens.{Fault}
 use Rattle.wgsl_model.specs.Units.{TranslationUnit}
-use Rattle.wgsl_model.specs.Printing.{print}
+use Rattle.wgsl_model.specs.PrintedUnits.{print_unit}
 use Rattle.wgsl_model.specs.Program.{complaint, Formats, Formats.printed, Formats.refused, Formats.not_utf8, IsUnit, IsFaultOf, shown_fault}
 use Rattle.wgsl_formatter.specs.declared.report.Report.{Report}
 use Rattle.wgsl_formatter.specs.declared.report.Report.TheVariants.{OutOfMemory}
@@ -15,7 +15,7 @@ use Rattle.wgsl_formatter.specs.Ending.{IsDue}
 use Rattle.wgsl_formatter.specs.Report.{outcome_of}
 
 -- the text is the printed unit
-pub formats_unit : (bytes text : List ℕ) (unit : TranslationUnit) → IsUtf8 bytes → IsUnit (chars bytes) unit → text ≡ print unit
+pub formats_unit : (bytes text : List ℕ) (unit : TranslationUnit) → IsUtf8 bytes → IsUnit (chars bytes) unit → text ≡ print_unit unit
     → Formats bytes (record { status = 0; output = text; errors = [] })
 formats_unit bytes text unit valid derived same =
     let P : List ℕ → Type 0 = λ output. Formats bytes (record { status = 0; output = output; errors = [] }) in

@@ -2,7 +2,7 @@
 use Rattle.std.specs.Prelude.{◌≡◌, ◌⊎◌, ℕ, true, List, take, codes, chars, Option, IfSome}
 use Rattle.std.specs.Str.{is_utf8}
 use Rattle.wgsl_model.specs.Units.{TranslationUnit}
-use Rattle.wgsl_model.specs.Printing.{print}
+use Rattle.wgsl_model.specs.PrintedUnits.{print_unit}
 use Rattle.wgsl_model.specs.Program.{Outcome, complaint, Formats, out_of_memory, IsUnit, ReadsBack}
 
 -- the reader had these bytes to give, where its bytes are known
@@ -33,7 +33,7 @@ pub record Ends (input : Option (List ℕ)) (end : Outcome) : Type 0 where
 pub record IsReprinted (bytes text : List ℕ) : Type 0 where
   pub unit : TranslationUnit
   pub derived : IsUnit (chars bytes) unit
-  pub printed : text ≡ print unit
+  pub printed : text ≡ print_unit unit
   pub valid : is_utf8 text ≡ true
   pub reads_back : ReadsBack text unit
 

@@ -10,8 +10,9 @@ use Rattle.wgsl_model.specs.FirstUnits.{Symbol.unit, body}
 use Rattle.wgsl_model.specs.TokenList.{IsTokenList}
 use Rattle.wgsl_model.specs.FirstNamed.{IsNamed}
 use Rattle.wgsl_model.specs.Faults.{message}
-use Rattle.wgsl_model.specs.Printing.{print}
-use Rattle.wgsl_model.specs.Emptied.{remove_voids, bare}
+use Rattle.wgsl_model.specs.PrintedUnits.{print_unit}
+use Rattle.wgsl_model.specs.EmptyItems.{full_unit}
+use Rattle.wgsl_model.specs.StatementsWithoutSpans.{bare_unit}
 
 -- a status, what goes to the output and what goes to the errors
 pub record Outcome : Type 0 where
@@ -37,7 +38,7 @@ IsFaultOf source x = (ts : List Token) × (ending : Ending) × IsTokenList sourc
 
 -- What the program writes of these bytes: the printed unit, the fault that is named, or that they are no text.
 pub data Formats (bytes : List ℕ) : Outcome → Type 0 where
-  printed : (u : TranslationUnit) → is_utf8 bytes ≡ true → IsUnit (chars bytes) u → Formats bytes (record { status = 0; output = print u; errors = [] })
+  printed : (u : TranslationUnit) → is_utf8 bytes ≡ true → IsUnit (chars bytes) u → Formats bytes (record { status = 0; output = print_unit u; errors = [] })
   refused : (x : Fault) → is_utf8 bytes ≡ true → IsFaultOf (chars bytes) x → Formats bytes (complaint 1 (shown_fault x ++ codes "\n"))
   not_utf8 : is_utf8 bytes ≡ false → Formats bytes (complaint 2 (codes "input is not UTF-8\n"))
 
@@ -47,4 +48,4 @@ out_of_memory = complaint 3 (codes "out of memory\n")
 
 -- the text reads as the unit without its empty declarations, spans aside
 abbrev pub ReadsBack : List ℕ → TranslationUnit → Type 0
-ReadsBack text u = (again : TranslationUnit) × IsUnit (chars text) again × (bare again ≡ bare (remove_voids u))
+ReadsBack text u = (again : TranslationUnit) × IsUnit (chars text) again × (bare_unit again ≡ bare_unit (full_unit u))

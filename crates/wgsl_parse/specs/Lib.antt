@@ -2,7 +2,9 @@ pub use Rattle.wgsl_model.specs.Program
 pub use Rattle.wgsl_model.specs.FirstUnits
 pub use Rattle.wgsl_model.specs.TokenList
 pub use Rattle.wgsl_model.specs.FirstNamed
-pub use Rattle.wgsl_model.specs.Printing
+pub use Rattle.wgsl_model.specs.PrintedUnits
+pub use Rattle.wgsl_model.specs.EmptyItems
+pub use Rattle.wgsl_model.specs.StatementsWithoutSpans
 pub use Rattle.wgsl_model.specs.Spanned
 pub use Rattle.wgsl_model.specs.Expressions
 pub use Rattle.wgsl_model.specs.Statements

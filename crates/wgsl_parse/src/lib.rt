@@ -1,6 +1,7 @@
 //! WGSL, the shading language of WebGPU: tokens, trees, faults and printed text, under the names of the Rust crate `wgsl-parse`.
 #![tactic(auto)]
 
+pub use wgsl_attribute::SyntaxNode;
 pub use wgsl_error::Error;
 pub use wgsl_parser::parse_str;
 
@@ -20,14 +21,35 @@ pub mod lexer {
     pub use wgsl_token::token::Token;
 }
 
-/// The syntax trees.
+/// The syntax trees, each with its text, its copy, its equality and what it is made of.
 pub mod syntax {
+    pub use wgsl_attribute::{
+        Attribute, AttributeNode, Attributes, CustomAttribute, DiagnosticAttribute,
+        InterpolateAttribute, TypeConstraint, WorkgroupSizeAttribute,
+    };
     pub use wgsl_expression::{
-        Expression, ExpressionNode, Ident, LiteralExpression, TypeExpression,
+        BinaryExpression, Expression, ExpressionNode, FunctionCall, FunctionCallExpression, Ident,
+        IndexingExpression, LiteralExpression, NamedComponentExpression, ParenthesizedExpression,
+        TemplateArg, TemplateArgs, TypeExpression, UnaryExpression,
+    };
+    pub use wgsl_named_values::{
+        AccessMode, AddressSpace, AssignmentOperator, BinaryOperator, BuiltinValue,
+        DiagnosticSeverity, InterpolationSampling, InterpolationType, UnaryOperator,
     };
     pub use wgsl_span::{Span, Spanned};
-    pub use wgsl_statement::{Declaration, DeclarationKind};
-    pub use wgsl_unit::{GlobalDeclaration, GlobalDeclarationNode, TranslationUnit, TypeAlias};
+    pub use wgsl_statement::{
+        AssignmentStatement, BreakIfStatement, BreakStatement, CaseSelector, CompoundStatement,
+        ConstAssert, ConstAssertStatement, ContinueStatement, ContinuingStatement, Declaration,
+        DeclarationKind, DeclarationStatement, DecrementStatement, DiscardStatement, ElseClause,
+        ElseIfClause, ForStatement, FunctionCallStatement, IfClause, IfStatement,
+        IncrementStatement, LoopStatement, ReturnStatement, Statement, StatementNode, SwitchClause,
+        SwitchStatement, WhileStatement,
+    };
+    pub use wgsl_unit::{
+        DiagnosticDirective, EnableDirective, FormalParameter, Function, GlobalDeclaration,
+        GlobalDeclarationNode, GlobalDirective, RequiresDirective, Struct, StructMember,
+        StructMemberNode, TranslationUnit, TypeAlias,
+    };
 }
 
 /// Reading a module from a text.
@@ -37,8 +59,9 @@ pub mod parser {
 
 /// What holds of all texts and trees, as contracts of functions that do nothing.
 pub mod laws {
-    pub use wgsl_laws::{print_twice, printed_parse, printed_tokens, voids_twice};
+    pub use wgsl_laws::{print_twice, printed_parse, printed_tokens};
     pub use wgsl_lexer::laws::{nothing_behind_the_end, one_token_list, tokens_in_order};
     pub use wgsl_parser::laws::{checked_faults, one_tree, unit_or_fault};
     pub use wgsl_scanner::laws::longest_spelling;
+    pub use wgsl_tree_theory::{voids_twice, voids_unprinted};
 }

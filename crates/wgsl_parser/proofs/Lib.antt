@@ -1,3 +1,4 @@
+mod Made
 pub mod Passes
 pub mod Equations
 pub mod Checked

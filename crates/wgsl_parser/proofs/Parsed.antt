@@ -13,7 +13,7 @@ use Rattle.wgsl_error.specs.View.{fault_view}
 use Rattle.wgsl_lexer.specs.declared.collect.Collected.{Collected}
 use Rattle.wgsl_lexer.specs.Placed as lexer
 use Rattle.wgsl_lexer.specs.Placed.{tokens_view, ending_view}
-use Rattle.wgsl_unit.specs.declared.TranslationUnit.{TranslationUnit}
+use Rattle.wgsl_unit.specs.declared.unit.TranslationUnit.{TranslationUnit}
 use Rattle.wgsl_unit.specs.View.{unit_view}
 use Rattle.wgsl_parser.specs.Tables.{reader}
 use Rattle.wgsl_parser.specs.Wording.{wording}

@@ -15,8 +15,8 @@ use crate::expected::Expected;
 use crate::fault::Fault;
 use std::alloc::Global;
 use wgsl_expression::{Expression, ExpressionNode, TypeExpression};
+use wgsl_simple_statement::{Declaration, DeclarationKind};
 use wgsl_span::Spanned;
-use wgsl_statement::{Declaration, DeclarationKind};
 use wgsl_token::kind::TokenKind;
 use wgsl_unit::{GlobalDeclaration, GlobalDeclarationNode, TranslationUnit, TypeAlias};
 
@@ -27,6 +27,7 @@ pub fn parse_translation_unit(alloc: Global, tokens: &mut Cursor) -> Result<Tran
 {
     let global_declarations = parse_global_declarations(alloc, tokens)?;
     Ok(TranslationUnit {
+        global_directives: Vec::new(alloc),
         global_declarations,
     })
 }
@@ -121,6 +122,7 @@ fn parse_const_declaration(
     let initializer = parse_literal_expression(alloc, tokens)?;
     tokens.expect(TokenKind::SymSemicolon)?;
     let constant = GlobalDeclaration::Declaration(Declaration {
+        attributes: Vec::new(alloc),
         kind: DeclarationKind::Const,
         ident,
         ty: None,
@@ -129,7 +131,7 @@ fn parse_const_declaration(
     Ok(Spanned::new(alloc, constant, tokens.span_from(start))?)
 }
 
-#[tactic(auto, unfolding(crate::specs::Rules::literal_expression_at), using(crate::proofs::Equations::literal_expression_is))]
+#[tactic(auto, unfolding(crate::specs::Rules::literal_expression_at), using(crate::proofs::Equations::literal_expression_is, crate::proofs::Made::literal_is))]
 fn parse_literal_expression(alloc: Global, tokens: &mut Cursor) -> Result<ExpressionNode, Fault>
     ensures value { Gives expression_node_view result (state tokens.new) (reader literal_expression (state tokens.old)) }
     ensures shorter { OnOk result (length (state tokens.new).rest < length (state tokens.old).rest) }

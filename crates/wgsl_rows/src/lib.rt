@@ -6,4 +6,6 @@ mod faults;
 #[cfg(test)]
 mod printed;
 #[cfg(test)]
+mod statements;
+#[cfg(test)]
 mod trees;

@@ -1,3 +1,4 @@
 pub mod Spanned
 pub mod Lending
 pub mod View
+pub mod Copies

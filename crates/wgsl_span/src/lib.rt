@@ -7,6 +7,9 @@ ghost use Rattle.std.specs.Cmp.{on_per};
 ghost use Rattle.wgsl_span.specs.Spanned.{spanned_node, spanned_span};
 ghost use Rattle.wgsl_span.specs.Lending.{LendsNode};
 
+mod clones;
+
+pub use clones::CloneWith;
 use std::alloc::{AllocError, Global};
 use std::fmt;
 use std::ops::Range;
@@ -118,16 +121,6 @@ impl<T> Spanned<T> {
     }
 }
 
-impl<T: PartialEq> PartialEq for Spanned<T> {
-    ghost eq = { λ a b. T.eq (spanned_node a) (spanned_node b) };
-
-    ghost laws = { on_per spanned_node T.laws };
-
-    fn eq(&self, other: &Self) -> bool {
-        *self.node == *other.node
-    }
-}
-
 impl<T: fmt::Display> fmt::Display for Spanned<T> {
     ghost output = { λ s. T.output (spanned_node s) };
 
@@ -136,30 +129,13 @@ impl<T: fmt::Display> fmt::Display for Spanned<T> {
     }
 }
 
-/// A copy that asks for memory and is equal to the original field by field, spans included.
-pub trait CloneWith: Sized + Drop {
-    // The second is a copy of the first.
-    ghost copies: { Self → Self → Type 0 };
+impl<T: PartialEq> PartialEq for Spanned<T> {
+    ghost eq = { λ a b. T.eq (spanned_node a) (spanned_node b) };
 
-    fn clone_with(&self, alloc: Global) -> Result<Self, AllocError>
-        ensures copy { IfOk result (λ copy. copies self.now copy) };
-}
+    ghost laws = { on_per spanned_node T.laws };
 
-impl<T: CloneWith> CloneWith for Spanned<T> {
-    ghost copies = { λ s copy. (spanned_span copy ≡ spanned_span s)
-        × T.copies (spanned_node s) (spanned_node copy) };
-
-    fn clone_with(&self, alloc: Global) -> Result<Self, AllocError> {
-        Spanned::new(alloc, self.node.clone_with(alloc)?, self.span())
-    }
-}
-
-impl<T: CloneWith> Spanned<T> {
-    pub fn clone(&self, alloc: Global) -> Result<Self, AllocError>
-        ensures span { IfOk result (λ copy. spanned_span copy ≡ spanned_span self.now) }
-        ensures node { IfOk result (λ copy. T.copies (spanned_node self.now) (spanned_node copy)) }
-    {
-        self.clone_with(alloc)
+    fn eq(&self, other: &Self) -> bool {
+        *self.node == *other.node
     }
 }
 

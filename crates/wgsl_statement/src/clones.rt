@@ -1,54 +1,350 @@
-//! Copies that ask for memory.
+//! Copies of statements.
 
-ghost use Rattle.std.specs.Prelude.{◌≡◌, IfOk};
-ghost use Rattle.wgsl_statement.specs.View.{declared_type_view, initializer_view, declaration_view};
+ghost use Rattle.std.specs.Prelude.{◌≡◌, IfOk, map};
+ghost use Rattle.std.specs.Option.{option_map};
+ghost use Rattle.wgsl_model.specs.Statements.{maybe_statement};
+ghost use Rattle.wgsl_statement.specs.View.{statement_view, statement_node_view, statement_nodes_view, compound_statement_view, if_statement_view, if_clause_view, else_if_clause_view, else_clause_view, switch_statement_view, switch_clause_view, loop_statement_view, continuing_statement_view, for_statement_view, while_statement_view};
 
-use crate::Declaration;
+use crate::statement::{
+    CompoundStatement, ContinuingStatement, ElseClause, ElseIfClause, ForStatement, IfClause,
+    IfStatement, LoopStatement, Statement, StatementNode, SwitchClause, SwitchStatement,
+    WhileStatement,
+};
 use std::alloc::{AllocError, Global};
-use wgsl_expression::{ExpressionNode, TypeExpression};
-use wgsl_span::CloneWith;
+use wgsl_span::{CloneWith, Spanned};
 
-impl CloneWith for Declaration {
-    ghost copies = { λ d copy. declaration_view copy ≡ declaration_view d };
+#[cycle(clone)]
+fn clone_nodes(nodes: &[StatementNode], alloc: Global) -> Result<Vec<StatementNode>, AllocError>
+    ensures { IfOk result (λ copies. statement_nodes_view copies.items ≡ statement_nodes_view nodes.now) }
+{
+    let mut copies = Vec::new(alloc);
+    'nodes: for node in nodes {
+        let copy = node.node().clone_with(alloc)?;
+        copies.push(Spanned::new(alloc, copy, node.span())?)?;
+    }
+    Ok(copies)
+}
 
+#[cycle(clone)]
+fn clone_part(
+    part: &Option<StatementNode>,
+    alloc: Global,
+) -> Result<Option<StatementNode>, AllocError>
+    ensures { IfOk result (λ copy. option_map statement_node_view copy ≡ option_map statement_node_view part.now) }
+{
+    match part {
+        None => Ok(None),
+        Some(node) => {
+            let copy = node.node().clone_with(alloc)?;
+            Ok(Some(Spanned::new(alloc, copy, node.span())?))
+        }
+    }
+}
+
+#[cycle(clone)]
+fn clone_else_ifs(clauses: &[ElseIfClause], alloc: Global) -> Result<Vec<ElseIfClause>, AllocError>
+    ensures { IfOk result (λ copies. map else_if_clause_view copies.items ≡ map else_if_clause_view clauses.now) }
+{
+    let mut copies = Vec::new(alloc);
+    'clauses: for clause in clauses {
+        copies.push(clause.clone_with(alloc)?)?;
+    }
+    Ok(copies)
+}
+
+#[cycle(clone)]
+fn clone_else(clause: &Option<ElseClause>, alloc: Global) -> Result<Option<ElseClause>, AllocError>
+    ensures { IfOk result (λ copy. option_map else_clause_view copy ≡ option_map else_clause_view clause.now) }
+{
+    match clause {
+        None => Ok(None),
+        Some(clause) => Ok(Some(clause.clone_with(alloc)?)),
+    }
+}
+
+#[cycle(clone)]
+fn clone_clauses(clauses: &[SwitchClause], alloc: Global) -> Result<Vec<SwitchClause>, AllocError>
+    ensures { IfOk result (λ copies. map switch_clause_view copies.items ≡ map switch_clause_view clauses.now) }
+{
+    let mut copies = Vec::new(alloc);
+    'clauses: for clause in clauses {
+        copies.push(clause.clone_with(alloc)?)?;
+    }
+    Ok(copies)
+}
+
+#[cycle(clone)]
+fn clone_continuing(
+    continuing: &Option<ContinuingStatement>,
+    alloc: Global,
+) -> Result<Option<ContinuingStatement>, AllocError>
+    ensures { IfOk result (λ copy. option_map continuing_statement_view copy ≡ option_map continuing_statement_view continuing.now) }
+{
+    match continuing {
+        None => Ok(None),
+        Some(continuing) => Ok(Some(continuing.clone_with(alloc)?)),
+    }
+}
+
+impl CloneWith for Statement {
+    ghost copies = { λ original copy. statement_view copy ≡ statement_view original };
+
+    #[cycle(clone)]
     fn clone_with(&self, alloc: Global) -> Result<Self, AllocError> {
-        Ok(Declaration {
-            kind: self.kind,
-            ident: self.ident.clone_with(alloc)?,
-            ty: clone_type(&self.ty, alloc)?,
-            initializer: clone_initializer(&self.initializer, alloc)?,
+        match self {
+            Statement::Void => Ok(Statement::Void),
+            Statement::Compound(inner) => Ok(Statement::Compound(inner.clone_with(alloc)?)),
+            Statement::Assignment(inner) => Ok(Statement::Assignment(inner.clone_with(alloc)?)),
+            Statement::Increment(inner) => Ok(Statement::Increment(inner.clone_with(alloc)?)),
+            Statement::Decrement(inner) => Ok(Statement::Decrement(inner.clone_with(alloc)?)),
+            Statement::If(inner) => Ok(Statement::If(inner.clone_with(alloc)?)),
+            Statement::Switch(inner) => Ok(Statement::Switch(inner.clone_with(alloc)?)),
+            Statement::Loop(inner) => Ok(Statement::Loop(inner.clone_with(alloc)?)),
+            Statement::For(inner) => Ok(Statement::For(inner.clone_with(alloc)?)),
+            Statement::While(inner) => Ok(Statement::While(inner.clone_with(alloc)?)),
+            Statement::Break(inner) => Ok(Statement::Break(inner.clone_with(alloc)?)),
+            Statement::Continue(inner) => Ok(Statement::Continue(inner.clone_with(alloc)?)),
+            Statement::Return(inner) => Ok(Statement::Return(inner.clone_with(alloc)?)),
+            Statement::Discard(inner) => Ok(Statement::Discard(inner.clone_with(alloc)?)),
+            Statement::FunctionCall(inner) => Ok(Statement::FunctionCall(inner.clone_with(alloc)?)),
+            Statement::ConstAssert(inner) => Ok(Statement::ConstAssert(inner.clone_with(alloc)?)),
+            Statement::Declaration(inner) => Ok(Statement::Declaration(inner.clone_with(alloc)?)),
+        }
+    }
+}
+
+impl CloneWith for CompoundStatement {
+    ghost copies = { λ original copy. compound_statement_view copy ≡ compound_statement_view original };
+
+    #[cycle(clone)]
+    fn clone_with(&self, alloc: Global) -> Result<Self, AllocError> {
+        Ok(CompoundStatement {
+            attributes: self.attributes.clone_with(alloc)?,
+            statements: clone_nodes(&self.statements, alloc)?,
         })
     }
 }
 
-impl Declaration {
+impl CloneWith for IfStatement {
+    ghost copies = { λ original copy. if_statement_view copy ≡ if_statement_view original };
+
+    #[cycle(clone)]
+    fn clone_with(&self, alloc: Global) -> Result<Self, AllocError> {
+        Ok(IfStatement {
+            attributes: self.attributes.clone_with(alloc)?,
+            if_clause: self.if_clause.clone_with(alloc)?,
+            else_if_clauses: clone_else_ifs(&self.else_if_clauses, alloc)?,
+            else_clause: clone_else(&self.else_clause, alloc)?,
+        })
+    }
+}
+
+impl CloneWith for IfClause {
+    ghost copies = { λ original copy. if_clause_view copy ≡ if_clause_view original };
+
+    #[cycle(clone)]
+    fn clone_with(&self, alloc: Global) -> Result<Self, AllocError> {
+        Ok(IfClause {
+            expression: self.expression.clone_with(alloc)?,
+            body: self.body.clone_with(alloc)?,
+        })
+    }
+}
+
+impl CloneWith for ElseIfClause {
+    ghost copies = { λ original copy. else_if_clause_view copy ≡ else_if_clause_view original };
+
+    #[cycle(clone)]
+    fn clone_with(&self, alloc: Global) -> Result<Self, AllocError> {
+        Ok(ElseIfClause {
+            expression: self.expression.clone_with(alloc)?,
+            body: self.body.clone_with(alloc)?,
+        })
+    }
+}
+
+impl CloneWith for ElseClause {
+    ghost copies = { λ original copy. else_clause_view copy ≡ else_clause_view original };
+
+    #[cycle(clone)]
+    fn clone_with(&self, alloc: Global) -> Result<Self, AllocError> {
+        Ok(ElseClause {
+            body: self.body.clone_with(alloc)?,
+        })
+    }
+}
+
+impl CloneWith for SwitchStatement {
+    ghost copies = { λ original copy. switch_statement_view copy ≡ switch_statement_view original };
+
+    #[cycle(clone)]
+    fn clone_with(&self, alloc: Global) -> Result<Self, AllocError> {
+        Ok(SwitchStatement {
+            attributes: self.attributes.clone_with(alloc)?,
+            expression: self.expression.clone_with(alloc)?,
+            body_attributes: self.body_attributes.clone_with(alloc)?,
+            clauses: clone_clauses(&self.clauses, alloc)?,
+        })
+    }
+}
+
+impl CloneWith for SwitchClause {
+    ghost copies = { λ original copy. switch_clause_view copy ≡ switch_clause_view original };
+
+    #[cycle(clone)]
+    fn clone_with(&self, alloc: Global) -> Result<Self, AllocError> {
+        Ok(SwitchClause {
+            case_selectors: self.case_selectors.clone_with(alloc)?,
+            body: self.body.clone_with(alloc)?,
+        })
+    }
+}
+
+impl CloneWith for LoopStatement {
+    ghost copies = { λ original copy. loop_statement_view copy ≡ loop_statement_view original };
+
+    #[cycle(clone)]
+    fn clone_with(&self, alloc: Global) -> Result<Self, AllocError> {
+        Ok(LoopStatement {
+            attributes: self.attributes.clone_with(alloc)?,
+            body: self.body.clone_with(alloc)?,
+            continuing: clone_continuing(&self.continuing, alloc)?,
+        })
+    }
+}
+
+impl CloneWith for ContinuingStatement {
+    ghost copies = { λ original copy. continuing_statement_view copy ≡ continuing_statement_view original };
+
+    #[cycle(clone)]
+    fn clone_with(&self, alloc: Global) -> Result<Self, AllocError> {
+        Ok(ContinuingStatement {
+            body: self.body.clone_with(alloc)?,
+            break_if: self.break_if.clone_with(alloc)?,
+        })
+    }
+}
+
+impl CloneWith for ForStatement {
+    ghost copies = { λ original copy. for_statement_view copy ≡ for_statement_view original };
+
+    #[cycle(clone)]
+    fn clone_with(&self, alloc: Global) -> Result<Self, AllocError> {
+        Ok(ForStatement {
+            attributes: self.attributes.clone_with(alloc)?,
+            initializer: clone_part(&self.initializer, alloc)?,
+            condition: self.condition.clone_with(alloc)?,
+            update: clone_part(&self.update, alloc)?,
+            body: self.body.clone_with(alloc)?,
+        })
+    }
+}
+
+impl CloneWith for WhileStatement {
+    ghost copies = { λ original copy. while_statement_view copy ≡ while_statement_view original };
+
+    #[cycle(clone)]
+    fn clone_with(&self, alloc: Global) -> Result<Self, AllocError> {
+        Ok(WhileStatement {
+            attributes: self.attributes.clone_with(alloc)?,
+            condition: self.condition.clone_with(alloc)?,
+            body: self.body.clone_with(alloc)?,
+        })
+    }
+}
+
+impl Statement {
     pub fn clone(&self, alloc: Global) -> Result<Self, AllocError>
-        ensures { IfOk result (λ copy. declaration_view copy ≡ declaration_view self.now) }
+        ensures { IfOk result (λ copy. statement_view copy ≡ statement_view self.now) }
     {
         self.clone_with(alloc)
     }
 }
 
-fn clone_type(
-    ty: &Option<TypeExpression>,
-    alloc: Global,
-) -> Result<Option<TypeExpression>, AllocError>
-    ensures { IfOk result (λ copy. declared_type_view copy ≡ declared_type_view ty.now) }
-{
-    match ty {
-        Some(ty) => Ok(Some(ty.clone_with(alloc)?)),
-        None => Ok(None),
+impl CompoundStatement {
+    pub fn clone(&self, alloc: Global) -> Result<Self, AllocError>
+        ensures { IfOk result (λ copy. compound_statement_view copy ≡ compound_statement_view self.now) }
+    {
+        self.clone_with(alloc)
     }
 }
 
-fn clone_initializer(
-    initializer: &Option<ExpressionNode>,
-    alloc: Global,
-) -> Result<Option<ExpressionNode>, AllocError>
-    ensures { IfOk result (λ copy. initializer_view copy ≡ initializer_view initializer.now) }
-{
-    match initializer {
-        Some(initializer) => Ok(Some(initializer.clone_with(alloc)?)),
-        None => Ok(None),
+impl IfStatement {
+    pub fn clone(&self, alloc: Global) -> Result<Self, AllocError>
+        ensures { IfOk result (λ copy. if_statement_view copy ≡ if_statement_view self.now) }
+    {
+        self.clone_with(alloc)
+    }
+}
+
+impl IfClause {
+    pub fn clone(&self, alloc: Global) -> Result<Self, AllocError>
+        ensures { IfOk result (λ copy. if_clause_view copy ≡ if_clause_view self.now) }
+    {
+        self.clone_with(alloc)
+    }
+}
+
+impl ElseIfClause {
+    pub fn clone(&self, alloc: Global) -> Result<Self, AllocError>
+        ensures { IfOk result (λ copy. else_if_clause_view copy ≡ else_if_clause_view self.now) }
+    {
+        self.clone_with(alloc)
+    }
+}
+
+impl ElseClause {
+    pub fn clone(&self, alloc: Global) -> Result<Self, AllocError>
+        ensures { IfOk result (λ copy. else_clause_view copy ≡ else_clause_view self.now) }
+    {
+        self.clone_with(alloc)
+    }
+}
+
+impl SwitchStatement {
+    pub fn clone(&self, alloc: Global) -> Result<Self, AllocError>
+        ensures { IfOk result (λ copy. switch_statement_view copy ≡ switch_statement_view self.now) }
+    {
+        self.clone_with(alloc)
+    }
+}
+
+impl SwitchClause {
+    pub fn clone(&self, alloc: Global) -> Result<Self, AllocError>
+        ensures { IfOk result (λ copy. switch_clause_view copy ≡ switch_clause_view self.now) }
+    {
+        self.clone_with(alloc)
+    }
+}
+
+impl LoopStatement {
+    pub fn clone(&self, alloc: Global) -> Result<Self, AllocError>
+        ensures { IfOk result (λ copy. loop_statement_view copy ≡ loop_statement_view self.now) }
+    {
+        self.clone_with(alloc)
+    }
+}
+
+impl ContinuingStatement {
+    pub fn clone(&self, alloc: Global) -> Result<Self, AllocError>
+        ensures { IfOk result (λ copy. continuing_statement_view copy ≡ continuing_statement_view self.now) }
+    {
+        self.clone_with(alloc)
+    }
+}
+
+impl ForStatement {
+    pub fn clone(&self, alloc: Global) -> Result<Self, AllocError>
+        ensures { IfOk result (λ copy. for_statement_view copy ≡ for_statement_view self.now) }
+    {
+        self.clone_with(alloc)
+    }
+}
+
+impl WhileStatement {
+    pub fn clone(&self, alloc: Global) -> Result<Self, AllocError>
+        ensures { IfOk result (λ copy. while_statement_view copy ≡ while_statement_view self.now) }
+    {
+        self.clone_with(alloc)
     }
 }

@@ -1,56 +1,112 @@
-//! The printed texts.
+//! The printed texts of the statements that hold others.
 
 ghost use Rattle.std.specs.Prelude.{Some};
-ghost use Rattle.std.specs.Fmt.{DisplaysOnOk};
-ghost use Rattle.wgsl_model.specs.Printing.{print_kind, print_typed, print_initializer, print_declaration};
-ghost use Rattle.wgsl_statement.specs.View.{declaration_kind_view, declared_type_view, initializer_view, declaration_view};
+ghost use Rattle.wgsl_model.specs.PrintedStatements.{print_statement, print_compound, print_if, print_if_clause, print_else_if_clause, print_else_clause, print_switch, print_switch_clause, print_loop, print_continuing, print_for, print_while};
+ghost use Rattle.wgsl_statement.specs.View.{statement_view, compound_statement_view, continuing_statement_view, else_clause_view, else_if_clause_view, for_statement_view, if_clause_view, if_statement_view, loop_statement_view, switch_clause_view, switch_statement_view, while_statement_view};
 
-use crate::{Declaration, DeclarationKind};
+use crate::statement::{
+    CompoundStatement, ContinuingStatement, ElseClause, ElseIfClause, ForStatement, IfClause,
+    IfStatement, LoopStatement, Statement, SwitchClause, SwitchStatement, WhileStatement,
+};
+use crate::write::{write_compound, write_statement};
+use crate::write_if::{write_else_clause, write_else_if_clause, write_if, write_if_clause};
+use crate::write_loops::{write_continuing, write_for, write_loop, write_while};
+use crate::write_switch::{write_switch, write_switch_clause};
 use std::fmt;
-use wgsl_expression::{ExpressionNode, TypeExpression};
+use wgsl_writer::Depth;
 
-impl fmt::Display for DeclarationKind {
-    ghost output = { λ k. Some (print_kind (declaration_kind_view k)) };
-
-    fn fmt<W: fmt::Write>(&self, f: &mut fmt::Formatter<W>) -> fmt::Result {
-        match self {
-            DeclarationKind::Const => f.write_str("const"),
-        }
-    }
-}
-
-impl fmt::Display for Declaration {
-    ghost output = { λ d. Some (print_declaration (declaration_view d)) };
+impl fmt::Display for Statement {
+    ghost output = { λ statement. Some (print_statement (statement_view statement)) };
 
     fn fmt<W: fmt::Write>(&self, f: &mut fmt::Formatter<W>) -> fmt::Result {
-        write!(f, "{} {}", self.kind, self.ident)?;
-        write_type(&self.ty, f)?;
-        write_initializer(&self.initializer, f)?;
-        f.write_str(";")
+        write_statement(self, &Depth::Top, f)
     }
 }
 
-/// Writes the type behind a colon, if there is one.
-fn write_type<W: fmt::Write>(ty: &Option<TypeExpression>, f: &mut fmt::Formatter<W>) -> fmt::Result
-    ensures { let text = print_typed (declared_type_view ty.now) in
-        DisplaysOnOk W.write_str_gives f.old result (Some text) f.new }
-{
-    match ty {
-        Some(ty) => write!(f, ": {ty}"),
-        None => Ok(()),
+impl fmt::Display for CompoundStatement {
+    ghost output = { λ block. Some (print_compound (compound_statement_view block)) };
+
+    fn fmt<W: fmt::Write>(&self, f: &mut fmt::Formatter<W>) -> fmt::Result {
+        write_compound(self, &Depth::Top, f)
     }
 }
 
-/// Writes the value behind an equals sign, if there is one.
-fn write_initializer<W: fmt::Write>(
-    initializer: &Option<ExpressionNode>,
-    f: &mut fmt::Formatter<W>,
-) -> fmt::Result
-    ensures { let text = print_initializer (initializer_view initializer.now) in
-        DisplaysOnOk W.write_str_gives f.old result (Some text) f.new }
-{
-    match initializer {
-        Some(initializer) => write!(f, " = {initializer}"),
-        None => Ok(()),
+impl fmt::Display for IfStatement {
+    ghost output = { λ statement. Some (print_if (if_statement_view statement)) };
+
+    fn fmt<W: fmt::Write>(&self, f: &mut fmt::Formatter<W>) -> fmt::Result {
+        write_if(self, &Depth::Top, f)
+    }
+}
+
+impl fmt::Display for IfClause {
+    ghost output = { λ clause. Some (print_if_clause (if_clause_view clause)) };
+
+    fn fmt<W: fmt::Write>(&self, f: &mut fmt::Formatter<W>) -> fmt::Result {
+        write_if_clause(self, &Depth::Top, f)
+    }
+}
+
+impl fmt::Display for ElseIfClause {
+    ghost output = { λ clause. Some (print_else_if_clause (else_if_clause_view clause)) };
+
+    fn fmt<W: fmt::Write>(&self, f: &mut fmt::Formatter<W>) -> fmt::Result {
+        write_else_if_clause(self, &Depth::Top, f)
+    }
+}
+
+impl fmt::Display for ElseClause {
+    ghost output = { λ clause. Some (print_else_clause (else_clause_view clause)) };
+
+    fn fmt<W: fmt::Write>(&self, f: &mut fmt::Formatter<W>) -> fmt::Result {
+        write_else_clause(self, &Depth::Top, f)
+    }
+}
+
+impl fmt::Display for SwitchStatement {
+    ghost output = { λ statement. Some (print_switch (switch_statement_view statement)) };
+
+    fn fmt<W: fmt::Write>(&self, f: &mut fmt::Formatter<W>) -> fmt::Result {
+        write_switch(self, &Depth::Top, f)
+    }
+}
+
+impl fmt::Display for SwitchClause {
+    ghost output = { λ clause. Some (print_switch_clause (switch_clause_view clause)) };
+
+    fn fmt<W: fmt::Write>(&self, f: &mut fmt::Formatter<W>) -> fmt::Result {
+        write_switch_clause(self, &Depth::Top, f)
+    }
+}
+
+impl fmt::Display for LoopStatement {
+    ghost output = { λ statement. Some (print_loop (loop_statement_view statement)) };
+
+    fn fmt<W: fmt::Write>(&self, f: &mut fmt::Formatter<W>) -> fmt::Result {
+        write_loop(self, &Depth::Top, f)
+    }
+}
+
+impl fmt::Display for ContinuingStatement {
+    ghost output = { λ statement. Some (print_continuing (continuing_statement_view statement)) };
+
+    fn fmt<W: fmt::Write>(&self, f: &mut fmt::Formatter<W>) -> fmt::Result {
+        write_continuing(self, &Depth::Top, f)
+    }
+}
+
+impl fmt::Display for ForStatement {
+    ghost output = { λ statement. Some (print_for (for_statement_view statement)) };
+
+    fn fmt<W: fmt::Write>(&self, f: &mut fmt::Formatter<W>) -> fmt::Result {
+        write_for(self, &Depth::Top, f)
+    }
+}
+
+impl fmt::Display for WhileStatement {
+    ghost output = { λ statement. Some (print_while (while_statement_view statement)) };
+
+    fn fmt<W: fmt::Write>(&self, f: &mut fmt::Formatter<W>) -> fmt::Result {
+        write_while(self, &Depth::Top, f)
     }
 }

@@ -12,7 +12,7 @@ use Rattle.wgsl_model.specs.Statements.{Declaration}
 use Rattle.wgsl_model.specs.Units.{GlobalDeclaration, GlobalDeclaration.void, GlobalDeclaration.declaration, GlobalDeclaration.type_alias, TranslationUnit}
 use Rattle.wgsl_model.specs.FirstUnits.{unit, global_declaration, literal_expression, ident, body}
 use Rattle.wgsl_model.specs.TokenValues.{text_of, literal_of}
-use Rattle.wgsl_model.specs.Emptied.{bare_declaration, bare_declarations, no_span, bare}
+use Rattle.wgsl_theory.proofs.FirstPrinting.{bare_declaration, bare_declarations, no_span, bare}
 use Rattle.wgsl_theory.specs.Canonical.{without_place, literal_token, declaration_tokens, type_alias_tokens, global_declaration_tokens, all_tokens}
 use Rattle.wgsl_theory.proofs.Forms.{put_before, put_behind}
 use Rattle.wgsl_theory.proofs.Sound.{D, push, alias_end, alias_rest, const_end, const_rest, IsSoundLiteral, IsSoundInitializer, IsSoundType, constant, sound_constant}

@@ -4,8 +4,8 @@ use Rattle.std.specs.Prelude.{codes}
 use Rattle.wgsl_model.specs.Spanned.{Spanned}
 use Rattle.wgsl_model.specs.Expressions.{ExpressionNode, expression_node}
 use Rattle.wgsl_model.specs.Units.{GlobalDeclaration, GlobalDeclaration.void, GlobalDeclaration.declaration, TranslationUnit}
-use Rattle.wgsl_model.specs.Printing.{joined, print_kind, print_typed, print_initializer, print_global_declaration, is_void, without_voids, texts_of, print}
-use Rattle.wgsl_model.specs.Emptied.{remove_voids, bare_initializer, bare_declaration, bare_declarations, no_span, bare}
+use Rattle.wgsl_theory.proofs.FirstPrinting.{joined, print_kind, print_typed, print_initializer, print_global_declaration, is_void, without_voids, texts_of, print}
+use Rattle.wgsl_theory.proofs.FirstPrinting.{remove_voids, bare_initializer, bare_declaration, bare_declarations, no_span, bare}
 
 -- ---- empty declarations
 
@@ -16,10 +16,6 @@ voids_once false d ds e h = rw e (ap (λ x. d ∷ x) h)
 pub without_voids-twice : (ds : List (Spanned GlobalDeclaration)) → without_voids (without_voids ds) ≡ without_voids ds
 without_voids-twice [] = refl
 without_voids-twice (d ∷ ds) = voids_once (is_void d.node) d (without_voids ds) refl (without_voids-twice ds)
-
--- taking empty declarations away twice is taking them away once
-pub remove_voids-twice : (u : TranslationUnit) → remove_voids (remove_voids u) ≡ remove_voids u
-remove_voids-twice u = ap (λ ds. record { global_directives = u.global_directives; global_declarations = ds }) (without_voids-twice u.global_declarations)
 
 -- taking them away never changes the printed text
 pub print-remove_voids : (u : TranslationUnit) → print (remove_voids u) ≡ print u

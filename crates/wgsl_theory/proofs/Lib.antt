@@ -14,9 +14,11 @@ pub mod Names
 pub mod Scanned
 pub mod Forms
 pub mod Sound
+pub mod FirstPrinting
 pub mod Printed
 pub mod Text
 pub mod Again
 pub mod Bare
+pub mod FirstAgree
 pub mod OneTree
 pub mod RoundTrip

@@ -10,7 +10,7 @@ use Rattle.wgsl_model.specs.Spanned.{Spanned}
 use Rattle.wgsl_model.specs.Expressions.{LiteralExpression, boolean, abstract_int, i32, u32, ExpressionNode, expression_node, Expression, literal, TypeExpression, type_expression, no_template, template}
 use Rattle.wgsl_model.specs.Statements.{DeclarationKind, const_kind, override_kind, let_kind, var_kind, Declaration}
 use Rattle.wgsl_model.specs.Units.{TypeAlias, GlobalDeclaration, GlobalDeclaration.void, GlobalDeclaration.declaration, GlobalDeclaration.type_alias}
-use Rattle.wgsl_model.specs.Printing.{print_literal, is_void, without_voids}
+use Rattle.wgsl_theory.proofs.FirstPrinting.{print_literal, is_void, without_voids}
 use Rattle.wgsl_theory.specs.Canonical.{literal_token, expression_tokens, type_tokens, kind_tokens, typed_tokens, initializer_tokens, declaration_tokens, global_declaration_tokens, all_tokens}
 use Rattle.wgsl_theory.proofs.Steps.{Ends}
 use Rattle.wgsl_theory.proofs.Names.{IsName, name_stands, alias_stands, const_stands, true_stands, false_stands, equal_stands, semicolon_stands, integer_stands, signed_stands, unsigned_stands}
@@ -93,6 +93,10 @@ kept_more false d ds e h rest = ((e, h), rest)
 pub without_voids-kept : (ds : List (Spanned GlobalDeclaration)) → AllSound ds → AllKept (without_voids ds)
 without_voids-kept [] h = tt
 without_voids-kept (d ∷ ds) h = kept_more (is_void d.node) d (without_voids ds) refl h.0 (without_voids-kept ds h.1)
+
+pub all_sound : (ds : List (Spanned GlobalDeclaration)) → AllKept ds → AllSound ds
+all_sound [] h = tt
+all_sound (d ∷ ds) h = (h.0.1, all_sound ds h.1)
 
 -- ---- they fit
 

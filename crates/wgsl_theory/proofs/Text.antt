@@ -11,7 +11,7 @@ use Rattle.wgsl_model.specs.Spanned.{Spanned}
 use Rattle.wgsl_model.specs.Expressions.{LiteralExpression, boolean, abstract_int, i32, u32, ExpressionNode, expression_node, Expression, literal, TypeExpression, type_expression, no_template, template}
 use Rattle.wgsl_model.specs.Statements.{DeclarationKind, const_kind, Declaration}
 use Rattle.wgsl_model.specs.Units.{GlobalDeclaration, GlobalDeclaration.void, GlobalDeclaration.declaration, GlobalDeclaration.type_alias}
-use Rattle.wgsl_model.specs.Printing.{joined, print_literal, print_expression, print_kind, print_typed, print_initializer, print_declaration, print_type_alias, print_global_declaration, texts_of}
+use Rattle.wgsl_theory.proofs.FirstPrinting.{joined, print_literal, print_expression, print_kind, print_typed, print_initializer, print_declaration, print_type_alias, print_global_declaration, texts_of}
 use Rattle.wgsl_theory.proofs.Names.{IsName}
 use Rattle.wgsl_theory.proofs.Pieces.{Piece, blank, render, render-append}
 use Rattle.wgsl_theory.proofs.Sound.{at_whole, IsSoundLiteral, IsSoundExpression, IsSoundInitializer, IsSoundType}

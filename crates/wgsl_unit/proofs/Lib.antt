@@ -1,1 +1,5 @@
-pub mod Shown
+mod Copies
+mod Texts
+mod FullDeclarations
+mod Shown
+mod Equalities

@@ -1,24 +1,73 @@
--- Declarations of a module, and modules, as plain data.
-use Rattle.std.specs.Prelude.{map, []}
+-- Modules, their directives and their declarations as plain data.
+use Rattle.std.specs.Prelude.{map, string_bytes}
+use Rattle.std.specs.Option.{option_map}
 use Rattle.wgsl_model.specs.Units as plain
 use Rattle.wgsl_span.specs.View.{spanned_view}
-use Rattle.wgsl_expression.specs.View.{ident_name, type_view}
-use Rattle.wgsl_statement.specs.View.{declaration_view}
-use Rattle.wgsl_unit.specs.declared.TypeAlias.{TypeAlias}
-use Rattle.wgsl_unit.specs.declared.GlobalDeclaration.{GlobalDeclaration}
-use Rattle.wgsl_unit.specs.declared.GlobalDeclaration.TheVariants as global
-use Rattle.wgsl_unit.specs.declared.TranslationUnit.{TranslationUnit}
+use Rattle.wgsl_named_values.specs.View.{severity_view}
+use Rattle.wgsl_expression.specs.View.{ident_name, type_expression_view}
+use Rattle.wgsl_attribute.specs.View.{attributes_view}
+use Rattle.wgsl_simple_statement.specs.View.{declaration_view, assert_view}
+use Rattle.wgsl_statement.specs.View.{compound_statement_view}
+use Rattle.wgsl_unit.specs.declared.unit.DiagnosticDirective.{DiagnosticDirective}
+use Rattle.wgsl_unit.specs.declared.unit.EnableDirective.{EnableDirective}
+use Rattle.wgsl_unit.specs.declared.unit.RequiresDirective.{RequiresDirective}
+use Rattle.wgsl_unit.specs.declared.unit.GlobalDirective.{GlobalDirective}
+use Rattle.wgsl_unit.specs.declared.unit.GlobalDirective.TheVariants as directive
+use Rattle.wgsl_unit.specs.declared.unit.TypeAlias.{TypeAlias}
+use Rattle.wgsl_unit.specs.declared.unit.StructMember.{StructMember}
+use Rattle.wgsl_unit.specs.declared.unit.Struct.{Struct}
+use Rattle.wgsl_unit.specs.declared.unit.FormalParameter.{FormalParameter}
+use Rattle.wgsl_unit.specs.declared.unit.Function.{Function}
+use Rattle.wgsl_unit.specs.declared.unit.GlobalDeclaration.{GlobalDeclaration}
+use Rattle.wgsl_unit.specs.declared.unit.GlobalDeclaration.TheVariants as declaration
+use Rattle.wgsl_unit.specs.declared.unit.TranslationUnit.{TranslationUnit}
 
--- an `alias`
+-- directives
+abbrev pub diagnostic_directive_view : DiagnosticDirective → plain.DiagnosticDirective
+diagnostic_directive_view d = record { severity = severity_view d.severity; rule_name = string_bytes d.rule_name }
+
+abbrev pub enable_directive_view : EnableDirective → plain.EnableDirective
+enable_directive_view d = record { extensions = map string_bytes d.extensions.items }
+
+abbrev pub requires_directive_view : RequiresDirective → plain.RequiresDirective
+requires_directive_view d = record { extensions = map string_bytes d.extensions.items }
+
+abbrev pub global_directive_view : GlobalDirective → plain.GlobalDirective
+global_directive_view (directive.Diagnostic d) = plain.diagnostic (diagnostic_directive_view d)
+global_directive_view (directive.Enable d) = plain.enable (enable_directive_view d)
+global_directive_view (directive.Requires d) = plain.requires (requires_directive_view d)
+
+-- declarations
 abbrev pub type_alias_view : TypeAlias → plain.TypeAlias
-type_alias_view a = record { ident = ident_name a.ident; ty = type_view a.ty }
+type_alias_view a = record { ident = ident_name a.ident; ty = type_expression_view a.ty }
 
--- a declaration of a module
+abbrev pub member_view : StructMember → plain.StructMember
+member_view m = record { attributes = attributes_view m.attributes.items; ident = ident_name m.ident; ty = type_expression_view m.ty }
+
+abbrev pub struct_view : Struct → plain.Struct
+struct_view s = record { ident = ident_name s.ident; members = map (spanned_view member_view) s.members.items }
+
+abbrev pub parameter_view : FormalParameter → plain.FormalParameter
+parameter_view p = record { attributes = attributes_view p.attributes.items; ident = ident_name p.ident; ty = type_expression_view p.ty }
+
+abbrev pub function_view : Function → plain.Function
+function_view f = record {
+  attributes = attributes_view f.attributes.items;
+  ident = ident_name f.ident;
+  parameters = map parameter_view f.parameters.items;
+  return_attributes = attributes_view f.return_attributes.items;
+  return_type = option_map type_expression_view f.return_type;
+  body = compound_statement_view f.body;
+}
+
 abbrev pub global_declaration_view : GlobalDeclaration → plain.GlobalDeclaration
-global_declaration_view global.Void = plain.void
-global_declaration_view (global.Declaration d) = plain.declaration (declaration_view d)
-global_declaration_view (global.TypeAlias a) = plain.type_alias (type_alias_view a)
+global_declaration_view declaration.Void = plain.void
+global_declaration_view (declaration.Declaration d) = plain.declaration (declaration_view d)
+global_declaration_view (declaration.TypeAlias a) = plain.type_alias (type_alias_view a)
+global_declaration_view (declaration.Struct s) = plain.structure (struct_view s)
+global_declaration_view (declaration.Function f) = plain.function (function_view f)
+global_declaration_view (declaration.ConstAssert c) = plain.const_assert (assert_view c)
 
 -- a module
 abbrev pub unit_view : TranslationUnit → plain.TranslationUnit
-unit_view u = record { global_directives = []; global_declarations = map (spanned_view global_declaration_view) u.global_declarations.items }
+unit_view u = record { global_directives = map global_directive_view u.global_directives.items; global_declarations = map (spanned_view global_declaration_view) u.global_declarations.items }

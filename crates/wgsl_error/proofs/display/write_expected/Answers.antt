@@ -1,22 +1,14 @@
-use Rattle.std.proofs.Common.{rules, sym, ◌∙◌, ap, ◌++◌, codes, map, take, string_bytes}
+use Rattle.std.proofs.Common.{rules, ◌≡◌, refl, ◌∙◌, ap, List, [], ◌∷◌, codes, map, string_bytes}
 use Rattle.std.proofs.Output.{has_written_append, has_written_of_eq}
-use Rattle.wgsl_model.specs.Printing.{joined}
-use Rattle.wgsl_span.proofs.Joined.{before, before_more, joined-append, map-take_more}
+use Rattle.std.proofs.lemmas.List.{map-id}
+use Rattle.wgsl_model.specs.Joining.{joined}
+use Rattle.wgsl_writer.proofs.Joins.{displays_joined}
 use Rattle.wgsl_error.proofs.display.write_expected.Goals as goal
 
-pub texts-preserved : goal.texts-preserved
-texts-preserved g c =
-    let separator = codes ", " in
-    let texts = map string_bytes (take c.texts.text-index c.args.expected.now) in
-    let text = string_bytes c.text-item.result in
-    let more = map-take_more string_bytes c.args.expected.now c.texts.text-index c.text-item.result (search rules) c.text-item.is in
-    record {
-      before = sym (ap (before separator) more ∙ before_more separator texts text);
-      utf8 = search rules;
-      written = λ plain.
-          let first = c.texts.invariant.written plain in
-          has_written_of_eq _ _ _ _ _
-          (ap (λ gap. joined separator texts ++ (gap ++ text)) c.texts.invariant.before
-          ∙ sym (ap (joined separator) more ∙ joined-append separator texts text))
-          (has_written_append _ _ _ _ _ _ first (c.write.ensures.writes first.plain (search rules)));
-    }
+pub returns : goal.returns
+returns g c = λ plain ok.
+    let texts = displays_joined string_bytes (λ text. text) (codes ", ") g.W.Write.write_str_gives _ c.args.expected.now refl _ _ _ c.write_joined.ensures in
+    let one = c.write_str.ensures.writes plain (search rules) in
+    let two = has_written_of_eq _ _ _ _ _ (ap (joined (codes ", ")) (map-id (map string_bytes c.args.expected.now))) (texts one.plain (search rules)) in
+    let three = c.write_str-2.ensures.writes two.plain ok in
+    has_written_append _ _ _ _ _ _ (has_written_append _ _ _ _ _ _ one two) three

@@ -1,0 +1,4 @@
+mod Sifts
+mod Copies
+mod Lines
+pub mod Equalities

@@ -1,0 +1,5 @@
+pub mod View
+pub mod Variants
+pub mod Equality
+pub mod Keeps
+pub mod Lending

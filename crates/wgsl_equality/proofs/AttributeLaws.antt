@@ -1,0 +1,193 @@
+-- The code of an attribute has all but its spans.
+use Rattle.std.specs.Prelude.{ℕ, true, List, [], ◌∷◌, map, Option, Some, None, ◌≡◌, ◌↔◌}
+use Rattle.std.proofs.Common.{refl, ap}
+use Rattle.wgsl_model.specs.Expressions.{ExpressionNode, TypeExpression}
+use Rattle.wgsl_model.specs.Attributes.{Attribute, align, binding, blend_src, group, id, location, size, if_attribute, elif_attribute, builtin, const_attribute, invariant, must_use, vertex, fragment, compute, else_attribute, Attribute.diagnostic, Attribute.interpolate, Attribute.workgroup_size, Attribute.type_constraint, Attribute.custom, Attributes, DiagnosticAttribute, InterpolateAttribute, WorkgroupSizeAttribute, TypeConstraint, CustomAttribute}
+use Rattle.wgsl_model.specs.NamedValues.{InterpolationSampling}
+use Rattle.wgsl_model.specs.Spanned.{Spanned}
+use Rattle.wgsl_model.specs.WithoutSpans.{no_span, bare_spanned, bare_expression_node, bare_type, bare_workgroup_size, bare_type_constraint, bare_custom, bare_attribute, bare_attributes}
+use Rattle.wgsl_equality.specs.Code.{Code, number, text, pair, same, list_code, option_code}
+use Rattle.wgsl_equality.specs.Laws.{same_is}
+use Rattle.wgsl_equality.specs.Expressions.{expression_node_code, type_code}
+use Rattle.wgsl_equality.specs.NamedValues.{interpolation_sampling_number}
+use Rattle.wgsl_equality.specs.Attributes.{diagnostic_code, interpolate_code, workgroup_size_code, type_constraint_code, custom_code, attribute_code, attributes_code}
+use Rattle.wgsl_equality.proofs.Parts.{value_at, number_of, text_of, option_of, option_decoded, option_coded, list_of, list_decoded, list_coded}
+use Rattle.wgsl_equality.proofs.ExpressionLaws.{node_of, node_decoded, node_coded, type_of, type_decoded, type_coded}
+use Rattle.wgsl_equality.proofs.NamedValueLaws.{severity_of, severity_decoded, interpolation_type_of, interpolation_type_decoded, interpolation_sampling_of, interpolation_sampling_decoded, builtin_value_of, builtin_value_decoded}
+
+abbrev pub first_of : Code → Code
+first_of (pair c d) = c
+first_of c = c
+
+abbrev pub second_of : Code → Code
+second_of (pair c d) = d
+second_of c = c
+
+abbrev sampling_code : InterpolationSampling → Code
+sampling_code s = number (interpolation_sampling_number s)
+
+abbrev sampling_of : Code → InterpolationSampling
+sampling_of c = interpolation_sampling_of (number_of c)
+
+samplings_decoded : (o : Option InterpolationSampling) → option_of sampling_of (option_code sampling_code o) ≡ o
+samplings_decoded None = refl
+samplings_decoded (Some s) = ap Some (interpolation_sampling_decoded s)
+
+-- each struct, read back
+abbrev diagnostic_of : Code → DiagnosticAttribute
+diagnostic_of c = record { severity = severity_of (number_of (first_of c)); rule = text_of (second_of c) }
+
+abbrev interpolate_of : Code → InterpolateAttribute
+interpolate_of c = record { ty = interpolation_type_of (number_of (first_of c)); sampling = option_of sampling_of (second_of c) }
+
+abbrev workgroup_size_of : Code → WorkgroupSizeAttribute
+workgroup_size_of c = record { x = node_of (first_of c); y = option_of node_of (first_of (second_of c)); z = option_of node_of (second_of (second_of c)) }
+
+abbrev type_constraint_of : Code → TypeConstraint
+type_constraint_of c = record { ident = text_of (first_of c); variants = list_of type_of (second_of c) }
+
+abbrev custom_of : Code → CustomAttribute
+custom_of c = record { name = text_of (first_of c); arguments = option_of (list_of node_of) (second_of c) }
+
+diagnostic_decoded : (d : DiagnosticAttribute) → diagnostic_of (diagnostic_code d) ≡ d
+diagnostic_decoded d = λ i. record { severity = severity_decoded d.severity i; rule = d.rule }
+
+interpolate_decoded : (t : InterpolateAttribute) → interpolate_of (interpolate_code t) ≡ t
+interpolate_decoded t = λ i. record { ty = interpolation_type_decoded t.ty i; sampling = samplings_decoded t.sampling i }
+
+workgroup_size_decoded : (w : WorkgroupSizeAttribute) → workgroup_size_of (workgroup_size_code w) ≡ bare_workgroup_size w
+workgroup_size_decoded w =
+    let part = option_decoded expression_node_code node_of bare_expression_node node_decoded in
+    λ i. record { x = node_decoded w.x i; y = part w.y i; z = part w.z i }
+
+type_constraint_decoded : (t : TypeConstraint) → type_constraint_of (type_constraint_code t) ≡ bare_type_constraint t
+type_constraint_decoded t = λ i. record { ident = t.ident; variants = list_decoded type_code type_of bare_type type_decoded t.variants i }
+
+custom_decoded : (c : CustomAttribute) → custom_of (custom_code c) ≡ bare_custom c
+custom_decoded c =
+    let nodes = list_decoded expression_node_code node_of bare_expression_node node_decoded in
+    λ i. record { name = c.name; arguments = option_decoded (list_code expression_node_code) (list_of node_of) (map bare_expression_node) nodes c.arguments i }
+
+workgroup_size_coded : (w : WorkgroupSizeAttribute) → workgroup_size_code (bare_workgroup_size w) ≡ workgroup_size_code w
+workgroup_size_coded w =
+    let part = option_coded expression_node_code bare_expression_node node_coded in
+    λ i. pair (node_coded w.x i) (pair (part w.y i) (part w.z i))
+
+type_constraint_coded : (t : TypeConstraint) → type_constraint_code (bare_type_constraint t) ≡ type_constraint_code t
+type_constraint_coded t = ap (pair (text t.ident)) (list_coded type_code bare_type type_coded t.variants)
+
+custom_coded : (c : CustomAttribute) → custom_code (bare_custom c) ≡ custom_code c
+custom_coded c =
+    let nodes = list_coded expression_node_code bare_expression_node node_coded in
+    ap (pair (text c.name)) (option_coded (list_code expression_node_code) (map bare_expression_node) nodes c.arguments)
+
+-- an attribute, read back
+abbrev attribute_at : ℕ → Code → Attribute
+attribute_at = value_at (λ c. custom (custom_of c)) (
+    (λ c. align (node_of c)) ∷
+    (λ c. binding (node_of c)) ∷
+    (λ c. blend_src (node_of c)) ∷
+    (λ c. group (node_of c)) ∷
+    (λ c. id (node_of c)) ∷
+    (λ c. location (node_of c)) ∷
+    (λ c. size (node_of c)) ∷
+    (λ c. if_attribute (node_of c)) ∷
+    (λ c. elif_attribute (node_of c)) ∷
+    (λ c. builtin (builtin_value_of (number_of c))) ∷
+    (λ _. const_attribute) ∷ (λ _. invariant) ∷ (λ _. must_use) ∷ (λ _. vertex) ∷ (λ _. fragment) ∷ (λ _. compute) ∷ (λ _. else_attribute) ∷
+    (λ c. diagnostic (diagnostic_of c)) ∷
+    (λ c. interpolate (interpolate_of c)) ∷
+    (λ c. workgroup_size (workgroup_size_of c)) ∷
+    (λ c. type_constraint (type_constraint_of c)) ∷ [])
+
+abbrev attribute_of : Code → Attribute
+attribute_of c = attribute_at (number_of (first_of c)) (second_of c)
+
+attribute_decoded : (a : Attribute) → attribute_of (attribute_code a) ≡ bare_attribute a
+attribute_decoded (align e) = ap align (node_decoded e)
+attribute_decoded (binding e) = ap binding (node_decoded e)
+attribute_decoded (blend_src e) = ap blend_src (node_decoded e)
+attribute_decoded (group e) = ap group (node_decoded e)
+attribute_decoded (id e) = ap id (node_decoded e)
+attribute_decoded (location e) = ap location (node_decoded e)
+attribute_decoded (size e) = ap size (node_decoded e)
+attribute_decoded (if_attribute e) = ap if_attribute (node_decoded e)
+attribute_decoded (elif_attribute e) = ap elif_attribute (node_decoded e)
+attribute_decoded (builtin b) = ap builtin (builtin_value_decoded b)
+attribute_decoded const_attribute = refl
+attribute_decoded invariant = refl
+attribute_decoded must_use = refl
+attribute_decoded vertex = refl
+attribute_decoded fragment = refl
+attribute_decoded compute = refl
+attribute_decoded else_attribute = refl
+attribute_decoded (diagnostic d) = ap diagnostic (diagnostic_decoded d)
+attribute_decoded (interpolate t) = ap interpolate (interpolate_decoded t)
+attribute_decoded (workgroup_size w) = ap workgroup_size (workgroup_size_decoded w)
+attribute_decoded (type_constraint t) = ap type_constraint (type_constraint_decoded t)
+attribute_decoded (custom c) = ap custom (custom_decoded c)
+
+pub attribute_coded : (a : Attribute) → attribute_code (bare_attribute a) ≡ attribute_code a
+attribute_coded (align e) = ap (pair (number 0)) (node_coded e)
+attribute_coded (binding e) = ap (pair (number 1)) (node_coded e)
+attribute_coded (blend_src e) = ap (pair (number 2)) (node_coded e)
+attribute_coded (group e) = ap (pair (number 3)) (node_coded e)
+attribute_coded (id e) = ap (pair (number 4)) (node_coded e)
+attribute_coded (location e) = ap (pair (number 5)) (node_coded e)
+attribute_coded (size e) = ap (pair (number 6)) (node_coded e)
+attribute_coded (if_attribute e) = ap (pair (number 7)) (node_coded e)
+attribute_coded (elif_attribute e) = ap (pair (number 8)) (node_coded e)
+attribute_coded (builtin b) = refl
+attribute_coded const_attribute = refl
+attribute_coded invariant = refl
+attribute_coded must_use = refl
+attribute_coded vertex = refl
+attribute_coded fragment = refl
+attribute_coded compute = refl
+attribute_coded else_attribute = refl
+attribute_coded (diagnostic d) = refl
+attribute_coded (interpolate t) = refl
+attribute_coded (workgroup_size w) = ap (pair (number 19)) (workgroup_size_coded w)
+attribute_coded (type_constraint t) = ap (pair (number 20)) (type_constraint_coded t)
+attribute_coded (custom c) = ap (pair (number 21)) (custom_coded c)
+
+-- attributes, each with where it stands
+abbrev spanned_code : Spanned Attribute → Code
+spanned_code s = attribute_code s.node
+
+abbrev spanned_of : Code → Spanned Attribute
+spanned_of c = record { node = attribute_of c; span = no_span }
+
+spanned_decoded : (s : Spanned Attribute) → spanned_of (spanned_code s) ≡ bare_spanned bare_attribute s
+spanned_decoded s = λ i. record { node = attribute_decoded s.node i; span = no_span }
+
+abbrev pub attributes_of : Code → Attributes
+attributes_of = list_of spanned_of
+
+pub attributes_decoded : (list : Attributes) → attributes_of (attributes_code list) ≡ bare_attributes list
+attributes_decoded = list_decoded spanned_code spanned_of (bare_spanned bare_attribute) spanned_decoded
+
+pub attributes_coded : (list : Attributes) → attributes_code (bare_attributes list) ≡ attributes_code list
+attributes_coded = list_coded spanned_code (bare_spanned bare_attribute) (λ s. attribute_coded s.node)
+
+-- where the codes are the same, the attributes are equal with their spans aside
+pub diagnostics_equal : (a b : DiagnosticAttribute) → (same (diagnostic_code a) (diagnostic_code b) ≡ true) ↔ (a ≡ b)
+diagnostics_equal = same_is diagnostic_code diagnostic_of (λ d. d) diagnostic_decoded (λ d. refl)
+
+pub interpolations_equal : (a b : InterpolateAttribute) → (same (interpolate_code a) (interpolate_code b) ≡ true) ↔ (a ≡ b)
+interpolations_equal = same_is interpolate_code interpolate_of (λ t. t) interpolate_decoded (λ t. refl)
+
+pub workgroup_sizes_equal : (a b : WorkgroupSizeAttribute) → (same (workgroup_size_code a) (workgroup_size_code b) ≡ true) ↔ (bare_workgroup_size a ≡ bare_workgroup_size b)
+workgroup_sizes_equal = same_is workgroup_size_code workgroup_size_of bare_workgroup_size workgroup_size_decoded workgroup_size_coded
+
+pub type_constraints_equal : (a b : TypeConstraint) → (same (type_constraint_code a) (type_constraint_code b) ≡ true) ↔ (bare_type_constraint a ≡ bare_type_constraint b)
+type_constraints_equal = same_is type_constraint_code type_constraint_of bare_type_constraint type_constraint_decoded type_constraint_coded
+
+pub customs_equal : (a b : CustomAttribute) → (same (custom_code a) (custom_code b) ≡ true) ↔ (bare_custom a ≡ bare_custom b)
+customs_equal = same_is custom_code custom_of bare_custom custom_decoded custom_coded
+
+pub attributes_equal : (a b : Attribute) → (same (attribute_code a) (attribute_code b) ≡ true) ↔ (bare_attribute a ≡ bare_attribute b)
+attributes_equal = same_is attribute_code attribute_of bare_attribute attribute_decoded attribute_coded
+
+pub attribute_lists_equal : (a b : Attributes) → (same (attributes_code a) (attributes_code b) ≡ true) ↔ (bare_attributes a ≡ bare_attributes b)
+attribute_lists_equal = same_is attributes_code attributes_of bare_attributes attributes_decoded attributes_coded

@@ -1,0 +1,52 @@
+use Rattle.std.proofs.Common.{rules, ◌≡◌, sym, ap, ◌∙◌, ◌++◌, codes, take}
+use Rattle.std.specs.List.{join_by}
+use Rattle.std.proofs.lemmas.List.{take_all}
+use Rattle.std.proofs.Output.{has_written_append, has_written_of_eq}
+use Rattle.wgsl_span.specs.declared.Spanned.{Spanned}
+use Rattle.wgsl_expression.specs.declared.expression.Expression.{Expression}
+use Rattle.wgsl_expression.specs.declared.expression.TemplateArg.{TemplateArg}
+use Rattle.wgsl_expression.specs.View.{expression_view, function_call_view, type_expression_view, template_arg_view, template_args_view, ident_name}
+use Rattle.wgsl_model.specs.PrintedExpressions.{print_expression, print_call, print_type, print_expression_node}
+use Rattle.wgsl_expression.specs.declared.expression.Expression.TheViews.{out-FunctionCall, out-TypeExpression}
+use Rattle.wgsl_model.specs.Expressions.{type_expression}
+use Rattle.wgsl_expression.proofs.Views.{call_view_out, type_view_out}
+use Rattle.wgsl_expression.proofs.Texts.{joined_nodes, joined_args}
+use Rattle.wgsl_expression.proofs.display.+display.Goals as goal
+
+pub FunctionCallDisplay::fmt-returns-clause-writes :
+    goal.FunctionCallDisplay::fmt-returns-clause-writes
+FunctionCallDisplay::fmt-returns-clause-writes g t c = λ plain ok.
+    let f = out-FunctionCall c.args.self.now in
+    let items = c.deref-argument-items.result.now in
+    let head = print_type (type_expression_view f.ty) ++ codes "(" in
+    let sep = codes ", " in
+    let text = λ (n : Spanned Expression). print_expression (expression_view n.node.value) in
+    let all : take c.arguments.argument-index items ≡ f.arguments.items = take_all _ items c.arguments-test.false ∙ c.deref-argument-items.ensures.value in
+    let same : head ++ join_by text sep (take c.arguments.argument-index items) ++ codes ")" ≡ print_call (function_call_view c.args.self.now) =
+    ap (λ xs. head ++ join_by text sep xs ++ codes ")") all
+    ∙ ap (λ u. head ++ u ++ codes ")") (joined_nodes sep f.arguments.items)
+    ∙ ap print_call (sym (call_view_out c.args.self.now)) in
+    let one = c.write.ensures.writes plain (search rules) in
+    let two = c.arguments.invariant.2 one.plain in
+    let three = c.write_str.ensures.writes two.plain ok in
+    has_written_of_eq _ _ _ _ _ same (has_written_append _ _ _ _ _ _ (has_written_append _ _ _ _ _ _ one two) three)
+
+pub TypeExpressionDisplay::fmt-returns-after-arguments-clause-writes :
+    goal.TypeExpressionDisplay::fmt-returns-after-arguments-clause-writes
+TypeExpressionDisplay::fmt-returns-after-arguments-clause-writes g t c = λ plain ok.
+    let e = out-TypeExpression c.args.self.now in
+    let items = c.deref-argument-items.result.now in
+    let args' = c.in-Some.template_args.items in
+    let head = ident_name e.ident ++ codes "<" in
+    let sep = codes ", " in
+    let text = λ (a : TemplateArg). print_expression_node (template_arg_view a) in
+    let all : take c.arguments.argument-index items ≡ args' = take_all _ items c.arguments-test.false ∙ c.deref-argument-items.ensures.value in
+    let same : head ++ join_by text sep (take c.arguments.argument-index items) ++ codes ">" ≡ print_type (type_expression_view c.args.self.now) =
+    ap (λ xs. head ++ join_by text sep xs ++ codes ">") all
+    ∙ ap (λ u. head ++ u ++ codes ">") (joined_args sep args')
+    ∙ ap (λ o. print_type (type_expression (ident_name e.ident) (template_args_view o))) (sym c.in-Some.is)
+    ∙ ap print_type (sym (type_view_out c.args.self.now)) in
+    let one = c.write-in-Some.ensures.writes plain (search rules) in
+    let two = c.arguments.invariant.2 one.plain in
+    let three = c.write_str.ensures.writes two.plain ok in
+    has_written_of_eq _ _ _ _ _ same (has_written_append _ _ _ _ _ _ (has_written_append _ _ _ _ _ _ one two) three)

@@ -1,0 +1,81 @@
+-- The printed texts of attributes.
+use Rattle.std.specs.Prelude.{ℕ, List, [], ◌∷◌, ◌++◌, map, Option, Some, None, codes}
+use Rattle.wgsl_model.specs.NamedValueTexts.{severity_text, interpolation_type_text, interpolation_sampling_text, builtin_value_text}
+use Rattle.wgsl_model.specs.NamedValues.{InterpolationSampling}
+use Rattle.wgsl_model.specs.Spanned.{Spanned}
+use Rattle.wgsl_model.specs.Expressions.{ExpressionNode}
+use Rattle.wgsl_model.specs.Attributes.{Attribute, align, binding, blend_src, group, id, location, size, if_attribute, elif_attribute, builtin, const_attribute, invariant, must_use, vertex, fragment, compute, else_attribute, diagnostic, interpolate, workgroup_size, type_constraint, custom, Attributes, DiagnosticAttribute, InterpolateAttribute, WorkgroupSizeAttribute, TypeConstraint, CustomAttribute}
+use Rattle.wgsl_model.specs.Joining.{joined}
+use Rattle.wgsl_model.specs.PrintedExpressions.{print_expression_node, print_type}
+
+-- a name behind its `@`, and one argument in parentheses
+abbrev pub print_one_argument : List ℕ → ExpressionNode → List ℕ
+print_one_argument name argument = name ++ codes "(" ++ print_expression_node argument ++ codes ")"
+
+-- a severity and the name of a rule
+abbrev pub print_diagnostic_attribute : DiagnosticAttribute → List ℕ
+print_diagnostic_attribute d = codes "@diagnostic(" ++ severity_text d.severity ++ codes ", " ++ d.rule ++ codes ")"
+
+-- a further argument, if there is one
+abbrev pub print_sampling : Option InterpolationSampling → List ℕ
+print_sampling None = []
+print_sampling (Some sampling) = codes ", " ++ interpolation_sampling_text sampling
+
+abbrev pub print_further : Option ExpressionNode → List ℕ
+print_further None = []
+print_further (Some e) = codes ", " ++ print_expression_node e
+
+abbrev pub print_interpolate : InterpolateAttribute → List ℕ
+print_interpolate i = codes "@interpolate(" ++ interpolation_type_text i.ty ++ print_sampling i.sampling ++ codes ")"
+
+abbrev pub print_workgroup_size : WorkgroupSizeAttribute → List ℕ
+print_workgroup_size w = codes "@workgroup_size(" ++ print_expression_node w.x ++ print_further w.y ++ print_further w.z ++ codes ")"
+
+-- a name, and the types that it may stand for
+abbrev pub print_type_constraint : TypeConstraint → List ℕ
+print_type_constraint t = t.ident ++ codes ", " ++ joined (codes " | ") (map print_type t.variants)
+
+-- a list of arguments in parentheses, if there is one
+abbrev pub print_arguments : Option (List ExpressionNode) → List ℕ
+print_arguments None = []
+print_arguments (Some arguments) = codes "(" ++ joined (codes ", ") (map print_expression_node arguments) ++ codes ")"
+
+abbrev pub print_custom : CustomAttribute → List ℕ
+print_custom c = codes "@" ++ c.name ++ print_arguments c.arguments
+
+abbrev pub print_attribute : Attribute → List ℕ
+print_attribute (align e) = print_one_argument (codes "@align") e
+print_attribute (binding e) = print_one_argument (codes "@binding") e
+print_attribute (blend_src e) = print_one_argument (codes "@blend_src") e
+print_attribute (group e) = print_one_argument (codes "@group") e
+print_attribute (id e) = print_one_argument (codes "@id") e
+print_attribute (location e) = print_one_argument (codes "@location") e
+print_attribute (size e) = print_one_argument (codes "@size") e
+print_attribute (if_attribute e) = print_one_argument (codes "@if") e
+print_attribute (elif_attribute e) = print_one_argument (codes "@elif") e
+print_attribute (builtin value) = codes "@builtin(" ++ builtin_value_text value ++ codes ")"
+print_attribute const_attribute = codes "@const"
+print_attribute invariant = codes "@invariant"
+print_attribute must_use = codes "@must_use"
+print_attribute vertex = codes "@vertex"
+print_attribute fragment = codes "@fragment"
+print_attribute compute = codes "@compute"
+print_attribute else_attribute = codes "@else"
+print_attribute (diagnostic d) = print_diagnostic_attribute d
+print_attribute (interpolate i) = print_interpolate i
+print_attribute (workgroup_size w) = print_workgroup_size w
+print_attribute (type_constraint t) = codes "@type(" ++ print_type_constraint t ++ codes ")"
+print_attribute (custom c) = print_custom c
+
+-- attributes with a space between each two, and an end behind them if there are any
+abbrev pub print_attributes : List ℕ → Attributes → List ℕ
+print_attributes end [] = []
+print_attributes end (a ∷ more) = joined (codes " ") (map (λ (b : Spanned Attribute). print_attribute b.node) (a ∷ more)) ++ end
+
+-- attributes on a line of their own
+abbrev pub print_attribute_line : Attributes → List ℕ
+print_attribute_line = print_attributes (codes "\n")
+
+-- attributes before what they are on
+abbrev pub print_attributes_before : Attributes → List ℕ
+print_attributes_before = print_attributes (codes " ")

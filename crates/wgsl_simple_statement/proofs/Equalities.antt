@@ -1,0 +1,114 @@
+-- `==` of declarations, and of the statements that hold no others, part by part.
+use Rattle.std.proofs.Common.{Bool, true, ◌&&◌, ◌==◌, Option, ◌≡◌, ◌↔◌, refl, sym, ◌∙◌, string_bytes}
+use denote.Enum.Declared.{tag_of}
+use Rattle.std.specs.Option.{option_map}
+use Rattle.std.specs.Cmp.Lexicographic.{pointwise}
+use Rattle.wgsl_named_values.specs.declared.memory.AccessMode.{AccessMode}
+use Rattle.wgsl_named_values.specs.declared.memory.AccessMode.TheVariants as access_mode
+use Rattle.wgsl_named_values.specs.declared.memory.AddressSpace.{AddressSpace}
+use Rattle.wgsl_named_values.specs.declared.memory.AddressSpace.TheVariants as address_space
+use Rattle.wgsl_named_values.specs.declared.operators.AssignmentOperator.{AssignmentOperator}
+use Rattle.wgsl_named_values.specs.declared.operators.AssignmentOperator.TheVariants as operator
+use Rattle.wgsl_named_values.specs.contracts.memory.AccessMode.{the_type as access_mode_type}
+use Rattle.wgsl_named_values.specs.contracts.memory.AddressSpace.{the_type as address_space_type}
+use Rattle.wgsl_named_values.specs.contracts.operators.AssignmentOperator.{the_type as operator_type}
+use Rattle.wgsl_named_values.specs.View.{access_mode_view, address_space_view, assignment_operator_view}
+use Rattle.wgsl_expression.specs.View.{expression_node_view, type_expression_view}
+use Rattle.wgsl_attribute.proofs.Equalities.{options_same, attribute_lists_same}
+use Rattle.wgsl_equality.specs.Code.{Code, number, same, option_code}
+use Rattle.wgsl_equality.specs.NamedValues.{access_mode_number, address_space_number}
+use Rattle.wgsl_equality.specs.Expressions.{expression_node_code, type_code}
+use Rattle.wgsl_equality.specs.Declarations.{assignment_operator_number, var_template_code, declaration_kind_code, declaration_code, assignment_code, increment_code, decrement_code, return_code, call_statement_code, assert_code, break_if_code, selector_code}
+use Rattle.wgsl_simple_statement.specs.declared.declaration.DeclarationKind.{DeclarationKind}
+use Rattle.wgsl_simple_statement.specs.declared.declaration.DeclarationKind.TheVariants as kind
+use Rattle.wgsl_simple_statement.specs.declared.declaration.Declaration.{Declaration}
+use Rattle.wgsl_simple_statement.specs.declared.simple.AssignmentStatement.{AssignmentStatement}
+use Rattle.wgsl_simple_statement.specs.declared.simple.IncrementStatement.{IncrementStatement}
+use Rattle.wgsl_simple_statement.specs.declared.simple.DecrementStatement.{DecrementStatement}
+use Rattle.wgsl_simple_statement.specs.declared.simple.ReturnStatement.{ReturnStatement}
+use Rattle.wgsl_simple_statement.specs.declared.simple.FunctionCallStatement.{FunctionCallStatement}
+use Rattle.wgsl_simple_statement.specs.declared.simple.ConstAssert.{ConstAssert}
+use Rattle.wgsl_simple_statement.specs.declared.simple.BreakIfStatement.{BreakIfStatement}
+use Rattle.wgsl_simple_statement.specs.declared.simple.CaseSelector.{CaseSelector}
+use Rattle.wgsl_simple_statement.specs.declared.simple.CaseSelector.TheVariants as selector
+use Rattle.wgsl_simple_statement.specs.View.{var_template_view, declaration_kind_view, declaration_view, assignment_view, increment_view, decrement_view, return_view, call_statement_view, assert_view, break_if_view, selector_view}
+use Rattle.wgsl_simple_statement.specs.Equality.{equal_kinds, equal_declarations, equal_assignments, equal_increments, equal_decrements, equal_returns, equal_call_statements, equal_asserts, equal_break_ifs, equal_selectors}
+
+-- each named value's number is its place among the variants
+mode_tag : (m : AccessMode) → tag_of access_mode_type m ≡ access_mode_number (access_mode_view m)
+mode_tag access_mode.Read = refl
+mode_tag access_mode.Write = refl
+mode_tag access_mode.ReadWrite = refl
+
+space_tag : (s : AddressSpace) → tag_of address_space_type s ≡ address_space_number (address_space_view s)
+space_tag address_space.Function = refl
+space_tag address_space.Private = refl
+space_tag address_space.Workgroup = refl
+space_tag address_space.Uniform = refl
+space_tag address_space.Storage = refl
+
+operator_tag : (o : AssignmentOperator) → tag_of operator_type o ≡ assignment_operator_number (assignment_operator_view o)
+operator_tag operator.Equal = refl
+operator_tag operator.PlusEqual = refl
+operator_tag operator.MinusEqual = refl
+operator_tag operator.TimesEqual = refl
+operator_tag operator.DivisionEqual = refl
+operator_tag operator.ModuloEqual = refl
+operator_tag operator.AndEqual = refl
+operator_tag operator.OrEqual = refl
+operator_tag operator.XorEqual = refl
+operator_tag operator.ShiftRightAssign = refl
+operator_tag operator.ShiftLeftAssign = refl
+
+templates_same : (s t : Option (AddressSpace × Option AccessMode)) → equal_kinds (kind.Var s) (kind.Var t) ≡ same (option_code var_template_code (option_map var_template_view s)) (option_code var_template_code (option_map var_template_view t))
+templates_same = options_same var_template_view var_template_code _ (λ p q.
+    let modes = options_same access_mode_view (λ m. number (access_mode_number m)) _ (λ m n i. mode_tag m i == mode_tag n i) p.1 q.1 in
+    λ i. (space_tag p.0 i == space_tag q.0 i) && modes i)
+
+pub kinds_same : (a b : DeclarationKind) → equal_kinds a b ≡ same (declaration_kind_code (declaration_kind_view a)) (declaration_kind_code (declaration_kind_view b))
+kinds_same kind.Const kind.Const = refl
+kinds_same kind.Const other = refl
+kinds_same kind.Override kind.Override = refl
+kinds_same kind.Override other = refl
+kinds_same kind.Let kind.Let = refl
+kinds_same kind.Let other = refl
+kinds_same (kind.Var s) (kind.Var t) = templates_same s t
+kinds_same (kind.Var s) other = refl
+
+pub declarations_same : (a b : Declaration) → equal_declarations a b ≡ same (declaration_code (declaration_view a)) (declaration_code (declaration_view b))
+declarations_same a b =
+    let types = options_same type_expression_view type_code _ (λ x y. refl) a.ty b.ty in
+    let initializers = options_same expression_node_view expression_node_code _ (λ x y. refl) a.initializer b.initializer in
+    λ i. attribute_lists_same a.attributes.items b.attributes.items i && (kinds_same a.kind b.kind i && (pointwise ◌==◌ (string_bytes a.ident.name) (string_bytes b.ident.name) && (types i && initializers i)))
+
+pub assignments_same : (a b : AssignmentStatement) → equal_assignments a b ≡ same (assignment_code (assignment_view a)) (assignment_code (assignment_view b))
+assignments_same a b = λ i. (operator_tag a.operator i == operator_tag b.operator i) && (same (expression_node_code (expression_node_view a.lhs)) (expression_node_code (expression_node_view b.lhs)) && same (expression_node_code (expression_node_view a.rhs)) (expression_node_code (expression_node_view b.rhs)))
+
+pub increments_same : (a b : IncrementStatement) → equal_increments a b ≡ same (increment_code (increment_view a)) (increment_code (increment_view b))
+increments_same a b = refl
+
+pub decrements_same : (a b : DecrementStatement) → equal_decrements a b ≡ same (decrement_code (decrement_view a)) (decrement_code (decrement_view b))
+decrements_same a b = refl
+
+pub call_statements_same : (a b : FunctionCallStatement) → equal_call_statements a b ≡ same (call_statement_code (call_statement_view a)) (call_statement_code (call_statement_view b))
+call_statements_same a b = refl
+
+pub asserts_same : (a b : ConstAssert) → equal_asserts a b ≡ same (assert_code (assert_view a)) (assert_code (assert_view b))
+asserts_same a b = refl
+
+pub break_ifs_same : (a b : BreakIfStatement) → equal_break_ifs a b ≡ same (break_if_code (break_if_view a)) (break_if_code (break_if_view b))
+break_ifs_same a b = refl
+
+pub returns_same : (a b : ReturnStatement) → equal_returns a b ≡ same (return_code (return_view a)) (return_code (return_view b))
+returns_same a b = options_same expression_node_view expression_node_code _ (λ x y. refl) a.expression b.expression
+
+pub selectors_same : (a b : CaseSelector) → equal_selectors a b ≡ same (selector_code (selector_view a)) (selector_code (selector_view b))
+selectors_same selector.Default selector.Default = refl
+selectors_same selector.Default other = refl
+selectors_same (selector.Expression e) (selector.Expression f) = refl
+selectors_same (selector.Expression e) other = refl
+
+-- so `==` says that the views are one with their spans set aside
+module _ {X Y : Type 0} (equal : X → X → Bool) (view : X → Y) (code : Y → Code) (alike : (a b : X) → equal a b ≡ same (code (view a)) (code (view b))) where
+  pub agree : (bare : Y → Y) → ((a b : Y) → (same (code a) (code b) ≡ true) ↔ (bare a ≡ bare b)) → (a b : X) → (equal a b ≡ true) ↔ (bare (view a) ≡ bare (view b))
+  agree bare law a b = (λ e. (law (view a) (view b)).0 (sym (alike a b) ∙ e), λ e. alike a b ∙ (law (view a) (view b)).1 e)

@@ -1,0 +1,52 @@
+-- What `==` of declarations, and of the statements that hold no others, answers.
+use Rattle.std.specs.Prelude.{Bool}
+use Rattle.wgsl_simple_statement.specs.declared.declaration.DeclarationKind.{DeclarationKind}
+use Rattle.wgsl_simple_statement.specs.declared.declaration.Declaration.{Declaration}
+use Rattle.wgsl_simple_statement.specs.declared.simple.AssignmentStatement.{AssignmentStatement}
+use Rattle.wgsl_simple_statement.specs.declared.simple.IncrementStatement.{IncrementStatement}
+use Rattle.wgsl_simple_statement.specs.declared.simple.DecrementStatement.{DecrementStatement}
+use Rattle.wgsl_simple_statement.specs.declared.simple.ReturnStatement.{ReturnStatement}
+use Rattle.wgsl_simple_statement.specs.declared.simple.FunctionCallStatement.{FunctionCallStatement}
+use Rattle.wgsl_simple_statement.specs.declared.simple.ConstAssert.{ConstAssert}
+use Rattle.wgsl_simple_statement.specs.declared.simple.BreakIfStatement.{BreakIfStatement}
+use Rattle.wgsl_simple_statement.specs.declared.simple.CaseSelector.{CaseSelector}
+use Rattle.wgsl_simple_statement.specs.contracts.declaration.DeclarationKindPartialEq.TheImpl as declaration_kind_eq
+use Rattle.wgsl_simple_statement.specs.contracts.declaration.DeclarationPartialEq.TheImpl as declaration_eq
+use Rattle.wgsl_simple_statement.specs.contracts.simple.AssignmentStatementPartialEq.TheImpl as assignment_eq
+use Rattle.wgsl_simple_statement.specs.contracts.simple.IncrementStatementPartialEq.TheImpl as increment_eq
+use Rattle.wgsl_simple_statement.specs.contracts.simple.DecrementStatementPartialEq.TheImpl as decrement_eq
+use Rattle.wgsl_simple_statement.specs.contracts.simple.ReturnStatementPartialEq.TheImpl as return_eq
+use Rattle.wgsl_simple_statement.specs.contracts.simple.FunctionCallStatementPartialEq.TheImpl as call_statement_eq
+use Rattle.wgsl_simple_statement.specs.contracts.simple.ConstAssertPartialEq.TheImpl as assert_eq
+use Rattle.wgsl_simple_statement.specs.contracts.simple.BreakIfStatementPartialEq.TheImpl as break_if_eq
+use Rattle.wgsl_simple_statement.specs.contracts.simple.CaseSelectorPartialEq.TheImpl as selector_eq
+
+abbrev pub equal_kinds : DeclarationKind → DeclarationKind → Bool
+equal_kinds = (declaration_kind_eq.ghosts).eq
+
+abbrev pub equal_declarations : Declaration → Declaration → Bool
+equal_declarations = (declaration_eq.ghosts).eq
+
+abbrev pub equal_assignments : AssignmentStatement → AssignmentStatement → Bool
+equal_assignments = (assignment_eq.ghosts).eq
+
+abbrev pub equal_increments : IncrementStatement → IncrementStatement → Bool
+equal_increments = (increment_eq.ghosts).eq
+
+abbrev pub equal_decrements : DecrementStatement → DecrementStatement → Bool
+equal_decrements = (decrement_eq.ghosts).eq
+
+abbrev pub equal_returns : ReturnStatement → ReturnStatement → Bool
+equal_returns = (return_eq.ghosts).eq
+
+abbrev pub equal_call_statements : FunctionCallStatement → FunctionCallStatement → Bool
+equal_call_statements = (call_statement_eq.ghosts).eq
+
+abbrev pub equal_asserts : ConstAssert → ConstAssert → Bool
+equal_asserts = (assert_eq.ghosts).eq
+
+abbrev pub equal_break_ifs : BreakIfStatement → BreakIfStatement → Bool
+equal_break_ifs = (break_if_eq.ghosts).eq
+
+abbrev pub equal_selectors : CaseSelector → CaseSelector → Bool
+equal_selectors = (selector_eq.ghosts).eq

@@ -1,0 +1,4 @@
+pub mod View
+pub mod Kinds
+pub mod Variants
+pub mod Equality

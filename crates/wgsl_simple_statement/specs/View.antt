@@ -1,0 +1,66 @@
+-- Declarations of values, and statements that hold no others, as plain data.
+use Rattle.std.specs.Prelude.{Option}
+use Rattle.std.specs.Option.{option_map}
+use Rattle.wgsl_model.specs.Statements as plain
+use Rattle.wgsl_model.specs.NamedValues as plain_value
+use Rattle.wgsl_named_values.specs.declared.memory.AddressSpace.{AddressSpace}
+use Rattle.wgsl_named_values.specs.declared.memory.AccessMode.{AccessMode}
+use Rattle.wgsl_named_values.specs.View.{address_space_view, access_mode_view, assignment_operator_view}
+use Rattle.wgsl_expression.specs.View.{ident_name, expression_node_view, type_expression_view, function_call_view}
+use Rattle.wgsl_attribute.specs.View.{attributes_view}
+use Rattle.wgsl_simple_statement.specs.declared.declaration.DeclarationKind.{DeclarationKind}
+use Rattle.wgsl_simple_statement.specs.declared.declaration.Declaration.{Declaration}
+use Rattle.wgsl_simple_statement.specs.declared.declaration.DeclarationKind.TheVariants as kind
+use Rattle.wgsl_simple_statement.specs.declared.simple.AssignmentStatement.{AssignmentStatement}
+use Rattle.wgsl_simple_statement.specs.declared.simple.IncrementStatement.{IncrementStatement}
+use Rattle.wgsl_simple_statement.specs.declared.simple.DecrementStatement.{DecrementStatement}
+use Rattle.wgsl_simple_statement.specs.declared.simple.ReturnStatement.{ReturnStatement}
+use Rattle.wgsl_simple_statement.specs.declared.simple.FunctionCallStatement.{FunctionCallStatement}
+use Rattle.wgsl_simple_statement.specs.declared.simple.ConstAssert.{ConstAssert}
+use Rattle.wgsl_simple_statement.specs.declared.simple.BreakIfStatement.{BreakIfStatement}
+use Rattle.wgsl_simple_statement.specs.declared.simple.CaseSelector.{CaseSelector}
+use Rattle.wgsl_simple_statement.specs.declared.simple.CaseSelector.TheVariants as selector
+
+-- the template of a `var`
+abbrev pub var_template_view : AddressSpace × Option AccessMode → plain_value.AddressSpace × Option plain_value.AccessMode
+var_template_view p = (address_space_view p.0, option_map access_mode_view p.1)
+
+abbrev pub declaration_kind_view : DeclarationKind → plain.DeclarationKind
+declaration_kind_view kind.Const = plain.const_kind
+declaration_kind_view kind.Override = plain.override_kind
+declaration_kind_view kind.Let = plain.let_kind
+declaration_kind_view (kind.Var template) = plain.var_kind (option_map var_template_view template)
+
+abbrev pub declaration_view : Declaration → plain.Declaration
+declaration_view d = record {
+  attributes = attributes_view d.attributes.items;
+  kind = declaration_kind_view d.kind;
+  ident = ident_name d.ident;
+  ty = option_map type_expression_view d.ty;
+  initializer = option_map expression_node_view d.initializer;
+}
+
+abbrev pub assignment_view : AssignmentStatement → plain.AssignmentStatement
+assignment_view a = record { operator = assignment_operator_view a.operator; lhs = expression_node_view a.lhs; rhs = expression_node_view a.rhs }
+
+abbrev pub increment_view : IncrementStatement → plain.IncrementStatement
+increment_view i = record { expression = expression_node_view i.expression }
+
+abbrev pub decrement_view : DecrementStatement → plain.DecrementStatement
+decrement_view d = record { expression = expression_node_view d.expression }
+
+abbrev pub return_view : ReturnStatement → plain.ReturnStatement
+return_view r = record { expression = option_map expression_node_view r.expression }
+
+abbrev pub call_statement_view : FunctionCallStatement → plain.FunctionCallStatement
+call_statement_view c = record { call = function_call_view c.call }
+
+abbrev pub assert_view : ConstAssert → plain.ConstAssert
+assert_view c = record { expression = expression_node_view c.expression }
+
+abbrev pub break_if_view : BreakIfStatement → plain.BreakIfStatement
+break_if_view b = record { expression = expression_node_view b.expression }
+
+abbrev pub selector_view : CaseSelector → plain.CaseSelector
+selector_view selector.Default = plain.default_selector
+selector_view (selector.Expression e) = plain.expression_selector (expression_node_view e)

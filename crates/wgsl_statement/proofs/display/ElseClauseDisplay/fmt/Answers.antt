@@ -1,0 +1,8 @@
+use Rattle.std.proofs.Output.{has_written_of_eq}
+use Rattle.wgsl_model.specs.PrintedStatements.{print_else_clause}
+use Rattle.wgsl_statement.specs.View.{else_clause_view}
+use Rattle.wgsl_statement.proofs.Blocks.{after_nothing}
+use Rattle.wgsl_statement.proofs.display.ElseClauseDisplay.fmt.Goals as goal
+
+pub returns-clause-writes : goal.returns-clause-writes
+returns-clause-writes g c = λ plain ok. has_written_of_eq _ _ _ _ _ (after_nothing (print_else_clause (else_clause_view c.args.self.now))) (c.write_else_clause.ensures plain ok)

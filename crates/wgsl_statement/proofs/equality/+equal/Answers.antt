@@ -1,0 +1,311 @@
+use Rattle.std.proofs.Common.{rules, ◌≡◌, true, false, refl, sym, ◌∙◌, ◌&&◌}
+use Rattle.wgsl_expression.specs.View.{expression_node_view}
+use Rattle.wgsl_attribute.proofs.Equalities.{options_same, lists_same, attribute_lists_same}
+use Rattle.wgsl_equality.specs.Code.{same}
+use Rattle.wgsl_equality.specs.Expressions.{expression_node_code}
+use Rattle.wgsl_equality.specs.Declarations.{selector_code}
+use Rattle.wgsl_equality.specs.Statements.{statement_code}
+use Rattle.wgsl_equality.specs.Lists.{unlike, next_differs, none_left}
+use Rattle.wgsl_statement.specs.declared.statement.Statement.TheViews as layers
+use Rattle.wgsl_simple_statement.specs.View.{selector_view}
+use Rattle.wgsl_statement.specs.View.{statement_view}
+use Rattle.wgsl_statement.proofs.StatementViews.{is_declaration}
+use Rattle.wgsl_simple_statement.proofs.Equalities.{declarations_same, selectors_same}
+use Rattle.wgsl_statement.proofs.Equalities.{and_true, and_false, attributes_part, expression_part, condition_part, selectors_part, block_part, statements_part, if_clause_part, else_ifs_part, else_part, clauses_part, continuing_part, header_part, compounds_same, ifs_same, switches_same, switch_clauses_same, loops_same, fors_same, whiles_same, node_code, else_if_view_code, switch_clause_view_code, nodes_same, else_ifs_same, clauses_same}
+use Rattle.wgsl_statement.proofs.equality.+equal.Goals as goal
+use Rattle.wgsl_statement.proofs.equality.+equal.Goals.{LoopStatementPartialEq::eq-then-eq, LoopStatementPartialEq::eq-else-eq, WhileStatementPartialEq::eq-then-eq, WhileStatementPartialEq::eq-else-eq, IfStatementPartialEq::eq-then-eq, IfStatementPartialEq::eq-else-eq, IfStatementPartialEq::eq-then-eq-2, IfStatementPartialEq::eq-else-eq-2, SwitchStatementPartialEq::eq-then-eq, SwitchStatementPartialEq::eq-else-eq, SwitchStatementPartialEq::eq-then-eq-2, SwitchStatementPartialEq::eq-else-eq-2, ForStatementPartialEq::eq-then-eq, ForStatementPartialEq::eq-else-eq, ForStatementPartialEq::eq-then-part_equal, ForStatementPartialEq::eq-else-part_equal, ForStatementPartialEq::eq-then-eq-2, ForStatementPartialEq::eq-else-eq-2}
+
+pub CompoundStatementPartialEq::eq-returns-then-eq : goal.CompoundStatementPartialEq::eq-returns-then-eq
+CompoundStatementPartialEq::eq-returns-then-eq t c =
+    let a = layers.out-CompoundStatement c.args.self.now in
+    let b = layers.out-CompoundStatement c.args.other.now in
+    let part_1 = attributes_part a.attributes b.attributes in
+    let part_2 = statements_part a.statements.items b.statements.items in
+    let tested_1 : c.eq.result ≡ part_1 = c.eq.ensures ∙ attribute_lists_same a.attributes.items b.attributes.items in
+    and_true c.eq.result (part_1) part_2 c.nodes_equal.result c.if-eq.true tested_1 (c.nodes_equal.ensures ∙ (λ i. statements_part (c.deref.ensures.value i) (c.deref-then-eq.ensures.value i))) ∙ sym (compounds_same c.args.self.now c.args.other.now)
+
+pub CompoundStatementPartialEq::eq-returns-else-eq : goal.CompoundStatementPartialEq::eq-returns-else-eq
+CompoundStatementPartialEq::eq-returns-else-eq t c =
+    let a = layers.out-CompoundStatement c.args.self.now in
+    let b = layers.out-CompoundStatement c.args.other.now in
+    let part_1 = attributes_part a.attributes b.attributes in
+    let part_2 = statements_part a.statements.items b.statements.items in
+    let tested_1 : c.eq.result ≡ part_1 = c.eq.ensures ∙ attribute_lists_same a.attributes.items b.attributes.items in
+    and_false c.eq.result (part_1) part_2 c.eq.result c.if-eq.false tested_1 refl ∙ sym (compounds_same c.args.self.now c.args.other.now)
+
+pub SwitchClausePartialEq::eq-returns-then-eq : goal.SwitchClausePartialEq::eq-returns-then-eq
+SwitchClausePartialEq::eq-returns-then-eq t c =
+    let a = layers.out-SwitchClause c.args.self.now in
+    let b = layers.out-SwitchClause c.args.other.now in
+    let part_1 = selectors_part a.case_selectors b.case_selectors in
+    let part_2 = block_part a.body b.body in
+    let tested_1 : c.eq.result ≡ part_1 = c.eq.ensures ∙ lists_same selector_view selector_code _ selectors_same a.case_selectors.items b.case_selectors.items in
+    and_true c.eq.result (part_1) part_2 c.eq-then-eq.result c.if-eq.true tested_1 (c.eq-then-eq.ensures) ∙ sym (switch_clauses_same c.args.self.now c.args.other.now)
+
+pub SwitchClausePartialEq::eq-returns-else-eq : goal.SwitchClausePartialEq::eq-returns-else-eq
+SwitchClausePartialEq::eq-returns-else-eq t c =
+    let a = layers.out-SwitchClause c.args.self.now in
+    let b = layers.out-SwitchClause c.args.other.now in
+    let part_1 = selectors_part a.case_selectors b.case_selectors in
+    let part_2 = block_part a.body b.body in
+    let tested_1 : c.eq.result ≡ part_1 = c.eq.ensures ∙ lists_same selector_view selector_code _ selectors_same a.case_selectors.items b.case_selectors.items in
+    and_false c.eq.result (part_1) part_2 c.eq.result c.if-eq.false tested_1 refl ∙ sym (switch_clauses_same c.args.self.now c.args.other.now)
+
+pub LoopStatementPartialEq::eq-returns-then-eq-2 : goal.LoopStatementPartialEq::eq-returns-then-eq-2
+LoopStatementPartialEq::eq-returns-then-eq-2 t c =
+    let a = layers.out-LoopStatement c.args.self.now in
+    let b = layers.out-LoopStatement c.args.other.now in
+    let part_1 = attributes_part a.attributes b.attributes in
+    let part_2 = block_part a.body b.body in
+    let part_3 = continuing_part a.continuing b.continuing in
+    let tested_1 : c.eq.result ≡ part_1 = c.eq.ensures ∙ attribute_lists_same a.attributes.items b.attributes.items in
+    let tested_2 : c.if-eq.value ≡ part_1 && part_2 = elim c.if-eq.branch [
+      | LoopStatementPartialEq::eq-then-eq w ↦ and_true c.eq.result (part_1) part_2 c.if-eq.value w.if-eq.true tested_1 (w.value-is ∙ w.eq-then-eq.ensures)
+      | LoopStatementPartialEq::eq-else-eq w ↦ and_false c.eq.result (part_1) part_2 c.if-eq.value w.if-eq.false tested_1 w.value-is
+    ] in
+    and_true c.if-eq.value (part_1 && part_2) part_3 c.continuing_equal.result c.if-eq-2.true tested_2 (c.continuing_equal.ensures) ∙ sym (loops_same c.args.self.now c.args.other.now)
+
+pub LoopStatementPartialEq::eq-returns-else-eq-2 : goal.LoopStatementPartialEq::eq-returns-else-eq-2
+LoopStatementPartialEq::eq-returns-else-eq-2 t c =
+    let a = layers.out-LoopStatement c.args.self.now in
+    let b = layers.out-LoopStatement c.args.other.now in
+    let part_1 = attributes_part a.attributes b.attributes in
+    let part_2 = block_part a.body b.body in
+    let part_3 = continuing_part a.continuing b.continuing in
+    let tested_1 : c.eq.result ≡ part_1 = c.eq.ensures ∙ attribute_lists_same a.attributes.items b.attributes.items in
+    let tested_2 : c.if-eq.value ≡ part_1 && part_2 = elim c.if-eq.branch [
+      | LoopStatementPartialEq::eq-then-eq w ↦ and_true c.eq.result (part_1) part_2 c.if-eq.value w.if-eq.true tested_1 (w.value-is ∙ w.eq-then-eq.ensures)
+      | LoopStatementPartialEq::eq-else-eq w ↦ and_false c.eq.result (part_1) part_2 c.if-eq.value w.if-eq.false tested_1 w.value-is
+    ] in
+    and_false c.if-eq.value (part_1 && part_2) part_3 c.if-eq.value c.if-eq-2.false tested_2 refl ∙ sym (loops_same c.args.self.now c.args.other.now)
+
+pub WhileStatementPartialEq::eq-returns-then-eq-2 : goal.WhileStatementPartialEq::eq-returns-then-eq-2
+WhileStatementPartialEq::eq-returns-then-eq-2 t c =
+    let a = layers.out-WhileStatement c.args.self.now in
+    let b = layers.out-WhileStatement c.args.other.now in
+    let part_1 = attributes_part a.attributes b.attributes in
+    let part_2 = expression_part a.condition b.condition in
+    let part_3 = block_part a.body b.body in
+    let tested_1 : c.eq.result ≡ part_1 = c.eq.ensures ∙ attribute_lists_same a.attributes.items b.attributes.items in
+    let tested_2 : c.if-eq.value ≡ part_1 && part_2 = elim c.if-eq.branch [
+      | WhileStatementPartialEq::eq-then-eq w ↦ and_true c.eq.result (part_1) part_2 c.if-eq.value w.if-eq.true tested_1 (w.value-is ∙ w.eq-then-eq.ensures)
+      | WhileStatementPartialEq::eq-else-eq w ↦ and_false c.eq.result (part_1) part_2 c.if-eq.value w.if-eq.false tested_1 w.value-is
+    ] in
+    and_true c.if-eq.value (part_1 && part_2) part_3 c.eq-then-eq-2.result c.if-eq-2.true tested_2 (c.eq-then-eq-2.ensures) ∙ sym (whiles_same c.args.self.now c.args.other.now)
+
+pub WhileStatementPartialEq::eq-returns-else-eq-2 : goal.WhileStatementPartialEq::eq-returns-else-eq-2
+WhileStatementPartialEq::eq-returns-else-eq-2 t c =
+    let a = layers.out-WhileStatement c.args.self.now in
+    let b = layers.out-WhileStatement c.args.other.now in
+    let part_1 = attributes_part a.attributes b.attributes in
+    let part_2 = expression_part a.condition b.condition in
+    let part_3 = block_part a.body b.body in
+    let tested_1 : c.eq.result ≡ part_1 = c.eq.ensures ∙ attribute_lists_same a.attributes.items b.attributes.items in
+    let tested_2 : c.if-eq.value ≡ part_1 && part_2 = elim c.if-eq.branch [
+      | WhileStatementPartialEq::eq-then-eq w ↦ and_true c.eq.result (part_1) part_2 c.if-eq.value w.if-eq.true tested_1 (w.value-is ∙ w.eq-then-eq.ensures)
+      | WhileStatementPartialEq::eq-else-eq w ↦ and_false c.eq.result (part_1) part_2 c.if-eq.value w.if-eq.false tested_1 w.value-is
+    ] in
+    and_false c.if-eq.value (part_1 && part_2) part_3 c.if-eq.value c.if-eq-2.false tested_2 refl ∙ sym (whiles_same c.args.self.now c.args.other.now)
+
+pub IfStatementPartialEq::eq-returns-then-else_ifs_equal : goal.IfStatementPartialEq::eq-returns-then-else_ifs_equal
+IfStatementPartialEq::eq-returns-then-else_ifs_equal t c =
+    let a = layers.out-IfStatement c.args.self.now in
+    let b = layers.out-IfStatement c.args.other.now in
+    let part_1 = attributes_part a.attributes b.attributes in
+    let part_2 = if_clause_part a.if_clause b.if_clause in
+    let part_3 = else_ifs_part a.else_if_clauses.items b.else_if_clauses.items in
+    let part_4 = else_part a.else_clause b.else_clause in
+    let tested_1 : c.eq.result ≡ part_1 = c.eq.ensures ∙ attribute_lists_same a.attributes.items b.attributes.items in
+    let tested_2 : c.if-eq.value ≡ part_1 && part_2 = elim c.if-eq.branch [
+      | IfStatementPartialEq::eq-then-eq w ↦ and_true c.eq.result (part_1) part_2 c.if-eq.value w.if-eq.true tested_1 (w.value-is ∙ w.eq-then-eq.ensures)
+      | IfStatementPartialEq::eq-else-eq w ↦ and_false c.eq.result (part_1) part_2 c.if-eq.value w.if-eq.false tested_1 w.value-is
+    ] in
+    let tested_3 : c.if-eq-2.value ≡ (part_1 && part_2) && part_3 = elim c.if-eq-2.branch [
+      | IfStatementPartialEq::eq-then-eq-2 w ↦ and_true c.if-eq.value (part_1 && part_2) part_3 c.if-eq-2.value w.if-eq-2.true tested_2 (w.value-is ∙ w.else_ifs_equal.ensures ∙ (λ i. else_ifs_part (w.deref.ensures.value i) (w.deref-then-eq-2.ensures.value i)))
+      | IfStatementPartialEq::eq-else-eq-2 w ↦ and_false c.if-eq.value (part_1 && part_2) part_3 c.if-eq-2.value w.if-eq-2.false tested_2 w.value-is
+    ] in
+    and_true c.if-eq-2.value ((part_1 && part_2) && part_3) part_4 c.else_equal.result c.if-else_ifs_equal.true tested_3 (c.else_equal.ensures) ∙ sym (ifs_same c.args.self.now c.args.other.now)
+
+pub IfStatementPartialEq::eq-returns-else-else_ifs_equal : goal.IfStatementPartialEq::eq-returns-else-else_ifs_equal
+IfStatementPartialEq::eq-returns-else-else_ifs_equal t c =
+    let a = layers.out-IfStatement c.args.self.now in
+    let b = layers.out-IfStatement c.args.other.now in
+    let part_1 = attributes_part a.attributes b.attributes in
+    let part_2 = if_clause_part a.if_clause b.if_clause in
+    let part_3 = else_ifs_part a.else_if_clauses.items b.else_if_clauses.items in
+    let part_4 = else_part a.else_clause b.else_clause in
+    let tested_1 : c.eq.result ≡ part_1 = c.eq.ensures ∙ attribute_lists_same a.attributes.items b.attributes.items in
+    let tested_2 : c.if-eq.value ≡ part_1 && part_2 = elim c.if-eq.branch [
+      | IfStatementPartialEq::eq-then-eq w ↦ and_true c.eq.result (part_1) part_2 c.if-eq.value w.if-eq.true tested_1 (w.value-is ∙ w.eq-then-eq.ensures)
+      | IfStatementPartialEq::eq-else-eq w ↦ and_false c.eq.result (part_1) part_2 c.if-eq.value w.if-eq.false tested_1 w.value-is
+    ] in
+    let tested_3 : c.if-eq-2.value ≡ (part_1 && part_2) && part_3 = elim c.if-eq-2.branch [
+      | IfStatementPartialEq::eq-then-eq-2 w ↦ and_true c.if-eq.value (part_1 && part_2) part_3 c.if-eq-2.value w.if-eq-2.true tested_2 (w.value-is ∙ w.else_ifs_equal.ensures ∙ (λ i. else_ifs_part (w.deref.ensures.value i) (w.deref-then-eq-2.ensures.value i)))
+      | IfStatementPartialEq::eq-else-eq-2 w ↦ and_false c.if-eq.value (part_1 && part_2) part_3 c.if-eq-2.value w.if-eq-2.false tested_2 w.value-is
+    ] in
+    and_false c.if-eq-2.value ((part_1 && part_2) && part_3) part_4 c.if-eq-2.value c.if-else_ifs_equal.false tested_3 refl ∙ sym (ifs_same c.args.self.now c.args.other.now)
+
+pub SwitchStatementPartialEq::eq-returns-then-eq-3 : goal.SwitchStatementPartialEq::eq-returns-then-eq-3
+SwitchStatementPartialEq::eq-returns-then-eq-3 t c =
+    let a = layers.out-SwitchStatement c.args.self.now in
+    let b = layers.out-SwitchStatement c.args.other.now in
+    let part_1 = attributes_part a.attributes b.attributes in
+    let part_2 = expression_part a.expression b.expression in
+    let part_3 = attributes_part a.body_attributes b.body_attributes in
+    let part_4 = clauses_part a.clauses.items b.clauses.items in
+    let tested_1 : c.eq.result ≡ part_1 = c.eq.ensures ∙ attribute_lists_same a.attributes.items b.attributes.items in
+    let tested_2 : c.if-eq.value ≡ part_1 && part_2 = elim c.if-eq.branch [
+      | SwitchStatementPartialEq::eq-then-eq w ↦ and_true c.eq.result (part_1) part_2 c.if-eq.value w.if-eq.true tested_1 (w.value-is ∙ w.eq-then-eq.ensures)
+      | SwitchStatementPartialEq::eq-else-eq w ↦ and_false c.eq.result (part_1) part_2 c.if-eq.value w.if-eq.false tested_1 w.value-is
+    ] in
+    let tested_3 : c.if-eq-2.value ≡ (part_1 && part_2) && part_3 = elim c.if-eq-2.branch [
+      | SwitchStatementPartialEq::eq-then-eq-2 w ↦ and_true c.if-eq.value (part_1 && part_2) part_3 c.if-eq-2.value w.if-eq-2.true tested_2 (w.value-is ∙ w.eq-then-eq-2.ensures ∙ attribute_lists_same a.body_attributes.items b.body_attributes.items)
+      | SwitchStatementPartialEq::eq-else-eq-2 w ↦ and_false c.if-eq.value (part_1 && part_2) part_3 c.if-eq-2.value w.if-eq-2.false tested_2 w.value-is
+    ] in
+    and_true c.if-eq-2.value ((part_1 && part_2) && part_3) part_4 c.clauses_equal.result c.if-eq-3.true tested_3 (c.clauses_equal.ensures ∙ (λ i. clauses_part (c.deref.ensures.value i) (c.deref-then-eq-3.ensures.value i))) ∙ sym (switches_same c.args.self.now c.args.other.now)
+
+pub SwitchStatementPartialEq::eq-returns-else-eq-3 : goal.SwitchStatementPartialEq::eq-returns-else-eq-3
+SwitchStatementPartialEq::eq-returns-else-eq-3 t c =
+    let a = layers.out-SwitchStatement c.args.self.now in
+    let b = layers.out-SwitchStatement c.args.other.now in
+    let part_1 = attributes_part a.attributes b.attributes in
+    let part_2 = expression_part a.expression b.expression in
+    let part_3 = attributes_part a.body_attributes b.body_attributes in
+    let part_4 = clauses_part a.clauses.items b.clauses.items in
+    let tested_1 : c.eq.result ≡ part_1 = c.eq.ensures ∙ attribute_lists_same a.attributes.items b.attributes.items in
+    let tested_2 : c.if-eq.value ≡ part_1 && part_2 = elim c.if-eq.branch [
+      | SwitchStatementPartialEq::eq-then-eq w ↦ and_true c.eq.result (part_1) part_2 c.if-eq.value w.if-eq.true tested_1 (w.value-is ∙ w.eq-then-eq.ensures)
+      | SwitchStatementPartialEq::eq-else-eq w ↦ and_false c.eq.result (part_1) part_2 c.if-eq.value w.if-eq.false tested_1 w.value-is
+    ] in
+    let tested_3 : c.if-eq-2.value ≡ (part_1 && part_2) && part_3 = elim c.if-eq-2.branch [
+      | SwitchStatementPartialEq::eq-then-eq-2 w ↦ and_true c.if-eq.value (part_1 && part_2) part_3 c.if-eq-2.value w.if-eq-2.true tested_2 (w.value-is ∙ w.eq-then-eq-2.ensures ∙ attribute_lists_same a.body_attributes.items b.body_attributes.items)
+      | SwitchStatementPartialEq::eq-else-eq-2 w ↦ and_false c.if-eq.value (part_1 && part_2) part_3 c.if-eq-2.value w.if-eq-2.false tested_2 w.value-is
+    ] in
+    and_false c.if-eq-2.value ((part_1 && part_2) && part_3) part_4 c.if-eq-2.value c.if-eq-3.false tested_3 refl ∙ sym (switches_same c.args.self.now c.args.other.now)
+
+pub ForStatementPartialEq::eq-returns-then-part_equal-2 : goal.ForStatementPartialEq::eq-returns-then-part_equal-2
+ForStatementPartialEq::eq-returns-then-part_equal-2 t c =
+    let a = layers.out-ForStatement c.args.self.now in
+    let b = layers.out-ForStatement c.args.other.now in
+    let part_1 = attributes_part a.attributes b.attributes in
+    let part_2 = header_part a.initializer b.initializer in
+    let part_3 = condition_part a.condition b.condition in
+    let part_4 = header_part a.update b.update in
+    let part_5 = block_part a.body b.body in
+    let tested_1 : c.eq.result ≡ part_1 = c.eq.ensures ∙ attribute_lists_same a.attributes.items b.attributes.items in
+    let tested_2 : c.if-eq.value ≡ part_1 && part_2 = elim c.if-eq.branch [
+      | ForStatementPartialEq::eq-then-eq w ↦ and_true c.eq.result (part_1) part_2 c.if-eq.value w.if-eq.true tested_1 (w.value-is ∙ w.part_equal.ensures)
+      | ForStatementPartialEq::eq-else-eq w ↦ and_false c.eq.result (part_1) part_2 c.if-eq.value w.if-eq.false tested_1 w.value-is
+    ] in
+    let tested_3 : c.if-part_equal.value ≡ (part_1 && part_2) && part_3 = elim c.if-part_equal.branch [
+      | ForStatementPartialEq::eq-then-part_equal w ↦ and_true c.if-eq.value (part_1 && part_2) part_3 c.if-part_equal.value w.if-part_equal.true tested_2 (w.value-is ∙ w.eq-then-part_equal.ensures ∙ options_same expression_node_view expression_node_code _ (λ x y. refl) a.condition b.condition)
+      | ForStatementPartialEq::eq-else-part_equal w ↦ and_false c.if-eq.value (part_1 && part_2) part_3 c.if-part_equal.value w.if-part_equal.false tested_2 w.value-is
+    ] in
+    let tested_4 : c.if-eq-2.value ≡ ((part_1 && part_2) && part_3) && part_4 = elim c.if-eq-2.branch [
+      | ForStatementPartialEq::eq-then-eq-2 w ↦ and_true c.if-part_equal.value ((part_1 && part_2) && part_3) part_4 c.if-eq-2.value w.if-eq-2.true tested_3 (w.value-is ∙ w.part_equal-then-eq-2.ensures)
+      | ForStatementPartialEq::eq-else-eq-2 w ↦ and_false c.if-part_equal.value ((part_1 && part_2) && part_3) part_4 c.if-eq-2.value w.if-eq-2.false tested_3 w.value-is
+    ] in
+    and_true c.if-eq-2.value (((part_1 && part_2) && part_3) && part_4) part_5 c.eq-then-part_equal-2.result c.if-part_equal-2.true tested_4 (c.eq-then-part_equal-2.ensures) ∙ sym (fors_same c.args.self.now c.args.other.now)
+
+pub ForStatementPartialEq::eq-returns-else-part_equal-2 : goal.ForStatementPartialEq::eq-returns-else-part_equal-2
+ForStatementPartialEq::eq-returns-else-part_equal-2 t c =
+    let a = layers.out-ForStatement c.args.self.now in
+    let b = layers.out-ForStatement c.args.other.now in
+    let part_1 = attributes_part a.attributes b.attributes in
+    let part_2 = header_part a.initializer b.initializer in
+    let part_3 = condition_part a.condition b.condition in
+    let part_4 = header_part a.update b.update in
+    let part_5 = block_part a.body b.body in
+    let tested_1 : c.eq.result ≡ part_1 = c.eq.ensures ∙ attribute_lists_same a.attributes.items b.attributes.items in
+    let tested_2 : c.if-eq.value ≡ part_1 && part_2 = elim c.if-eq.branch [
+      | ForStatementPartialEq::eq-then-eq w ↦ and_true c.eq.result (part_1) part_2 c.if-eq.value w.if-eq.true tested_1 (w.value-is ∙ w.part_equal.ensures)
+      | ForStatementPartialEq::eq-else-eq w ↦ and_false c.eq.result (part_1) part_2 c.if-eq.value w.if-eq.false tested_1 w.value-is
+    ] in
+    let tested_3 : c.if-part_equal.value ≡ (part_1 && part_2) && part_3 = elim c.if-part_equal.branch [
+      | ForStatementPartialEq::eq-then-part_equal w ↦ and_true c.if-eq.value (part_1 && part_2) part_3 c.if-part_equal.value w.if-part_equal.true tested_2 (w.value-is ∙ w.eq-then-part_equal.ensures ∙ options_same expression_node_view expression_node_code _ (λ x y. refl) a.condition b.condition)
+      | ForStatementPartialEq::eq-else-part_equal w ↦ and_false c.if-eq.value (part_1 && part_2) part_3 c.if-part_equal.value w.if-part_equal.false tested_2 w.value-is
+    ] in
+    let tested_4 : c.if-eq-2.value ≡ ((part_1 && part_2) && part_3) && part_4 = elim c.if-eq-2.branch [
+      | ForStatementPartialEq::eq-then-eq-2 w ↦ and_true c.if-part_equal.value ((part_1 && part_2) && part_3) part_4 c.if-eq-2.value w.if-eq-2.true tested_3 (w.value-is ∙ w.part_equal-then-eq-2.ensures)
+      | ForStatementPartialEq::eq-else-eq-2 w ↦ and_false c.if-part_equal.value ((part_1 && part_2) && part_3) part_4 c.if-eq-2.value w.if-eq-2.false tested_3 w.value-is
+    ] in
+    and_false c.if-eq-2.value (((part_1 && part_2) && part_3) && part_4) part_5 c.if-eq-2.value c.if-part_equal-2.false tested_4 refl ∙ sym (fors_same c.args.self.now c.args.other.now)
+
+pub nodes_equal-returns-then-a-b : goal.nodes_equal-returns-then-a-b
+nodes_equal-returns-then-a-b t c =
+    let xs = c.args.a.now in
+    let ys = c.args.b.now in
+    sym (nodes_same xs ys ∙ unlike node_code xs ys (λ e. search rules))
+
+pub nodes_equal-returns-then-not-eq : goal.nodes_equal-returns-then-not-eq
+nodes_equal-returns-then-not-eq t c =
+    let xs = c.args.a.now in
+    let ys = c.args.b.now in
+    let differ : same (node_code c.index-a-i.result) (node_code c.index-b-i.result) ≡ false = search rules in
+    sym (nodes_same xs ys ∙ next_differs node_code xs ys c.nodes.i _ _ (search rules) (search rules) c.index-a-i.is c.index-b-i.is c.nodes.invariant differ)
+
+pub nodes_equal-returns : goal.nodes_equal-returns
+nodes_equal-returns t c =
+    let xs = c.args.a.now in
+    let ys = c.args.b.now in
+    sym (nodes_same xs ys ∙ none_left node_code xs ys c.nodes.i (search rules) (search rules) c.nodes.invariant)
+
+pub else_ifs_equal-returns-then-a-b : goal.else_ifs_equal-returns-then-a-b
+else_ifs_equal-returns-then-a-b t c =
+    let xs = c.args.a.now in
+    let ys = c.args.b.now in
+    sym (else_ifs_same xs ys ∙ unlike else_if_view_code xs ys (λ e. search rules))
+
+pub else_ifs_equal-returns-then-not-eq : goal.else_ifs_equal-returns-then-not-eq
+else_ifs_equal-returns-then-not-eq t c =
+    let xs = c.args.a.now in
+    let ys = c.args.b.now in
+    let differ : same (else_if_view_code c.index-a-i.result) (else_if_view_code c.index-b-i.result) ≡ false = search rules in
+    sym (else_ifs_same xs ys ∙ next_differs else_if_view_code xs ys c.clauses.i _ _ (search rules) (search rules) c.index-a-i.is c.index-b-i.is c.clauses.invariant differ)
+
+pub else_ifs_equal-returns : goal.else_ifs_equal-returns
+else_ifs_equal-returns t c =
+    let xs = c.args.a.now in
+    let ys = c.args.b.now in
+    sym (else_ifs_same xs ys ∙ none_left else_if_view_code xs ys c.clauses.i (search rules) (search rules) c.clauses.invariant)
+
+pub clauses_equal-returns-then-a-b : goal.clauses_equal-returns-then-a-b
+clauses_equal-returns-then-a-b t c =
+    let xs = c.args.a.now in
+    let ys = c.args.b.now in
+    sym (clauses_same xs ys ∙ unlike switch_clause_view_code xs ys (λ e. search rules))
+
+pub clauses_equal-returns-then-not-eq : goal.clauses_equal-returns-then-not-eq
+clauses_equal-returns-then-not-eq t c =
+    let xs = c.args.a.now in
+    let ys = c.args.b.now in
+    let differ : same (switch_clause_view_code c.index-a-i.result) (switch_clause_view_code c.index-b-i.result) ≡ false = search rules in
+    sym (clauses_same xs ys ∙ next_differs switch_clause_view_code xs ys c.clauses.i _ _ (search rules) (search rules) c.index-a-i.is c.index-b-i.is c.clauses.invariant differ)
+
+pub clauses_equal-returns : goal.clauses_equal-returns
+clauses_equal-returns t c =
+    let xs = c.args.a.now in
+    let ys = c.args.b.now in
+    sym (clauses_same xs ys ∙ none_left switch_clause_view_code xs ys c.clauses.i (search rules) (search rules) c.clauses.invariant)
+
+pub StatementPartialEq::eq-returns-in-Declaration-matches : goal.StatementPartialEq::eq-returns-in-Declaration-matches
+StatementPartialEq::eq-returns-in-Declaration-matches t c =
+    let x = c.in-Declaration.a in
+    let y = c.in-Declaration-matches.b in
+    let answer : c.eq-in-Declaration.result ≡ true = search rules in
+    sym ((λ i. same (statement_code (statement_view (c.in-Declaration.is i))) (statement_code (statement_view (c.in-Declaration-matches.is i))))
+    ∙ (λ i. same (statement_code (is_declaration x i)) (statement_code (is_declaration y i)))
+    ∙ sym (declarations_same x y)
+    ∙ sym c.eq-in-Declaration.ensures
+    ∙ answer)
+
+pub StatementPartialEq::eq-returns-in_default-matches-16 : goal.StatementPartialEq::eq-returns-in_default-matches-16
+StatementPartialEq::eq-returns-in_default-matches-16 t c =
+    let x = c.in-Declaration.a in
+    let y = c.in-Declaration-matches.b in
+    let answer : c.eq-in-Declaration.result ≡ false = search rules in
+    sym ((λ i. same (statement_code (statement_view (c.in-Declaration.is i))) (statement_code (statement_view (c.in-Declaration-matches.is i))))
+    ∙ (λ i. same (statement_code (is_declaration x i)) (statement_code (is_declaration y i)))
+    ∙ sym (declarations_same x y)
+    ∙ sym c.eq-in-Declaration.ensures
+    ∙ answer)

@@ -1,0 +1,168 @@
+//! Statements without the empty ones of their lists.
+
+ghost use Rattle.std.specs.Prelude.{◌≡◌, filter, map, not};
+ghost use Rattle.wgsl_model.specs.PrintedStatements as printed;
+ghost use Rattle.wgsl_model.specs.Statements.{else_ifs_of, clauses_of};
+ghost use Rattle.wgsl_model.specs.EmptyItems.{full_statement, full_statements, full_compound, full_if, full_else_if_clause, full_else_ifs, full_switch, full_switch_clause, full_clauses, full_loop, full_for, full_while};
+ghost use Rattle.wgsl_span.specs.Spanned.{spanned_node};
+ghost use Rattle.wgsl_statement.specs.View.{statement_view, statement_nodes_view, compound_statement_view, if_statement_view, else_if_clause_view, switch_statement_view, switch_clause_view, loop_statement_view, for_statement_view, while_statement_view};
+
+use crate::statement::{
+    CompoundStatement, ElseIfClause, ForStatement, IfStatement, LoopStatement, Statement,
+    StatementNode, SwitchClause, SwitchStatement, WhileStatement,
+};
+
+impl Statement {
+    /// Removes the empty statements from every list of statements in this one.
+    #[cycle(remove)]
+    pub fn remove_voids(&mut self)
+        ensures { statement_view self.new ≡ full_statement (statement_view self.old) }
+    {
+        match self {
+            Statement::Compound(block) => block.remove_voids(),
+            Statement::If(statement) => statement.remove_voids(),
+            Statement::Switch(statement) => statement.remove_voids(),
+            Statement::Loop(statement) => statement.remove_voids(),
+            Statement::For(statement) => statement.remove_voids(),
+            Statement::While(statement) => statement.remove_voids(),
+            Statement::Void
+            | Statement::Assignment(_)
+            | Statement::Increment(_)
+            | Statement::Decrement(_)
+            | Statement::Break(_)
+            | Statement::Continue(_)
+            | Statement::Return(_)
+            | Statement::Discard(_)
+            | Statement::FunctionCall(_)
+            | Statement::ConstAssert(_)
+            | Statement::Declaration(_) => {}
+        }
+    }
+}
+
+impl CompoundStatement {
+    /// Removes the empty statements from this list and from every list of statements in it.
+    #[cycle(remove)]
+    pub fn remove_voids(&mut self)
+        ensures { compound_statement_view self.new ≡ full_compound (compound_statement_view self.old) }
+    {
+        remove_from_list(&mut self.statements);
+    }
+}
+
+#[cycle(remove)]
+fn remove_from_list(statements: &mut Vec<StatementNode>)
+    ensures { statement_nodes_view statements.new.items ≡ full_statements (statement_nodes_view statements.old.items) }
+{
+    'statements: for i in 0..statements.len() {
+        statements[i].node_mut().remove_voids();
+    }
+    remove_empty(statements);
+}
+
+impl IfStatement {
+    #[cycle(remove)]
+    fn remove_voids(&mut self)
+        ensures { if_statement_view self.new ≡ full_if (if_statement_view self.old) }
+    {
+        self.if_clause.body.remove_voids();
+        remove_from_else_ifs(&mut self.else_if_clauses);
+        if let Some(clause) = &mut self.else_clause {
+            clause.body.remove_voids();
+        }
+    }
+}
+
+#[cycle(remove)]
+fn remove_from_else_ifs(clauses: &mut [ElseIfClause])
+    ensures { else_ifs_of (map else_if_clause_view clauses.new) ≡ full_else_ifs (else_ifs_of (map else_if_clause_view clauses.old)) }
+{
+    'clauses: for i in 0..clauses.len() {
+        clauses[i].remove_voids();
+    }
+}
+
+impl ElseIfClause {
+    #[cycle(remove)]
+    fn remove_voids(&mut self)
+        ensures { else_if_clause_view self.new ≡ full_else_if_clause (else_if_clause_view self.old) }
+    {
+        self.body.remove_voids();
+    }
+}
+
+impl SwitchStatement {
+    #[cycle(remove)]
+    fn remove_voids(&mut self)
+        ensures { switch_statement_view self.new ≡ full_switch (switch_statement_view self.old) }
+    {
+        remove_from_clauses(&mut self.clauses);
+    }
+}
+
+#[cycle(remove)]
+fn remove_from_clauses(clauses: &mut [SwitchClause])
+    ensures { clauses_of (map switch_clause_view clauses.new) ≡ full_clauses (clauses_of (map switch_clause_view clauses.old)) }
+{
+    'clauses: for i in 0..clauses.len() {
+        clauses[i].remove_voids();
+    }
+}
+
+impl SwitchClause {
+    #[cycle(remove)]
+    fn remove_voids(&mut self)
+        ensures { switch_clause_view self.new ≡ full_switch_clause (switch_clause_view self.old) }
+    {
+        self.body.remove_voids();
+    }
+}
+
+impl LoopStatement {
+    #[cycle(remove)]
+    fn remove_voids(&mut self)
+        ensures { loop_statement_view self.new ≡ full_loop (loop_statement_view self.old) }
+    {
+        self.body.remove_voids();
+        if let Some(continuing) = &mut self.continuing {
+            continuing.body.remove_voids();
+        }
+    }
+}
+
+impl ForStatement {
+    #[cycle(remove)]
+    fn remove_voids(&mut self)
+        ensures { for_statement_view self.new ≡ full_for (for_statement_view self.old) }
+    {
+        if let Some(initializer) = &mut self.initializer {
+            initializer.node_mut().remove_voids();
+        }
+        if let Some(update) = &mut self.update {
+            update.node_mut().remove_voids();
+        }
+        self.body.remove_voids();
+    }
+}
+
+impl WhileStatement {
+    #[cycle(remove)]
+    fn remove_voids(&mut self)
+        ensures { while_statement_view self.new ≡ full_while (while_statement_view self.old) }
+    {
+        self.body.remove_voids();
+    }
+}
+
+/// Removes the empty statements from a list.
+fn remove_empty(statements: &mut Vec<StatementNode>)
+    ensures { statements.new.items ≡ filter (λ node. not (printed.is_void (statement_view (spanned_node node)))) statements.old.items }
+{
+    statements.retain(|statement| !is_void(statement.node()));
+}
+
+fn is_void(statement: &Statement) -> bool
+    ensures { result ≡ printed.is_void (statement_view statement.now) }
+{
+    matches!(statement, Statement::Void)
+}

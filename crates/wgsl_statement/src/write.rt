@@ -1,0 +1,139 @@
+//! Statements and blocks, written at a depth: nothing is formatted twice to be indented.
+
+ghost use Rattle.std.specs.Prelude.{◌≡◌, Some, codes};
+ghost use Rattle.std.specs.Fmt.{DisplaysOnOk};
+ghost use Rattle.wgsl_model.specs.Joining.{joined};
+ghost use Rattle.wgsl_model.specs.Indentation.{after_line_ends, indented};
+ghost use Rattle.wgsl_model.specs.PrintedStatements.{end_of, unended, print_statement, print_opened, print_compound, statement_texts};
+ghost use Rattle.wgsl_writer.specs.Depth.{spaces};
+ghost use Rattle.wgsl_statement.specs.View.{statement_view, statement_nodes_view, compound_statement_view};
+
+use crate::leaves::{write_attribute_line, write_gap};
+use crate::statement::{CompoundStatement, Statement, StatementNode};
+use crate::write_if::write_if;
+use crate::write_loops::{write_for, write_loop, write_while};
+use crate::write_switch::write_switch;
+use std::fmt;
+use std::fmt::Write;
+use wgsl_simple_statement::Unended;
+use wgsl_writer::{Depth, write_indented, write_spaces};
+
+impl Statement {
+    /// The `;` that ends it, if one does.
+    fn end(&self) -> &'static str
+        ensures { result.now ≡ end_of (statement_view self.now) }
+    {
+        match self {
+            Statement::Compound(_)
+            | Statement::If(_)
+            | Statement::Switch(_)
+            | Statement::Loop(_)
+            | Statement::For(_)
+            | Statement::While(_) => "",
+            Statement::Void
+            | Statement::Assignment(_)
+            | Statement::Increment(_)
+            | Statement::Decrement(_)
+            | Statement::Break(_)
+            | Statement::Continue(_)
+            | Statement::Return(_)
+            | Statement::Discard(_)
+            | Statement::FunctionCall(_)
+            | Statement::ConstAssert(_)
+            | Statement::Declaration(_) => ";",
+        }
+    }
+}
+
+#[cycle(printing)]
+pub fn write_statement<W: fmt::Write>(
+    statement: &Statement,
+    depth: &Depth<'_>,
+    f: &mut fmt::Formatter<W>,
+) -> fmt::Result
+    ensures { DisplaysOnOk W.write_str_gives f.old result (Some (after_line_ends (spaces depth.now) (print_statement (statement_view statement.now)))) f.new }
+{
+    write_unended(statement, depth, f)?;
+    f.write_str(statement.end())
+}
+
+/// Writes a statement without the `;` that ends it.
+#[cycle(printing)]
+pub fn write_unended<W: fmt::Write>(
+    statement: &Statement,
+    depth: &Depth<'_>,
+    f: &mut fmt::Formatter<W>,
+) -> fmt::Result
+    ensures { DisplaysOnOk W.write_str_gives f.old result (Some (after_line_ends (spaces depth.now) (unended (statement_view statement.now)))) f.new }
+{
+    match statement {
+        Statement::Void => Ok(()),
+        Statement::Compound(inner) => write_compound(inner, depth, f),
+        Statement::Assignment(inner) => write_indented(&Unended(inner), depth, f),
+        Statement::Increment(inner) => write_indented(&Unended(inner), depth, f),
+        Statement::Decrement(inner) => write_indented(&Unended(inner), depth, f),
+        Statement::If(inner) => write_if(inner, depth, f),
+        Statement::Switch(inner) => write_switch(inner, depth, f),
+        Statement::Loop(inner) => write_loop(inner, depth, f),
+        Statement::For(inner) => write_for(inner, depth, f),
+        Statement::While(inner) => write_while(inner, depth, f),
+        Statement::Break(_) => f.write_str("break"),
+        Statement::Continue(_) => f.write_str("continue"),
+        Statement::Return(inner) => write_indented(&Unended(inner), depth, f),
+        Statement::Discard(_) => f.write_str("discard"),
+        Statement::FunctionCall(inner) => write_indented(&Unended(inner), depth, f),
+        Statement::ConstAssert(inner) => write_indented(&Unended(inner), depth, f),
+        Statement::Declaration(inner) => write_indented(&Unended(inner), depth, f),
+    }
+}
+
+#[cycle(printing)]
+pub fn write_compound<W: fmt::Write>(
+    block: &CompoundStatement,
+    depth: &Depth<'_>,
+    f: &mut fmt::Formatter<W>,
+) -> fmt::Result
+    ensures { DisplaysOnOk W.write_str_gives f.old result (Some (after_line_ends (spaces depth.now) (print_compound (compound_statement_view block.now)))) f.new }
+{
+    write_opened(block, depth, f)?;
+    f.write_str("}")
+}
+
+/// Writes a block up to its closing brace.
+#[cycle(printing)]
+pub fn write_opened<W: fmt::Write>(
+    block: &CompoundStatement,
+    depth: &Depth<'_>,
+    f: &mut fmt::Formatter<W>,
+) -> fmt::Result
+    ensures { DisplaysOnOk W.write_str_gives f.old result (Some (after_line_ends (spaces depth.now) (print_opened (compound_statement_view block.now)))) f.new }
+{
+    write_attribute_line(&block.attributes, depth, f)?;
+    f.write_str("{\n")?;
+    write_spaces(depth, f)?;
+    write_lines(&block.statements, depth, f)?;
+    f.write_str("\n")?;
+    write_spaces(depth, f)
+}
+
+/// Writes the statements that are not empty, each on a line of its own.
+#[cycle(printing)]
+fn write_lines<W: fmt::Write>(
+    statements: &[StatementNode],
+    depth: &Depth<'_>,
+    f: &mut fmt::Formatter<W>,
+) -> fmt::Result
+    ensures { DisplaysOnOk W.write_str_gives f.old result (Some (after_line_ends (spaces depth.now) (indented (joined (codes "\n") (statement_texts (statement_nodes_view statements.now)))))) f.new }
+{
+    let inner = Depth::Below(&*depth);
+    let mut first = true;
+    'statements: for statement in statements {
+        if statement.node().is_void() {
+            continue;
+        }
+        write_gap(first, &inner, f)?;
+        write_statement(statement.node(), &inner, f)?;
+        first = false;
+    }
+    Ok(())
+}

@@ -1,0 +1,118 @@
+//! `loop`, `for` and `while` statements, written at a depth.
+
+ghost use Rattle.std.specs.Prelude.{Some};
+ghost use Rattle.std.specs.Option.{option_map};
+ghost use Rattle.std.specs.Fmt.{DisplaysOnOk};
+ghost use Rattle.wgsl_model.specs.Statements.{continuing_of, maybe_statement};
+ghost use Rattle.wgsl_model.specs.Indentation.{after_line_ends};
+ghost use Rattle.wgsl_model.specs.PrintedStatements.{print_loop, print_continuing, continuing_line, print_for, unended_part, print_while};
+ghost use Rattle.wgsl_writer.specs.Depth.{spaces};
+ghost use Rattle.wgsl_statement.specs.View.{statement_node_view, loop_statement_view, continuing_statement_view, for_statement_view, while_statement_view};
+
+use crate::leaves::{write_attribute_line, write_break_if, write_condition};
+use crate::statement::{
+    ContinuingStatement, ForStatement, LoopStatement, StatementNode, WhileStatement,
+};
+use crate::write::{write_compound, write_opened, write_unended};
+use std::fmt;
+use std::fmt::Write;
+use wgsl_writer::{Depth, write_indented, write_spaces};
+
+#[cycle(printing)]
+pub fn write_loop<W: fmt::Write>(
+    statement: &LoopStatement,
+    depth: &Depth<'_>,
+    f: &mut fmt::Formatter<W>,
+) -> fmt::Result
+    ensures { DisplaysOnOk W.write_str_gives f.old result (Some (after_line_ends (spaces depth.now) (print_loop (loop_statement_view statement.now)))) f.new }
+{
+    write_attribute_line(&statement.attributes, depth, f)?;
+    f.write_str("loop ")?;
+    write_opened(&statement.body, depth, f)?;
+    write_continuing_line(&statement.continuing, depth, f)?;
+    f.write_str("}")
+}
+
+/// Writes the statement on lines of its own, if there is one.
+#[cycle(printing)]
+fn write_continuing_line<W: fmt::Write>(
+    statement: &Option<ContinuingStatement>,
+    depth: &Depth<'_>,
+    f: &mut fmt::Formatter<W>,
+) -> fmt::Result
+    ensures { DisplaysOnOk W.write_str_gives f.old result (Some (after_line_ends (spaces depth.now) (continuing_line (continuing_of (option_map continuing_statement_view statement.now))))) f.new }
+{
+    match statement {
+        None => Ok(()),
+        Some(statement) => {
+            let inner = Depth::Below(&*depth);
+            f.write_str("    ")?;
+            write_continuing(statement, &inner, f)?;
+            f.write_str("\n")?;
+            write_spaces(depth, f)
+        }
+    }
+}
+
+#[cycle(printing)]
+pub fn write_continuing<W: fmt::Write>(
+    statement: &ContinuingStatement,
+    depth: &Depth<'_>,
+    f: &mut fmt::Formatter<W>,
+) -> fmt::Result
+    ensures { DisplaysOnOk W.write_str_gives f.old result (Some (after_line_ends (spaces depth.now) (print_continuing (continuing_statement_view statement.now)))) f.new }
+{
+    f.write_str("continuing ")?;
+    write_opened(&statement.body, depth, f)?;
+    write_break_if(&statement.break_if, depth, f)?;
+    f.write_str("}")
+}
+
+#[cycle(printing)]
+pub fn write_for<W: fmt::Write>(
+    statement: &ForStatement,
+    depth: &Depth<'_>,
+    f: &mut fmt::Formatter<W>,
+) -> fmt::Result
+    ensures { DisplaysOnOk W.write_str_gives f.old result (Some (after_line_ends (spaces depth.now) (print_for (for_statement_view statement.now)))) f.new }
+{
+    write_attribute_line(&statement.attributes, depth, f)?;
+    f.write_str("for (")?;
+    write_part(&statement.initializer, depth, f)?;
+    f.write_str("; ")?;
+    write_condition(&statement.condition, depth, f)?;
+    f.write_str("; ")?;
+    write_part(&statement.update, depth, f)?;
+    f.write_str(") ")?;
+    write_compound(&statement.body, depth, f)
+}
+
+/// Writes a statement in the header of a `for`, if there is one, without the `;` that ends it.
+#[cycle(printing)]
+fn write_part<W: fmt::Write>(
+    part: &Option<StatementNode>,
+    depth: &Depth<'_>,
+    f: &mut fmt::Formatter<W>,
+) -> fmt::Result
+    ensures { DisplaysOnOk W.write_str_gives f.old result (Some (after_line_ends (spaces depth.now) (unended_part (maybe_statement (option_map statement_node_view part.now))))) f.new }
+{
+    match part {
+        None => Ok(()),
+        Some(part) => write_unended(part.node(), depth, f),
+    }
+}
+
+#[cycle(printing)]
+pub fn write_while<W: fmt::Write>(
+    statement: &WhileStatement,
+    depth: &Depth<'_>,
+    f: &mut fmt::Formatter<W>,
+) -> fmt::Result
+    ensures { DisplaysOnOk W.write_str_gives f.old result (Some (after_line_ends (spaces depth.now) (print_while (while_statement_view statement.now)))) f.new }
+{
+    write_attribute_line(&statement.attributes, depth, f)?;
+    f.write_str("while ")?;
+    write_indented(&statement.condition, depth, f)?;
+    f.write_str(" ")?;
+    write_compound(&statement.body, depth, f)
+}

@@ -1,0 +1,3 @@
+mod Twice
+mod Printed
+mod Modules

@@ -1,0 +1,23 @@
+//! Laws of the trees without their empty items.
+#![tactic(auto)]
+
+ghost use Rattle.std.specs.Prelude.{◌≡◌};
+ghost use Rattle.wgsl_model.specs.Statements.{Statement, CompoundStatement};
+ghost use Rattle.wgsl_model.specs.Units.{TranslationUnit};
+ghost use Rattle.wgsl_model.specs.EmptyItems.{full_statement, full_compound, full_unit};
+ghost use Rattle.wgsl_model.specs.PrintedStatements.{print_statement, print_compound};
+ghost use Rattle.wgsl_model.specs.PrintedUnits.{print_unit};
+
+/// Removing the empty items twice is removing them once.
+pub fn voids_twice()
+    ensures statement { (s : Statement) → full_statement (full_statement s) ≡ full_statement s }
+    ensures block { (b : CompoundStatement) → full_compound (full_compound b) ≡ full_compound b }
+    ensures unit { (u : TranslationUnit) → full_unit (full_unit u) ≡ full_unit u }
+{}
+
+/// The printed text is the same without the empty items.
+pub fn voids_unprinted()
+    ensures statement { (s : Statement) → print_statement (full_statement s) ≡ print_statement s }
+    ensures block { (b : CompoundStatement) → print_compound (full_compound b) ≡ print_compound b }
+    ensures unit { (u : TranslationUnit) → print_unit (full_unit u) ≡ print_unit u }
+{}

@@ -1,0 +1,46 @@
+//! What `==` of modules, of their directives and of their declarations says.
+
+ghost use Rattle.std.specs.Prelude.{◌≡◌, ◌↔◌, IsTrue};
+ghost use Rattle.std.specs.Cmp.{IsEquivalence};
+ghost use Rattle.wgsl_model.specs.StatementsWithoutSpans.{bare_type_alias, bare_member, bare_struct, bare_parameter, bare_function, bare_global_declaration, bare_unit};
+ghost use Rattle.wgsl_unit.specs.declared.unit.DiagnosticDirective.{DiagnosticDirective};
+ghost use Rattle.wgsl_unit.specs.declared.unit.EnableDirective.{EnableDirective};
+ghost use Rattle.wgsl_unit.specs.declared.unit.RequiresDirective.{RequiresDirective};
+ghost use Rattle.wgsl_unit.specs.declared.unit.GlobalDirective.{GlobalDirective};
+ghost use Rattle.wgsl_unit.specs.declared.unit.TypeAlias.{TypeAlias};
+ghost use Rattle.wgsl_unit.specs.declared.unit.StructMember.{StructMember};
+ghost use Rattle.wgsl_unit.specs.declared.unit.Struct.{Struct};
+ghost use Rattle.wgsl_unit.specs.declared.unit.FormalParameter.{FormalParameter};
+ghost use Rattle.wgsl_unit.specs.declared.unit.Function.{Function};
+ghost use Rattle.wgsl_unit.specs.declared.unit.GlobalDeclaration.{GlobalDeclaration};
+ghost use Rattle.wgsl_unit.specs.declared.unit.TranslationUnit.{TranslationUnit};
+ghost use Rattle.wgsl_unit.specs.View.{diagnostic_directive_view, enable_directive_view, requires_directive_view, global_directive_view, type_alias_view, member_view, struct_view, parameter_view, function_view, global_declaration_view, unit_view};
+ghost use Rattle.wgsl_unit.specs.Equality.{equal_diagnostics, equal_enables, equal_requires, equal_directives, equal_type_aliases, equal_members, equal_structs, equal_parameters, equal_functions, equal_global_declarations, equal_units};
+
+/// `==` of modules is an equivalence.
+pub fn equivalence()
+    ensures { IsEquivalence equal_units }
+{}
+
+/// Two modules are equal where they are one with their spans set aside.
+pub fn units()
+    ensures { (a b : TranslationUnit) → IsTrue (equal_units a b) ↔ (bare_unit (unit_view a) ≡ bare_unit (unit_view b)) }
+{}
+
+/// Two directives are equal where they are one: they have no spans.
+pub fn directives()
+    ensures directive { (a b : GlobalDirective) → IsTrue (equal_directives a b) ↔ (global_directive_view a ≡ global_directive_view b) }
+    ensures diagnostic { (a b : DiagnosticDirective) → IsTrue (equal_diagnostics a b) ↔ (diagnostic_directive_view a ≡ diagnostic_directive_view b) }
+    ensures enable { (a b : EnableDirective) → IsTrue (equal_enables a b) ↔ (enable_directive_view a ≡ enable_directive_view b) }
+    ensures require { (a b : RequiresDirective) → IsTrue (equal_requires a b) ↔ (requires_directive_view a ≡ requires_directive_view b) }
+{}
+
+/// Two declarations are equal where they are one with their spans set aside; so are their parts.
+pub fn global_declarations()
+    ensures declaration { (a b : GlobalDeclaration) → IsTrue (equal_global_declarations a b) ↔ (bare_global_declaration (global_declaration_view a) ≡ bare_global_declaration (global_declaration_view b)) }
+    ensures alias { (a b : TypeAlias) → IsTrue (equal_type_aliases a b) ↔ (bare_type_alias (type_alias_view a) ≡ bare_type_alias (type_alias_view b)) }
+    ensures structure { (a b : Struct) → IsTrue (equal_structs a b) ↔ (bare_struct (struct_view a) ≡ bare_struct (struct_view b)) }
+    ensures member { (a b : StructMember) → IsTrue (equal_members a b) ↔ (bare_member (member_view a) ≡ bare_member (member_view b)) }
+    ensures function { (a b : Function) → IsTrue (equal_functions a b) ↔ (bare_function (function_view a) ≡ bare_function (function_view b)) }
+    ensures parameter { (a b : FormalParameter) → IsTrue (equal_parameters a b) ↔ (bare_parameter (parameter_view a) ≡ bare_parameter (parameter_view b)) }
+{}
