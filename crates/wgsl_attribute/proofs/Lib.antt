@@ -1,4 +1,3 @@
-mod Sifts
 mod Copies
 mod Lines
 pub mod Equalities

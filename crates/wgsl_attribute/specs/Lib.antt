@@ -1,5 +1,3 @@
 pub mod View
 pub mod Variants
 pub mod Equality
-pub mod Keeps
-pub mod Lending

@@ -1,6 +1,4 @@
-//! Printed texts and copies of attributes made by hand, and what nodes do with theirs.
-
-mod nodes;
+//! Printed texts and copies of attributes made by hand.
 
 use crate::{
     Attribute, AttributesBefore, CustomAttribute, DiagnosticAttribute, InterpolateAttribute,

@@ -1,6 +1,7 @@
 //! What the program has to tell of its input.
 
-ghost use Rattle.std.specs.Prelude.{◌≡◌, IfOk};
+ghost use Rattle.std.specs.Prelude.{◌≡◌, true, IfOk};
+ghost use Rattle.std.specs.Str.{is_utf8};
 ghost use Rattle.std.specs.Io.KnownBytes.{Appends};
 ghost use Rattle.wgsl_model.specs.Program.{Outcome, Formats};
 ghost use Rattle.wgsl_formatter.specs.Ending.{GoesOut};
@@ -43,12 +44,13 @@ pub fn report_on(alloc: Global, source: &[u8]) -> Result<Report, AllocError>
 
 /// Sends the report to the writer that it is for, and answers its status, or `FAILED`.
 pub fn deliver<W: Write, E: Write>(report: &Report, output: &mut W, errors: &mut E) -> u8
-    ensures { (end : Outcome) × GoesOut (outcome_of report.now) end × (result ≡ end.status)
+    ensures sent { (end : Outcome) × GoesOut (outcome_of report.now) end × (result ≡ end.status)
         × Appends (W.contents output.old) (W.contents output.new) end.output
         × Appends (E.contents errors.old) (E.contents errors.new) end.errors }
+    ensures valid { is_utf8 (outcome_of report.now).output ≡ true }
 {
     match report {
-        Report::Printed(text) => tell(output, text.as_bytes(), 0),
+        Report::Printed(text) => tell(output, text.as_str().as_bytes(), 0),
         Report::Refused(line) => tell(errors, line.as_bytes(), 1),
         Report::NotUtf8 => tell(errors, b"input is not UTF-8\n", 2),
         Report::OutOfMemory => tell(errors, b"out of memory\n", 3),

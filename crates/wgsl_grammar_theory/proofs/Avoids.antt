@@ -30,7 +30,7 @@ avoids cs K (checked f g) = avoids cs K g
 avoids cs K (symbol n) = K n
 avoids cs K (left_chain f g h) = avoids cs K g && avoids cs K h
 
-abbrev Avoiding : {A : Type 0} → List ℕ → (A → List Token → List Token → Type 0) → Type 0
+abbrev pub Avoiding : {A : Type 0} → List ℕ → (A → List Token → List Token → Type 0) → Type 0
 Avoiding {A} cs P = (v : A) (xs ys : List Token) → P v xs ys → (p : List Token) × (xs ≡ p ++ ys) × NoneOf cs p
 
 avoiding_chain : (cs : List ℕ) {A B : Type 0} (f : A → B → Span → A) (P : A → List Token → List Token → Type 0) (Q : B → List Token → List Token → Type 0) → Avoiding cs P → Avoiding cs Q
@@ -40,7 +40,7 @@ avoiding_chain cs f P Q H K xs _ _ (more a b ys zs c d) =
     let w = avoiding_chain cs f P Q H K xs a ys c in let u = K b ys zs d in
     (w.0 ++ u.0, joined w.0 u.0 xs ys zs w.1 u.1, none_append cs w.0 u.0 w.2 u.2)
 
-avoiding : {N : Type 0} {Value : N → Type 0} (M : Mode) (D : (n : N) → Value n → List Token → List Token → Type 0) (cs : List ℕ) (K : N → Bool) → ((n : N) → K n ≡ true → Avoiding cs (D n))
+pub avoiding : {N : Type 0} {Value : N → Type 0} (M : Mode) (D : (n : N) → Value n → List Token → List Token → Type 0) (cs : List ℕ) (K : N → Bool) → ((n : N) → K n ≡ true → Avoiding cs (D n))
     → {A : Type 0} (g : Grammar N Value A) → avoids cs K g ≡ true → Avoiding cs (Means M D g)
 avoiding M D cs K H (empty a) e v xs ys d = ([], d.1, tt)
 avoiding M D cs K H (token s) e v xs ys d = (v ∷ [], d.1, (apart v.class s cs e d.0, tt))

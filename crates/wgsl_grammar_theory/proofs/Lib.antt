@@ -21,3 +21,7 @@ pub mod Answers
 pub mod Faultless
 pub mod SmallAnswers
 pub mod NamedOnce
+pub mod Reader
+pub mod ExpressionEquations
+pub mod StatementEquations
+pub mod UnitEquations

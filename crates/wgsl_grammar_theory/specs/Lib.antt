@@ -6,3 +6,7 @@ pub mod Apart
 pub mod Dialects
 pub mod Meaning
 pub mod Answers
+pub mod Reader
+pub mod ExpressionRules
+pub mod StatementRules
+pub mod UnitRules

@@ -5,10 +5,11 @@ use Rattle.std.specs.declared.alloc.AllocError.{AllocError}
 use Rattle.grammar.specs.Tokens.{Token}
 use Rattle.grammar.specs.Faults.{Ending, Ending.finished}
 use Rattle.wgsl_model.specs.TokenList.{IsTokenList}
-use Rattle.wgsl_lexer.specs.declared.collect.PlacedToken.{PlacedToken}
+use Rattle.wgsl_token.specs.declared.placed.PlacedToken.{PlacedToken}
 use Rattle.wgsl_lexer.specs.declared.collect.Collected.{Collected}
 use Rattle.wgsl_lexer.specs.declared.lexer.Lexer.{Lexer}
-use Rattle.wgsl_lexer.specs.Placed.{placed_view, PlacedError, tokens_view, ending_view, IsOutOfMemory}
+use Rattle.wgsl_token.specs.Placed.{placed_view}
+use Rattle.wgsl_lexer.specs.Placed.{PlacedError, tokens_view, ending_view, IsOutOfMemory}
 use Rattle.wgsl_lexer.specs.Given.{item_of, last_of, Gave}
 use Rattle.wgsl_lexer.specs.Left.{IsLeft, Gives}
 

@@ -1,5 +1,10 @@
-pub mod Cuts
-pub mod Lists
-pub mod InOrder
+pub mod Reached
+pub mod Turns
+pub mod Pushes
+pub mod Scans
+pub mod LeftTokens
+pub mod ListsBehind
 pub mod Lefts
+pub mod InOrder
 pub mod Collects
+pub mod Recognized

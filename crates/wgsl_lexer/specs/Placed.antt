@@ -2,16 +2,12 @@
 use Rattle.std.specs.Prelude.{◌≡◌, ℕ, List, map, Option, Some, None, IsSomeAnd}
 use Rattle.grammar.specs.Tokens as plain
 use Rattle.grammar.specs.Faults.{Ending, Ending.finished, Ending.carried}
-use Rattle.wgsl_token.specs.View.{token_view}
+use Rattle.wgsl_token.specs.Placed.{placed_view}
 use Rattle.wgsl_error.specs.declared.ParseError.{ParseError}
 use Rattle.wgsl_error.specs.declared.ParseError.TheVariants as parse
 use Rattle.wgsl_error.specs.View.{parse_error_fault}
-use Rattle.wgsl_lexer.specs.declared.collect.PlacedToken.{PlacedToken}
+use Rattle.wgsl_token.specs.declared.placed.PlacedToken.{PlacedToken}
 use Rattle.wgsl_lexer.specs.declared.collect.Collected.{Collected}
-
--- a token where it stands
-abbrev pub placed_view : PlacedToken → plain.Token
-placed_view p = token_view p.span.start p.token p.span.end
 
 -- an error, from its start to its end
 abbrev pub PlacedError : Type 0

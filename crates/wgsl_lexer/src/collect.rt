@@ -8,14 +8,7 @@ use std::alloc::{AllocError, Global};
 use std::collections::VecDeque;
 use wgsl_error::ParseError;
 use wgsl_span::Span;
-use wgsl_token::token::Token;
-
-/// A token and where it stands.
-#[derive(PartialEq, Debug, Drop)]
-pub struct PlacedToken {
-    pub token: Token,
-    pub span: Span,
-}
+use wgsl_token::placed::PlacedToken;
 
 /// Tokens, and the error that ended them if there was one, from its start to its end.
 #[derive(Debug, Drop)]

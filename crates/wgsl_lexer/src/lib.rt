@@ -4,10 +4,12 @@
 mod collect;
 pub mod laws;
 mod lexer;
+mod open_lists;
+mod template;
 #[cfg(test)]
 mod tests;
 mod token_iterator;
 
-pub use collect::{Collected, PlacedToken, collect_tokens};
-pub use lexer::{Lexer, lex};
-pub use token_iterator::{TokenItem, TokenIterator};
+pub use collect::{Collected, collect_tokens};
+pub use lexer::{Lexer, lex, recognize_template_list};
+pub use token_iterator::{FiniteTokens, TokenItem, TokenIterator};

@@ -10,7 +10,7 @@ pub mod Spelling
 pub mod Raw
 pub mod Texts
 pub mod Faults
-pub mod TokenList
+pub mod Places
 pub mod Operators
 pub mod NamedValues
 pub mod Spanned
@@ -25,6 +25,8 @@ pub mod ExpressionParts
 pub mod StatementParts
 pub mod UnitParts
 pub mod Written
+pub mod Templates
+pub mod TokenList
 pub mod Joining
 pub mod Indentation
 pub mod OperatorTexts
@@ -38,9 +40,8 @@ pub mod EmptyItems
 pub mod WithoutSpans
 pub mod StatementsWithoutSpans
 pub mod NodeAttributes
-pub mod FirstUnits
-pub mod FirstNamed
-pub mod Program
 pub mod Small
 pub mod CheckedFaults
 pub mod Named
+pub mod Program
+pub mod FirstPath

@@ -6,9 +6,10 @@ use Rattle.grammar.specs.Tokens.{Token, Fault}
 use Rattle.grammar.specs.Grammar.{Mode.full, Derives}
 use Rattle.grammar.specs.Faults.{Ending, Ending.finished}
 use Rattle.wgsl_model.specs.Units.{TranslationUnit}
-use Rattle.wgsl_model.specs.FirstUnits.{Symbol.unit, body}
+use Rattle.wgsl_model.specs.Symbols.{Symbol.unit}
+use Rattle.wgsl_model.specs.Written.{written}
 use Rattle.wgsl_model.specs.TokenList.{IsTokenList}
-use Rattle.wgsl_model.specs.FirstNamed.{IsNamed}
+use Rattle.wgsl_model.specs.Named.{IsNamed}
 use Rattle.wgsl_model.specs.Faults.{message}
 use Rattle.wgsl_model.specs.PrintedUnits.{print_unit}
 use Rattle.wgsl_model.specs.EmptyItems.{full_unit}
@@ -30,7 +31,7 @@ shown_fault x = codes "chars " ++ decimal x.span.start ++ codes ".." ++ decimal 
 
 -- the source derives the unit
 abbrev pub IsUnit : List ℕ → TranslationUnit → Type 0
-IsUnit source u = (ts : List Token) × IsTokenList source ts finished × Derives full body unit u ts
+IsUnit source u = (ts : List Token) × IsTokenList source ts finished × Derives full written unit u ts
 
 -- the source is no unit, and this is the fault that is named
 abbrev pub IsFaultOf : List ℕ → Fault → Type 0

@@ -1,5 +1,5 @@
 -- The token at the front of a text (WGSL, sections 3.1 and 3.4).
-use Rattle.std.specs.Prelude.{ℕ, ◌-◌, ◌==◌, ◌||◌, if◌then◌else◌, List, [], ◌∷◌, Option, Some, None, length, take, codes, bytes_eq, option_map}
+use Rattle.std.specs.Prelude.{ℕ, ◌-◌, ◌==◌, not, ◌&&◌, ◌||◌, if◌then◌else◌, List, [], ◌∷◌, Option, Some, None, length, take, codes, bytes_eq, option_map}
 use Rattle.std.specs.Str.{encode_utf8_all}
 use Rattle.std.specs.Char.{is_ascii_digit}
 use Rattle.unicode_ident.specs.Ident.{is_xid_start}
@@ -7,7 +7,7 @@ use Rattle.wgsl_model.specs.Classes.{Ident, ReservedWord, SymUnderscore}
 use Rattle.wgsl_model.specs.Kind.{Kind, plain, named}
 use Rattle.wgsl_model.specs.Words.{look_up, is_among, symbols, keywords, reserved_words}
 use Rattle.wgsl_model.specs.Numbers.{number_of}
-use Rattle.wgsl_model.specs.Pattern.{after_spelling}
+use Rattle.wgsl_model.specs.Pattern.{is_empty, after_spelling}
 use Rattle.wgsl_model.specs.Spelling.{spelling}
 use Rattle.wgsl_model.specs.Trivia.{after_trivia, outside}
 
@@ -28,12 +28,12 @@ keyword_or_name None word = name_of word
 abbrev pub word_of : List ℕ → Kind
 word_of word = if bytes_eq word (codes "_") then plain SymUnderscore else keyword_or_name (look_up keywords word) word
 
--- the token of a spelling, by its first character: a word, a number or a symbol; none where a whole number does not fit its type
+-- the token of a spelling, by its first character: a word, a number, which may begin with `.`, or a symbol; none where a whole number does not fit its type
 abbrev pub value : List ℕ → Option Kind
 value [] = None
 value (c ∷ cs) =
     if is_xid_start c || c == 95 then Some (word_of (encode_utf8_all (c ∷ cs)))
-    else if is_ascii_digit c then number_of (c ∷ cs)
+    else if is_ascii_digit c || (c == 46 && not (is_empty cs)) then number_of (c ∷ cs)
     else option_map plain (look_up symbols (c ∷ cs))
 
 -- the token at the front of a text: none, an invalid one or one of a kind; each with the text from its start and the text after it

@@ -1,7 +1,7 @@
 pub use Rattle.wgsl_model.specs.Program
-pub use Rattle.wgsl_model.specs.FirstUnits
+pub use Rattle.wgsl_model.specs.FirstPath
 pub use Rattle.wgsl_model.specs.TokenList
-pub use Rattle.wgsl_model.specs.FirstNamed
+pub use Rattle.wgsl_model.specs.Named
 pub use Rattle.wgsl_model.specs.PrintedUnits
 pub use Rattle.wgsl_model.specs.EmptyItems
 pub use Rattle.wgsl_model.specs.StatementsWithoutSpans
@@ -9,3 +9,4 @@ pub use Rattle.wgsl_model.specs.Spanned
 pub use Rattle.wgsl_model.specs.Expressions
 pub use Rattle.wgsl_model.specs.Statements
 pub use Rattle.wgsl_model.specs.Units
+pub use Rattle.wgsl_model.specs.Written

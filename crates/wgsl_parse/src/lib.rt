@@ -1,9 +1,10 @@
 //! WGSL, the shading language of WebGPU: tokens, trees, faults and printed text, under the names of the Rust crate `wgsl-parse`.
 #![tactic(auto)]
 
-pub use wgsl_attribute::SyntaxNode;
+pub use wgsl_dialect::recognize_str;
 pub use wgsl_error::Error;
-pub use wgsl_parser::parse_str;
+pub use wgsl_parser::{FromSource, parse_str};
+pub use wgsl_syntax_node::SyntaxNode;
 
 /// Places in a text, and nodes that carry them.
 pub mod span {
@@ -17,7 +18,7 @@ pub mod error {
 
 /// Tokens, and what gives them.
 pub mod lexer {
-    pub use wgsl_lexer::{Lexer, TokenItem, TokenIterator};
+    pub use wgsl_lexer::{FiniteTokens, Lexer, TokenItem, TokenIterator, recognize_template_list};
     pub use wgsl_token::token::Token;
 }
 
@@ -52,16 +53,20 @@ pub mod syntax {
     };
 }
 
-/// Reading a module from a text.
+/// Reading modules, and the parts of modules that are read by themselves, from texts and from lists of tokens.
 pub mod parser {
-    pub use wgsl_parser::parse_str;
+    pub use wgsl_dialect::recognize_str;
+    pub use wgsl_parser::{
+        ExpressionParser, FromSource, GlobalDeclParser, GlobalDirectiveParser, LiteralParser,
+        StatementParser, TranslationUnitParser, TryTemplateListParser, parse_str,
+        recognize_template_list,
+    };
 }
 
 /// What holds of all texts and trees, as contracts of functions that do nothing.
 pub mod laws {
-    pub use wgsl_laws::{print_twice, printed_parse, printed_tokens};
+    pub use wgsl_laws::{print_twice, printed_parse, printed_tokens, unit_or_fault};
     pub use wgsl_lexer::laws::{nothing_behind_the_end, one_token_list, tokens_in_order};
-    pub use wgsl_parser::laws::{checked_faults, one_tree, unit_or_fault};
     pub use wgsl_scanner::laws::longest_spelling;
     pub use wgsl_tree_theory::{voids_twice, voids_unprinted};
 }

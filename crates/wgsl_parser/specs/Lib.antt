@@ -1,6 +1,3 @@
-pub mod Tables
-pub mod Wording
-pub mod Rules
-pub mod Refusals
-pub mod Reading
-pub mod Answers
+pub mod Sources
+pub mod Iterators
+pub mod Spans

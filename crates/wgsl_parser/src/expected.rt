@@ -1,54 +1,34 @@
-//! What could stand where a token was refused.
+//! What could stand behind a value, where a token is left.
 
-use std::alloc::{AllocError, Global};
+use wgsl_cursor::Expected;
 use wgsl_token::kind::TokenKind;
 
-/// The tokens that could stand where one was refused, by their kinds in order.
-#[derive(Clone, Copy)]
-pub enum Expected {
-    One(TokenKind),
-    OneOf(&'static [TokenKind]),
-}
+/// Behind an expression: a component or an operator.
+pub(crate) const BEHIND_EXPRESSION: Expected = Expected::OneOf(&[
+    TokenKind::SymAnd,
+    TokenKind::SymAndAnd,
+    TokenKind::SymForwardSlash,
+    TokenKind::SymBracketLeft,
+    TokenKind::SymEqualEqual,
+    TokenKind::SymNotEqual,
+    TokenKind::SymGreaterThan,
+    TokenKind::SymGreaterThanEqual,
+    TokenKind::SymShiftRight,
+    TokenKind::SymLessThan,
+    TokenKind::SymLessThanEqual,
+    TokenKind::SymShiftLeft,
+    TokenKind::SymModulo,
+    TokenKind::SymMinus,
+    TokenKind::SymMinusMinus,
+    TokenKind::SymPeriod,
+    TokenKind::SymPlus,
+    TokenKind::SymOr,
+    TokenKind::SymOrOr,
+    TokenKind::SymParenLeft,
+    TokenKind::SymStar,
+    TokenKind::SymXor,
+    TokenKind::TemplateArgsStart,
+]);
 
-impl Expected {
-    /// What begins a declaration.
-    pub const DECLARATION: Expected = Expected::OneOf(&[
-        TokenKind::SymSemicolon,
-        TokenKind::KwAlias,
-        TokenKind::KwConst,
-    ]);
-
-    /// What a literal is.
-    pub const LITERAL: Expected = Expected::OneOf(&[
-        TokenKind::KwFalse,
-        TokenKind::KwTrue,
-        TokenKind::AbstractInt,
-        TokenKind::I32,
-        TokenKind::U32,
-    ]);
-
-    /// Their texts.
-    pub fn texts(self, alloc: Global) -> Result<Vec<String>, AllocError> {
-        let mut texts = Vec::new(alloc);
-        match self {
-            Expected::One(kind) => texts.push(String::from_str(alloc, text_of(kind))?)?,
-            Expected::OneOf(kinds) => {
-                for kind in kinds {
-                    texts.push(String::from_str(alloc, text_of(*kind))?)?;
-                }
-            }
-        }
-        Ok(texts)
-    }
-}
-
-/// The text of a kind, also of one that holds something.
-fn text_of(kind: TokenKind) -> &'static str {
-    match kind {
-        TokenKind::Ident => "identifier",
-        TokenKind::AbstractInt => "integer literal",
-        TokenKind::I32 => "i32 literal",
-        TokenKind::U32 => "u32 literal",
-        _ => kind.text(),
-    }
-}
+/// Behind a statement, a directive, a declaration, a literal or a template list: nothing.
+pub(crate) const NOTHING: Expected = Expected::OneOf(&[]);

@@ -1,11 +1,18 @@
-//! The parser: the unit that a text is, or the fault that is named.
+//! Reading modules, and the parts of modules that are read by themselves, from texts and from lists of tokens.
 #![tactic(auto)]
 
-mod cursor;
+mod collected;
 mod expected;
-mod fault;
-pub mod laws;
+mod from_source;
 mod parse;
-mod unit;
+mod parsers;
+mod source;
+mod template_list;
 
+pub use from_source::FromSource;
 pub use parse::parse_str;
+pub use parsers::{
+    ExpressionParser, GlobalDeclParser, GlobalDirectiveParser, LiteralParser, StatementParser,
+    TranslationUnitParser,
+};
+pub use template_list::{TryTemplateListParser, recognize_template_list};

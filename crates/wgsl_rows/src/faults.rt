@@ -1,21 +1,76 @@
-//! Texts that are refused, each with the fault that is named and with what was expected.
+//! Texts that are refused, each with the fault that is named.
 
+use crate::reading::assert_refused;
 use std::test::Fail;
-use wgsl_parse::parse_str;
+use wgsl_parse::syntax::TranslationUnit;
 
 #[test]
-fn names_the_fault_and_its_place(rt: HostRuntime) -> Result<(), Fail> {
+fn invalid_tokens(rt: HostRuntime) -> Result<(), Fail> {
     for (text, wanted) in [
         ("const x = 1 #;", "chars 12..13: invalid token"),
         ("const x = 2147483648i;", "chars 10..21: invalid token"),
         ("const x = 4294967296u;", "chars 10..21: invalid token"),
         ("const x = 0xffffffffi;", "chars 10..21: invalid token"),
+        ("const x = -2147483648i;", "chars 11..22: invalid token"),
         (
             "const x = 9223372036854775808;",
             "chars 10..29: invalid token",
         ),
         ("const € = 1;", "chars 6..9: invalid token"),
+        ("const a = (1 #", "chars 13..14: invalid token"),
+        ("const x = a<b#>;", "chars 13..14: invalid token"),
+        ("const x = a<b>#;", "chars 14..15: invalid token"),
         ("\u{FEFF};", "chars 0..3: invalid token"),
+    ] {
+        assert_refused::<TranslationUnit>(&rt, rt.alloc(), text, wanted)?;
+    }
+    Ok(())
+}
+
+#[test]
+fn unexpected_tokens(rt: HostRuntime) -> Result<(), Fail> {
+    for (text, wanted) in [
+        ("var x: array<type>;", "chars 12..13: unexpected token `<`"),
+        ("const a = 01;", "chars 11..12: unexpected token `1`"),
+        ("; enable a;", "chars 2..8: unexpected token `enable`"),
+        ("const x = a<a<a<b;", "chars 13..14: unexpected token `<`"),
+        ("const x = f(1, 2;", "chars 16..17: unexpected token `;`"),
+        (
+            "fn f() { if a { } else b }",
+            "chars 23..24: unexpected token `identifier `b``",
+        ),
+        ("const a = 1 2 #", "chars 12..13: unexpected token `2`"),
+        (
+            "const a = b || c && d;",
+            "chars 17..19: unexpected token `&&`",
+        ),
+        ("const a = b & c + d;", "chars 16..17: unexpected token `+`"),
+    ] {
+        assert_refused::<TranslationUnit>(&rt, rt.alloc(), text, wanted)?;
+    }
+    Ok(())
+}
+
+#[test]
+fn unexpected_ends(rt: HostRuntime) -> Result<(), Fail> {
+    for (text, wanted) in [
+        ("fn f(", "chars 5..6: unexpected end of file"),
+        ("@align(", "chars 7..8: unexpected end of file"),
+        ("@a @b", "chars 5..6: unexpected end of file"),
+        ("const a = 1", "chars 11..12: unexpected end of file"),
+        (
+            "const a = 1 /* open",
+            "chars 11..12: unexpected end of file",
+        ),
+    ] {
+        assert_refused::<TranslationUnit>(&rt, rt.alloc(), text, wanted)?;
+    }
+    Ok(())
+}
+
+#[test]
+fn checked_faults(rt: HostRuntime) -> Result<(), Fail> {
+    for (text, wanted) in [
         (
             "const self = 1;",
             "chars 6..10: use of a reserved word `self`",
@@ -24,45 +79,32 @@ fn names_the_fault_and_its_place(rt: HostRuntime) -> Result<(), Fail> {
             "const self = #",
             "chars 6..10: use of a reserved word `self`",
         ),
-        ("const a = 01;", "chars 11..12: unexpected token `1`"),
-        ("const a = 1 2 #", "chars 12..13: unexpected token `2`"),
-        ("const a = 1.5;", "chars 11..12: unexpected token `.`"),
-        ("alias A = B<C>;", "chars 11..12: unexpected token `<`"),
         (
-            "const x = -2147483648i;",
-            "chars 10..11: unexpected token `-`",
+            "const a = self self;",
+            "chars 10..14: use of a reserved word `self`",
         ),
-        ("const a = 1", "chars 11..12: unexpected end of file"),
         (
-            "const a = 1 /* open",
-            "chars 11..12: unexpected end of file",
+            "@vertex() fn f() {}",
+            "chars 0..9: invalid `vertex` attribute, expected 0 arguments",
+        ),
+        (
+            "@align",
+            "chars 0..6: invalid `align` attribute, expected 1 argument",
+        ),
+        (
+            "@diagnostic(off)",
+            "chars 0..16: invalid `diagnostic` attribute, expected 2 arguments",
+        ),
+        (
+            "diagnostic(bad, x);",
+            "chars 11..14: invalid diagnostic severity",
+        ),
+        (
+            "var<private, read> p: i32;",
+            "chars 0..18: invalid `var` template arguments, only variables with `storage` address space can have an access mode",
         ),
     ] {
-        let error = parse_str(rt.alloc(), text).err().ok_or("a unit")?;
-        let shown = format!(in rt.alloc(); "{}", error.without_expected())?;
-        assert_eq!(rt; shown.as_str(), wanted, "at {text}");
-    }
-    Ok(())
-}
-
-#[test]
-fn tells_what_was_expected(rt: HostRuntime) -> Result<(), Fail> {
-    for (text, wanted) in [
-        (
-            "a",
-            "unexpected token `identifier `a``, expected `;, alias, const`",
-        ),
-        ("const 1", "unexpected token `1`, expected `identifier`"),
-        ("const a", "unexpected end of file, expected `=`"),
-        (
-            "const a = b",
-            "unexpected token `identifier `b``, expected `false, true, integer literal, i32 literal, u32 literal`",
-        ),
-        ("const a = 1", "unexpected end of file, expected `;`"),
-    ] {
-        let error = parse_str(rt.alloc(), text).err().ok_or("a unit")?;
-        let shown = format!(in rt.alloc(); "{}", error.error)?;
-        assert_eq!(rt; shown.as_str(), wanted, "at {text}");
+        assert_refused::<TranslationUnit>(&rt, rt.alloc(), text, wanted)?;
     }
     Ok(())
 }

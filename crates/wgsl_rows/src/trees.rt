@@ -1,8 +1,23 @@
-//! A worked text with its tree and the span of each node.
+//! Modules with their trees, and the span of each node.
 
+use crate::reading::assert_read;
 use std::test::Fail;
 use wgsl_parse::parse_str;
-use wgsl_parse::syntax::{DeclarationKind, Expression, GlobalDeclaration, LiteralExpression, Span};
+use wgsl_parse::syntax::{
+    Declaration, DeclarationKind, Expression, ExpressionNode, GlobalDeclaration, LiteralExpression,
+    Span,
+};
+
+fn declared(declaration: GlobalDeclaration) -> Result<Declaration, Fail> {
+    let GlobalDeclaration::Declaration(declaration) = declaration else {
+        return Err(Fail::new("no declaration of a value"));
+    };
+    Ok(declaration)
+}
+
+fn initializer(declaration: Declaration) -> Result<ExpressionNode, Fail> {
+    Ok(declaration.initializer.ok_or("no initializer")?)
+}
 
 #[test]
 fn reads_each_declaration_with_its_span(rt: HostRuntime) -> Result<(), Fail> {
@@ -38,5 +53,22 @@ fn reads_each_declaration_with_its_span(rt: HostRuntime) -> Result<(), Fail> {
         }
         _ => assert!(rt; false),
     }
+    Ok(())
+}
+
+#[test]
+fn counts_places_from_the_front_of_the_module(rt: HostRuntime) -> Result<(), Fail> {
+    let constant = declared(assert_read(&rt, rt.alloc(), "const x = 5--7*2;"))?;
+    let sum = initializer(constant)?;
+    assert_eq!(rt; sum.span(), Span::new(10..16));
+    let Expression::Binary(sum) = sum.into_inner() else {
+        return Err(Fail::new("no sum"));
+    };
+    assert_eq!(rt; sum.right.span(), Span::new(12..16));
+    let Expression::Binary(product) = sum.right.into_inner() else {
+        return Err(Fail::new("no product"));
+    };
+    assert!(rt; product.left.node().is_unary());
+    assert_eq!(rt; product.left.span(), Span::new(12..14));
     Ok(())
 }

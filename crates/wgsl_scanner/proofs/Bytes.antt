@@ -1,8 +1,10 @@
 -- The bytes of a text that is cut.
-use Rattle.std.proofs.Common.{◌≡◌, ℕ, ◌-◌, ◌≤◌, refl, sym, ap, subst, List, ◌++◌, length, take, chars, ◌∙◌, arith, length-append}
-use Rattle.std.specs.Prelude.{slice_range}
+use Rattle.std.proofs.Common.{◌≡◌, ℕ, ◌-◌, ◌≤◌, refl, sym, ap, subst, List, [], ◌∷◌, ◌++◌, length, take, chars, ◌∙◌, arith, length-append, append-nil, Option, Some, None}
+use Rattle.std.specs.Prelude.{slice_range, MatchOption}
+use Rattle.std.specs.Char.{encode_utf8}
 use Rattle.std.specs.Str.{IsUtf8, IsCharBoundary, encode_utf8_all}
 use Rattle.std.proofs.lemmas.Str.{encodes-chars, encodes-append, chars_from_encodes, IsCharBoundary-at_seam}
+use Rattle.wgsl_model.specs.Numbers.{without_last}
 use Rattle.wgsl_scanner.proofs.Cut.{take-append_front}
 
 -- a text takes as many bytes as its characters
@@ -40,3 +42,24 @@ chars_of bs front u e = sym (chars_from_encodes front bs u (sym e))
 
 pub bytes_of : (bs xs : List ℕ) → IsUtf8 bs → chars bs ≡ xs → bs ≡ encode_utf8_all xs
 bytes_of bs xs u e = sym (encodes-chars bs u) ∙ ap encode_utf8_all e
+
+pub without_last-append : (word : List ℕ) (c : ℕ) → without_last (word ++ c ∷ []) ≡ word
+without_last-append [] c = refl
+without_last-append (a ∷ []) c = refl
+without_last-append (a ∷ (b ∷ word)) c = ap (λ w. a ∷ w) (without_last-append (b ∷ word) c)
+
+-- the last character of a text is taken off
+pub chars-before_last : (text rest : List ℕ) (c : ℕ) → IsUtf8 text → IsUtf8 rest → text ≡ rest ++ encode_utf8 c → chars rest ≡ without_last (chars text)
+chars-before_last text rest c t r e =
+    let last : encode_utf8_all (c ∷ []) ≡ encode_utf8 c = append-nil (encode_utf8 c) in
+    let whole : text ≡ encode_utf8_all (chars rest ++ c ∷ []) = e ∙ ap (λ bs. bs ++ encode_utf8 c) (sym (encodes-chars rest r)) ∙ ap (λ bs. encode_utf8_all (chars rest) ++ bs) (sym last) ∙ sym (encodes-append (chars rest) (c ∷ [])) in
+    sym (ap without_last (chars_of text (chars rest ++ c ∷ []) t whole) ∙ without_last-append (chars rest) c)
+
+no_chars : (text : List ℕ) → length text ≡ 0 → IsUtf8 text → chars text ≡ without_last (chars text)
+no_chars [] e t = let none : chars [] ≡ [] = chars_of [] [] t refl in none ∙ sym (ap without_last none)
+no_chars (b ∷ bs) e t = absurd (omega (arith, e))
+
+-- the same, where the text may be empty
+pub chars-last_taken : (text rest : List ℕ) (P : Type 0) (last : Option ℕ) → (P → rest ≡ text) → MatchOption last ((length text ≡ 0) × P) (λ c. text ≡ rest ++ encode_utf8 c) → IsUtf8 text → IsUtf8 rest → chars rest ≡ without_last (chars text)
+chars-last_taken text rest P None same h t r = ap chars (same h.1) ∙ no_chars text h.0 t
+chars-last_taken text rest P (Some c) same h t r = chars-before_last text rest c t r h

@@ -1,21 +1,18 @@
 -- Classes of characters: digits by their value, and what may begin a word.
-use Rattle.std.proofs.Common.{◌≡◌, ℕ, ◌+◌, ◌*◌, ◌<◌, ◌≤◌, true, false, ◌==◌, ◌||◌, refl, sym, ◌∙◌, ap, arith, List, ◌∷◌}
+use Rattle.std.proofs.Common.{◌≡◌, ℕ, ◌+◌, ◌*◌, ◌<◌, ◌≤◌, Bool, true, false, ◌==◌, ◌||◌, refl, sym, ◌∙◌, ap, arith, List, ◌∷◌}
+use mathlib.Core.Path.{fun_ext}
 use Rattle.std.specs.Char.{is_ascii_digit, is_ascii_hexdigit, is_ascii_alphabetic, is_ascii_alphanumeric, is_digit, digit_value}
 use Rattle.std.proofs.lemmas.Bool.{false_from_ne_true}
 use Rattle.std.proofs.lemmas.Grind.{common_steps}
 use Rattle.unicode_ident.specs.Ident.{is_xid_start, is_xid_continue}
 use Rattle.unicode_ident.proofs.IdentLemmas.{is_xid_start-ascii, is_xid_continue-ascii}
-use Rattle.wgsl_scanner.specs.Scanning.{skip_while, read_digits, skip_digits}
+use Rattle.wgsl_scanner.specs.Digits.{skip_while, read_digits, skip_digits}
 
 pub is_digit-decimal : (c : ℕ) → is_digit c 10 ≡ is_ascii_digit c
 is_digit-decimal c = grind (arith, common_steps)
 
 pub is_digit-hexadecimal : (c : ℕ) → is_digit c 16 ≡ is_ascii_hexdigit c
 is_digit-hexadecimal c = grind (arith, common_steps)
-
--- the digit of value 0 is `0`
-pub digit_value-zero : (c : ℕ) → is_ascii_digit c ≡ true → (digit_value c == 0) ≡ (c == 48)
-digit_value-zero c d = grind (arith, common_steps)
 
 digit_bound : (c : ℕ) → is_ascii_digit c ≡ true → c < 128
 digit_bound c d = grind (arith, common_steps)
@@ -43,6 +40,11 @@ other_start c h = grind (arith, common_steps)
 
 pub ascii_continue : (c : ℕ) → c < 128 → is_xid_continue c ≡ (is_ascii_alphanumeric c || c == 95)
 ascii_continue c h = is_xid_continue-ascii c h
+
+-- ---- digits
+
+pub skip_digits-is : (p : ℕ → Bool) (radix : ℕ) → ((c : ℕ) → is_digit c radix ≡ p c) → (s : List ℕ) → skip_digits radix s ≡ skip_while p s
+skip_digits-is p radix same s = ap (λ (q : ℕ → Bool). skip_while q s) (fun_ext same)
 
 -- ---- one digit more
 

@@ -2,10 +2,12 @@ pub mod Derivative
 pub mod Steps
 pub mod Longest
 pub mod Walk
+pub mod Classed
 pub mod Cut
 pub mod Bytes
 pub mod CharacterClasses
 pub mod PlainClasses
+pub mod NumberStates
 pub mod Numbers
 pub mod Symbols
 pub mod Words

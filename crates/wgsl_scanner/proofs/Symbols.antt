@@ -3,7 +3,7 @@ use Rattle.std.proofs.Common.{◌≡◌, ℕ, ◌<◌, true, false, ◌==◌, re
 use Rattle.std.specs.Char.{is_ascii_digit, is_ascii_alphabetic}
 use Rattle.unicode_ident.specs.Ident.{is_xid_start}
 use Rattle.unicode_ident.proofs.IdentLemmas.{is_xid_start-ascii}
-use Rattle.wgsl_model.specs.Classes.{SymAnd, SymAndAnd, SymArrow, SymAttr, SymForwardSlash, SymBang, SymBracketLeft, SymBracketRight, SymBraceLeft, SymBraceRight, SymColon, SymComma, SymEqual, SymEqualEqual, SymNotEqual, SymGreaterThan, SymGreaterThanEqual, SymShiftRight, SymLessThan, SymLessThanEqual, SymShiftLeft, SymModulo, SymMinus, SymMinusMinus, SymPeriod, SymPlus, SymPlusPlus, SymOr, SymOrOr, SymParenLeft, SymParenRight, SymSemicolon, SymStar, SymTilde, SymXor, SymPlusEqual, SymMinusEqual, SymTimesEqual, SymDivisionEqual, SymModuloEqual, SymAndEqual, SymOrEqual, SymXorEqual, SymShiftRightAssign, SymShiftLeftAssign}
+use Rattle.wgsl_model.specs.Classes.{SymAnd, SymAndAnd, SymArrow, SymAttr, SymForwardSlash, SymBang, SymBracketLeft, SymBracketRight, SymBraceLeft, SymBraceRight, SymColon, SymComma, SymEqual, SymEqualEqual, SymNotEqual, SymGreaterThan, SymGreaterThanEqual, SymShiftRight, SymLessThan, SymLessThanEqual, SymShiftLeft, SymModulo, SymMinus, SymMinusMinus, SymPlus, SymPlusPlus, SymOr, SymOrOr, SymParenLeft, SymParenRight, SymSemicolon, SymStar, SymTilde, SymXor, SymPlusEqual, SymMinusEqual, SymTimesEqual, SymDivisionEqual, SymModuloEqual, SymAndEqual, SymOrEqual, SymXorEqual, SymShiftRightAssign, SymShiftLeftAssign}
 use Rattle.wgsl_model.specs.Pattern.{Pattern, empty, both, either, code, after_spelling}
 use Rattle.wgsl_model.specs.Raw.{raw_at, value, token}
 use Rattle.wgsl_model.specs.Spelling.{spelling, symbol}
@@ -22,15 +22,16 @@ pub record IsSign (c : ℕ) : Type 0 where
   pub not_digit : is_ascii_digit c ≡ false
   pub not_underscore : (c == 95) ≡ false
   pub not_zero : (c == 48) ≡ false
+  pub not_point : (c == 46) ≡ false
 
-sign : (c : ℕ) → c < 128 → is_ascii_alphabetic c ≡ false → is_ascii_digit c ≡ false → (c == 95) ≡ false → (c == 48) ≡ false → IsSign c
-sign c small letter digit underscore zero = record { not_start = is_xid_start-ascii c small ∙ letter; not_digit = digit; not_underscore = underscore; not_zero = zero }
+sign : (c : ℕ) → c < 128 → is_ascii_alphabetic c ≡ false → is_ascii_digit c ≡ false → (c == 95) ≡ false → (c == 48) ≡ false → (c == 46) ≡ false → IsSign c
+sign c small letter digit underscore zero point = record { not_start = is_xid_start-ascii c small ∙ letter; not_digit = digit; not_underscore = underscore; not_zero = zero; not_point = point }
 
 after-sign : (c : ℕ) → IsSign c → after c spelling ≡ after c symbol
-after-sign c s = rw (s.not_start, s.not_underscore, s.not_digit, s.not_zero) refl
+after-sign c s = rw (s.not_start, s.not_underscore, s.not_digit, s.not_zero, s.not_point) refl
 
 value-sign : (c : ℕ) (cs : List ℕ) (class : ℕ) → IsSign c → look_up symbols (c ∷ cs) ≡ Some class → value (c ∷ cs) ≡ Some (view_of_class class)
-value-sign c cs class s e = rw (s.not_start, s.not_underscore, s.not_digit, e) (ap (λ k. Some k) (sym (symbol-plain (c ∷ cs) class e)))
+value-sign c cs class s e = rw (s.not_start, s.not_underscore, s.not_digit, s.not_point, e) (ap (λ k. Some k) (sym (symbol-plain (c ∷ cs) class e)))
 
 -- the token of a symbol that is known
 known : (c : ℕ) (cs rest : List ℕ) (class : ℕ) → IsSign c → after_spelling (after c symbol) (cs ++ rest) ≡ Some rest → look_up symbols (c ∷ cs) ≡ Some class → raw_at (c ∷ (cs ++ rest)) ≡ token (view_of_class class) (c ∷ (cs ++ rest)) rest
@@ -109,7 +110,7 @@ angle-read c shift_assign shift equal alone s own other e f l m n o (d ∷ ds) =
 -- ---- behind `-`
 
 sign_45 : IsSign 45
-sign_45 = sign 45 (lit< tt) refl refl refl refl
+sign_45 = sign 45 (lit< tt) refl refl refl refl refl
 
 abbrev minus_left : Pattern
 minus_left = after 45 symbol
@@ -125,33 +126,32 @@ minus-read (d ∷ ds) =
 
 -- ---- all of them
 
--- What the scanner reads where no word and no number begins is what the definition says.
-pub symbol-read : (c : ℕ) (cs : List ℕ) → is_xid_start c ≡ false → is_ascii_digit c ≡ false → (c == 95) ≡ false → IsRead c cs
-symbol-read c cs h d n95 =
-    let P : ℕ → Type 0 = λ c. is_xid_start c ≡ false → is_ascii_digit c ≡ false → (c == 95) ≡ false → IsRead c cs in
-    at_code 38 c P (λ _ _ _. doubled-read 38 SymAndAnd SymAndEqual SymAnd (sign 38 (lit< tt) refl refl refl refl) refl refl refl refl refl refl refl cs) (λ n38.
-    at_code 124 c P (λ _ _ _. doubled-read 124 SymOrOr SymOrEqual SymOr (sign 124 (lit< tt) refl refl refl refl) refl refl refl refl refl refl refl cs) (λ n124.
-    at_code 43 c P (λ _ _ _. doubled-read 43 SymPlusPlus SymPlusEqual SymPlus (sign 43 (lit< tt) refl refl refl refl) refl refl refl refl refl refl refl cs) (λ n43.
-    at_code 45 c P (λ _ _ _. minus-read cs) (λ n45.
-    at_code 60 c P (λ _ _ _. angle-read 60 SymShiftLeftAssign SymShiftLeft SymLessThanEqual SymLessThan (sign 60 (lit< tt) refl refl refl refl) refl refl refl refl refl refl refl refl cs) (λ n60.
-    at_code 62 c P (λ _ _ _. angle-read 62 SymShiftRightAssign SymShiftRight SymGreaterThanEqual SymGreaterThan (sign 62 (lit< tt) refl refl refl refl) refl refl refl refl refl refl refl refl cs) (λ n62.
-    at_code 61 c P (λ _ _ _. equal-read 61 SymEqualEqual SymEqual (sign 61 (lit< tt) refl refl refl refl) refl refl refl cs) (λ n61.
-    at_code 33 c P (λ _ _ _. equal-read 33 SymNotEqual SymBang (sign 33 (lit< tt) refl refl refl refl) refl refl refl cs) (λ n33.
-    at_code 42 c P (λ _ _ _. equal-read 42 SymTimesEqual SymStar (sign 42 (lit< tt) refl refl refl refl) refl refl refl cs) (λ n42.
-    at_code 47 c P (λ _ _ _. equal-read 47 SymDivisionEqual SymForwardSlash (sign 47 (lit< tt) refl refl refl refl) refl refl refl cs) (λ n47.
-    at_code 37 c P (λ _ _ _. equal-read 37 SymModuloEqual SymModulo (sign 37 (lit< tt) refl refl refl refl) refl refl refl cs) (λ n37.
-    at_code 94 c P (λ _ _ _. equal-read 94 SymXorEqual SymXor (sign 94 (lit< tt) refl refl refl refl) refl refl refl cs) (λ n94.
-    at_code 64 c P (λ _ _ _. alone 64 SymAttr (sign 64 (lit< tt) refl refl refl refl) refl refl cs) (λ n64.
-    at_code 91 c P (λ _ _ _. alone 91 SymBracketLeft (sign 91 (lit< tt) refl refl refl refl) refl refl cs) (λ n91.
-    at_code 93 c P (λ _ _ _. alone 93 SymBracketRight (sign 93 (lit< tt) refl refl refl refl) refl refl cs) (λ n93.
-    at_code 123 c P (λ _ _ _. alone 123 SymBraceLeft (sign 123 (lit< tt) refl refl refl refl) refl refl cs) (λ n123.
-    at_code 125 c P (λ _ _ _. alone 125 SymBraceRight (sign 125 (lit< tt) refl refl refl refl) refl refl cs) (λ n125.
-    at_code 40 c P (λ _ _ _. alone 40 SymParenLeft (sign 40 (lit< tt) refl refl refl refl) refl refl cs) (λ n40.
-    at_code 41 c P (λ _ _ _. alone 41 SymParenRight (sign 41 (lit< tt) refl refl refl refl) refl refl cs) (λ n41.
-    at_code 58 c P (λ _ _ _. alone 58 SymColon (sign 58 (lit< tt) refl refl refl refl) refl refl cs) (λ n58.
-    at_code 44 c P (λ _ _ _. alone 44 SymComma (sign 44 (lit< tt) refl refl refl refl) refl refl cs) (λ n44.
-    at_code 59 c P (λ _ _ _. alone 59 SymSemicolon (sign 59 (lit< tt) refl refl refl refl) refl refl cs) (λ n59.
-    at_code 46 c P (λ _ _ _. alone 46 SymPeriod (sign 46 (lit< tt) refl refl refl refl) refl refl cs) (λ n46.
-    at_code 126 c P (λ _ _ _. alone 126 SymTilde (sign 126 (lit< tt) refl refl refl refl) refl refl cs) (λ n126.
-    at_code 48 c P (λ h d n95. absurd (cc)) (λ n48. λ h d n95.
-    missed c cs (after_spelling-none spelling c cs (rw (h, n95, d, n48, n38, n124, n43, n45, n60, n62, n61, n33, n42, n47, n37, n94, n64, n91, n93, n123, n125, n40, n41, n58, n44, n59, n46, n126) refl) refl) ∙ rw (n38, n124, n43, n45, n60, n62, n61, n33, n42, n47, n37, n94, n64, n91, n93, n123, n125, n40, n41, n58, n44, n59, n46, n126) refl))))))))))))))))))))))))) h d n95
+-- What the scanner reads where no word and no number begins, and no `.` stands, is what the definition says.
+pub symbol-read : (c : ℕ) (cs : List ℕ) → is_xid_start c ≡ false → is_ascii_digit c ≡ false → (c == 95) ≡ false → (c == 46) ≡ false → IsRead c cs
+symbol-read c cs h d n95 n46 =
+    let P : ℕ → Type 0 = λ c. is_xid_start c ≡ false → is_ascii_digit c ≡ false → (c == 95) ≡ false → (c == 46) ≡ false → IsRead c cs in
+    at_code 38 c P (λ _ _ _ _. doubled-read 38 SymAndAnd SymAndEqual SymAnd (sign 38 (lit< tt) refl refl refl refl refl) refl refl refl refl refl refl refl cs) (λ n38.
+    at_code 124 c P (λ _ _ _ _. doubled-read 124 SymOrOr SymOrEqual SymOr (sign 124 (lit< tt) refl refl refl refl refl) refl refl refl refl refl refl refl cs) (λ n124.
+    at_code 43 c P (λ _ _ _ _. doubled-read 43 SymPlusPlus SymPlusEqual SymPlus (sign 43 (lit< tt) refl refl refl refl refl) refl refl refl refl refl refl refl cs) (λ n43.
+    at_code 45 c P (λ _ _ _ _. minus-read cs) (λ n45.
+    at_code 60 c P (λ _ _ _ _. angle-read 60 SymShiftLeftAssign SymShiftLeft SymLessThanEqual SymLessThan (sign 60 (lit< tt) refl refl refl refl refl) refl refl refl refl refl refl refl refl cs) (λ n60.
+    at_code 62 c P (λ _ _ _ _. angle-read 62 SymShiftRightAssign SymShiftRight SymGreaterThanEqual SymGreaterThan (sign 62 (lit< tt) refl refl refl refl refl) refl refl refl refl refl refl refl refl cs) (λ n62.
+    at_code 61 c P (λ _ _ _ _. equal-read 61 SymEqualEqual SymEqual (sign 61 (lit< tt) refl refl refl refl refl) refl refl refl cs) (λ n61.
+    at_code 33 c P (λ _ _ _ _. equal-read 33 SymNotEqual SymBang (sign 33 (lit< tt) refl refl refl refl refl) refl refl refl cs) (λ n33.
+    at_code 42 c P (λ _ _ _ _. equal-read 42 SymTimesEqual SymStar (sign 42 (lit< tt) refl refl refl refl refl) refl refl refl cs) (λ n42.
+    at_code 47 c P (λ _ _ _ _. equal-read 47 SymDivisionEqual SymForwardSlash (sign 47 (lit< tt) refl refl refl refl refl) refl refl refl cs) (λ n47.
+    at_code 37 c P (λ _ _ _ _. equal-read 37 SymModuloEqual SymModulo (sign 37 (lit< tt) refl refl refl refl refl) refl refl refl cs) (λ n37.
+    at_code 94 c P (λ _ _ _ _. equal-read 94 SymXorEqual SymXor (sign 94 (lit< tt) refl refl refl refl refl) refl refl refl cs) (λ n94.
+    at_code 64 c P (λ _ _ _ _. alone 64 SymAttr (sign 64 (lit< tt) refl refl refl refl refl) refl refl cs) (λ n64.
+    at_code 91 c P (λ _ _ _ _. alone 91 SymBracketLeft (sign 91 (lit< tt) refl refl refl refl refl) refl refl cs) (λ n91.
+    at_code 93 c P (λ _ _ _ _. alone 93 SymBracketRight (sign 93 (lit< tt) refl refl refl refl refl) refl refl cs) (λ n93.
+    at_code 123 c P (λ _ _ _ _. alone 123 SymBraceLeft (sign 123 (lit< tt) refl refl refl refl refl) refl refl cs) (λ n123.
+    at_code 125 c P (λ _ _ _ _. alone 125 SymBraceRight (sign 125 (lit< tt) refl refl refl refl refl) refl refl cs) (λ n125.
+    at_code 40 c P (λ _ _ _ _. alone 40 SymParenLeft (sign 40 (lit< tt) refl refl refl refl refl) refl refl cs) (λ n40.
+    at_code 41 c P (λ _ _ _ _. alone 41 SymParenRight (sign 41 (lit< tt) refl refl refl refl refl) refl refl cs) (λ n41.
+    at_code 58 c P (λ _ _ _ _. alone 58 SymColon (sign 58 (lit< tt) refl refl refl refl refl) refl refl cs) (λ n58.
+    at_code 44 c P (λ _ _ _ _. alone 44 SymComma (sign 44 (lit< tt) refl refl refl refl refl) refl refl cs) (λ n44.
+    at_code 59 c P (λ _ _ _ _. alone 59 SymSemicolon (sign 59 (lit< tt) refl refl refl refl refl) refl refl cs) (λ n59.
+    at_code 126 c P (λ _ _ _ _. alone 126 SymTilde (sign 126 (lit< tt) refl refl refl refl refl) refl refl cs) (λ n126.
+    at_code 48 c P (λ h d n95 n46. absurd (cc)) (λ n48. λ h d n95 n46.
+    missed c cs (after_spelling-none spelling c cs (rw (h, n95, d, n48, n38, n124, n43, n45, n60, n62, n61, n33, n42, n47, n37, n94, n64, n91, n93, n123, n125, n40, n41, n58, n44, n59, n46, n126) refl) refl) ∙ rw (n38, n124, n43, n45, n60, n62, n61, n33, n42, n47, n37, n94, n64, n91, n93, n123, n125, n40, n41, n58, n44, n59, n46, n126) refl)))))))))))))))))))))))) h d n95 n46

@@ -1,11 +1,10 @@
 -- Walking over a text by a pattern: where its longest spelling ends.
 use Rattle.std.proofs.Common.{◌≡◌, ℕ, Bool, true, false, cond, ◌==◌, refl, sym, subst, List, [], ◌∷◌, ◌++◌, Option, Some, None, ap, ◌∙◌}
-use Rattle.std.specs.Prelude.{unwrap_or}
 use Rattle.std.proofs.lemmas.Bool.{eqb-true, false_from_ne_true}
-use Rattle.wgsl_model.specs.Pattern.{Pattern, nothing, empty, or_else, spells, after_spelling}
-use Rattle.wgsl_scanner.specs.Scanning.{skip_while}
+use Rattle.wgsl_model.specs.Pattern.{Pattern, nothing, empty, or_else, after_spelling}
+use Rattle.wgsl_scanner.specs.Digits.{skip_while}
 use Rattle.wgsl_scanner.proofs.Derivative.{after, nullable}
-use Rattle.wgsl_scanner.proofs.Steps.{after_spelling-nil, after_spelling-cons, spells-cons}
+use Rattle.wgsl_scanner.proofs.Steps.{after_spelling-nil, after_spelling-cons}
 
 -- ---- one character
 
@@ -24,11 +23,6 @@ after_spelling-none r c cs e n = after_spelling-cons r c cs ∙ rw (e, n) (ap (�
 -- the character goes on, to a spelling
 pub after_spelling-go : (r q : Pattern) (c : ℕ) (cs : List ℕ) (t : List ℕ) → after c r ≡ q → after_spelling q cs ≡ Some t → after_spelling r (c ∷ cs) ≡ Some t
 after_spelling-go r q c cs t e h = after_spelling-cons r c cs ∙ rw (e, h) refl
-
--- the character goes on, or the empty word is the spelling
-pub after_spelling-try : (r q : Pattern) (c : ℕ) (cs : List ℕ) (o : Option (List ℕ)) → after c r ≡ q → nullable r ≡ true → after_spelling q cs ≡ o → after_spelling r (c ∷ cs) ≡ Some (unwrap_or o (c ∷ cs))
-after_spelling-try r q c cs None e n h = after_spelling-cons r c cs ∙ rw (e, h, n) refl
-after_spelling-try r q c cs (Some t) e n h = after_spelling-cons r c cs ∙ rw (e, h) refl
 
 pub after_spelling-empty : (s : List ℕ) → after_spelling empty s ≡ Some s
 after_spelling-empty [] = after_spelling-nil empty
@@ -90,17 +84,6 @@ pub after_spelling-run : (p : ℕ → Bool) (r : Pattern) → ((c : ℕ) → p c
 unfolding skip_while
 after_spelling-run p r step n [] = refl
 after_spelling-run p r step n (c ∷ cs) = after_spelling-run_one p (p c) r c cs refl step n (after_spelling-run p r step n cs)
-
-spells-run_one : (p : ℕ → Bool) (b : Bool) (r : Pattern) (c : ℕ) (cs t : List ℕ) → p c ≡ b → ((d : ℕ) → p d ≡ true → after d r ≡ r) → spells r (run_of p cs ++ t) ≡ spells r t → spells r (run_of p (c ∷ cs) ++ t) ≡ spells r t
-unfolding run_of
-spells-run_one p true r c cs t e step rest = rw e (spells-cons r c (run_of p cs ++ t) ∙ ap (λ q. spells q (run_of p cs ++ t)) (step c e) ∙ rest)
-spells-run_one p false r c cs t e step rest = rw e refl
-
--- the same of the words that it spells
-pub spells-run : (p : ℕ → Bool) (r : Pattern) → ((c : ℕ) → p c ≡ true → after c r ≡ r) → (s t : List ℕ) → spells r (run_of p s ++ t) ≡ spells r t
-unfolding run_of
-spells-run p r step [] t = refl
-spells-run p r step (c ∷ cs) t = spells-run_one p (p c) r c cs t refl step (spells-run p r step cs t)
 
 -- a text does not begin with a character that passes
 abbrev pub IsPast : (ℕ → Bool) → List ℕ → Type 0

@@ -7,7 +7,8 @@ use Rattle.unicode_ident.proofs.IdentLemmas.{is_xid_start-ascii}
 use Rattle.wgsl_model.specs.Pattern.{Pattern, empty, one, any, both, either, after_spelling}
 use Rattle.wgsl_model.specs.Raw.{raw_at, token, front, word_of, spelled}
 use Rattle.wgsl_model.specs.Spelling.{spelling}
-use Rattle.wgsl_scanner.specs.Scanning.{skip_while, after_word}
+use Rattle.wgsl_scanner.specs.Digits.{skip_while}
+use Rattle.wgsl_scanner.specs.Scanning.{after_word}
 use Rattle.wgsl_scanner.proofs.Derivative.{after}
 use Rattle.wgsl_scanner.proofs.Steps.{after_spelling-nil}
 use Rattle.wgsl_scanner.proofs.Walk.{after_spelling-stop, after_spelling-go, other_than, at_code, run_of, run_is, after_spelling-run, IsPast, past}

@@ -1,3 +1,5 @@
+pub mod Digits
+pub mod ScannedNumbers
 pub mod Scanning
 pub mod View
 pub mod Parts

@@ -1,63 +1,17 @@
 -- How the scanner goes over a text, a character at a time: what its own functions promise one another.
-use Rattle.std.specs.Prelude.{◌≡◌, ℕ, ◌+◌, ◌*◌, ◌^◌, ◌≤◌, Bool, false, ◌==◌, ◌||◌, ◌&&◌, if◌then◌else◌, List, [], ◌∷◌, Option, Some, None}
-use Rattle.std.specs.Char.{digit_value, is_digit, is_ascii_hexdigit}
+use Rattle.std.specs.Prelude.{ℕ, ◌==◌, ◌||◌, if◌then◌else◌, List, [], ◌∷◌, Option, Some, None}
 use Rattle.std.specs.Str.{encode_utf8_all}
 use Rattle.unicode_ident.specs.Ident.{is_xid_start, is_xid_continue}
-use Rattle.wgsl_model.specs.Classes.{SymAnd, SymAndAnd, SymArrow, SymAttr, SymForwardSlash, SymBang, SymBracketLeft, SymBracketRight, SymBraceLeft, SymBraceRight, SymColon, SymComma, SymEqual, SymEqualEqual, SymNotEqual, SymGreaterThan, SymGreaterThanEqual, SymShiftRight, SymLessThan, SymLessThanEqual, SymShiftLeft, SymModulo, SymMinus, SymMinusMinus, SymPeriod, SymPlus, SymPlusPlus, SymOr, SymOrOr, SymParenLeft, SymParenRight, SymSemicolon, SymStar, SymTilde, SymXor, SymPlusEqual, SymMinusEqual, SymTimesEqual, SymDivisionEqual, SymModuloEqual, SymAndEqual, SymOrEqual, SymXorEqual, SymShiftRightAssign, SymShiftLeftAssign, AbstractInt, I32, U32}
-use Rattle.wgsl_model.specs.Kind.{Kind}
-use Rattle.wgsl_model.specs.Numbers.{is_x, below}
+use Rattle.wgsl_model.specs.Classes.{SymAnd, SymAndAnd, SymArrow, SymAttr, SymForwardSlash, SymBang, SymBracketLeft, SymBracketRight, SymBraceLeft, SymBraceRight, SymColon, SymComma, SymEqual, SymEqualEqual, SymNotEqual, SymGreaterThan, SymGreaterThanEqual, SymShiftRight, SymLessThan, SymLessThanEqual, SymShiftLeft, SymModulo, SymMinus, SymMinusMinus, SymPeriod, SymPlus, SymPlusPlus, SymOr, SymOrOr, SymParenLeft, SymParenRight, SymSemicolon, SymStar, SymTilde, SymXor, SymPlusEqual, SymMinusEqual, SymTimesEqual, SymDivisionEqual, SymModuloEqual, SymAndEqual, SymOrEqual, SymXorEqual, SymShiftRightAssign, SymShiftLeftAssign}
 use Rattle.wgsl_model.specs.Raw.{Raw, none_left, invalid, token, front, word_of, valued}
 use Rattle.wgsl_token.specs.View.{view_of_class}
-
--- what follows the characters at the front that pass
-unfoldable pub skip_while : (ℕ → Bool) → List ℕ → List ℕ
-skip_while p [] = []
-skip_while p (c ∷ cs) = if p c then skip_while p cs else c ∷ cs
+use Rattle.wgsl_scanner.specs.Digits.{skip_while}
+use Rattle.wgsl_scanner.specs.ScannedNumbers.{NumericLiteral, number_kind, number}
 
 -- ---- words
 
 abbrev pub after_word : List ℕ → List ℕ
 after_word text = skip_while is_xid_continue text
-
--- ---- numbers: what they stand for, none where it does not fit, and what follows them
-
-abbrev pub skip_digits : ℕ → List ℕ → List ℕ
-skip_digits radix text = skip_while (λ c. is_digit c radix) text
-
--- the value of the digits at the front, read on from a value
-unfoldable pub read_digits : ℕ → ℕ → List ℕ → ℕ
-read_digits radix n [] = n
-read_digits radix n (c ∷ cs) = if is_digit c radix then read_digits radix (n * radix + digit_value c) cs else n
-
--- the number, or none where it passes 64 bits
-abbrev pub Fits : Option ℕ → ℕ → Type 0
-Fits None n = 2 ^ 64 ≤ n
-Fits (Some m) n = m ≡ n
-
--- by the suffix
-abbrev pub suffixed : ℕ → List ℕ → Option Kind × List ℕ
-suffixed n [] = (below AbstractInt (2 ^ 63) n, [])
-suffixed n (c ∷ cs) =
-    if c == 105 then (below I32 (2 ^ 31) n, cs)
-    else if c == 117 then (below U32 (2 ^ 32) n, cs)
-    else (below AbstractInt (2 ^ 63) n, c ∷ cs)
-
--- behind a first digit
-abbrev pub digits_at : ℕ → ℕ → List ℕ → Option Kind × List ℕ
-digits_at radix n text = suffixed (read_digits radix n text) (skip_digits radix text)
-
-abbrev pub begins_with_hexdigit : List ℕ → Bool
-begins_with_hexdigit [] = false
-begins_with_hexdigit (c ∷ cs) = is_ascii_hexdigit c
-
--- behind a first digit `0`
-abbrev pub zero_at : List ℕ → Option Kind × List ℕ
-zero_at [] = suffixed 0 []
-zero_at (x ∷ cs) = if is_x x && begins_with_hexdigit cs then digits_at 16 0 cs else suffixed 0 (x ∷ cs)
-
--- behind a first digit of this value
-abbrev pub number_at : ℕ → List ℕ → Option Kind × List ℕ
-number_at n text = if n == 0 then zero_at text else digits_at 10 n text
 
 -- ---- symbols: their class, and what follows them
 
@@ -117,17 +71,22 @@ symbol_at c cs =
 
 -- ---- a token
 
-abbrev pub numbered : List ℕ → Option Kind × List ℕ → Raw
-numbered text found = valued text found.1 found.0
+-- a number that was read, or none where it does not fit its type
+abbrev pub numbered : List ℕ → NumericLiteral × List ℕ → Raw
+numbered text found = valued text found.1 (number_kind found.0 (front text found.1))
 
 abbrev pub symboled : List ℕ → List ℕ → Option (ℕ × List ℕ) → Raw
 symboled text cs None = invalid text cs
 symboled text cs (Some found) = token (view_of_class found.0) text found.1
+
+-- a number, or else a symbol
+abbrev pub number_or_symbol : Option (NumericLiteral × List ℕ) → ℕ → List ℕ → Raw
+number_or_symbol None c cs = symboled (c ∷ cs) cs (symbol_at c cs)
+number_or_symbol (Some found) c cs = numbered (c ∷ cs) found
 
 -- the token at the front of a text that does not begin with trivia
 abbrev pub scan_at : List ℕ → Raw
 scan_at [] = none_left
 scan_at (c ∷ cs) =
     if is_xid_start c || c == 95 then token (word_of (encode_utf8_all (front (c ∷ cs) (after_word cs)))) (c ∷ cs) (after_word cs)
-    else if is_digit c 10 then numbered (c ∷ cs) (number_at (digit_value c) cs)
-    else symboled (c ∷ cs) cs (symbol_at c cs)
+    else number_or_symbol (number c cs) c cs

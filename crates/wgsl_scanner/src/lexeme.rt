@@ -1,4 +1,4 @@
-//! A token whose name is still a part of the source.
+//! A token whose name or spelling is still a part of the source.
 
 ghost use Rattle.std.specs.Prelude.{◌≡◌, IfOk};
 ghost use Rattle.wgsl_token.specs.View.{class_of_kind, kind_view};
@@ -8,7 +8,7 @@ use std::alloc::{AllocError, Global};
 use wgsl_token::kind::TokenKind;
 use wgsl_token::token::Token;
 
-/// A token whose name is still a part of the source. A plain one holds nothing.
+/// A token whose name is still a part of the source, as is the spelling of a float without its suffix. A plain one holds nothing.
 #[derive(Clone, Copy, Debug, PartialEq)]
 pub enum Lexeme<'s> {
     Plain(TokenKind),
@@ -17,6 +17,9 @@ pub enum Lexeme<'s> {
     AbstractInt(i64),
     I32(i32),
     U32(u32),
+    AbstractFloat(&'s str),
+    F32(&'s str),
+    F16(&'s str),
 }
 
 impl<'s> Lexeme<'s> {
@@ -31,10 +34,13 @@ impl<'s> Lexeme<'s> {
             Lexeme::AbstractInt(_) => TokenKind::AbstractInt,
             Lexeme::I32(_) => TokenKind::I32,
             Lexeme::U32(_) => TokenKind::U32,
+            Lexeme::AbstractFloat(_) => TokenKind::AbstractFloat,
+            Lexeme::F32(_) => TokenKind::F32,
+            Lexeme::F16(_) => TokenKind::F16,
         }
     }
 
-    /// The token, with a name of its own.
+    /// The token, with a name or spelling of its own.
     pub fn to_token(self, alloc: Global) -> Result<Token, AllocError>
         ensures { IfOk result (λ token. kind_view token ≡ lexeme_view self.entry) }
     {
@@ -45,6 +51,9 @@ impl<'s> Lexeme<'s> {
             Lexeme::AbstractInt(number) => Token::AbstractInt(number),
             Lexeme::I32(number) => Token::I32(number),
             Lexeme::U32(number) => Token::U32(number),
+            Lexeme::AbstractFloat(text) => Token::AbstractFloat(String::from_str(alloc, text)?),
+            Lexeme::F32(text) => Token::F32(String::from_str(alloc, text)?),
+            Lexeme::F16(text) => Token::F16(String::from_str(alloc, text)?),
         })
     }
 }

@@ -2,6 +2,8 @@
 #![tactic(auto)]
 
 mod characters;
+mod digits;
+mod float;
 mod keyword;
 pub mod laws;
 pub mod lexeme;

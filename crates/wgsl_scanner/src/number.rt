@@ -1,136 +1,144 @@
-//! Whole numbers.
+//! Numbers.
 
-ghost use Rattle.std.specs.Prelude.{◌≡◌, ◌≤◌, ◌<◌, ◌&&◌, ◌+◌, ◌*◌, ◌^◌, ℕ, chars, length, option_map};
+ghost use Rattle.std.specs.Prelude.{◌≡◌, ◌≤◌, ◌<◌, ◌^◌, ℕ, chars, length, IfSome, option_map, pos};
 ghost use Rattle.wgsl_model.specs.Classes.{AbstractInt, I32, U32};
-ghost use Rattle.wgsl_model.specs.Numbers.{below, is_x};
-ghost use Rattle.wgsl_scanner.specs.Scanning.{Fits, read_digits, skip_digits, suffixed, number_at, zero_at, digits_at, begins_with_hexdigit};
-ghost use Rattle.wgsl_scanner.specs.Parts.{number_view};
+ghost use Rattle.wgsl_model.specs.Numbers.{below};
+ghost use Rattle.wgsl_scanner.specs.Digits.{Fits};
+ghost use Rattle.wgsl_scanner.specs.ScannedNumbers.{number_kind, suffixed, decimal, after_zero, hexadecimal, number};
+ghost use Rattle.wgsl_scanner.specs.Parts.{whole_kind, number_view, number_and_rest, optional_number_view};
 ghost use Rattle.wgsl_scanner.specs.View.{lexeme_view};
 
+use crate::digits::{read_digits, skip_digits};
+use crate::float::{FloatType, decimal_float, hexadecimal_float, hexadecimal_point, point};
 use crate::lexeme::Lexeme;
 use crate::text::split_first;
 
-/// The value with one digit more, unless it passes 64 bits.
-fn with_digit(value: Option<u64>, radix: u32, digit: u32) -> Option<u64>
-    requires low { 2 ≤ radix }
-    requires high { radix ≤ 16 }
-    requires digit { digit < radix }
-    ensures { (n : ℕ) → Fits value n → Fits result (n * radix + digit) }
-{
-    value?
-        .checked_mul(u64::from(radix))?
-        .checked_add(u64::from(digit))
+/// A number that was read: a whole one by its value, none where it does not fit its type, or a float by its type.
+#[derive(Clone, Copy)]
+pub(crate) enum NumericLiteral {
+    AbstractInt(Option<i64>),
+    I32(Option<i32>),
+    U32(Option<u32>),
+    Float(FloatType),
 }
 
-/// The value of the digits behind a first one, unless it passes 64 bits, and what follows them.
-#[tactic(auto, unfolding(crate::specs::Scanning::skip_while, crate::specs::Scanning::read_digits))]
-fn read_digits(first: u32, radix: u32, text: &str) -> (Option<u64>, &str)
-    requires low { 2 ≤ radix }
-    requires high { radix ≤ 16 }
-    ensures value { Fits result.0 (read_digits radix first (chars text.now)) }
-    ensures rest { chars result.1.now ≡ skip_digits radix (chars text.now) }
-    ensures within { length result.1.now ≤ length text.now }
-{
-    let mut value = Some(u64::from(first));
-    let mut rest = text;
-    while let Some((c, after)) = split_first(rest) {
-        let Some(digit) = c.to_digit(radix) else {
-            return (value, rest);
-        };
-        value = with_digit(value, radix, digit);
-        rest = after;
+impl NumericLiteral {
+    /// The token of a number by its spelling, none where it does not fit its type.
+    pub(crate) fn lexeme<'s>(self, spelling: &'s str) -> Option<Lexeme<'s>>
+        ensures { option_map lexeme_view result ≡ number_kind (number_view self) (chars spelling.now) }
+    {
+        match self {
+            NumericLiteral::AbstractInt(value) => Some(Lexeme::AbstractInt(value?)),
+            NumericLiteral::I32(value) => Some(Lexeme::I32(value?)),
+            NumericLiteral::U32(value) => Some(Lexeme::U32(value?)),
+            NumericLiteral::Float(float_type) => Some(float_type.lexeme(spelling)),
+        }
     }
-    (value, rest)
 }
 
-fn abstract_int<'s>(value: Option<u64>) -> Option<Lexeme<'s>>
-    ensures { (n : ℕ) → Fits value n → option_map lexeme_view result ≡ below AbstractInt (2 ^ 63) n }
+fn abstract_int(value: Option<u64>) -> Option<i64>
+    ensures { (n : ℕ) → Fits value n → option_map (whole_kind AbstractInt) result ≡ below AbstractInt (2 ^ 63) n }
 {
     let number = value?;
     if number < 1 << 63 {
-        Some(Lexeme::AbstractInt(number as i64))
+        Some(number as i64)
     } else {
         None
     }
 }
 
-fn i32_literal<'s>(value: Option<u64>) -> Option<Lexeme<'s>>
-    ensures { (n : ℕ) → Fits value n → option_map lexeme_view result ≡ below I32 (2 ^ 31) n }
+fn i32_value(value: Option<u64>) -> Option<i32>
+    ensures { (n : ℕ) → Fits value n → option_map (whole_kind I32) result ≡ below I32 (2 ^ 31) n }
 {
     let number = value?;
     if number < 1 << 31 {
-        Some(Lexeme::I32(number as i32))
+        Some(number as i32)
     } else {
         None
     }
 }
 
-fn u32_literal<'s>(value: Option<u64>) -> Option<Lexeme<'s>>
-    ensures { (n : ℕ) → Fits value n → option_map lexeme_view result ≡ below U32 (2 ^ 32) n }
+fn u32_value(value: Option<u64>) -> Option<u32>
+    ensures { (n : ℕ) → Fits value n → option_map (λ m. whole_kind U32 (pos m)) result ≡ below U32 (2 ^ 32) n }
 {
     let number = value?;
     if number < 1 << 32 {
-        Some(Lexeme::U32(number as u32))
+        Some(number as u32)
     } else {
         None
     }
 }
 
-/// The number of a value by the suffix that follows, none where it does not fit; and what follows it.
-fn suffixed(value: Option<u64>, text: &str) -> (Option<Lexeme<'_>>, &str)
-    ensures value { (n : ℕ) → Fits value n → number_view result ≡ suffixed n (chars text.now) }
+/// The whole number of a value by the suffix that follows, and what follows it.
+fn suffixed(value: Option<u64>, text: &str) -> (NumericLiteral, &str)
+    ensures value { (n : ℕ) → Fits value n → number_and_rest result ≡ suffixed n (chars text.now) }
     ensures within { length result.1.now ≤ length text.now }
 {
     match split_first(text) {
-        Some(('i', after)) => (i32_literal(value), after),
-        Some(('u', after)) => (u32_literal(value), after),
-        _ => (abstract_int(value), text),
+        Some(('i', after)) => (NumericLiteral::I32(i32_value(value)), after),
+        Some(('u', after)) => (NumericLiteral::U32(u32_value(value)), after),
+        _ => (NumericLiteral::AbstractInt(abstract_int(value)), text),
     }
 }
 
-/// The number behind its first digit.
-fn after_digit(first: u32, radix: u32, text: &str) -> (Option<Lexeme<'_>>, &str)
-    requires low { 2 ≤ radix }
-    requires high { radix ≤ 16 }
-    ensures value { number_view result ≡ digits_at radix first (chars text.now) }
-    ensures within { length result.1.now ≤ length text.now }
+/// A decimal number behind its digits: those of a float, or those of a whole number of a value.
+fn decimal<'s>(
+    digits_rest: &'s str,
+    value: Option<u64>,
+    whole_rest: &'s str,
+) -> (NumericLiteral, &'s str)
+    ensures value { (n : ℕ) → Fits value n → number_and_rest result ≡ decimal (chars digits_rest.now) n (chars whole_rest.now) }
+    ensures within { (n : ℕ) → length digits_rest.now ≤ n → length whole_rest.now ≤ n → length result.1.now ≤ n }
 {
-    let (value, rest) = read_digits(first, radix, text);
-    suffixed(value, rest)
+    match decimal_float(digits_rest) {
+        Some((float_type, after)) => (NumericLiteral::Float(float_type), after),
+        None => suffixed(value, whole_rest),
+    }
 }
 
-fn begins_with_hexdigit(text: &str) -> bool
-    ensures { result ≡ begins_with_hexdigit (chars text.now) }
+/// A hexadecimal number behind `0x`, none where no digit follows.
+fn hexadecimal(text: &str) -> Option<(NumericLiteral, &str)>
+    ensures value { optional_number_view result ≡ hexadecimal (chars text.now) }
+    ensures within { IfSome result (λ found. length found.1.now ≤ length text.now) }
 {
-    matches!(split_first(text), Some((c, _)) if c.is_ascii_hexdigit())
+    let (c, after) = split_first(text)?;
+    if c == '.' {
+        let (float_type, rest) = hexadecimal_point(after)?;
+        return Some((NumericLiteral::Float(float_type), rest));
+    }
+    let (value, rest) = read_digits(c.to_digit(16)?, 16, after);
+    match hexadecimal_float(rest) {
+        Some((float_type, after)) => Some((NumericLiteral::Float(float_type), after)),
+        None => Some(suffixed(value, rest)),
+    }
 }
 
-/// Whether hexadecimal digits begin behind `0` and this character.
-fn is_hexadecimal(x: char, digits: &str) -> bool
-    ensures { result ≡ (is_x x && begins_with_hexdigit (chars digits.now)) }
-{
-    (x == 'x' || x == 'X') && begins_with_hexdigit(digits)
-}
-
-/// The number behind a first digit `0`.
-fn after_zero(text: &str) -> (Option<Lexeme<'_>>, &str)
-    ensures value { number_view result ≡ zero_at (chars text.now) }
+/// A number behind a first digit `0`: the digits that follow belong to it only where it is a float.
+fn after_zero(text: &str) -> (NumericLiteral, &str)
+    ensures value { number_and_rest result ≡ after_zero (chars text.now) }
     ensures within { length result.1.now ≤ length text.now }
 {
     match split_first(text) {
-        Some((x, digits)) if is_hexadecimal(x, digits) => after_digit(0, 16, digits),
-        _ => suffixed(Some(0), text),
+        Some(('x' | 'X', digits)) => hexadecimal(digits).unwrap_or((
+            NumericLiteral::AbstractInt(Some(0)),
+            text,
+        )),
+        _ => decimal(skip_digits(10, text), Some(0), text),
     }
 }
 
-/// The number behind its first digit, none where it does not fit its type; and what follows it.
-pub(crate) fn number(first: u32, text: &str) -> (Option<Lexeme<'_>>, &str)
-    ensures value { number_view result ≡ number_at first (chars text.now) }
-    ensures within { length result.1.now ≤ length text.now }
+/// The number that begins with a character, and the text after it; none where no number does.
+pub(crate) fn number(c: char, text: &str) -> Option<(NumericLiteral, &str)>
+    ensures value { optional_number_view result ≡ number c (chars text.now) }
+    ensures within { IfSome result (λ found. length found.1.now ≤ length text.now) }
 {
-    if first == 0 {
-        after_zero(text)
-    } else {
-        after_digit(first, 10, text)
+    if c == '.' {
+        let (float_type, after) = point(text)?;
+        return Some((NumericLiteral::Float(float_type), after));
     }
+    if c == '0' {
+        return Some(after_zero(text));
+    }
+    let (value, rest) = read_digits(c.to_digit(10)?, 10, text);
+    Some(decimal(rest, value, rest))
 }

@@ -45,14 +45,14 @@ fn scan_at(text: &str) -> Scanned<'_>
             after,
         };
     }
-    if let Some(digit) = c.to_digit(10) {
-        return match number(digit, rest) {
-            (Some(lexeme), after) => Scanned::Found {
+    if let Some((number, after)) = number(c, rest) {
+        return match number.lexeme(before(text, after)) {
+            Some(lexeme) => Scanned::Found {
                 lexeme,
                 from: text,
                 after,
             },
-            (None, after) => Scanned::Invalid { from: text, after },
+            None => Scanned::Invalid { from: text, after },
         };
     }
     match symbol(c, rest) {

@@ -1,6 +1,7 @@
 //! A text as its characters.
 
 ghost use Rattle.std.specs.Prelude.{◌≡◌, ◌<◌, ◌∷◌, ◌++◌, [], chars, length, MatchOption};
+ghost use Rattle.wgsl_model.specs.Numbers.{without_last};
 ghost use Rattle.wgsl_model.specs.Raw.{front};
 
 /// The first character and the text after it.
@@ -19,4 +20,13 @@ pub(crate) fn before<'s>(text: &'s str, rest: &str) -> &'s str
     ensures value { chars result.now ≡ front (chars text.now) (chars rest.now) }
 {
     &text[..text.len() - rest.len()]
+}
+
+/// A text without its last character.
+pub(crate) fn without_last(text: &str) -> &str
+    ensures { chars result.now ≡ without_last (chars text.now) }
+{
+    let mut rest = text.chars();
+    rest.next_back();
+    rest.as_str()
 }

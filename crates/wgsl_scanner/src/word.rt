@@ -13,7 +13,7 @@ use crate::text::split_first;
 use wgsl_token::kind::TokenKind;
 
 /// The text after the characters that continue a word.
-#[tactic(auto, unfolding(crate::specs::Scanning::skip_while))]
+#[tactic(auto, unfolding(crate::specs::Digits::skip_while))]
 pub(crate) fn after_word(text: &str) -> &str
     ensures rest { chars result.now ≡ after_word (chars text.now) }
     ensures within { length result.now ≤ length text.now }

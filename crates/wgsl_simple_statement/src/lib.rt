@@ -5,12 +5,16 @@ mod clones;
 mod conversions;
 mod declaration;
 pub mod equality_laws;
+mod parts;
 mod simple;
-mod syntax_node;
 mod unended;
 mod variants;
 
 pub use declaration::{Declaration, DeclarationKind, DeclarationStatement};
+pub use parts::{
+    write_attribute_line, write_break_if, write_case, write_condition, write_gap, write_head,
+    write_line_end, write_open, write_start,
+};
 pub use simple::{
     AssignmentStatement, BreakIfStatement, BreakStatement, CaseSelector, ConstAssert,
     ConstAssertStatement, ContinueStatement, DecrementStatement, DiscardStatement,

@@ -1,10 +1,7 @@
-mod StatementViews
-mod Views
+pub mod StatementViews
+pub mod Views
 mod Copies
 mod EmptyStatements
 mod ClauseViews
-mod Blocks
-mod AtDepth
-mod Writes
 mod Lines
 pub mod Equalities

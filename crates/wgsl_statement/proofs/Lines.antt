@@ -13,7 +13,7 @@ use Rattle.wgsl_model.specs.Indentation.{after_line_ends}
 use Rattle.wgsl_model.specs.PrintedStatements.{is_void, print_statement, statement_texts, print_else_ifs, print_else_if_clause, clause_texts, print_switch_clause}
 use Rattle.wgsl_statement.specs.View.{statement_view, statement_nodes_view, else_if_clause_view, switch_clause_view}
 use Rattle.wgsl_writer.proofs.Indents.{after_append}
-use Rattle.wgsl_statement.proofs.Blocks.{lines_at}
+use Rattle.wgsl_simple_statement.proofs.Blocks.{lines_at}
 
 -- a list is empty
 abbrev pub is_nil : {X : Type 0} → List X → Bool

@@ -1,3 +1,2 @@
 pub mod View
 pub mod Variants
-pub mod Attributed

@@ -1,14 +1,11 @@
 //! Statements.
 #![tactic(auto)]
 
-mod clause_syntax_node;
 mod clones;
 mod conversions;
 mod display;
 mod equality;
-mod leaves;
 mod statement;
-mod syntax_node;
 mod variants;
 mod voids;
 mod write;

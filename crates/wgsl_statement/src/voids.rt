@@ -1,11 +1,12 @@
 //! Statements without the empty ones of their lists.
 
 ghost use Rattle.std.specs.Prelude.{◌≡◌, filter, map, not};
+ghost use Rattle.std.specs.Option.{option_map};
 ghost use Rattle.wgsl_model.specs.PrintedStatements as printed;
-ghost use Rattle.wgsl_model.specs.Statements.{else_ifs_of, clauses_of};
-ghost use Rattle.wgsl_model.specs.EmptyItems.{full_statement, full_statements, full_compound, full_if, full_else_if_clause, full_else_ifs, full_switch, full_switch_clause, full_clauses, full_loop, full_for, full_while};
+ghost use Rattle.wgsl_model.specs.Statements.{else_ifs_of, clauses_of, maybe_statement};
+ghost use Rattle.wgsl_model.specs.EmptyItems.{full_statement, full_statements, full_compound, full_if, full_else_if_clause, full_else_ifs, full_switch, full_switch_clause, full_clauses, full_loop, full_for, full_part, full_while};
 ghost use Rattle.wgsl_span.specs.Spanned.{spanned_node};
-ghost use Rattle.wgsl_statement.specs.View.{statement_view, statement_nodes_view, compound_statement_view, if_statement_view, else_if_clause_view, switch_statement_view, switch_clause_view, loop_statement_view, for_statement_view, while_statement_view};
+ghost use Rattle.wgsl_statement.specs.View.{statement_view, statement_node_view, statement_nodes_view, compound_statement_view, if_statement_view, else_if_clause_view, switch_statement_view, switch_clause_view, loop_statement_view, for_statement_view, while_statement_view};
 
 use crate::statement::{
     CompoundStatement, ElseIfClause, ForStatement, IfStatement, LoopStatement, Statement,
@@ -135,13 +136,18 @@ impl ForStatement {
     fn remove_voids(&mut self)
         ensures { for_statement_view self.new ≡ full_for (for_statement_view self.old) }
     {
-        if let Some(initializer) = &mut self.initializer {
-            initializer.node_mut().remove_voids();
-        }
-        if let Some(update) = &mut self.update {
-            update.node_mut().remove_voids();
-        }
+        remove_from_part(&mut self.initializer);
+        remove_from_part(&mut self.update);
         self.body.remove_voids();
+    }
+}
+
+#[cycle(remove)]
+fn remove_from_part(part: &mut Option<StatementNode>)
+    ensures { maybe_statement (option_map statement_node_view part.new) ≡ full_part (maybe_statement (option_map statement_node_view part.old)) }
+{
+    if let Some(statement) = part {
+        statement.node_mut().remove_voids();
     }
 }
 

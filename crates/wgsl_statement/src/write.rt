@@ -8,15 +8,14 @@ ghost use Rattle.wgsl_model.specs.PrintedStatements.{end_of, unended, print_stat
 ghost use Rattle.wgsl_writer.specs.Depth.{spaces};
 ghost use Rattle.wgsl_statement.specs.View.{statement_view, statement_nodes_view, compound_statement_view};
 
-use crate::leaves::{write_attribute_line, write_gap};
 use crate::statement::{CompoundStatement, Statement, StatementNode};
 use crate::write_if::write_if;
 use crate::write_loops::{write_for, write_loop, write_while};
 use crate::write_switch::write_switch;
 use std::fmt;
 use std::fmt::Write;
-use wgsl_simple_statement::Unended;
-use wgsl_writer::{Depth, write_indented, write_spaces};
+use wgsl_simple_statement::{Unended, write_gap, write_line_end, write_open};
+use wgsl_writer::{Depth, write_indented};
 
 impl Statement {
     /// The `;` that ends it, if one does.
@@ -108,12 +107,9 @@ pub fn write_opened<W: fmt::Write>(
 ) -> fmt::Result
     ensures { DisplaysOnOk W.write_str_gives f.old result (Some (after_line_ends (spaces depth.now) (print_opened (compound_statement_view block.now)))) f.new }
 {
-    write_attribute_line(&block.attributes, depth, f)?;
-    f.write_str("{\n")?;
-    write_spaces(depth, f)?;
+    write_open(&block.attributes, depth, f)?;
     write_lines(&block.statements, depth, f)?;
-    f.write_str("\n")?;
-    write_spaces(depth, f)
+    write_line_end(depth, f)
 }
 
 /// Writes the statements that are not empty, each on a line of its own.

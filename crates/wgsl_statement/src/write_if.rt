@@ -9,12 +9,12 @@ ghost use Rattle.wgsl_model.specs.PrintedStatements.{print_if, print_if_clause, 
 ghost use Rattle.wgsl_writer.specs.Depth.{spaces};
 ghost use Rattle.wgsl_statement.specs.View.{if_statement_view, if_clause_view, else_if_clause_view, else_clause_view};
 
-use crate::leaves::write_attribute_line;
 use crate::statement::{ElseClause, ElseIfClause, IfClause, IfStatement};
 use crate::write::write_compound;
 use std::fmt;
 use std::fmt::Write;
-use wgsl_writer::{Depth, write_indented, write_spaces};
+use wgsl_simple_statement::{write_attribute_line, write_head, write_line_end};
+use wgsl_writer::Depth;
 
 #[cycle(printing)]
 pub fn write_if<W: fmt::Write>(
@@ -38,9 +38,7 @@ pub fn write_if_clause<W: fmt::Write>(
 ) -> fmt::Result
     ensures { DisplaysOnOk W.write_str_gives f.old result (Some (after_line_ends (spaces depth.now) (print_if_clause (if_clause_view clause.now)))) f.new }
 {
-    f.write_str("if ")?;
-    write_indented(&clause.expression, depth, f)?;
-    f.write_str(" ")?;
+    write_head("if ", &clause.expression, depth, f)?;
     write_compound(&clause.body, depth, f)
 }
 
@@ -54,8 +52,7 @@ fn write_else_ifs<W: fmt::Write>(
     ensures { DisplaysOnOk W.write_str_gives f.old result (Some (after_line_ends (spaces depth.now) (print_else_ifs (else_ifs_of (map else_if_clause_view clauses.now))))) f.new }
 {
     'clauses: for clause in clauses {
-        f.write_str("\n")?;
-        write_spaces(depth, f)?;
+        write_line_end(depth, f)?;
         write_else_if_clause(clause, depth, f)?;
     }
     Ok(())
@@ -69,9 +66,7 @@ pub fn write_else_if_clause<W: fmt::Write>(
 ) -> fmt::Result
     ensures { DisplaysOnOk W.write_str_gives f.old result (Some (after_line_ends (spaces depth.now) (print_else_if_clause (else_if_clause_view clause.now)))) f.new }
 {
-    f.write_str("else if ")?;
-    write_indented(&clause.expression, depth, f)?;
-    f.write_str(" ")?;
+    write_head("else if ", &clause.expression, depth, f)?;
     write_compound(&clause.body, depth, f)
 }
 
@@ -87,8 +82,7 @@ fn write_else<W: fmt::Write>(
     match clause {
         None => Ok(()),
         Some(clause) => {
-            f.write_str("\n")?;
-            write_spaces(depth, f)?;
+            write_line_end(depth, f)?;
             write_else_clause(clause, depth, f)
         }
     }

@@ -9,14 +9,16 @@ ghost use Rattle.wgsl_model.specs.PrintedStatements.{print_loop, print_continuin
 ghost use Rattle.wgsl_writer.specs.Depth.{spaces};
 ghost use Rattle.wgsl_statement.specs.View.{statement_node_view, loop_statement_view, continuing_statement_view, for_statement_view, while_statement_view};
 
-use crate::leaves::{write_attribute_line, write_break_if, write_condition};
 use crate::statement::{
     ContinuingStatement, ForStatement, LoopStatement, StatementNode, WhileStatement,
 };
 use crate::write::{write_compound, write_opened, write_unended};
 use std::fmt;
 use std::fmt::Write;
-use wgsl_writer::{Depth, write_indented, write_spaces};
+use wgsl_simple_statement::{
+    write_attribute_line, write_break_if, write_condition, write_head, write_line_end, write_start,
+};
+use wgsl_writer::Depth;
 
 #[cycle(printing)]
 pub fn write_loop<W: fmt::Write>(
@@ -26,8 +28,7 @@ pub fn write_loop<W: fmt::Write>(
 ) -> fmt::Result
     ensures { DisplaysOnOk W.write_str_gives f.old result (Some (after_line_ends (spaces depth.now) (print_loop (loop_statement_view statement.now)))) f.new }
 {
-    write_attribute_line(&statement.attributes, depth, f)?;
-    f.write_str("loop ")?;
+    write_start(&statement.attributes, "loop ", depth, f)?;
     write_opened(&statement.body, depth, f)?;
     write_continuing_line(&statement.continuing, depth, f)?;
     f.write_str("}")
@@ -48,8 +49,7 @@ fn write_continuing_line<W: fmt::Write>(
             let inner = Depth::Below(&*depth);
             f.write_str("    ")?;
             write_continuing(statement, &inner, f)?;
-            f.write_str("\n")?;
-            write_spaces(depth, f)
+            write_line_end(depth, f)
         }
     }
 }
@@ -76,12 +76,9 @@ pub fn write_for<W: fmt::Write>(
 ) -> fmt::Result
     ensures { DisplaysOnOk W.write_str_gives f.old result (Some (after_line_ends (spaces depth.now) (print_for (for_statement_view statement.now)))) f.new }
 {
-    write_attribute_line(&statement.attributes, depth, f)?;
-    f.write_str("for (")?;
+    write_start(&statement.attributes, "for (", depth, f)?;
     write_part(&statement.initializer, depth, f)?;
-    f.write_str("; ")?;
     write_condition(&statement.condition, depth, f)?;
-    f.write_str("; ")?;
     write_part(&statement.update, depth, f)?;
     f.write_str(") ")?;
     write_compound(&statement.body, depth, f)
@@ -111,8 +108,6 @@ pub fn write_while<W: fmt::Write>(
     ensures { DisplaysOnOk W.write_str_gives f.old result (Some (after_line_ends (spaces depth.now) (print_while (while_statement_view statement.now)))) f.new }
 {
     write_attribute_line(&statement.attributes, depth, f)?;
-    f.write_str("while ")?;
-    write_indented(&statement.condition, depth, f)?;
-    f.write_str(" ")?;
+    write_head("while ", &statement.condition, depth, f)?;
     write_compound(&statement.body, depth, f)
 }

@@ -5,16 +5,18 @@ ghost use Rattle.std.specs.Fmt.{DisplaysOnOk};
 ghost use Rattle.wgsl_model.specs.Joining.{joined};
 ghost use Rattle.wgsl_model.specs.Statements.{clauses_of};
 ghost use Rattle.wgsl_model.specs.Indentation.{after_line_ends, indented};
-ghost use Rattle.wgsl_model.specs.PrintedStatements.{print_switch, print_switch_clause, clause_texts, braced};
+ghost use Rattle.wgsl_model.specs.PrintedStatements.{print_switch, print_switch_clause, clause_texts};
 ghost use Rattle.wgsl_writer.specs.Depth.{spaces};
 ghost use Rattle.wgsl_statement.specs.View.{switch_statement_view, switch_clause_view};
 
-use crate::leaves::{write_attribute_line, write_gap, write_selectors};
 use crate::statement::{SwitchClause, SwitchStatement};
 use crate::write::write_compound;
 use std::fmt;
 use std::fmt::Write;
-use wgsl_writer::{Depth, write_indented, write_spaces};
+use wgsl_simple_statement::{
+    write_attribute_line, write_case, write_gap, write_head, write_line_end, write_open,
+};
+use wgsl_writer::Depth;
 
 #[cycle(printing)]
 pub fn write_switch<W: fmt::Write>(
@@ -25,33 +27,16 @@ pub fn write_switch<W: fmt::Write>(
     ensures { DisplaysOnOk W.write_str_gives f.old result (Some (after_line_ends (spaces depth.now) (print_switch (switch_statement_view statement.now)))) f.new }
 {
     write_attribute_line(&statement.attributes, depth, f)?;
-    f.write_str("switch ")?;
-    write_indented(&statement.expression, depth, f)?;
-    f.write_str(" ")?;
-    write_attribute_line(&statement.body_attributes, depth, f)?;
-    write_clauses(&statement.clauses, depth, f)
-}
-
-/// Writes the clauses in braces.
-#[cycle(printing)]
-fn write_clauses<W: fmt::Write>(
-    clauses: &[SwitchClause],
-    depth: &Depth<'_>,
-    f: &mut fmt::Formatter<W>,
-) -> fmt::Result
-    ensures { DisplaysOnOk W.write_str_gives f.old result (Some (after_line_ends (spaces depth.now) (braced (clause_texts (clauses_of (map switch_clause_view clauses.now)))))) f.new }
-{
-    f.write_str("{\n")?;
-    write_spaces(depth, f)?;
-    write_clause_lines(clauses, depth, f)?;
-    f.write_str("\n")?;
-    write_spaces(depth, f)?;
+    write_head("switch ", &statement.expression, depth, f)?;
+    write_open(&statement.body_attributes, depth, f)?;
+    write_clauses(&statement.clauses, depth, f)?;
+    write_line_end(depth, f)?;
     f.write_str("}")
 }
 
 /// Writes each clause on a line of its own.
 #[cycle(printing)]
-fn write_clause_lines<W: fmt::Write>(
+fn write_clauses<W: fmt::Write>(
     clauses: &[SwitchClause],
     depth: &Depth<'_>,
     f: &mut fmt::Formatter<W>,
@@ -76,8 +61,6 @@ pub fn write_switch_clause<W: fmt::Write>(
 ) -> fmt::Result
     ensures { DisplaysOnOk W.write_str_gives f.old result (Some (after_line_ends (spaces depth.now) (print_switch_clause (switch_clause_view clause.now)))) f.new }
 {
-    f.write_str("case ")?;
-    write_selectors(&clause.case_selectors, depth, f)?;
-    f.write_str(" ")?;
+    write_case(&clause.case_selectors, depth, f)?;
     write_compound(&clause.body, depth, f)
 }

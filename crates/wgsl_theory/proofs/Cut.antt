@@ -1,12 +1,10 @@
 -- Where the longest spelling cuts a text.
-use Rattle.std.proofs.Common.{◌≡◌, ℕ, zero, suc, ◌-◌, true, false, sym, ap, subst, List, [], ◌∷◌, ◌++◌, length, Option, Some, None, ◌∙◌, arith, length-append}
+use Rattle.std.proofs.Common.{◌≡◌, ℕ, zero, suc, ◌-◌, ap, subst, List, [], ◌∷◌, ◌++◌, length, Option, Some, None, ◌∙◌, arith, length-append}
 use Rattle.std.specs.Prelude.{take}
 use Rattle.wgsl_model.specs.Kind.{Kind}
 use Rattle.wgsl_model.specs.Pattern.{Pattern, after_spelling, spells, IsLongest, FollowsLongest}
 use Rattle.wgsl_model.specs.Spelling.{spelling}
 use Rattle.wgsl_model.specs.Raw.{token, front, value, spelled, valued, raw_at}
-use Rattle.wgsl_theory.proofs.Derivative.{nullable}
-use Rattle.wgsl_theory.proofs.Derive.{spells-nil}
 use Rattle.wgsl_theory.proofs.Longest.{after_longest_is}
 
 take-front : (xs ys : List ℕ) (n : ℕ) → n ≡ length xs → take n (xs ++ ys) ≡ xs
@@ -27,10 +25,6 @@ longest_front r text rest (Some other) e h = let same : other ≡ rest = cc in (
 pub longest_spelling : (r : Pattern) (text rest : List ℕ) → after_spelling r text ≡ Some rest → (word : List ℕ) × IsLongest (spells r) text word rest
 unfolding after_spelling
 longest_spelling r text rest e = longest_front r text rest (after_spelling r text) e (after_longest_is (spells r) text)
-
--- a spelling is not empty where the pattern has no empty one
-pub not_empty : (r : Pattern) (xs : List ℕ) → nullable r ≡ false → spells r xs ≡ true → xs ≡ [] → ⊥
-not_empty r xs n p e = let q : spells r [] ≡ true = subst (λ ys. spells r ys ≡ true) e p in cc (sym (spells-nil r) ∙ q, n)
 
 -- the token of a spelling that is known
 pub found : (c : ℕ) (cs rest : List ℕ) (kind : Kind) → after_spelling spelling ((c ∷ cs) ++ rest) ≡ Some rest → value (c ∷ cs) ≡ Some kind → raw_at ((c ∷ cs) ++ rest) ≡ token kind ((c ∷ cs) ++ rest) rest

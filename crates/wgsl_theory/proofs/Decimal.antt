@@ -5,7 +5,7 @@ use Rattle.std.specs.Fmt.{decimal}
 use Rattle.std.proofs.lemmas.Bool.Decides.{nat_tests}
 use Rattle.std.proofs.lemmas.Fmt.{decimal_by_steps}
 use Rattle.wgsl_model.specs.Numbers.{is_nonzero_digit, digits_value}
-use Rattle.wgsl_theory.proofs.Steps.{Each}
+use Rattle.wgsl_theory.proofs.Split.{Each}
 
 -- `0`, or digits that do not begin with `0`
 abbrev pub IsDecimal : ℕ → List ℕ → Type 0

@@ -1,27 +1,26 @@
 -- The pieces of a printed module: each is the token at the front of what follows, and their text is the printed one.
-use Rattle.std.proofs.Common.{◌≡◌, ℕ, ◌^◌, Bool, true, false, cond, refl, sym, ap, ap₂, subst, List, [], ◌∷◌, ◌++◌, Option, Some, None, ◌∙◌, lit<, append_assoc, chars}
+use Rattle.std.proofs.Common.{◌≡◌, ℕ, ◌==◌, Bool, true, false, cond, refl, sym, ap, ap₂, subst, List, [], ◌∷◌, ◌++◌, Option, Some, None, ◌∙◌, append_assoc, chars}
 use Rattle.std.specs.Prelude.{codes}
 use Rattle.std.proofs.lemmas.Bool.{true≢false}
-use Rattle.unicode_ident.specs.Ident.{is_xid_continue}
-use Rattle.unicode_ident.proofs.IdentLemmas.{is_xid_continue-ascii}
-use Rattle.wgsl_model.specs.Classes.{KwAlias, KwConst, KwLet, KwOverride, KwVar, Ident, SymEqual, SymColon, SymSemicolon}
+use Rattle.wgsl_model.specs.Classes.{SymLessThan, KwAlias, KwConst, KwLet, KwOverride, KwVar, Ident, SymEqual, SymColon, SymSemicolon}
 use Rattle.wgsl_model.specs.Kind.{Kind, plain, named}
 use Rattle.wgsl_model.specs.Spanned.{Spanned}
-use Rattle.wgsl_model.specs.Expressions.{LiteralExpression, boolean, abstract_int, i32, u32, ExpressionNode, expression_node, Expression, literal, TypeExpression, type_expression, no_template, template}
+use Rattle.wgsl_model.specs.Expressions.{LiteralExpression, boolean, ExpressionNode, expression_node, Expression, literal, TypeExpression, type_expression, no_template, template}
 use Rattle.wgsl_model.specs.Statements.{DeclarationKind, const_kind, override_kind, let_kind, var_kind, Declaration}
 use Rattle.wgsl_model.specs.Units.{TypeAlias, GlobalDeclaration, GlobalDeclaration.void, GlobalDeclaration.declaration, GlobalDeclaration.type_alias}
 use Rattle.wgsl_theory.proofs.FirstPrinting.{print_literal, is_void, without_voids}
 use Rattle.wgsl_theory.specs.Canonical.{literal_token, expression_tokens, type_tokens, kind_tokens, typed_tokens, initializer_tokens, declaration_tokens, global_declaration_tokens, all_tokens}
-use Rattle.wgsl_theory.proofs.Steps.{Ends}
-use Rattle.wgsl_theory.proofs.Names.{IsName, name_stands, alias_stands, const_stands, true_stands, false_stands, equal_stands, semicolon_stands, integer_stands, signed_stands, unsigned_stands}
-use Rattle.wgsl_theory.proofs.Pieces.{Piece, blank, word, render, kinds, Stands, Fits, kinds-append}
-use Rattle.wgsl_theory.proofs.Sound.{at_whole, IsSoundLiteral, IsSoundExpression, IsSoundInitializer, IsSoundType, IsSound, AllSound}
+use Rattle.wgsl_theory.proofs.Separated.{IsClosed, space_closes, semicolon_closes, line_closes, text_stands}
+use Rattle.wgsl_theory.proofs.Words.{alias_stands, const_stands, equal_stands, semicolon_stands}
+use Rattle.wgsl_theory.proofs.Scanned.{IsName}
+use Rattle.wgsl_theory.proofs.Pieces.{Piece, blank, word, render, kinds, Fits, kinds-append}
+use Rattle.wgsl_theory.proofs.Sound.{IsSoundExpression, IsSoundInitializer, IsSoundType, IsSound, AllSound}
 
 -- ---- the pieces
 
 -- an expression
 abbrev pub expression_pieces : Expression → List Piece
-expression_pieces (literal l) = word (print_literal l) (literal_token l) ∷ []
+expression_pieces (literal l) = word (chars (print_literal l)) (literal_token l) ∷ []
 expression_pieces e = []
 
 -- a name, by its characters
@@ -100,55 +99,46 @@ all_sound (d ∷ ds) h = (h.0.1, all_sound ds h.1)
 
 -- ---- they fit
 
--- a space and `;` continue no word
-space_ends : is_xid_continue 32 ≡ false
-space_ends = is_xid_continue-ascii 32 (lit< tt)
+-- no literal is `<`
+literal_no_less : (l : LiteralExpression) → ((literal_token l).class == SymLessThan) ≡ false
+literal_no_less (boolean true) = refl
+literal_no_less (boolean false) = refl
+literal_no_less l = refl
 
-semicolon_ends : is_xid_continue 59 ≡ false
-semicolon_ends = is_xid_continue-ascii 59 (lit< tt)
+expression_fits : (e : Expression) (more : List Piece) → IsSoundExpression e → IsClosed (render more) → Fits more → Fits (expression_pieces e ++ (semicolon ∷ more))
+expression_fits (literal l) more h ends rest = (text_stands (literal_token l) (print_literal l) _ h semicolon_closes, literal_no_less l, (semicolon_stands (render more) ends, refl, rest))
+expression_fits e more h ends rest = absurd h
 
-literal_stands : (l : LiteralExpression) (text : List ℕ) → IsSoundLiteral l → Stands (print_literal l) (literal_token l) (59 ∷ text)
-literal_stands (boolean true) text h = true_stands (59 ∷ text) semicolon_ends
-literal_stands (boolean false) text h = false_stands (59 ∷ text) semicolon_ends
-literal_stands (abstract_int z) text h = at_whole (2 ^ 63) (λ y. Stands (print_literal (abstract_int y)) (literal_token (abstract_int y)) (59 ∷ text)) z h (λ n l. integer_stands n (59 ∷ text) l semicolon_ends)
-literal_stands (i32 z) text h = at_whole (2 ^ 31) (λ y. Stands (print_literal (i32 y)) (literal_token (i32 y)) (59 ∷ text)) z h (λ n l. signed_stands n (59 ∷ text) l)
-literal_stands (u32 n) text h = unsigned_stands n (59 ∷ text) h
-literal_stands l text h = absurd h
+initializer_fits : (ty : Option TypeExpression) (i : Option ExpressionNode) (more : List Piece) → ty ≡ None → IsSoundInitializer i → IsClosed (render more) → Fits more
+    → IsClosed (render ((typed_pieces ty ++ (initializer_pieces i ++ (semicolon ∷ []))) ++ more)) × Fits ((typed_pieces ty ++ (initializer_pieces i ++ (semicolon ∷ []))) ++ more)
+initializer_fits (Some t) i more e h ends rest = absurd (cc)
+initializer_fits None None more e h ends rest = absurd h
+initializer_fits None (Some (expression_node v s)) more e h ends rest =
+    let value : Fits ((expression_pieces v ++ (semicolon ∷ [])) ++ more) = subst Fits (sym (append_assoc (expression_pieces v) (semicolon ∷ []) more)) (expression_fits v more h ends rest) in
+    (space_closes, (refl, (equal_stands _ space_closes, refl, (refl, value))))
 
-expression_fits : (e : Expression) (more : List Piece) → IsSoundExpression e → Fits more → Fits (expression_pieces e ++ (semicolon ∷ more))
-expression_fits (literal l) more h rest = (literal_stands l (render more) h, (semicolon_stands (render more), rest))
-expression_fits e more h rest = absurd h
-
-initializer_fits : (ty : Option TypeExpression) (i : Option ExpressionNode) (more : List Piece) → ty ≡ None → IsSoundInitializer i → Fits more
-    → Ends is_xid_continue (render ((typed_pieces ty ++ (initializer_pieces i ++ (semicolon ∷ []))) ++ more)) × Fits ((typed_pieces ty ++ (initializer_pieces i ++ (semicolon ∷ []))) ++ more)
-initializer_fits (Some t) i more e h rest = absurd (cc)
-initializer_fits None None more e h rest = absurd h
-initializer_fits None (Some (expression_node v s)) more e h rest =
-    let value : Fits ((expression_pieces v ++ (semicolon ∷ [])) ++ more) = subst Fits (sym (append_assoc (expression_pieces v) (semicolon ∷ []) more)) (expression_fits v more h rest) in
-    (space_ends, (refl, (equal_stands _ refl, (refl, value))))
-
-const_fits : (k : DeclarationKind) (name : List ℕ) (rest more : List Piece) → k ≡ const_kind → IsName name → Ends is_xid_continue (render (rest ++ more)) → Fits (rest ++ more) → Fits ((kind_pieces k ++ (blank 32 ∷ (name_piece name ∷ rest))) ++ more)
-const_fits const_kind name rest more e n ends fits = (const_stands _ space_ends, (refl, (name_stands name (render (rest ++ more)) n ends, fits)))
+const_fits : (k : DeclarationKind) (name : List ℕ) (rest more : List Piece) → k ≡ const_kind → IsName name → IsClosed (render (rest ++ more)) → Fits (rest ++ more) → Fits ((kind_pieces k ++ (blank 32 ∷ (name_piece name ∷ rest))) ++ more)
+const_fits const_kind name rest more e n ends fits = (const_stands _ space_closes, refl, (refl, (text_stands (named Ident name) name (render (rest ++ more)) n ends, refl, fits)))
 const_fits k name rest more e n ends fits = absurd (cc)
 
-alias_fits : (name : List ℕ) (ty : TypeExpression) (more : List Piece) → IsName name → IsSoundType ty → Fits more → Fits (type_alias_pieces (record { ident = name; ty = ty }) ++ more)
-alias_fits name (type_expression type_name no_template) more n t fits =
-    (alias_stands _ space_ends, (refl, (name_stands name _ n space_ends, (refl, (equal_stands _ refl, (refl, (name_stands type_name _ t semicolon_ends, (semicolon_stands _, fits))))))))
-alias_fits name (type_expression type_name (template es)) more n t fits = absurd t
+alias_fits : (name : List ℕ) (ty : TypeExpression) (more : List Piece) → IsName name → IsSoundType ty → IsClosed (render more) → Fits more → Fits (type_alias_pieces (record { ident = name; ty = ty }) ++ more)
+alias_fits name (type_expression type_name no_template) more n t ends fits =
+    (alias_stands _ space_closes, refl, (refl, (text_stands (named Ident name) name _ n space_closes, refl, (refl, (equal_stands _ space_closes, refl, (refl, (text_stands (named Ident type_name) type_name _ t semicolon_closes, refl, (semicolon_stands _ ends, refl, fits))))))))
+alias_fits name (type_expression type_name (template es)) more n t ends fits = absurd t
 
-declaration_fits : (n : GlobalDeclaration) (more : List Piece) → IsKept n → Fits more → Fits (global_pieces n ++ more)
-declaration_fits void more h fits = absurd (true≢false h.0)
-declaration_fits (declaration d) more h fits =
-    let rest = initializer_fits d.ty d.initializer more h.1.untyped h.1.value fits in
+declaration_fits : (n : GlobalDeclaration) (more : List Piece) → IsKept n → IsClosed (render more) → Fits more → Fits (global_pieces n ++ more)
+declaration_fits void more h ends fits = absurd (true≢false h.0)
+declaration_fits (declaration d) more h ends fits =
+    let rest = initializer_fits d.ty d.initializer more h.1.untyped h.1.value ends fits in
     const_fits d.kind d.ident (typed_pieces d.ty ++ (initializer_pieces d.initializer ++ (semicolon ∷ []))) more h.1.kind h.1.name rest.0 rest.1
-declaration_fits (type_alias a) more h fits = alias_fits a.ident a.ty more h.1.0 h.1.1 fits
-declaration_fits n more h fits = absurd h.1
+declaration_fits (type_alias a) more h ends fits = alias_fits a.ident a.ty more h.1.0 h.1.1 ends fits
+declaration_fits n more h ends fits = absurd h.1
 
 -- each word of them is the token at the front of what follows
 pub all_fit : (ds : List (Spanned GlobalDeclaration)) → AllKept ds → Fits (all_pieces ds)
 all_fit [] h = (refl, tt)
-all_fit (d ∷ []) h = declaration_fits d.node (blank 10 ∷ []) h.0 (refl, tt)
-all_fit (d ∷ (e ∷ ds)) h = declaration_fits d.node (blank 10 ∷ (blank 10 ∷ all_pieces (e ∷ ds))) h.0 (refl, (refl, all_fit (e ∷ ds) h.1))
+all_fit (d ∷ []) h = declaration_fits d.node (blank 10 ∷ []) h.0 line_closes (refl, tt)
+all_fit (d ∷ (e ∷ ds)) h = declaration_fits d.node (blank 10 ∷ (blank 10 ∷ all_pieces (e ∷ ds))) h.0 line_closes (refl, (refl, all_fit (e ∷ ds) h.1))
 
 -- ---- their kinds are the tokens that are written from the tree
 

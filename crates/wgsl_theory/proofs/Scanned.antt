@@ -1,63 +1,87 @@
--- What the tokens of a text hold: names are identifiers, and numbers are in their ranges.
-use Rattle.std.proofs.Common.{◌≡◌, ℕ, ◌^◌, ◌<◌, ◌==◌, ◌||◌, Bool, true, false, cond, refl, sym, ap, subst, List, [], ◌∷◌, Option, Some, None, ◌∙◌, inl, inr, ◌⊎◌, arith}
-use Rattle.std.specs.Prelude.{pos, nat_lt, codes, bytes_eq, option_map}
+-- What the tokens of a text hold: a name and a literal are spelled, as they are printed.
+use Rattle.std.proofs.Common.{◌≡◌, ℕ, zero, suc, ◌^◌, ◌<◌, ◌==◌, ◌||◌, Bool, true, false, cond, not, refl, sym, ap, subst, List, [], ◌∷◌, ◌++◌, length, Option, Some, None, ◌∙◌, arith, lit<}
+use Rattle.std.specs.Prelude.{pos, nat_lt, codes, bytes_eq, option_map, ◌&&◌}
 use Rattle.std.specs.Char.{is_ascii_digit}
-use Rattle.std.specs.Str.{encode_utf8_all, all_scalars}
+use Rattle.std.specs.Str.{encode_utf8_all}
 use lib.Utf8.{encode}
-use Rattle.std.proofs.lemmas.Bool.{and_from, ltb-true}
-use Rattle.std.proofs.lemmas.Str.{chars-encodes}
-use Rattle.unicode_ident.specs.Ident.{is_xid_start, is_xid_continue}
-use Rattle.unicode_ident.proofs.IdentLemmas.{is_xid_start-is_xid_continue}
-use Rattle.grammar.specs.Tokens.{Token, Payload, Payload.number}
+use Rattle.std.proofs.lemmas.Bool.{ltb-true, eqb-true, and_parts, true≢false}
+use Rattle.std.proofs.lemmas.Bool.Decides.{nat_tests}
+use Rattle.std.proofs.lemmas.Str.{chars-encodes, encodes-append}
+use Rattle.unicode_ident.specs.Ident.{is_xid_start}
+use Rattle.unicode_ident.proofs.IdentLemmas.{is_xid_start-ascii}
+use Rattle.grammar.specs.Tokens.{Token, Payload.number}
+use Rattle.grammar.specs.Grammar.{is_among}
 use Rattle.grammar.specs.Faults.{Ending}
-use Rattle.wgsl_model.specs.Classes.{Ident, ReservedWord, AbstractInt, I32, U32, SymUnderscore}
-use Rattle.wgsl_model.specs.Kind.{Kind, plain, named}
-use Rattle.wgsl_model.specs.Words.{look_up, is_among, symbols, keywords, reserved_words}
-use Rattle.wgsl_model.specs.Numbers.{whole_number, i_suffix, u_suffix, number_value, number_of, without_last, below}
-use Rattle.wgsl_model.specs.Pattern.{empty, spells, after_spelling}
+use Rattle.wgsl_model.specs.Characters.{is_blank}
+use Rattle.wgsl_model.specs.Classes.{Ident, ReservedWord, AbstractInt, I32, U32, AbstractFloat, F32, F16, KwTrue, KwFalse, SymUnderscore, TemplateArgsStart, TemplateArgsEnd}
+use Rattle.wgsl_model.specs.Expressions.{LiteralExpression, boolean}
+use Rattle.wgsl_model.specs.Kind.{Kind, plain, named, placed}
+use Rattle.wgsl_model.specs.Words.{look_up, is_among as is_word_among, symbols, keywords, reserved_words}
+use Rattle.wgsl_model.specs.Numbers.{whole_number, i_suffix, u_suffix, f_suffix, h_suffix, abstract_float, float, float_of, number_value, number_of, without_last, below}
+use Rattle.wgsl_model.specs.Pattern.{empty, is_empty, spells, after_spelling}
 use Rattle.wgsl_model.specs.Spelling.{spelling}
-use Rattle.wgsl_model.specs.Raw.{token, raw_at, value, valued, spelled, front, word_of, name_of, keyword_or_name}
-use Rattle.wgsl_model.specs.TokenList.{TokensOf, at_end, at_fault, before_more}
-use Rattle.wgsl_model.specs.Trivia.{after_trivia, outside}
-use Rattle.wgsl_model.specs.TokenValues.{number_in}
+use Rattle.wgsl_model.specs.Raw.{token, raw, raw_at, value, valued, spelled, front, word_of, name_of, keyword_or_name}
+use Rattle.wgsl_model.specs.TokenList.{TokensOf, at_end, at_fault, before_template, before_more}
+use Rattle.wgsl_model.specs.Templates.{TemplateRelation, Inside, at_greater, at_opening, at_closing, at_template, at_other, enclosed, TemplateUpTo}
 use Rattle.wgsl_model.specs.TokenValues as values
-use Rattle.wgsl_theory.specs.Canonical.{without_place}
-use Rattle.wgsl_theory.proofs.Characters.{xid_continue-scalar}
-use Rattle.wgsl_theory.proofs.Steps.{Each}
+use Rattle.wgsl_model.specs.TokenValues.{literal_of}
+use Rattle.wgsl_model.specs.Trivia.{after_trivia, outside}
+use Rattle.wgsl_theory.specs.Canonical.{without_place, literal_token}
+use Rattle.wgsl_theory.proofs.FirstParts.{literal_classes}
+use Rattle.wgsl_theory.proofs.FirstPrinting.{print_literal}
+use Rattle.wgsl_theory.proofs.Characters.{xid_start-not_blank}
 use Rattle.wgsl_theory.proofs.Cut.{front-of, longest_spelling}
-use Rattle.wgsl_theory.proofs.Words.{IsWord, word_spelled}
-use Rattle.wgsl_theory.proofs.Names.{IsName}
+use Rattle.wgsl_theory.proofs.Numerals.{integer_spelled, signed_spelled, unsigned_spelled, without_last-append}
+use Rattle.wgsl_theory.proofs.Scalars.{spelled_scalars}
+use Rattle.wgsl_theory.proofs.Separated.{IsWord, IsSpelled}
+use Rattle.wgsl_theory.proofs.Split.{other_than, spelled_last}
+use Rattle.wgsl_theory.proofs.Words.{true_spelled, false_spelled}
 
--- a whole number without sign below a limit
-abbrev pub IsBelow : ℕ → Payload → Type 0
-IsBelow limit p = (n : ℕ) × (number_in p ≡ pos n) × (n < limit)
+-- the bytes of an identifier that is no keyword, no reserved word and not `_`
+abbrev pub IsName : List ℕ → Type 0
+IsName bytes = IsSpelled (named Ident bytes) bytes
+
+-- a literal is spelled as it is printed
+abbrev pub IsSoundLiteral : LiteralExpression → Type 0
+IsSoundLiteral l = IsSpelled (literal_token l) (print_literal l)
 
 -- what a token of a text holds
 pub record IsScanned (k : Kind) : Type 0 where
   pub names : k.class ≡ Ident → IsName (values.word_of k.class k.payload)
-  pub integers : k.class ≡ AbstractInt → IsBelow (2 ^ 63) k.payload
-  pub signed : k.class ≡ I32 → IsBelow (2 ^ 31) k.payload
-  pub unsigned : k.class ≡ U32 → IsBelow (2 ^ 32) k.payload
+  pub literals : is_among k.class literal_classes ≡ true → IsSoundLiteral (literal_of (placed k 0 0))
 
-plain_scanned : (c : ℕ) → c < 72 → IsScanned (plain c)
-plain_scanned c h = record { names = λ e. absurd (omega (arith, e)); integers = λ e. absurd (omega (arith, e)); signed = λ e. absurd (omega (arith, e)); unsigned = λ e. absurd (omega (arith, e)) }
-
-name_scanned : (bytes : List ℕ) → IsName bytes → IsScanned (named Ident bytes)
-name_scanned bytes h = record { names = λ e. h; integers = λ e. absurd (omega (arith, e)); signed = λ e. absurd (omega (arith, e)); unsigned = λ e. absurd (omega (arith, e)) }
-
-reserved_scanned : (bytes : List ℕ) → IsScanned (named ReservedWord bytes)
-reserved_scanned bytes = record { names = λ e. absurd (omega (arith, e)); integers = λ e. absurd (omega (arith, e)); signed = λ e. absurd (omega (arith, e)); unsigned = λ e. absurd (omega (arith, e)) }
-
-integer_scanned : (n : ℕ) → n < 2 ^ 63 → IsScanned (record { class = AbstractInt; payload = number (pos n) })
-integer_scanned n h = record { names = λ e. absurd (omega (arith, e)); integers = λ e. (n, refl, h); signed = λ e. absurd (omega (arith, e)); unsigned = λ e. absurd (omega (arith, e)) }
-
-signed_scanned : (n : ℕ) → n < 2 ^ 31 → IsScanned (record { class = I32; payload = number (pos n) })
-signed_scanned n h = record { names = λ e. absurd (omega (arith, e)); integers = λ e. absurd (omega (arith, e)); signed = λ e. (n, refl, h); unsigned = λ e. absurd (omega (arith, e)) }
-
-unsigned_scanned : (n : ℕ) → n < 2 ^ 32 → IsScanned (record { class = U32; payload = number (pos n) })
-unsigned_scanned n h = record { names = λ e. absurd (omega (arith, e)); integers = λ e. absurd (omega (arith, e)); signed = λ e. absurd (omega (arith, e)); unsigned = λ e. (n, refl, h) }
+-- the text of characters that are a word
+text_of_word : (k : Kind) (w : List ℕ) → IsWord k w → IsSpelled k (encode_utf8_all w)
+text_of_word k w h =
+    let s = spelled_scalars w h.spelled in
+    record { utf8 = (w, (s, refl)); word = subst (IsWord k) (sym (chars-encodes w s)) h }
 
 -- ---- words and signs
+
+plain_literal : (c : ℕ) → c < 72 → is_among c literal_classes ≡ true → IsSoundLiteral (literal_of (placed (plain c) 0 0))
+plain_literal c h m = go _ (c == KwTrue) (c == KwFalse) (c == AbstractInt) (c == I32) (c == U32) (c == AbstractFloat) (c == F32) (c == F16) refl refl refl refl refl refl m
+  where
+    go : (l : LiteralExpression) (a b d e f g i j : Bool) → (c == AbstractInt) ≡ d → (c == I32) ≡ e → (c == U32) ≡ f → (c == AbstractFloat) ≡ g → (c == F32) ≡ i → (c == F16) ≡ j
+        → cond a true (cond b true (cond d true (cond e true (cond f true (cond g true (cond i true (cond j true false))))))) ≡ true
+        → IsSoundLiteral (cond a (boolean true) (cond b (boolean false) l))
+    go l true b d e f g i j u v w x y z k = true_spelled
+    go l false true d e f g i j u v w x y z k = false_spelled
+    go l false false true e f g i j u v w x y z k = absurd (omega (arith, eqb-true c AbstractInt u))
+    go l false false false true f g i j u v w x y z k = absurd (omega (arith, eqb-true c I32 v))
+    go l false false false false true g i j u v w x y z k = absurd (omega (arith, eqb-true c U32 w))
+    go l false false false false false true i j u v w x y z k = absurd (omega (arith, eqb-true c AbstractFloat x))
+    go l false false false false false false true j u v w x y z k = absurd (omega (arith, eqb-true c F32 y))
+    go l false false false false false false false true u v w x y z k = absurd (omega (arith, eqb-true c F16 z))
+    go l false false false false false false false false u v w x y z k = absurd (cc)
+
+plain_scanned : (c : ℕ) → c < 72 → IsScanned (plain c)
+plain_scanned c h = record { names = λ e. absurd (omega (arith, e)); literals = plain_literal c h }
+
+name_scanned : (bytes : List ℕ) → IsName bytes → IsScanned (named Ident bytes)
+name_scanned bytes h = record { names = λ e. h; literals = λ e. absurd (cc) }
+
+reserved_scanned : (bytes : List ℕ) → IsScanned (named ReservedWord bytes)
+reserved_scanned bytes = record { names = λ e. absurd (omega (arith, e)); literals = λ e. absurd (cc) }
 
 -- each class of a table is below 72
 abbrev small : List (List ℕ × ℕ) → Bool
@@ -78,41 +102,30 @@ look_up-small (e ∷ es) word c s f =
     let parts = small_parts (nat_lt e.1 72) e.1 (small es) refl s in
     found_small (bytes_eq e.0 word) e es word c parts.0 (look_up-small es word c parts.1) f
 
-scalars_of : (cs : List ℕ) → Each is_xid_continue cs → all_scalars cs ≡ true
-scalars_of [] each = refl
-scalars_of (c ∷ cs) each = and_from _ _ (xid_continue-scalar c each.0) (scalars_of cs each.1)
+-- an identifier, a keyword, a reserved word or `_`
+by_reserved : (b : Bool) (w : List ℕ) → IsWord (name_of (encode_utf8_all w)) w → is_word_among reserved_words (encode_utf8_all w) ≡ b → IsScanned (name_of (encode_utf8_all w))
+by_reserved true w h r = rw r (reserved_scanned (encode_utf8_all w))
+by_reserved false w h r =
+    let bytes = encode_utf8_all w in
+    rw r (name_scanned bytes (text_of_word (named Ident bytes) w (subst (λ (b : Bool). IsWord (cond b (named ReservedWord bytes) (named Ident bytes)) w) r h)))
 
-word_scalars : (w : List ℕ) → IsWord w → all_scalars w ≡ true
-word_scalars [] h = refl
-word_scalars (c ∷ cs) (inl h, each) = and_from _ _ (xid_continue-scalar c (is_xid_start-is_xid_continue c h)) (scalars_of cs each)
-word_scalars (c ∷ cs) (inr h, each) = subst (λ d. all_scalars (d ∷ cs) ≡ true) (sym h.0) (scalars_of cs each)
+by_keyword : (o : Option ℕ) (w : List ℕ) → IsWord (keyword_or_name o (encode_utf8_all w)) w → look_up keywords (encode_utf8_all w) ≡ o → IsScanned (keyword_or_name o (encode_utf8_all w))
+by_keyword (Some c) w h k = plain_scanned c (look_up-small keywords (encode_utf8_all w) c refl k)
+by_keyword None w h k = by_reserved (is_word_among reserved_words (encode_utf8_all w)) w h refl
 
--- an identifier's spelling is a name, where it is no keyword and no reserved word
-word_name : (w : List ℕ) → IsWord w → word_of (encode_utf8_all w) ≡ named Ident (encode_utf8_all w) → IsName (encode_utf8_all w)
-word_name w h e =
-    let s = word_scalars w h in
-    record { utf8 = (w, (s, refl)); spelled = subst IsWord (sym (chars-encodes w s)) h; kind = e }
+by_underscore : (b : Bool) (w : List ℕ) → IsWord (cond b (plain SymUnderscore) (keyword_or_name (look_up keywords (encode_utf8_all w)) (encode_utf8_all w))) w
+    → IsScanned (cond b (plain SymUnderscore) (keyword_or_name (look_up keywords (encode_utf8_all w)) (encode_utf8_all w)))
+by_underscore true w h = plain_scanned SymUnderscore (omega arith)
+by_underscore false w h = by_keyword (look_up keywords (encode_utf8_all w)) w h refl
 
-by_reserved : (b : Bool) (w : List ℕ) → IsWord w → is_among reserved_words (encode_utf8_all w) ≡ b → bytes_eq (encode_utf8_all w) (codes "_") ≡ false → look_up keywords (encode_utf8_all w) ≡ None → IsScanned (name_of (encode_utf8_all w))
-by_reserved true w h r u k = subst (λ b. IsScanned (cond b (named ReservedWord (encode_utf8_all w)) (named Ident (encode_utf8_all w)))) (sym r) (reserved_scanned (encode_utf8_all w))
-by_reserved false w h r u k =
-    subst (λ b. IsScanned (cond b (named ReservedWord (encode_utf8_all w)) (named Ident (encode_utf8_all w)))) (sym r)
-    (name_scanned (encode_utf8_all w) (word_name w h (rw (u, k, r) refl)))
-
-by_keyword : (o : Option ℕ) (w : List ℕ) → IsWord w → look_up keywords (encode_utf8_all w) ≡ o → bytes_eq (encode_utf8_all w) (codes "_") ≡ false → IsScanned (keyword_or_name o (encode_utf8_all w))
-by_keyword (Some c) w h k u = plain_scanned c (look_up-small keywords (encode_utf8_all w) c refl k)
-by_keyword None w h k u = by_reserved (is_among reserved_words (encode_utf8_all w)) w h refl u k
-
-by_underscore : (b : Bool) (w : List ℕ) → IsWord w → bytes_eq (encode_utf8_all w) (codes "_") ≡ b → IsScanned (word_of (encode_utf8_all w))
-by_underscore true w h u = rw u (plain_scanned SymUnderscore (omega arith))
-by_underscore false w h u = rw u (by_keyword (look_up keywords (encode_utf8_all w)) w h refl u)
-
-word_scanned : (w : List ℕ) → (w ≡ (95 ∷ [])) ⊎ IsWord w → IsScanned (word_of (encode_utf8_all w))
-unfolding encode
-word_scanned w (inl e) = subst (λ v. IsScanned (word_of (encode_utf8_all v))) (sym e) (plain_scanned SymUnderscore (omega arith))
-word_scanned w (inr h) = by_underscore (bytes_eq (encode_utf8_all w) (codes "_")) w h refl
+word_scanned : (w : List ℕ) → IsWord (word_of (encode_utf8_all w)) w → IsScanned (word_of (encode_utf8_all w))
+word_scanned w h = by_underscore (bytes_eq (encode_utf8_all w) (codes "_")) w h
 
 -- ---- numbers
+
+-- a number holds no name
+number_made : (k : Kind) → (k.class ≡ Ident → ⊥) → IsSoundLiteral (literal_of (placed k 0 0)) → IsScanned k
+number_made k n h = record { names = λ e. absurd (n e); literals = λ m. h }
 
 below_scanned : (class limit n : ℕ) (kind : Kind) → ((m : ℕ) → m < limit → IsScanned (record { class = class; payload = number (pos m) })) → below class limit n ≡ Some kind → IsScanned kind
 below_scanned class limit n kind made h = go (nat_lt n limit) refl h
@@ -121,14 +134,53 @@ below_scanned class limit n kind made h = go (nat_lt n limit) refl h
     go true e f = let same : record { class = class; payload = number (pos n) } ≡ kind = cc in subst IsScanned same (made n (ltb-true n limit e))
     go false e f = absurd (cc)
 
-number_scanned : (word : List ℕ) (kind : Kind) → number_of word ≡ Some kind → IsScanned kind
-number_scanned word kind h = go (spells (whole_number empty) word) (spells (whole_number i_suffix) word) (spells (whole_number u_suffix) word) h
+-- a float without suffix
+float_scanned : (word : List ℕ) (kind : Kind) → IsWord kind word → float_of AbstractFloat word ≡ Some kind → IsScanned kind
+float_scanned word kind h e =
+    let same : named AbstractFloat (encode_utf8_all word) ≡ kind = cc in
+    subst IsScanned same (number_made _ (λ i. omega (arith, i)) (text_of_word _ word (subst (λ (k : Kind). IsWord k word) (sym same) h)))
+
+-- a word with its suffix is spelled as it is printed: the text without the suffix, and the suffix
+suffixed : (k : Kind) (word : List ℕ) (d : ℕ) → IsWord k word → (before : List ℕ) → word ≡ before ++ (d ∷ []) → encode_utf8_all (d ∷ []) ≡ d ∷ [] → IsSpelled k (encode_utf8_all (without_last word) ++ (d ∷ []))
+suffixed k word d h before e one =
+    let without : without_last word ≡ before = ap without_last e ∙ without_last-append before d in
+    let text : encode_utf8_all word ≡ encode_utf8_all (without_last word) ++ (d ∷ []) =
+    ap encode_utf8_all e ∙ encodes-append before (d ∷ []) ∙ ap (λ (x : List ℕ). encode_utf8_all before ++ x) one ∙ ap (λ (x : List ℕ). encode_utf8_all x ++ (d ∷ [])) (sym without) in
+    subst (IsSpelled k) text (text_of_word k word h)
+
+f_is : encode_utf8_all (codes "f") ≡ codes "f"
+unfolding encode
+f_is = refl
+
+h_is : encode_utf8_all (codes "h") ≡ codes "h"
+unfolding encode
+h_is = refl
+
+f_scanned : (word : List ℕ) (kind : Kind) → IsWord kind word → spells (float f_suffix) word ≡ true → float_of F32 (without_last word) ≡ Some kind → IsScanned kind
+f_scanned word kind h s e =
+    let same : named F32 (encode_utf8_all (without_last word)) ≡ kind = cc in
+    let last = spelled_last 102 (float f_suffix) ((λ c x. x), (λ c x. x)) word s in
+    subst IsScanned same (number_made _ (λ i. omega (arith, i)) (suffixed _ word 102 (subst (λ (k : Kind). IsWord k word) (sym same) h) last.0 last.1 f_is))
+
+h_scanned : (word : List ℕ) (kind : Kind) → IsWord kind word → spells (float h_suffix) word ≡ true → float_of F16 (without_last word) ≡ Some kind → IsScanned kind
+h_scanned word kind h s e =
+    let same : named F16 (encode_utf8_all (without_last word)) ≡ kind = cc in
+    let last = spelled_last 104 (float h_suffix) ((λ c x. x), (λ c x. x)) word s in
+    subst IsScanned same (number_made _ (λ i. omega (arith, i)) (suffixed _ word 104 (subst (λ (k : Kind). IsWord k word) (sym same) h) last.0 last.1 h_is))
+
+number_scanned : (word : List ℕ) (kind : Kind) → IsWord kind word → number_of word ≡ Some kind → IsScanned kind
+number_scanned word kind w h = go (spells (whole_number empty) word) (spells (whole_number i_suffix) word) (spells (whole_number u_suffix) word) (spells abstract_float word) (spells (float f_suffix) word) (spells (float h_suffix) word) refl refl h
   where
-    go : (a b c : Bool) → cond a (below AbstractInt (2 ^ 63) (number_value word)) (cond b (below I32 (2 ^ 31) (number_value (without_last word))) (cond c (below U32 (2 ^ 32) (number_value (without_last word))) None)) ≡ Some kind → IsScanned kind
-    go true b c f = below_scanned AbstractInt (2 ^ 63) (number_value word) kind integer_scanned f
-    go false true c f = below_scanned I32 (2 ^ 31) (number_value (without_last word)) kind signed_scanned f
-    go false false true f = below_scanned U32 (2 ^ 32) (number_value (without_last word)) kind unsigned_scanned f
-    go false false false f = absurd (cc)
+    go : (a b c d e f : Bool) → spells (float f_suffix) word ≡ e → spells (float h_suffix) word ≡ f
+        → cond a (below AbstractInt (2 ^ 63) (number_value word)) (cond b (below I32 (2 ^ 31) (number_value (without_last word))) (cond c (below U32 (2 ^ 32) (number_value (without_last word)))
+        (cond d (float_of AbstractFloat word) (cond e (float_of F32 (without_last word)) (cond f (float_of F16 (without_last word)) None))))) ≡ Some kind → IsScanned kind
+    go true b c d e f x y z = below_scanned AbstractInt (2 ^ 63) (number_value word) kind (λ m l. number_made _ (λ i. omega (arith, i)) (integer_spelled m l)) z
+    go false true c d e f x y z = below_scanned I32 (2 ^ 31) (number_value (without_last word)) kind (λ m l. number_made _ (λ i. omega (arith, i)) (signed_spelled m l)) z
+    go false false true d e f x y z = below_scanned U32 (2 ^ 32) (number_value (without_last word)) kind (λ m l. number_made _ (λ i. omega (arith, i)) (unsigned_spelled m l)) z
+    go false false false true e f x y z = float_scanned word kind w z
+    go false false false false true f x y z = f_scanned word kind w x z
+    go false false false false false true x y z = h_scanned word kind w y z
+    go false false false false false false x y z = absurd (cc)
 
 -- ---- each token of a text
 
@@ -136,14 +188,32 @@ sign_scanned : (o : Option ℕ) (word : List ℕ) (kind : Kind) → look_up symb
 sign_scanned None word kind e f = absurd (cc)
 sign_scanned (Some c) word kind e f = let same : plain c ≡ kind = cc in subst IsScanned same (plain_scanned c (look_up-small symbols word c refl e))
 
+-- what begins a word and a number
+starts_begins : (c : ℕ) → (is_xid_start c || c == 95) ≡ true → (is_blank c ≡ false) × ((c == 47) ≡ false)
+starts_begins c h = go (is_xid_start c) refl h
+  where
+    go : (b : Bool) → is_xid_start c ≡ b → (b || c == 95) ≡ true → (is_blank c ≡ false) × ((c == 47) ≡ false)
+    go true e f = (xid_start-not_blank c e, other_than is_xid_start c e 47 (is_xid_start-ascii 47 (lit< tt)))
+    go false e f = subst (λ d. (is_blank d ≡ false) × ((d == 47) ≡ false)) (sym (eqb-true c 95 f)) (refl, refl)
+
+number_begins : (c : ℕ) (b : Bool) → (is_ascii_digit c || (c == 46 && b)) ≡ true → (is_blank c ≡ false) × ((c == 47) ≡ false)
+number_begins c b h = go (is_ascii_digit c) refl h
+  where
+    go : (d : Bool) → is_ascii_digit c ≡ d → (d || (c == 46 && b)) ≡ true → (is_blank c ≡ false) × ((c == 47) ≡ false)
+    go true e f = (grind (arith, nat_tests), other_than is_ascii_digit c e 47 refl)
+    go false e f = subst (λ x. (is_blank x ≡ false) × ((x == 47) ≡ false)) (sym (eqb-true c 46 (and_parts (c == 46) b f).0)) (refl, refl)
+
 value_scanned : (word : List ℕ) (kind : Kind) → spells spelling word ≡ true → value word ≡ Some kind → IsScanned kind
 value_scanned [] kind s h = absurd (cc)
-value_scanned (c ∷ cs) kind s h = go (is_xid_start c || c == 95) (is_ascii_digit c) refl h
+value_scanned (c ∷ cs) kind s h = go (is_xid_start c || c == 95) (is_ascii_digit c || (c == 46 && not (is_empty cs))) refl refl h
   where
-    go : (a b : Bool) → (is_xid_start c || c == 95) ≡ a → cond a (Some (word_of (encode_utf8_all (c ∷ cs)))) (cond b (number_of (c ∷ cs)) (option_map plain (look_up symbols (c ∷ cs)))) ≡ Some kind → IsScanned kind
-    go true b e f = let same : word_of (encode_utf8_all (c ∷ cs)) ≡ kind = cc in subst IsScanned same (word_scanned (c ∷ cs) (word_spelled c cs e s))
-    go false true e f = number_scanned (c ∷ cs) kind f
-    go false false e f = sign_scanned (look_up symbols (c ∷ cs)) (c ∷ cs) kind refl f
+    go : (a b : Bool) → (is_xid_start c || c == 95) ≡ a → (is_ascii_digit c || (c == 46 && not (is_empty cs))) ≡ b
+        → cond a (Some (word_of (encode_utf8_all (c ∷ cs)))) (cond b (number_of (c ∷ cs)) (option_map plain (look_up symbols (c ∷ cs)))) ≡ Some kind → IsScanned kind
+    go true b e d f =
+        let same : word_of (encode_utf8_all (c ∷ cs)) ≡ kind = cc in
+        subst IsScanned same (word_scanned (c ∷ cs) (record { spelled = s; valued = h ∙ ap Some (sym same); begins = starts_begins c e }))
+    go false true e d f = number_scanned (c ∷ cs) kind (record { spelled = s; valued = h; begins = number_begins c (not (is_empty cs)) d }) f
+    go false false e d f = sign_scanned (look_up symbols (c ∷ cs)) (c ∷ cs) kind refl f
 
 valued_scanned : (o : Option Kind) (text rest from after : List ℕ) (kind : Kind) → valued text rest o ≡ token kind from after → o ≡ Some kind
 valued_scanned None text rest from after kind e = absurd (cc)
@@ -165,7 +235,37 @@ abbrev pub AllScanned : List Token → Type 0
 AllScanned [] = Unit {0}
 AllScanned (t ∷ ts) = IsScanned (without_place t) × AllScanned ts
 
+AllScanned-append : (ts us : List Token) → AllScanned ts → AllScanned us → AllScanned (ts ++ us)
+AllScanned-append [] us h k = k
+AllScanned-append (t ∷ ts) us h k = (h.0, AllScanned-append ts us h.1 k)
+
+raw_scanned : (text from after : List ℕ) (kind : Kind) → raw text ≡ token kind from after → IsScanned kind
+raw_scanned text from after kind h = raw_at_scanned (after_trivia outside text) from after kind h
+
+-- the marks around a template list hold nothing
+mark_scanned : (c : ℕ) → 79 < c → is_among c literal_classes ≡ false → IsScanned (plain c)
+mark_scanned c h n = record { names = λ e. absurd (omega (arith, e, h)); literals = λ m. absurd (true≢false (sym m ∙ n)) }
+
+-- the tokens of template lists are scanned
+abbrev ScannedBy : TemplateRelation → Type 0
+ScannedBy R = (text : List ℕ) (ts : List Token) (rest : List ℕ) → R text ts rest → AllScanned ts
+
+inside_scanned : (total : ℕ) (R : TemplateRelation) → ScannedBy R → (depth : ℕ) (text : List ℕ) (ts : List Token) (end : List ℕ) → Inside total R depth text ts end → AllScanned ts
+inside_scanned total R s depth text ts end (at_greater t e after kind r g) = tt
+inside_scanned total R s depth text ts end (at_opening d t from after e kind us r g h) = (raw_scanned t from after kind r, inside_scanned total R s (suc d) after us e h)
+inside_scanned total R s depth text ts end (at_closing d t from after e kind us r g h) = (raw_scanned t from after kind r, inside_scanned total R s d after us e h)
+inside_scanned total R s depth text ts end (at_template d t from after rest e kind us vs r w k h) =
+    (raw_scanned t from after kind r, AllScanned-append us vs (s after us rest k) (inside_scanned total R s d rest vs e h))
+inside_scanned total R s depth text ts end (at_other d t from after e kind us r g n h) = (raw_scanned t from after kind r, inside_scanned total R s d after us e h)
+
+template_scanned : (bound total : ℕ) → ScannedBy (TemplateUpTo bound total)
+template_scanned zero total text ts rest h = absurd h
+template_scanned (suc bound) total text ts rest (enclosed t from after end kind us v r c h d) =
+    (mark_scanned TemplateArgsStart (omega arith) refl, AllScanned-append us _ (inside_scanned total (TemplateUpTo bound total) (template_scanned bound total) 0 after us end h) (mark_scanned TemplateArgsEnd (omega arith) refl, tt))
+
 pub tokens_scanned : (total : ℕ) (text : List ℕ) (ts : List Token) (e : Ending) → TokensOf total text ts e → AllScanned ts
 tokens_scanned total text ts e (at_end s h) = tt
 tokens_scanned total text ts e (at_fault s from after h) = tt
-tokens_scanned total text ts e (before_more s from after kind us f h more) = (raw_at_scanned (after_trivia outside s) from after kind h, tokens_scanned total after us f more)
+tokens_scanned total text ts e (before_template s from after rest kind us vs f h w t more) =
+    (raw_scanned s from after kind h, AllScanned-append us vs (template_scanned (length after) total after us rest t) (tokens_scanned total rest vs f more))
+tokens_scanned total text ts e (before_more s from after kind us f h n more) = (raw_scanned s from after kind h, tokens_scanned total after us f more)

@@ -1,20 +1,22 @@
 -- The printed text is UTF-8, and its characters are those of its pieces.
-use Rattle.std.proofs.Common.{◌≡◌, ℕ, ◌^◌, ◌<◌, true, false, refl, sym, ap, ap₂, subst, List, [], ◌∷◌, ◌++◌, Option, Some, None, ◌∙◌, arith, append_assoc, append-nil}
+use Rattle.std.proofs.Common.{◌≡◌, ℕ, refl, sym, ap, ap₂, subst, List, [], ◌∷◌, ◌++◌, Option, Some, None, ◌∙◌, append_assoc, append-nil}
 use Rattle.std.specs.Prelude.{codes}
-use Rattle.std.specs.Fmt.{decimal}
 use Rattle.std.specs.Str.{IsUtf8, chars}
 use lib.Utf8.{encode}
-use Rattle.std.proofs.lemmas.Str.{IsUtf8-append, IsUtf8-from_ascii, chars-append, chars-IsAscii}
+use Rattle.std.proofs.lemmas.Str.{IsUtf8-append, chars-append}
 use Rattle.std.proofs.lemmas.Bool.{true≢false}
-use Rattle.std.proofs.lemmas.Fmt.{IsAscii-decimal}
+use Rattle.wgsl_model.specs.Classes.{Ident}
+use Rattle.wgsl_model.specs.Kind.{Kind, named}
 use Rattle.wgsl_model.specs.Spanned.{Spanned}
-use Rattle.wgsl_model.specs.Expressions.{LiteralExpression, boolean, abstract_int, i32, u32, ExpressionNode, expression_node, Expression, literal, TypeExpression, type_expression, no_template, template}
+use Rattle.wgsl_model.specs.Expressions.{ExpressionNode, expression_node, Expression, literal, TypeExpression, type_expression, no_template, template}
 use Rattle.wgsl_model.specs.Statements.{DeclarationKind, const_kind, Declaration}
 use Rattle.wgsl_model.specs.Units.{GlobalDeclaration, GlobalDeclaration.void, GlobalDeclaration.declaration, GlobalDeclaration.type_alias}
 use Rattle.wgsl_theory.proofs.FirstPrinting.{joined, print_literal, print_expression, print_kind, print_typed, print_initializer, print_declaration, print_type_alias, print_global_declaration, texts_of}
-use Rattle.wgsl_theory.proofs.Names.{IsName}
+use Rattle.wgsl_theory.specs.Canonical.{literal_token}
+use Rattle.wgsl_theory.proofs.Separated.{IsSpelled}
+use Rattle.wgsl_theory.proofs.Scanned.{IsName}
 use Rattle.wgsl_theory.proofs.Pieces.{Piece, blank, render, render-append}
-use Rattle.wgsl_theory.proofs.Sound.{at_whole, IsSoundLiteral, IsSoundExpression, IsSoundInitializer, IsSoundType}
+use Rattle.wgsl_theory.proofs.Sound.{IsSoundExpression, IsSoundInitializer, IsSoundType}
 use Rattle.wgsl_theory.proofs.Printed.{expression_pieces, typed_pieces, initializer_pieces, kind_pieces, name_piece, semicolon, declaration_pieces, type_alias_pieces, global_pieces, all_pieces, IsKept, AllKept}
 
 -- bytes that are a text with these characters
@@ -28,33 +30,14 @@ Reads-append a b x y h k = record {
   chars_of = chars-append a b h.utf8 ∙ ap₂ (λ (u v : List ℕ). u ++ v) h.chars_of k.chars_of;
 }
 
-name_reads : (bytes : List ℕ) → IsName bytes → Reads bytes (chars bytes)
-name_reads bytes h = record { utf8 = h.utf8; chars_of = refl }
-
-decimal_reads : (n : ℕ) → n < 2 ^ 64 → Reads (decimal n) (decimal n)
-decimal_reads n h = record { utf8 = IsUtf8-from_ascii (decimal n) (IsAscii-decimal n h); chars_of = chars-IsAscii (decimal n) (IsAscii-decimal n h) }
+text_reads : (k : Kind) (bytes : List ℕ) → IsSpelled k bytes → Reads bytes (chars bytes)
+text_reads k bytes h = record { utf8 = h.utf8; chars_of = refl }
 
 -- ---- the words that are written out
 
 nil_reads : Reads [] []
 unfolding chars
 nil_reads = record { utf8 = ([], (refl, refl)); chars_of = refl }
-
-true_reads : Reads (codes "true") (codes "true")
-unfolding chars encode
-true_reads = record { utf8 = (codes "true", (refl, refl)); chars_of = refl }
-
-false_reads : Reads (codes "false") (codes "false")
-unfolding chars encode
-false_reads = record { utf8 = (codes "false", (refl, refl)); chars_of = refl }
-
-i_reads : Reads (codes "i") (codes "i")
-unfolding chars encode
-i_reads = record { utf8 = (codes "i", (refl, refl)); chars_of = refl }
-
-u_reads : Reads (codes "u") (codes "u")
-unfolding chars encode
-u_reads = record { utf8 = (codes "u", (refl, refl)); chars_of = refl }
 
 semicolon_reads : Reads (codes ";") (codes ";")
 unfolding chars encode
@@ -86,16 +69,8 @@ lines_read = record { utf8 = (codes "\n\n", (refl, refl)); chars_of = refl }
 
 -- ---- declarations
 
-literal_reads : (l : LiteralExpression) → IsSoundLiteral l → Reads (print_literal l) (print_literal l)
-literal_reads (boolean true) h = true_reads
-literal_reads (boolean false) h = false_reads
-literal_reads (abstract_int z) h = at_whole (2 ^ 63) (λ y. Reads (print_literal (abstract_int y)) (print_literal (abstract_int y))) z h (λ n l. decimal_reads n (omega (arith, l)))
-literal_reads (i32 z) h = at_whole (2 ^ 31) (λ y. Reads (print_literal (i32 y)) (print_literal (i32 y))) z h (λ n l. Reads-append (decimal n) (codes "i") (decimal n) (codes "i") (decimal_reads n (omega (arith, l))) i_reads)
-literal_reads (u32 n) h = Reads-append (decimal n) (codes "u") (decimal n) (codes "u") (decimal_reads n (omega (arith, h))) u_reads
-literal_reads l h = absurd h
-
 expression_reads : (e : Expression) → IsSoundExpression e → Reads (print_expression e) (render (expression_pieces e))
-expression_reads (literal l) h = subst (Reads (print_literal l)) (sym (append-nil (print_literal l))) (literal_reads l h)
+expression_reads (literal l) h = subst (Reads (print_literal l)) (sym (append-nil (chars (print_literal l)))) (text_reads (literal_token l) (print_literal l) h)
 expression_reads e h = absurd h
 
 initializer_reads : (i : Option ExpressionNode) → IsSoundInitializer i → Reads (print_initializer i) (render (initializer_pieces i))
@@ -133,8 +108,8 @@ alias_text ident (type_expression name no_template) n t =
     (Reads-append _ (codes ";") _ (codes ";")
     (Reads-append _ name _ (chars name)
     (Reads-append _ (codes " = ") _ (codes " = ")
-    (Reads-append (codes "alias ") ident (codes "alias ") (chars ident) alias_reads (name_reads ident n))
-    equal_reads) (name_reads name t)) semicolon_reads)
+    (Reads-append (codes "alias ") ident (codes "alias ") (chars ident) alias_reads (text_reads (named Ident ident) ident n))
+    equal_reads) (text_reads (named Ident name) name t)) semicolon_reads)
 alias_text ident (type_expression name (template es)) n t = absurd t
 
 global_reads : (n : GlobalDeclaration) → IsKept n → Reads (print_global_declaration n) (render (global_pieces n))
@@ -146,7 +121,7 @@ global_reads (declaration d) h =
     (Reads-append _ (print_typed d.ty) _ (render (typed_pieces d.ty))
     (Reads-append _ d.ident _ (chars d.ident)
     (Reads-append (print_kind d.kind) (codes " ") (render (kind_pieces d.kind)) (codes " ") (kind_reads d.kind h.1.kind) space_reads)
-    (name_reads d.ident h.1.name)) (typed_reads d.ty h.1.untyped)) (initializer_reads d.initializer h.1.value)) semicolon_reads)
+    (text_reads (named Ident d.ident) d.ident h.1.name)) (typed_reads d.ty h.1.untyped)) (initializer_reads d.initializer h.1.value)) semicolon_reads)
 global_reads (type_alias a) h = alias_text a.ident a.ty h.1.0 h.1.1
 global_reads n h = absurd h.1
 

@@ -1,4 +1,4 @@
--- The tokens that a printed module has, written from its tree: no empty declaration, and no places. Attributes, templates, directives and all else that is not read so far have none yet.
+-- The tokens that a printed module of the first path has, written from its tree: no empty declaration, and no places. Attributes, templates, directives and all else that no such module has are left out.
 use Rattle.std.specs.Prelude.{◌≡◌, ℕ, pos, if◌then◌else◌, List, [], ◌∷◌, ◌++◌, Option, Some, None, map, chars}
 use Rattle.grammar.specs.Tokens.{Token, Payload.number}
 use Rattle.grammar.specs.Faults.{Ending.finished}

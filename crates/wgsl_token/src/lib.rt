@@ -2,6 +2,7 @@
 #![tactic(auto)]
 
 pub mod kind;
+pub mod placed;
 #[cfg(test)]
 mod tests;
 pub mod token;

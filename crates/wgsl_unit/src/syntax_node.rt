@@ -7,11 +7,10 @@ ghost use Rattle.wgsl_unit.specs.Named.{declared_name};
 
 use crate::unit::{FormalParameter, Function, GlobalDeclaration, Struct, StructMember, TypeAlias};
 use std::alloc::{AllocError, Global};
-use wgsl_attribute::{
-    Attribute, AttributeNode, SyntaxNode, has_attribute, no_attributes, retain_nodes,
-};
+use wgsl_attribute::{Attribute, AttributeNode};
 use wgsl_expression::Ident;
 use wgsl_span::Span;
+use wgsl_syntax_node::{SyntaxNode, has_attribute, no_attributes, retain_nodes};
 
 impl SyntaxNode for GlobalDeclaration {
     ghost span_of = { λ _. None };

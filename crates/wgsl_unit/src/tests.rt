@@ -6,11 +6,12 @@ use crate::{
 };
 use std::alloc::{AllocError, Global};
 use std::test::Fail;
-use wgsl_attribute::{Attribute, AttributeNode, SyntaxNode};
+use wgsl_attribute::{Attribute, AttributeNode};
 use wgsl_expression::{Expression, ExpressionNode, Ident, LiteralExpression, TypeExpression};
 use wgsl_named_values::{BuiltinValue, DiagnosticSeverity};
 use wgsl_span::{Span, Spanned};
 use wgsl_statement::{ConstAssert, Declaration, DeclarationKind, Statement};
+use wgsl_syntax_node::SyntaxNode;
 
 fn text(alloc: Global, text: &str) -> Result<String, AllocError> {
     String::from_str(alloc, text)

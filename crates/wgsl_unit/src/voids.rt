@@ -5,7 +5,7 @@ ghost use Rattle.wgsl_model.specs.EmptyItems.{full_declaration, full_unit};
 ghost use Rattle.wgsl_unit.specs.View.{global_declaration_view, unit_view};
 
 use crate::unit::{GlobalDeclaration, TranslationUnit};
-use wgsl_attribute::retain_nodes;
+use wgsl_syntax_node::retain_nodes;
 
 impl TranslationUnit {
     /// Removes the empty declarations, and the empty statements from every list of statements.

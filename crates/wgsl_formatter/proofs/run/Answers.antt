@@ -7,7 +7,7 @@ use Rattle.wgsl_formatter.proofs.run.Goals as goal
 
 pub returns-in-Err-OutOfMemory-clause-ends : goal.returns-in-Err-OutOfMemory-clause-ends
 returns-in-Err-OutOfMemory-clause-ends g c =
-    let told = c.deliver-in-Err-OutOfMemory.ensures in
+    let told = c.deliver-in-Err-OutOfMemory.ensures.sent in
     (told.0, ends_without_memory _ _ told.1, told.2, told.3, told.4)
 
 pub returns-in-Err-Failed-clause-ends : goal.returns-in-Err-Failed-clause-ends
@@ -15,7 +15,7 @@ returns-in-Err-Failed-clause-ends g c = (_, ends_unread _, refl, Appends-nil _, 
 
 pub returns-in-Ok-clause-reads_back : goal.returns-in-Ok-clause-reads_back
 returns-in-Ok-clause-reads_back g c = λ zero.
-    let told = c.deliver.ensures in
+    let told = c.deliver.ensures.sent in
     let owed = rw (← c.unwrap_or-report.ensures, c.deref.ensures.value) at (due_report _ _ c.report_on.ensures) in
-    let text = end_reprinted _ _ _ owed told.1 (sym told.2 ∙ zero) in
+    let text = end_reprinted _ _ _ owed c.deliver.ensures.valid told.1 (sym told.2 ∙ zero) in
     (_, told.0.output, c.in-Ok.ensures.bytes, text, told.3)

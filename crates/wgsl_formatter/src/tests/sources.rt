@@ -12,6 +12,13 @@ fn units(rt: HostRuntime) {
             "; alias A = B; const N = 0x1f;",
             "alias A = B;\n\nconst N = 31;\n",
         ),
+        ("const a = b < c > (d);", "const a = b<c>(d);\n"),
+        ("const a = (b < c) > d;", "const a = (b < c) > d;\n"),
+        (
+            "const a = f(x < y, z > (w),);",
+            "const a = f(x<y, z>(w));\n",
+        ),
+        ("enable a;", "enable a;\n\n\n"),
     ] {
         run_on(rt.alloc(), source.as_bytes()).check(&rt, source, 0, output, "");
         start_on(rt.alloc(), 0, source.as_bytes()).check(&rt, source, 0, output, "");
@@ -33,7 +40,19 @@ fn faults(rt: HostRuntime) {
             "chars 6..10: use of a reserved word `self`\n",
         ),
         ("const a = 01;", "chars 11..12: unexpected token `1`\n"),
-        ("alias A = B<C>;", "chars 11..12: unexpected token `<`\n"),
+        ("; enable a;", "chars 2..8: unexpected token `enable`\n"),
+        (
+            "var x: array<type>;",
+            "chars 12..13: unexpected token `<`\n",
+        ),
+        (
+            "@vertex() fn f() {}",
+            "chars 0..9: invalid `vertex` attribute, expected 0 arguments\n",
+        ),
+        (
+            "diagnostic(bad, x);",
+            "chars 11..14: invalid diagnostic severity\n",
+        ),
         ("const N = 1", "chars 11..12: unexpected end of file\n"),
     ] {
         run_on(rt.alloc(), source.as_bytes()).check(&rt, source, 1, "", line);

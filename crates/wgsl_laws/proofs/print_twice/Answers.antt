@@ -1,3 +1,4 @@
+-- The law is proved in the theory.
 use Rattle.wgsl_theory.proofs.RoundTrip as theory
 use Rattle.wgsl_laws.proofs.print_twice.Goals as goal
 

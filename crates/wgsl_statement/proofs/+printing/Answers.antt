@@ -5,7 +5,7 @@ use Rattle.std.specs.Option.{option_map}
 use Rattle.wgsl_model.specs.Joining.{joined}
 use Rattle.wgsl_model.specs.Statements.{else_ifs_of, else_of, clauses_of, continuing_of}
 use Rattle.wgsl_model.specs.Indentation.{after_line_ends, indented}
-use Rattle.wgsl_model.specs.PrintedStatements.{is_void, print_statement, statement_texts, clause_texts, print_switch_clause, print_else_ifs, print_else, braced, continuing_line}
+use Rattle.wgsl_model.specs.PrintedStatements.{is_void, print_statement, statement_texts, clause_texts, print_switch_clause, print_else_ifs, print_else, continuing_line}
 use Rattle.wgsl_writer.specs.Depth.{spaces}
 use Rattle.wgsl_span.specs.declared.Spanned.{Spanned}
 use Rattle.wgsl_span.specs.Spanned.{spanned_node}
@@ -21,9 +21,9 @@ use Rattle.wgsl_statement.specs.View.{statement_view, statement_nodes_view, comp
 use Rattle.wgsl_statement.proofs.StatementViews.{is_compound, is_assignment, is_increment, is_decrement, is_if, is_switch, is_loop, is_for, is_while, is_break, is_continue, is_return, is_discard, is_function_call, is_const_assert, is_declaration}
 use Rattle.wgsl_statement.proofs.Views.{compound_statement_out, if_statement_out, switch_statement_out, switch_clause_out, loop_statement_out, for_statement_out, while_statement_out}
 use Rattle.wgsl_statement.proofs.ClauseViews.{if_clause_out, else_if_clause_out, else_clause_out, continuing_statement_out}
-use Rattle.wgsl_statement.proofs.Blocks.{lines_at, lines_within, statements_filled, clauses_filled}
-use Rattle.wgsl_statement.proofs.AtDepth.{braced_is, compound_is, continuing_is, continuing_line_is, else_clause_is, else_if_clause_is, for_is, if_clause_is, if_is, loop_is, opened_is, statement_is, switch_clause_is, switch_is, while_is}
-use Rattle.wgsl_statement.proofs.Writes.{◌▸◌, nothing_written}
+use Rattle.wgsl_simple_statement.proofs.Blocks.{lines_at, lines_within, statements_filled, clauses_filled}
+use Rattle.wgsl_simple_statement.proofs.AtDepth.{compound_is, continuing_is, continuing_line_is, else_clause_is, else_if_clause_is, for_is, if_clause_is, if_is, loop_is, opened_is, statement_is, switch_clause_is, switch_is, while_is}
+use Rattle.wgsl_simple_statement.proofs.Writes.{◌▸◌, nothing_written}
 use Rattle.wgsl_statement.proofs.Lines.{is_nil, not_nil, before_line, lines_more, statement_lines, empty_more, statement_more, clause_lines, clause_more, else_if_lines, else_if_more}
 use Rattle.wgsl_statement.proofs.+printing.Goals as goal
 
@@ -94,12 +94,9 @@ write::write_compound-returns g t c = λ plain ok.
 pub write::write_opened-returns : goal.write::write_opened-returns
 write::write_opened-returns g t c = λ plain ok.
     has_written_of_eq _ _ _ _ _ (opened_is (spaces c.args.depth.now) _ _ _ (compound_statement_out c.args.block.now))
-    (c.in_ok-write_attribute_line.ensures plain refl
-    ▸ (λ p. c.in_ok-write_str.ensures.writes p refl)
-    ▸ (λ p. c.in_ok-write_spaces.ensures p refl)
+    (c.in_ok-write_open.ensures plain refl
     ▸ (λ p. has_written_of_eq _ _ _ _ _ (ap (λ (xs : List (Spanned Statement)). after_line_ends (spaces c.args.depth.now) (indented (joined (codes "\n") (statement_texts (statement_nodes_view xs))))) c.deref.ensures.value) (c.in_ok-write_lines.ensures p refl))
-    ▸ (λ p. c.in_ok-write_str-2.ensures.writes p refl)
-    ▸ (λ p. c.write_spaces-2.ensures p ok))
+    ▸ (λ p. c.write_line_end.ensures p ok))
 
 pub write_if::write_if-returns : goal.write_if::write_if-returns
 write_if::write_if-returns g t c = λ plain ok.
@@ -112,17 +109,13 @@ write_if::write_if-returns g t c = λ plain ok.
 pub write_if::write_if_clause-returns : goal.write_if::write_if_clause-returns
 write_if::write_if_clause-returns g t c = λ plain ok.
     has_written_of_eq _ _ _ _ _ (if_clause_is (spaces c.args.depth.now) _ _ _ (if_clause_out c.args.clause.now))
-    (c.in_ok-write_str.ensures.writes plain refl
-    ▸ (λ p. c.in_ok-write_indented.ensures p refl)
-    ▸ (λ p. c.in_ok-write_str-2.ensures.writes p refl)
+    (c.in_ok-write_head.ensures plain refl
     ▸ (λ p. c.write_compound.ensures p ok))
 
 pub write_if::write_else_if_clause-returns : goal.write_if::write_else_if_clause-returns
 write_if::write_else_if_clause-returns g t c = λ plain ok.
     has_written_of_eq _ _ _ _ _ (else_if_clause_is (spaces c.args.depth.now) _ _ _ (else_if_clause_out c.args.clause.now))
-    (c.in_ok-write_str.ensures.writes plain refl
-    ▸ (λ p. c.in_ok-write_indented.ensures p refl)
-    ▸ (λ p. c.in_ok-write_str-2.ensures.writes p refl)
+    (c.in_ok-write_head.ensures plain refl
     ▸ (λ p. c.write_compound.ensures p ok))
 
 pub write_if::write_else_clause-returns : goal.write_if::write_else_clause-returns
@@ -135,38 +128,25 @@ pub write_switch::write_switch-returns : goal.write_switch::write_switch-returns
 write_switch::write_switch-returns g t c = λ plain ok.
     has_written_of_eq _ _ _ _ _ (switch_is (spaces c.args.depth.now) _ _ _ _ _ (switch_statement_out c.args.statement.now))
     (c.in_ok-write_attribute_line.ensures plain refl
-    ▸ (λ p. c.in_ok-write_str.ensures.writes p refl)
-    ▸ (λ p. c.in_ok-write_indented.ensures p refl)
-    ▸ (λ p. c.in_ok-write_str-2.ensures.writes p refl)
-    ▸ (λ p. c.in_ok-write_attribute_line-2.ensures p refl)
-    ▸ (λ p. has_written_of_eq _ _ _ _ _ (ap (λ (xs : List SwitchClause). after_line_ends (spaces c.args.depth.now) (braced (clause_texts (clauses_of (map switch_clause_view xs))))) c.deref.ensures.value) (c.write_clauses.ensures p ok)))
-
-pub write_switch::write_clauses-returns : goal.write_switch::write_clauses-returns
-write_switch::write_clauses-returns g t c = λ plain ok.
-    has_written_of_eq _ _ _ _ _ (braced_is (spaces c.args.depth.now) _)
-    (c.in_ok-write_str.ensures.writes plain refl
-    ▸ (λ p. c.in_ok-write_spaces.ensures p refl)
-    ▸ (λ p. c.in_ok-write_clause_lines.ensures p refl)
-    ▸ (λ p. c.in_ok-write_str-2.ensures.writes p refl)
-    ▸ (λ p. c.in_ok-write_spaces-2.ensures p refl)
-    ▸ (λ p. c.write_str-3.ensures.writes p ok))
+    ▸ (λ p. c.in_ok-write_head.ensures p refl)
+    ▸ (λ p. c.in_ok-write_open.ensures p refl)
+    ▸ (λ p. has_written_of_eq _ _ _ _ _ (ap (λ (xs : List SwitchClause). after_line_ends (spaces c.args.depth.now) (indented (joined (codes "\n") (clause_texts (clauses_of (map switch_clause_view xs)))))) c.deref.ensures.value) (c.in_ok-write_clauses.ensures p refl))
+    ▸ (λ p. c.in_ok-write_line_end.ensures p refl)
+    ▸ (λ p. c.write_str.ensures.writes p ok))
 
 pub write_switch::write_switch_clause-returns : goal.write_switch::write_switch_clause-returns
 write_switch::write_switch_clause-returns g t c = λ plain ok.
     has_written_of_eq _ _ _ _ _ (switch_clause_is (spaces c.args.depth.now) _ _ _ (switch_clause_out c.args.clause.now))
-    (c.in_ok-write_str.ensures.writes plain refl
-    ▸ (λ p. has_written_of_eq _ _ _ _ _ (ap (λ (xs : List CaseSelector). after_line_ends (spaces c.args.depth.now) (joined (codes ", ") (map print_selector (map selector_view xs)))) c.deref.ensures.value) (c.in_ok-write_selectors.ensures p refl))
-    ▸ (λ p. c.in_ok-write_str-2.ensures.writes p refl)
+    (has_written_of_eq _ _ _ _ _ (ap (λ (xs : List CaseSelector). codes "case " ++ after_line_ends (spaces c.args.depth.now) (joined (codes ", ") (map print_selector (map selector_view xs))) ++ codes " ") c.deref.ensures.value) (c.in_ok-write_case.ensures plain refl)
     ▸ (λ p. c.write_compound.ensures p ok))
 
 pub write_loops::write_loop-returns : goal.write_loops::write_loop-returns
 write_loops::write_loop-returns g t c = λ plain ok.
     has_written_of_eq _ _ _ _ _ (loop_is (spaces c.args.depth.now) _ _ _ _ (loop_statement_out c.args.statement.now))
-    (c.in_ok-write_attribute_line.ensures plain refl
-    ▸ (λ p. c.in_ok-write_str.ensures.writes p refl)
+    (c.in_ok-write_start.ensures plain refl
     ▸ (λ p. c.in_ok-write_opened.ensures p refl)
     ▸ (λ p. c.in_ok-write_continuing_line.ensures p refl)
-    ▸ (λ p. c.write_str-2.ensures.writes p ok))
+    ▸ (λ p. c.write_str.ensures.writes p ok))
 
 pub write_loops::write_continuing-returns : goal.write_loops::write_continuing-returns
 write_loops::write_continuing-returns g t c = λ plain ok.
@@ -179,23 +159,18 @@ write_loops::write_continuing-returns g t c = λ plain ok.
 pub write_loops::write_for-returns : goal.write_loops::write_for-returns
 write_loops::write_for-returns g t c = λ plain ok.
     has_written_of_eq _ _ _ _ _ (for_is (spaces c.args.depth.now) _ _ _ _ _ _ (for_statement_out c.args.statement.now))
-    (c.in_ok-write_attribute_line.ensures plain refl
-    ▸ (λ p. c.in_ok-write_str.ensures.writes p refl)
+    (c.in_ok-write_start.ensures plain refl
     ▸ (λ p. c.in_ok-write_part.ensures p refl)
-    ▸ (λ p. c.in_ok-write_str-2.ensures.writes p refl)
     ▸ (λ p. c.in_ok-write_condition.ensures p refl)
-    ▸ (λ p. c.in_ok-write_str-3.ensures.writes p refl)
     ▸ (λ p. c.in_ok-write_part-2.ensures p refl)
-    ▸ (λ p. c.in_ok-write_str-4.ensures.writes p refl)
+    ▸ (λ p. c.in_ok-write_str.ensures.writes p refl)
     ▸ (λ p. c.write_compound.ensures p ok))
 
 pub write_loops::write_while-returns : goal.write_loops::write_while-returns
 write_loops::write_while-returns g t c = λ plain ok.
     has_written_of_eq _ _ _ _ _ (while_is (spaces c.args.depth.now) _ _ _ _ (while_statement_out c.args.statement.now))
     (c.in_ok-write_attribute_line.ensures plain refl
-    ▸ (λ p. c.in_ok-write_str.ensures.writes p refl)
-    ▸ (λ p. c.in_ok-write_indented.ensures p refl)
-    ▸ (λ p. c.in_ok-write_str-2.ensures.writes p refl)
+    ▸ (λ p. c.in_ok-write_head.ensures p refl)
     ▸ (λ p. c.write_compound.ensures p ok))
 
 -- parts that may be left out
@@ -204,12 +179,11 @@ write_if::write_else-returns-in-None g t c = λ plain ok.
     let text = λ (o : Option ElseClause). after_line_ends (spaces c.args.depth.now) (print_else (else_of (option_map else_clause_view o))) in
     has_written_of_eq _ _ _ _ _ (sym (ap text c.in-None.is)) (nothing_written g.W.Write.write_str_gives _ plain)
 
-pub write_if::write_else-returns-in_ok-write_spaces-in-Some : goal.write_if::write_else-returns-in_ok-write_spaces-in-Some
-write_if::write_else-returns-in_ok-write_spaces-in-Some g t c = λ plain ok.
+pub write_if::write_else-returns-in_ok-write_line_end-in-Some : goal.write_if::write_else-returns-in_ok-write_line_end-in-Some
+write_if::write_else-returns-in_ok-write_line_end-in-Some g t c = λ plain ok.
     let text = λ (o : Option ElseClause). after_line_ends (spaces c.args.depth.now) (print_else (else_of (option_map else_clause_view o))) in
     has_written_of_eq _ _ _ _ _ (sym (ap text c.in-Some.is))
-    (c.in_ok-write_str-in-Some.ensures.writes plain refl
-    ▸ (λ p. c.in_ok-write_spaces-in-Some.ensures p refl)
+    (c.in_ok-write_line_end-in-Some.ensures plain refl
     ▸ (λ p. c.write_else_clause.ensures p ok))
 
 pub write_loops::write_continuing_line-returns-in-None : goal.write_loops::write_continuing_line-returns-in-None
@@ -217,15 +191,14 @@ write_loops::write_continuing_line-returns-in-None g t c = λ plain ok.
     let text = λ (o : Option ContinuingStatement). after_line_ends (spaces c.args.depth.now) (continuing_line (continuing_of (option_map continuing_statement_view o))) in
     has_written_of_eq _ _ _ _ _ (sym (ap text c.in-None.is)) (nothing_written g.W.Write.write_str_gives _ plain)
 
-pub write_loops::write_continuing_line-returns-in_ok-write_str-in-Some-2 : goal.write_loops::write_continuing_line-returns-in_ok-write_str-in-Some-2
-write_loops::write_continuing_line-returns-in_ok-write_str-in-Some-2 g t c = λ plain ok.
+pub write_loops::write_continuing_line-returns-in_ok-write_continuing-in-Some : goal.write_loops::write_continuing_line-returns-in_ok-write_continuing-in-Some
+write_loops::write_continuing_line-returns-in_ok-write_continuing-in-Some g t c = λ plain ok.
     let gap = spaces c.args.depth.now in
     let text = λ (o : Option ContinuingStatement). after_line_ends gap (continuing_line (continuing_of (option_map continuing_statement_view o))) in
     has_written_of_eq _ _ _ _ _ (continuing_line_is gap (continuing_statement_view c.in-Some.statement) ∙ sym (ap text c.in-Some.is))
     (c.in_ok-write_str-in-Some.ensures.writes plain refl
     ▸ (λ p. c.in_ok-write_continuing-in-Some.ensures p refl)
-    ▸ (λ p. c.in_ok-write_str-in-Some-2.ensures.writes p refl)
-    ▸ (λ p. c.write_spaces.ensures p ok))
+    ▸ (λ p. c.write_line_end.ensures p ok))
 
 -- loops over statements and clauses
 pub write_if::write_else_ifs-clauses-preserved : goal.write_if::write_else_ifs-clauses-preserved
@@ -233,9 +206,9 @@ write_if::write_else_ifs-clauses-preserved g t c = λ plain.
     let gap = spaces c.args.depth.now in
     let items = c.args.clauses.now in
     let one = c.clauses.invariant plain in
-    let two = c.in_ok-write_str.ensures.writes one.plain refl in
+    let two = c.in_ok-write_line_end.ensures one.plain refl in
     has_written_of_eq _ _ _ _ _ (else_if_more gap items c.clauses.clause-index c.clause-item.result (search rules) c.clause-item.is)
-    (has_written_append _ _ _ _ _ _ one (two ▸ (λ p. c.in_ok-write_spaces.ensures p refl) ▸ (λ p. c.in_ok-write_else_if_clause.ensures p refl)))
+    (has_written_append _ _ _ _ _ _ one (two ▸ (λ p. c.in_ok-write_else_if_clause.ensures p refl)))
 
 pub write_if::write_else_ifs-returns : goal.write_if::write_else_ifs-returns
 write_if::write_else_ifs-returns g t c = λ plain ok.
@@ -282,8 +255,8 @@ write::write_lines-returns g t c = λ plain ok.
     (ap (λ xs. lines_at gap (statement_lines gap xs)) (take_all _ items c.statements-test.false) ∙ sym (lines_within gap (statement_texts nodes) (statements_filled nodes)))
     (c.statements.invariant.1 plain)
 
-pub write_switch::write_clause_lines-clauses-preserved : goal.write_switch::write_clause_lines-clauses-preserved
-write_switch::write_clause_lines-clauses-preserved g t c =
+pub write_switch::write_clauses-clauses-preserved : goal.write_switch::write_clauses-clauses-preserved
+write_switch::write_clauses-clauses-preserved g t c =
     let gap = spaces c.args.depth.now in
     let items = c.args.clauses.now in
     let item = c.clause-item.result in
@@ -299,8 +272,8 @@ write_switch::write_clause_lines-clauses-preserved g t c =
           has_written_of_eq _ _ _ _ _ written (has_written_append _ _ _ _ _ _ one (two ▸ (λ p. c.in_ok-write_switch_clause.ensures p refl))),
     )
 
-pub write_switch::write_clause_lines-returns : goal.write_switch::write_clause_lines-returns
-write_switch::write_clause_lines-returns g t c = λ plain ok.
+pub write_switch::write_clauses-returns : goal.write_switch::write_clauses-returns
+write_switch::write_clauses-returns g t c = λ plain ok.
     let gap = spaces c.args.depth.now in
     let items = c.args.clauses.now in
     let clauses = clauses_of (map switch_clause_view items) in

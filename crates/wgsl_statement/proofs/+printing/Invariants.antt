@@ -1,7 +1,7 @@
 use Rattle.std.proofs.Common.{take, ◌≡◌}
 use Rattle.std.specs.Fmt.{HasWritten, IsPlainFormatter}
 use Rattle.wgsl_writer.specs.Depth.{spaces}
-use Rattle.wgsl_statement.proofs.Blocks.{lines_at}
+use Rattle.wgsl_simple_statement.proofs.Blocks.{lines_at}
 use Rattle.wgsl_statement.proofs.Lines.{is_nil, statement_lines, clause_lines, else_if_lines}
 use Rattle.wgsl_statement.proofs.+printing.Given as goal
 
@@ -11,8 +11,8 @@ invariant-write::write_lines-statements g l =
     let lines = statement_lines gap (take l.statement-index l.statements) in
     (l.first ≡ is_nil lines) × (IsPlainFormatter l.initial.f → HasWritten g.W.Write.write_str_gives l.initial.f (lines_at gap lines) l.f)
 
-abbrev pub invariant-write_switch::write_clause_lines-clauses : goal.invariant-write_switch::write_clause_lines-clauses
-invariant-write_switch::write_clause_lines-clauses g l =
+abbrev pub invariant-write_switch::write_clauses-clauses : goal.invariant-write_switch::write_clauses-clauses
+invariant-write_switch::write_clauses-clauses g l =
     let gap = spaces l.depth in
     let lines = clause_lines gap (take l.clause-index l.clauses) in
     (l.first ≡ is_nil lines) × (IsPlainFormatter l.initial.f → HasWritten g.W.Write.write_str_gives l.initial.f (lines_at gap lines) l.f)

@@ -1,10 +1,13 @@
 use Rattle.std.proofs.Common.{rules, ◌≡◌, ◌∙◌, sym, ap, map}
+use Rattle.std.specs.Option.{option_map}
 use Rattle.wgsl_model.specs.Statements as plain
-use Rattle.wgsl_model.specs.EmptyItems.{full_compound, full_else_if_clause, full_switch_clause}
+use Rattle.wgsl_model.specs.EmptyItems.{full_compound, full_else_if_clause, full_for, full_switch_clause}
+use Rattle.wgsl_expression.specs.View.{expression_node_view}
 use Rattle.wgsl_attribute.specs.View.{attributes_view}
 use Rattle.wgsl_statement.specs.View.{statement_node_view, statement_nodes_view, else_if_clause_view, switch_clause_view}
 use Rattle.wgsl_statement.proofs.EmptyStatements.{next_done, all_done, full_node, list_full, else_ifs_full, clauses_full}
-use Rattle.wgsl_statement.proofs.Views.{compound_statement_roll, compound_statement_out}
+use Rattle.wgsl_statement.specs.declared.statement.Statement.TheViews as layers
+use Rattle.wgsl_statement.proofs.Views.{compound_statement_roll, compound_statement_out, for_statement_roll, for_statement_out}
 use Rattle.wgsl_statement.proofs.+remove.Goals as goal
 
 pub statement::CompoundStatement::remove_voids-returns : goal.statement::CompoundStatement::remove_voids-returns
@@ -12,6 +15,13 @@ statement::CompoundStatement::remove_voids-returns t c =
     compound_statement_roll _
     ∙ ap (plain.compound_statement (attributes_view c.args.self.now.attributes.items)) c.remove_from_list.ensures
     ∙ sym (ap full_compound (compound_statement_out c.args.self.now))
+
+pub statement::ForStatement::remove_voids-returns : goal.statement::ForStatement::remove_voids-returns
+statement::ForStatement::remove_voids-returns t c =
+    let original = layers.out-ForStatement c.args.self.now in
+    for_statement_roll _ _ _ _ _
+    ∙ (λ i. plain.repeat_for (attributes_view original.attributes.items) (c.remove_from_part.ensures i) (option_map expression_node_view original.condition) (c.remove_from_part-2.ensures i) (c.remove_voids.ensures i))
+    ∙ sym (ap full_for (for_statement_out c.args.self.now))
 
 pub voids::remove_from_list-statements-preserved : goal.voids::remove_from_list-statements-preserved
 voids::remove_from_list-statements-preserved t c =

@@ -1,16 +1,35 @@
+use Rattle.std.proofs.Common.{◌≡◌, true, [], refl}
+use Rattle.std.specs.Str.{is_utf8}
+use Rattle.std.proofs.lemmas.Str.{is_utf8-from_IsUtf8}
 use Rattle.wgsl_formatter.proofs.Told.{goes_to_errors, goes_to_output}
 use Rattle.wgsl_formatter.proofs.report.deliver.Goals as goal
 
-pub returns-in-Printed : goal.returns-in-Printed
-returns-in-Printed g c =
-    rw (c.in-Printed.is, ← c.as_bytes.ensures.value) (goes_to_output _ _ _ _ _ _ _ c.tell.ensures.1 c.tell.ensures.2)
+pub returns-in-Printed-clause-sent : goal.returns-in-Printed-clause-sent
+returns-in-Printed-clause-sent g c =
+    rw (c.in-Printed.is, ← c.as_str.ensures.value, ← c.as_bytes.ensures.value) (goes_to_output _ _ _ _ _ _ _ c.tell.ensures.1 c.tell.ensures.2)
 
-pub returns-in-Refused : goal.returns-in-Refused
-returns-in-Refused g c =
+pub returns-in-Refused-clause-sent : goal.returns-in-Refused-clause-sent
+returns-in-Refused-clause-sent g c =
     rw (c.in-Refused.is, ← c.as_bytes-in-Refused.ensures.value) (goes_to_errors _ _ _ _ _ _ _ c.tell-in-Refused.ensures.1 c.tell-in-Refused.ensures.2)
 
-pub returns-in-NotUtf8 : goal.returns-in-NotUtf8
-returns-in-NotUtf8 g c = rw c.in-NotUtf8.is (goes_to_errors _ _ _ _ _ _ _ c.tell-in-NotUtf8.ensures.1 c.tell-in-NotUtf8.ensures.2)
+pub returns-in-NotUtf8-clause-sent : goal.returns-in-NotUtf8-clause-sent
+returns-in-NotUtf8-clause-sent g c = rw c.in-NotUtf8.is (goes_to_errors _ _ _ _ _ _ _ c.tell-in-NotUtf8.ensures.1 c.tell-in-NotUtf8.ensures.2)
 
-pub returns-in-OutOfMemory : goal.returns-in-OutOfMemory
-returns-in-OutOfMemory g c = rw c.in-OutOfMemory.is (goes_to_errors _ _ _ _ _ _ _ c.tell-in-OutOfMemory.ensures.1 c.tell-in-OutOfMemory.ensures.2)
+pub returns-in-OutOfMemory-clause-sent : goal.returns-in-OutOfMemory-clause-sent
+returns-in-OutOfMemory-clause-sent g c = rw c.in-OutOfMemory.is (goes_to_errors _ _ _ _ _ _ _ c.tell-in-OutOfMemory.ensures.1 c.tell-in-OutOfMemory.ensures.2)
+
+-- nothing is a text
+nothing_is_text : is_utf8 [] ≡ true
+nothing_is_text = is_utf8-from_IsUtf8 [] ([], (refl, refl))
+
+pub returns-in-Printed-clause-valid : goal.returns-in-Printed-clause-valid
+returns-in-Printed-clause-valid g c = rw (c.in-Printed.is, ← c.as_str.ensures.value) (is_utf8-from_IsUtf8 _ c.as_str.utf8)
+
+pub returns-in-Refused-clause-valid : goal.returns-in-Refused-clause-valid
+returns-in-Refused-clause-valid g c = rw c.in-Refused.is nothing_is_text
+
+pub returns-in-NotUtf8-clause-valid : goal.returns-in-NotUtf8-clause-valid
+returns-in-NotUtf8-clause-valid g c = rw c.in-NotUtf8.is nothing_is_text
+
+pub returns-in-OutOfMemory-clause-valid : goal.returns-in-OutOfMemory-clause-valid
+returns-in-OutOfMemory-clause-valid g c = rw c.in-OutOfMemory.is nothing_is_text

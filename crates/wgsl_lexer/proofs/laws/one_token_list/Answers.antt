@@ -1,4 +1,4 @@
-use Rattle.wgsl_lexer.proofs.Lists.{token_list_exists, token_list_unique}
+use Rattle.wgsl_token_theory.proofs.Lists.{token_list_exists, token_list_unique}
 use Rattle.wgsl_lexer.proofs.laws.one_token_list.Goals as goal
 
 pub returns-clause-exists : goal.returns-clause-exists

@@ -1,11 +1,18 @@
 use Rattle.std.proofs.Common.{chars, sym, ◌∙◌}
 use Rattle.wgsl_scanner.proofs.Bytes.{bytes_of}
+use Rattle.wgsl_scanner.specs.Parts.{number_view}
 use Rattle.wgsl_scanner.proofs.Front.{scan_at-word}
+use Rattle.wgsl_scanner.proofs.Numbers.{number-read}
 use Rattle.wgsl_scanner.proofs.Words.{word-cut}
 use Rattle.wgsl_scanner.proofs.scan.scan_at.Goals as goal
 
 pub before-requires : goal.before-requires
 before-requires c = rw (c.in-Some.ensures.parts, c.after_word-after.ensures.rest) (word-cut c.in-Some.c (chars c.in-Some.rest.now))
+
+pub before-requires-in-Some-number : goal.before-requires-in-Some-number
+before-requires-in-Some-number c =
+    let found = c.in-Some-number in
+    rw c.in-Some.ensures.parts (number-read c.in-Some.c (chars c.in-Some.rest.now) (number_view found.number, chars found.after.now) (sym found.ensures.value)).1
 
 pub returns-then-starts_word-clause-value : goal.returns-then-starts_word-clause-value
 returns-then-starts_word-clause-value c =

@@ -1,5 +1,5 @@
 use Rattle.std.proofs.Common.{sym, inl, inr, chars}
-use Rattle.wgsl_lexer.proofs.Lefts.{ended, nothing_left, fault_left, token_left, some_token}
+use Rattle.wgsl_lexer.proofs.Lefts.{ended, nothing_left, fault_left, some_token}
 use Rattle.wgsl_lexer.proofs.lexer.LexerIterator.next.Goals as goal
 
 pub returns-in-NoneLeft-clause-steps : goal.returns-in-NoneLeft-clause-steps
@@ -7,12 +7,8 @@ returns-in-NoneLeft-clause-steps c = let h = nothing_left c.args.self.now (sym c
 
 pub returns-in-Invalid-clause-steps : goal.returns-in-Invalid-clause-steps
 returns-in-Invalid-clause-steps c =
-    (inl (fault_left c.args.self.now (chars c.in-Invalid.from.now) (chars c.in-Invalid.after.now) _ _ (sym c.in-Invalid.ensures.value) c.place-start.ensures c.place-end.ensures), ended c.args.self.now.total)
-
-pub returns-in-Ok-clause-steps : goal.returns-in-Ok-clause-steps
-returns-in-Ok-clause-steps c ts e h =
-    token_left c.args.self.now (chars c.in-Found.from.now) (chars c.in-Found.after.now) _ _ _ _ ts e (sym c.in-Found.ensures.value) c.place-start-in-Found.ensures c.place-end-in-Found.ensures c.in-Ok.ensures h
+    (inl (fault_left c.args.self.now (chars c.in-Invalid.from.now) (chars c.in-Invalid.after.now) _ _ (sym c.in-Invalid.ensures.value) c.place-start.ensures c.place-end.ensures), ended c.args.self.now.total _ _)
 
 pub returns-in-Err-clause-steps : goal.returns-in-Err-clause-steps
 returns-in-Err-clause-steps c =
-    (inr (c.from.ensures, some_token c.args.self.now _ _ _ (sym c.in-Found.ensures.value)), ended c.args.self.now.total)
+    (inr (c.from.ensures, some_token c.args.self.now _ _ _ (sym c.in-Found.ensures.value)), ended _ _ _)

@@ -1,7 +1,7 @@
 use Rattle.std.proofs.Output.{has_written_of_eq}
 use Rattle.wgsl_model.specs.PrintedStatements.{print_switch_clause}
 use Rattle.wgsl_statement.specs.View.{switch_clause_view}
-use Rattle.wgsl_statement.proofs.Blocks.{after_nothing}
+use Rattle.wgsl_simple_statement.proofs.Blocks.{after_nothing}
 use Rattle.wgsl_statement.proofs.display.SwitchClauseDisplay.fmt.Goals as goal
 
 pub returns-clause-writes : goal.returns-clause-writes

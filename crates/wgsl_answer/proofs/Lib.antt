@@ -1,0 +1,5 @@
+pub mod Lasts
+pub mod Behind
+pub mod Seen
+pub mod Texts
+pub mod Places

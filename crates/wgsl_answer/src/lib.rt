@@ -1,0 +1,12 @@
+//! From the tokens that an iterator gave, and what a parse function read of them, to what is answered.
+#![tactic(auto)]
+
+mod answer;
+mod expected;
+mod message;
+mod source;
+mod text;
+
+pub use expected::BEHIND_UNIT;
+pub use source::{TokenSource, is_out_of_memory, last_end};
+pub use text::tokens_of;

@@ -1,0 +1,5 @@
+pub mod BareWords
+pub mod KnownNames
+pub mod Counts
+pub mod Equations
+pub mod Templates

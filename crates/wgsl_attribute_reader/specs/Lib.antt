@@ -1,0 +1,6 @@
+pub mod VarKinds
+pub mod Known
+pub mod Counted
+pub mod Makes
+pub mod Settles
+pub mod Rules

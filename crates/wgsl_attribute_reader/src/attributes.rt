@@ -1,0 +1,108 @@
+//! Attributes (WGSL, "Attributes").
+
+ghost use Rattle.std.specs.Prelude.{◌≡◌, ◌<◌, ◌≤◌, length, IfOk, OnOk, option_map};
+ghost use Rattle.grammar.specs.States.{first_of, after};
+ghost use Rattle.wgsl_model.specs.TokenValues.{text_of};
+ghost use Rattle.wgsl_model.specs.Faults.{invalid_attribute};
+ghost use Rattle.wgsl_grammar_theory.specs.Reader.{reader};
+ghost use Rattle.wgsl_grammar_theory.specs.Factored.{FactoredSymbol.further, Further.attribute_list};
+ghost use Rattle.wgsl_span.specs.View.{span_view, spanned_view};
+ghost use Rattle.wgsl_attribute.specs.View.{attribute_view, attributes_view, expressions_view};
+ghost use Rattle.wgsl_cursor.specs.Reading.{state, Gives};
+ghost use Rattle.wgsl_cursor.specs.Words.{word_text};
+ghost use Rattle.wgsl_attribute_reader.specs.Known.{checked_attribute};
+ghost use Rattle.wgsl_attribute_reader.specs.Settles.{Settles};
+ghost use Rattle.wgsl_attribute_reader.specs.Rules.{attribute_node_at, attribute_parts_at, optional_arguments_at};
+
+use crate::arguments::Refusal;
+use crate::checks::known_attribute;
+use crate::names::KnownAttribute;
+use std::alloc::Global;
+use wgsl_attribute::{Attribute, AttributeNode, Attributes, CustomAttribute};
+use wgsl_cursor::{Cursor, Fault, Word};
+use wgsl_error::{Error, ErrorKind};
+use wgsl_expression::ExpressionNode;
+use wgsl_expression_reader::parse_arguments;
+use wgsl_span::{Span, Spanned};
+use wgsl_token::kind::TokenKind;
+
+/// Attributes, none too.
+#[tactic(auto, unfolding(crate::specs::Rules::attributes_turn), using(crate::proofs::Equations::attribute_list_is, crate::proofs::Equations::attributes_are, std::proofs::lemmas::List::map_push))]
+pub fn parse_attributes(alloc: Global, tokens: &mut Cursor) -> Result<Attributes, Fault>
+    ensures value { Gives (λ attributes. attributes_view attributes.items) result (state tokens.new) (reader (further attribute_list) (state tokens.old)) }
+    ensures shorter { OnOk result (length (state tokens.new).rest ≤ length (state tokens.old).rest) }
+{
+    let mut attributes = Vec::new(alloc);
+    'attributes: while tokens.is_at(TokenKind::SymAttr) {
+        attributes.push(parse_attribute(alloc, tokens)?)?;
+    }
+    Ok(attributes)
+}
+
+#[tactic(auto, using(crate::proofs::Equations::attribute_node_is))]
+fn parse_attribute(alloc: Global, tokens: &mut Cursor) -> Result<AttributeNode, Fault>
+    ensures value { Gives (spanned_view attribute_view) result (state tokens.new) (attribute_node_at (state tokens.old)) }
+    ensures shorter { OnOk result (length (state tokens.new).rest < length (state tokens.old).rest) }
+{
+    let start = tokens.start();
+    let (name, arguments) = parse_parts(alloc, tokens)?;
+    let span = tokens.span_from(start);
+    let attribute = checked_attribute(alloc, name, arguments, span)?;
+    Ok(Spanned::new(alloc, attribute, span)?)
+}
+
+/// The name of an attribute and its arguments, before they are checked.
+#[tactic(auto, using(crate::proofs::Equations::attribute_parts_is, crate::proofs::Equations::taken_is))]
+fn parse_parts(
+    alloc: Global,
+    tokens: &mut Cursor,
+) -> Result<(Word, Option<Vec<ExpressionNode>>), Fault>
+    ensures value { Gives (λ parts. (first_of (after (state tokens.old)), option_map expressions_view parts.1)) result (state tokens.new) (attribute_parts_at (state tokens.old)) }
+    ensures name { IfOk result (λ parts. word_text parts.0 ≡ text_of (first_of (after (state tokens.old)))) }
+    ensures shorter { OnOk result (length (state tokens.new).rest < length (state tokens.old).rest) }
+{
+    tokens.expect(TokenKind::SymAttr)?;
+    let name = tokens.attribute_name()?;
+    Ok((name, parse_optional_arguments(alloc, tokens)?))
+}
+
+/// Arguments in parentheses, if the next token is a parenthesis.
+#[tactic(auto, unfolding(crate::specs::Rules::optional_arguments_at))]
+fn parse_optional_arguments(
+    alloc: Global,
+    tokens: &mut Cursor,
+) -> Result<Option<Vec<ExpressionNode>>, Fault>
+    ensures value { Gives (option_map expressions_view) result (state tokens.new) (optional_arguments_at (state tokens.old)) }
+    ensures shorter { OnOk result (length (state tokens.new).rest ≤ length (state tokens.old).rest) }
+{
+    if !tokens.is_at(TokenKind::SymParenLeft) {
+        return Ok(None);
+    }
+    Ok(Some(parse_arguments(alloc, tokens)?))
+}
+
+/// The attribute that a name makes of its arguments. One that is not known keeps them as they are.
+#[tactic(auto, using(crate::proofs::KnownNames::known_is, crate::proofs::KnownNames::unknown_is))]
+fn checked_attribute(
+    alloc: Global,
+    name: Word,
+    arguments: Option<Vec<ExpressionNode>>,
+    span: Span,
+) -> Result<Attribute, Fault>
+    ensures { Settles attribute_view result (checked_attribute (word_text name) (option_map expressions_view arguments)) (λ text. invalid_attribute (word_text name) text (span_view span)) }
+{
+    let Some(known) = KnownAttribute::from_name(name.as_str()) else {
+        return Ok(Attribute::Custom(CustomAttribute {
+            name: name.into_string(alloc)?,
+            arguments,
+        }));
+    };
+    match known_attribute(alloc, known, arguments) {
+        Ok(attribute) => Ok(attribute),
+        Err(Refusal::OutOfMemory) => Err(Fault::OutOfMemory),
+        Err(Refusal::Arguments(text)) => Err(Fault::Checked(Error {
+            error: ErrorKind::Attribute(known.name(), text),
+            span,
+        })),
+    }
+}

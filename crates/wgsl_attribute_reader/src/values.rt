@@ -1,0 +1,100 @@
+//! The kinds of variables, and the names and types of values (WGSL, "Variable and Value Declarations").
+
+ghost use Rattle.std.specs.Prelude.{◌≡◌, ◌<◌, length, map, MatchResult, OnOk, Some, option_map};
+ghost use Rattle.wgsl_model.specs.Checks.{right, wrong, bare_word, space_and_mode, space_in_template};
+ghost use Rattle.wgsl_model.specs.Symbols.{Symbol.typed_ident};
+ghost use Rattle.wgsl_model.specs.NamedValues.{address_spaces};
+ghost use Rattle.wgsl_named_values.specs.View.{address_space_view, access_mode_view};
+ghost use Rattle.wgsl_grammar_theory.specs.Reader.{reader};
+ghost use Rattle.wgsl_grammar_theory.specs.Factored.{FactoredSymbol.of};
+ghost use Rattle.wgsl_expression.specs.View.{ident_name, expression_node_view, template_arg_view, type_expression_view};
+ghost use Rattle.wgsl_simple_statement.specs.View.{declaration_kind_view, var_template_view};
+ghost use Rattle.wgsl_cursor.specs.Reading.{state, Gives};
+ghost use Rattle.wgsl_attribute_reader.specs.Counted.{space_with_mode};
+ghost use Rattle.wgsl_attribute_reader.specs.VarKinds.{var_kind_at};
+
+use crate::arguments::one_to_three;
+use crate::bare::{bare_access_mode, bare_address_space};
+use std::alloc::Global;
+use wgsl_cursor::{Cursor, Fault};
+use wgsl_error::{Error, ErrorKind};
+use wgsl_expression::{ExpressionNode, Ident, TemplateArg, TypeExpression};
+use wgsl_expression_reader::{parse_template_list, parse_type_specifier};
+use wgsl_named_values::{AccessMode, AddressSpace};
+use wgsl_simple_statement::DeclarationKind;
+use wgsl_token::kind::TokenKind;
+
+/// `var` and its template.
+#[tactic(auto, unfolding(crate::specs::VarKinds::var_kind_at, wgsl_grammar_theory::specs::StatementRules::var_template_at, grammar::specs::States::take), using(wgsl_grammar_theory::proofs::StatementEquations::var_template_is))]
+pub fn parse_var_kind(alloc: Global, tokens: &mut Cursor) -> Result<DeclarationKind, Fault>
+    ensures value { Gives declaration_kind_view result (state tokens.new) (var_kind_at (state tokens.old)) }
+    ensures shorter { OnOk result (length (state tokens.new).rest < length (state tokens.old).rest) }
+{
+    let start = tokens.start();
+    tokens.expect(TokenKind::KwVar)?;
+    if !tokens.is_at(TokenKind::TemplateArgsStart) {
+        return Ok(DeclarationKind::Var(None));
+    }
+    let template = parse_template_list(alloc, tokens)?;
+    match address_space(template) {
+        Ok(space) => Ok(DeclarationKind::Var(Some(space))),
+        Err(text) => Err(Fault::Checked(Error {
+            error: ErrorKind::VarTemplate(text),
+            span: tokens.span_from(start),
+        })),
+    }
+}
+
+/// The address space and the access mode that the template of a `var` names, or what is wrong with it.
+#[tactic(auto, using(crate::proofs::Counts::space_is, crate::proofs::Counts::seen))]
+fn address_space(
+    template: Vec<TemplateArg>,
+) -> Result<(AddressSpace, Option<AccessMode>), &'static str>
+    ensures { MatchResult result (λ space. space_in_template (map template_arg_view template.items) ≡ right (var_template_view space)) (λ text. space_in_template (map template_arg_view template.items) ≡ wrong text.now) }
+{
+    match one_to_three(template) {
+        Some((space, mode, None)) => space_with_mode(space.expression, mode),
+        _ => Err("template is empty"),
+    }
+}
+
+/// An address space, and an access mode if there is one.
+fn space_with_mode(
+    space: ExpressionNode,
+    mode: Option<TemplateArg>,
+) -> Result<(AddressSpace, Option<AccessMode>), &'static str>
+    ensures { MatchResult result (λ pair. space_with_mode (bare_word address_spaces (expression_node_view space)) (option_map template_arg_view mode) ≡ right (var_template_view pair)) (λ text. space_with_mode (bare_word address_spaces (expression_node_view space)) (option_map template_arg_view mode) ≡ wrong text.now) }
+{
+    let space = bare_address_space(space).ok_or("invalid address space")?;
+    match mode {
+        None => Ok((space, None)),
+        Some(mode) => Ok((space, Some(mode_in_space(space, mode.expression)?))),
+    }
+}
+
+/// The access mode of a variable in an address space.
+#[tactic(auto, using(crate::proofs::Counts::other_space))]
+fn mode_in_space(space: AddressSpace, mode: ExpressionNode) -> Result<AccessMode, &'static str>
+    ensures { MatchResult result (λ known. space_and_mode (Some (address_space_view space)) (expression_node_view mode) ≡ right (address_space_view space, Some (access_mode_view known))) (λ text. space_and_mode (Some (address_space_view space)) (expression_node_view mode) ≡ wrong text.now) }
+{
+    match space {
+        AddressSpace::Storage => bare_access_mode(mode).ok_or("invalid access mode"),
+        _ => Err("only variables with `storage` address space can have an access mode"),
+    }
+}
+
+/// A name, and its type if there is one.
+#[tactic(auto, unfolding(wgsl_grammar_theory::specs::StatementRules::typed_ident_at, grammar::specs::States::take), using(wgsl_grammar_theory::proofs::StatementEquations::typed_ident_is))]
+pub fn parse_typed_ident(
+    alloc: Global,
+    tokens: &mut Cursor,
+) -> Result<(Ident, Option<TypeExpression>), Fault>
+    ensures value { Gives (λ typed. (ident_name typed.0, option_map type_expression_view typed.1)) result (state tokens.new) (reader (of typed_ident) (state tokens.old)) }
+    ensures shorter { OnOk result (length (state tokens.new).rest < length (state tokens.old).rest) }
+{
+    let ident = tokens.ident()?;
+    if !tokens.eat(TokenKind::SymColon) {
+        return Ok((ident, None));
+    }
+    Ok((ident, Some(parse_type_specifier(alloc, tokens)?)))
+}

@@ -1,0 +1,79 @@
+//! Measures how many megabytes of the standard input a second takes: `wgsl_bench WHAT TURNS`, where WHAT is `bytes`,
+//! `lex`, `expression`, `unit` or `print`. Without arguments it prints nothing.
+#![tactic(auto)]
+
+use std::alloc::Global;
+use std::io;
+use std::time::Instant;
+use wgsl_parse::lexer::Lexer;
+use wgsl_parse::parser::FromSource;
+use wgsl_parse::syntax::{Expression, TranslationUnit};
+
+/// What is done with the text in each turn.
+#[derive(Clone, Copy)]
+enum Measured {
+    /// A loop over its bytes, to compare with.
+    Bytes,
+    Lex,
+    Expression,
+    Unit,
+    Print,
+}
+
+impl Measured {
+    fn from_word(word: &str) -> Option<Measured> {
+        match word {
+            "bytes" => Some(Measured::Bytes),
+            "lex" => Some(Measured::Lex),
+            "expression" => Some(Measured::Expression),
+            "unit" => Some(Measured::Unit),
+            "print" => Some(Measured::Print),
+            _ => None,
+        }
+    }
+
+    /// A number that depends on all that was done, so that none of it is left out; none where the text was refused.
+    fn turn(self, alloc: Global, text: &str) -> Option<usize> {
+        match self {
+            Measured::Bytes => Some(text.bytes().filter(|byte| *byte == b';').count()),
+            Measured::Lex => Some(Lexer::new(alloc, text).ok()?.count()),
+            Measured::Expression => {
+                let expression = Expression::from_str(alloc, text).ok()?;
+                Some(usize::from(expression.is_binary()))
+            }
+            Measured::Unit => {
+                let unit = TranslationUnit::from_str(alloc, text).ok()?;
+                Some(unit.global_declarations.len())
+            }
+            Measured::Print => {
+                let unit = TranslationUnit::from_str(alloc, text).ok()?;
+                Some(unit.to_string(alloc).ok()?.len())
+            }
+        }
+    }
+}
+
+fn main(rt: HostRuntime) -> io::Result<()> {
+    let mut arguments = std::env::args(&rt)?.skip(1);
+    let (Some(what), Some(turns)) = (arguments.next(), arguments.next()) else {
+        return Ok(());
+    };
+    let (Some(measured), Ok(turns)) = (Measured::from_word(what.as_str()), turns.parse::<u32>())
+    else {
+        return println!(rt;
+            "what is measured is bytes, lex, expression, unit or print, so many turns"
+        );
+    };
+    let text = io::read_to_string(rt.alloc(), rt.stdin())?;
+    let start = Instant::now(&rt)?;
+    let mut sum = 0usize;
+    for _ in 0..turns {
+        match measured.turn(rt.alloc(), text.as_str()) {
+            Some(number) => sum = sum.wrapping_add(number),
+            None => return println!(rt; "{what}: the text was refused"),
+        }
+    }
+    let micros = start.elapsed(&rt)?.as_micros().max(1);
+    let bytes = (text.len() as u128).saturating_mul(u128::from(turns));
+    println!(rt; "{what}: {} MB/s ({sum})", bytes / micros)
+}

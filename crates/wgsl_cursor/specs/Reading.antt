@@ -1,0 +1,34 @@
+-- What functions returned, and what is read.
+use Rattle.std.specs.Prelude.{◌≡◌, ℕ, map, Result, Ok, Err}
+use Rattle.grammar.specs.States.{State, Read, Read.done, Read.stop, Stop, Stop.unexpected, Stop.ended, Stop.faulty, Stop.never}
+use Rattle.wgsl_span.specs.declared.Span.{Span}
+use Rattle.wgsl_error.specs.View.{fault_view}
+use Rattle.wgsl_token.specs.Placed.{placed_view}
+use Rattle.wgsl_cursor.specs.declared.cursor.Cursor.{Cursor}
+use Rattle.wgsl_cursor.specs.declared.fault.Fault.{Fault}
+use Rattle.wgsl_cursor.specs.declared.fault.Fault.TheVariants as fault
+
+-- the tokens that are left, and where the last one that was taken ended
+abbrev pub state : Cursor → State
+state c = record { end = c.end; rest = map placed_view c.tokens.items }
+
+-- from a place to the end of the last token that was taken
+abbrev pub span_back : ℕ → State → Span
+span_back start s = record { start = start; end = s.end }
+
+-- why reading stopped
+abbrev pub stop_of : Fault → Stop
+stop_of (fault.UnexpectedToken t expected) = unexpected (placed_view t)
+stop_of (fault.UnexpectedEnd expected) = ended
+stop_of (fault.Checked e) = faulty (fault_view e)
+stop_of fault.OutOfMemory = never
+
+-- reading stopped so, unless memory ran out
+abbrev pub Fails : {Y : Type 0} → Fault → Read Y → Type 0
+Fails fault.OutOfMemory read = Unit {0}
+Fails e read = read ≡ stop (stop_of e)
+
+-- What a function returned, seen by view, with the state that it left, is what is read, unless memory ran out.
+abbrev pub Gives : {X Y : Type 0} → (X → Y) → Result X Fault → State → Read Y → Type 0
+Gives view (Ok x) left read = read ≡ done (view x) left
+Gives view (Err e) left read = Fails e read

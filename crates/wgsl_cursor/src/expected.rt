@@ -1,0 +1,59 @@
+//! What could stand where a token was refused.
+
+use std::alloc::{AllocError, Global};
+use wgsl_token::kind::TokenKind;
+
+/// The tokens that could stand where one was refused, by their kinds in order.
+#[derive(Clone, Copy)]
+pub enum Expected {
+    One(TokenKind),
+    OneOf(&'static [TokenKind]),
+}
+
+impl Expected {
+    /// What a literal is.
+    pub const LITERAL: Expected = Expected::OneOf(&[
+        TokenKind::KwFalse,
+        TokenKind::KwTrue,
+        TokenKind::AbstractInt,
+        TokenKind::I32,
+        TokenKind::U32,
+        TokenKind::AbstractFloat,
+        TokenKind::F32,
+        TokenKind::F16,
+    ]);
+
+    /// What the name of an attribute is.
+    pub const ATTRIBUTE_NAME: Expected = Expected::OneOf(&[
+        TokenKind::Ident,
+        TokenKind::ReservedWord,
+    ]);
+
+    /// Their texts.
+    pub fn texts(self, alloc: Global) -> Result<Vec<String>, AllocError> {
+        let mut texts = Vec::new(alloc);
+        match self {
+            Expected::One(kind) => texts.push(String::from_str(alloc, text_of(kind))?)?,
+            Expected::OneOf(kinds) => {
+                for kind in kinds {
+                    texts.push(String::from_str(alloc, text_of(*kind))?)?;
+                }
+            }
+        }
+        Ok(texts)
+    }
+}
+
+/// The text of a kind, also of one that holds something.
+fn text_of(kind: TokenKind) -> &'static str {
+    match kind {
+        TokenKind::Ident => "identifier",
+        TokenKind::AbstractInt => "integer literal",
+        TokenKind::I32 => "i32 literal",
+        TokenKind::U32 => "u32 literal",
+        TokenKind::AbstractFloat => "float literal",
+        TokenKind::F32 => "f32 literal",
+        TokenKind::F16 => "f16 literal",
+        _ => kind.text(),
+    }
+}

@@ -1,0 +1,12 @@
+//! The tokens that are left to be read, and why reading stops.
+#![tactic(auto)]
+
+pub mod cursor;
+pub mod expected;
+pub mod fault;
+pub mod word;
+
+pub use cursor::Cursor;
+pub use expected::Expected;
+pub use fault::Fault;
+pub use word::Word;

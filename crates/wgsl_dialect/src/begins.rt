@@ -1,0 +1,9 @@
+//! Kinds of tokens by which one of two ways is chosen.
+
+use wgsl_token::kind::TokenKind;
+
+pub const BEGINS_MULTIPLICATIVE_EXPRESSION: &[TokenKind] = &[
+    TokenKind::SymStar,
+    TokenKind::SymForwardSlash,
+    TokenKind::SymModulo,
+];

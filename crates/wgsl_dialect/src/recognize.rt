@@ -1,0 +1,39 @@
+//! Recognising a module.
+
+ghost use Rattle.std.specs.Prelude.{◌≡◌, ◌⊎◌, false, chars, length, IfOk, IfErr};
+ghost use Rattle.wgsl_model.specs.CheckedFaults.{wants_memory};
+ghost use Rattle.wgsl_error.specs.View.{fault_view};
+ghost use Rattle.wgsl_lexer.specs.Placed.{tokens_view, ending_view};
+ghost use Rattle.wgsl_answer.specs.Answers.{IsOutOfMemory};
+ghost use Rattle.wgsl_answer.specs.Places.{StandsWithin};
+ghost use Rattle.wgsl_dialect.specs.Recognized.{IsRecognized, IsRefused, Recognized};
+
+use crate::accept::accept;
+use crate::rules::right_side;
+use crate::symbol::Symbol;
+use std::alloc::Global;
+use wgsl_answer::{BEHIND_UNIT, TokenSource, tokens_of};
+use wgsl_error::Error;
+use wgsl_lexer::Collected;
+
+/// Whether tokens are a module.
+#[tactic(auto, using(crate::proofs::Weights::rule_settled, crate::proofs::Recognized::unit_is))]
+fn recognize_unit(alloc: Global, found: Collected) -> Result<(), Error>
+    requires { wants_memory (ending_view found.error) ≡ false }
+    ensures { Recognized result (tokens_view found) (ending_view found.error) }
+{
+    let mut source = TokenSource::new(found)?;
+    let read = accept(right_side(Symbol::Unit), &mut source.tokens);
+    source.answer(alloc, read, BEHIND_UNIT)
+}
+
+/// Whether a text is a module where it is recognised alone: names are identifiers alone, after `@` too, `--` stands in
+/// no sum, and no attribute, `var` template or diagnostic is checked. Otherwise the error is the first token that can't
+/// stand where it stands; else the text that is no token; else that the text ends too early. No tree is made.
+pub fn recognize_str(alloc: Global, source: &str) -> Result<(), Error>
+    ensures accepted { IfOk result (λ _. IsRecognized (chars source.now)) }
+    ensures refused { IfErr result (λ e. IsOutOfMemory e ⊎ IsRefused (chars source.now) (fault_view e)) }
+    ensures placed { IfErr result (λ e. IsOutOfMemory e ⊎ StandsWithin e.span (length source.now)) }
+{
+    recognize_unit(alloc, tokens_of(alloc, source)?)
+}

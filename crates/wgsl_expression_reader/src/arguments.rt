@@ -1,0 +1,33 @@
+//! The arguments of calls.
+
+ghost use Rattle.std.specs.Prelude.{◌<◌, length, map, OnOk};
+ghost use Rattle.wgsl_model.specs.Symbols.{Symbol.arguments};
+ghost use Rattle.wgsl_grammar_theory.specs.Factored.{FactoredSymbol.of};
+ghost use Rattle.wgsl_grammar_theory.specs.Reader.{reader};
+ghost use Rattle.wgsl_expression.specs.View.{expression_node_view};
+ghost use Rattle.wgsl_cursor.specs.Reading.{state, Gives};
+
+use crate::expression::parse_expression;
+use std::alloc::Global;
+use wgsl_cursor::{Cursor, Fault};
+use wgsl_expression::ExpressionNode;
+use wgsl_token::kind::TokenKind;
+
+/// Arguments in parentheses.
+#[cycle(expression)]
+#[tactic(auto, unfolding(wgsl_grammar_theory::specs::ExpressionRules::arguments_at, crate::proofs::Turns::arguments_turn, grammar::specs::States::take), using(wgsl_grammar_theory::proofs::ExpressionEquations::arguments_is, crate::proofs::Equations::argument_rest_is, crate::proofs::Equations::arguments_are, std::proofs::lemmas::List::map_push))]
+pub fn parse_arguments(alloc: Global, tokens: &mut Cursor) -> Result<Vec<ExpressionNode>, Fault>
+    ensures value { Gives (λ args. map expression_node_view args.items) result (state tokens.new) (reader (of arguments) (state tokens.old)) }
+    ensures shorter { OnOk result (length (state tokens.new).rest < length (state tokens.old).rest) }
+{
+    tokens.expect(TokenKind::SymParenLeft)?;
+    let mut arguments = Vec::new(alloc);
+    'arguments: while !tokens.eat(TokenKind::SymParenRight) {
+        arguments.push(parse_expression(alloc, tokens)?)?;
+        if !tokens.eat(TokenKind::SymComma) {
+            tokens.expect(TokenKind::SymParenRight)?;
+            return Ok(arguments);
+        }
+    }
+    Ok(arguments)
+}

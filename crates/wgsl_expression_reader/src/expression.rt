@@ -1,0 +1,178 @@
+//! Expressions, from comparisons to chains of one operator.
+
+ghost use Rattle.std.specs.Prelude.{◌<◌, ◌≤◌, length, OnOk};
+ghost use Rattle.wgsl_model.specs.Symbols.{Symbol.relational_expression, Symbol.expression};
+ghost use Rattle.wgsl_grammar_theory.specs.Factored.{FactoredSymbol.of};
+ghost use Rattle.wgsl_grammar_theory.specs.Reader.{reader};
+ghost use Rattle.wgsl_token.specs.View.{class_of_kind};
+ghost use Rattle.wgsl_named_values.specs.View.{binary_operator_view};
+ghost use Rattle.wgsl_expression.specs.View.{expression_node_view};
+ghost use Rattle.wgsl_cursor.specs.Reading.{state, Gives};
+ghost use Rattle.wgsl_expression_reader.specs.Rules.{relation_behind, bitwise_behind, logical_behind, logical_at, expression_behind};
+
+use crate::nodes::join;
+use crate::operators::relational_operator;
+use crate::sums::{parse_shift_expression, parse_sum_rest};
+use crate::unary::parse_unary_expression;
+use std::alloc::Global;
+use wgsl_cursor::{Cursor, Fault};
+use wgsl_expression::ExpressionNode;
+use wgsl_named_values::BinaryOperator;
+use wgsl_token::kind::TokenKind;
+
+/// An expression.
+#[cycle(expression)]
+#[tactic(auto, unfolding(crate::proofs::Turns::whole_expression_at), using(crate::proofs::Equations::expression_is))]
+pub fn parse_expression(alloc: Global, tokens: &mut Cursor) -> Result<ExpressionNode, Fault>
+    ensures value { Gives expression_node_view result (state tokens.new) (reader (of expression) (state tokens.old)) }
+    ensures shorter { OnOk result (length (state tokens.new).rest < length (state tokens.old).rest) }
+{
+    let left = parse_unary_expression(alloc, tokens)?;
+    parse_expression_rest(alloc, tokens, left)
+}
+
+/// What makes an operand an expression.
+#[cycle(expression)]
+#[tactic(auto, unfolding(crate::proofs::Turns::expression_turn), using(crate::proofs::Equations::expression_behind_is))]
+fn parse_expression_rest(
+    alloc: Global,
+    tokens: &mut Cursor,
+    left: ExpressionNode,
+) -> Result<ExpressionNode, Fault>
+    ensures value { Gives expression_node_view result (state tokens.new) (expression_behind (expression_node_view left) (state tokens.old)) }
+    ensures shorter { OnOk result (length (state tokens.new).rest ≤ length (state tokens.old).rest) }
+{
+    if tokens.is_at(TokenKind::SymAnd) {
+        return parse_bitwise_operands(
+            alloc,
+            tokens,
+            left,
+            TokenKind::SymAnd,
+            BinaryOperator::BitwiseAnd,
+        );
+    }
+    if tokens.is_at(TokenKind::SymOr) {
+        return parse_bitwise_operands(
+            alloc,
+            tokens,
+            left,
+            TokenKind::SymOr,
+            BinaryOperator::BitwiseOr,
+        );
+    }
+    if tokens.is_at(TokenKind::SymXor) {
+        return parse_bitwise_operands(
+            alloc,
+            tokens,
+            left,
+            TokenKind::SymXor,
+            BinaryOperator::BitwiseXor,
+        );
+    }
+    let sum = parse_sum_rest(alloc, tokens, left)?;
+    let relation = parse_relation_rest(alloc, tokens, sum)?;
+    parse_logical_rest(alloc, tokens, relation)
+}
+
+/// The operands behind a first one with one bitwise operator between, none too.
+#[cycle(expression)]
+#[tactic(auto, unfolding(crate::proofs::Turns::bitwise_turn, grammar::specs::States::take), using(crate::proofs::Equations::bitwise_are))]
+fn parse_bitwise_operands(
+    alloc: Global,
+    tokens: &mut Cursor,
+    left: ExpressionNode,
+    kind: TokenKind,
+    operator: BinaryOperator,
+) -> Result<ExpressionNode, Fault>
+    ensures value { Gives expression_node_view result (state tokens.new) (bitwise_behind (class_of_kind kind) (binary_operator_view operator) (expression_node_view left) (state tokens.old)) }
+    ensures shorter { OnOk result (length (state tokens.new).rest ≤ length (state tokens.old).rest) }
+{
+    let mut left = left;
+    'operands: while tokens.eat(kind) {
+        let right = parse_unary_expression(alloc, tokens)?;
+        left = join(alloc, left, operator, right)?;
+    }
+    Ok(left)
+}
+
+/// What makes an operand a comparison, or nothing.
+#[cycle(expression)]
+#[tactic(auto, unfolding(crate::proofs::Turns::relation_turn), using(crate::proofs::Equations::relation_is))]
+fn parse_relation_rest(
+    alloc: Global,
+    tokens: &mut Cursor,
+    left: ExpressionNode,
+) -> Result<ExpressionNode, Fault>
+    ensures value { Gives expression_node_view result (state tokens.new) (relation_behind (expression_node_view left) (state tokens.old)) }
+    ensures shorter { OnOk result (length (state tokens.new).rest ≤ length (state tokens.old).rest) }
+{
+    let Some(operator) = relational_operator(tokens) else {
+        return Ok(left);
+    };
+    let right = parse_shift_expression(alloc, tokens)?;
+    Ok(join(alloc, left, operator, right)?)
+}
+
+/// The operands of `&&` or of `||` behind a first one, none too.
+#[cycle(expression)]
+#[tactic(auto, unfolding(crate::specs::Rules::logical_at))]
+fn parse_logical_rest(
+    alloc: Global,
+    tokens: &mut Cursor,
+    left: ExpressionNode,
+) -> Result<ExpressionNode, Fault>
+    ensures value { Gives expression_node_view result (state tokens.new) (logical_at (expression_node_view left) (state tokens.old)) }
+    ensures shorter { OnOk result (length (state tokens.new).rest ≤ length (state tokens.old).rest) }
+{
+    if tokens.is_at(TokenKind::SymAndAnd) {
+        return parse_logical_operands(
+            alloc,
+            tokens,
+            left,
+            TokenKind::SymAndAnd,
+            BinaryOperator::ShortCircuitAnd,
+        );
+    }
+    if tokens.is_at(TokenKind::SymOrOr) {
+        return parse_logical_operands(
+            alloc,
+            tokens,
+            left,
+            TokenKind::SymOrOr,
+            BinaryOperator::ShortCircuitOr,
+        );
+    }
+    Ok(left)
+}
+
+/// The operands behind a first one with one logical operator between, none too.
+#[cycle(expression)]
+#[tactic(auto, unfolding(crate::proofs::Turns::logical_turn, grammar::specs::States::take), using(crate::proofs::Equations::logical_are))]
+fn parse_logical_operands(
+    alloc: Global,
+    tokens: &mut Cursor,
+    left: ExpressionNode,
+    kind: TokenKind,
+    operator: BinaryOperator,
+) -> Result<ExpressionNode, Fault>
+    ensures value { Gives expression_node_view result (state tokens.new) (logical_behind (class_of_kind kind) (binary_operator_view operator) (expression_node_view left) (state tokens.old)) }
+    ensures shorter { OnOk result (length (state tokens.new).rest ≤ length (state tokens.old).rest) }
+{
+    let mut left = left;
+    'operands: while tokens.eat(kind) {
+        let right = parse_relational_expression(alloc, tokens)?;
+        left = join(alloc, left, operator, right)?;
+    }
+    Ok(left)
+}
+
+/// A comparison or a sum.
+#[cycle(expression)]
+#[tactic(auto, unfolding(crate::proofs::Turns::relational_at), using(crate::proofs::Equations::relational_expression_is))]
+fn parse_relational_expression(alloc: Global, tokens: &mut Cursor) -> Result<ExpressionNode, Fault>
+    ensures value { Gives expression_node_view result (state tokens.new) (reader (of relational_expression) (state tokens.old)) }
+    ensures shorter { OnOk result (length (state tokens.new).rest < length (state tokens.old).rest) }
+{
+    let left = parse_shift_expression(alloc, tokens)?;
+    parse_relation_rest(alloc, tokens, left)
+}

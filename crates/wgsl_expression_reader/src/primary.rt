@@ -1,0 +1,140 @@
+//! Primary expressions and their components.
+
+ghost use Rattle.std.specs.Prelude.{◌≡◌, ◌<◌, ◌≤◌, [], ◌∷◌, length, OnOk};
+ghost use Rattle.grammar.specs.States.{is_any};
+ghost use Rattle.wgsl_model.specs.Classes.{SymBracketLeft, SymPeriod};
+ghost use Rattle.wgsl_model.specs.Symbols.{Symbol.primary_expression, Symbol.singular_expression};
+ghost use Rattle.wgsl_grammar_theory.specs.Factored.{FactoredSymbol.of, FactoredSymbol.further, Further.components};
+ghost use Rattle.wgsl_grammar_theory.specs.Reader.{reader};
+ghost use Rattle.wgsl_expression.specs.View.{expression_view, expression_node_view};
+ghost use Rattle.wgsl_cursor.specs.Reading.{state, Gives};
+ghost use Rattle.wgsl_expression_reader.specs.Growing.{grown};
+ghost use Rattle.wgsl_expression_reader.specs.Rules.{primary_at, call_or_type_at, parenthesized_at, component_behind};
+
+use crate::arguments::parse_arguments;
+use crate::expression::parse_expression;
+use crate::nodes::{call, indexing, named_component, parenthesized};
+use crate::types::parse_type_specifier;
+use std::alloc::Global;
+use wgsl_cursor::{Cursor, Fault};
+use wgsl_expression::{Expression, ExpressionNode};
+use wgsl_span::Spanned;
+use wgsl_token::kind::TokenKind;
+
+/// A primary expression and its components.
+#[cycle(expression)]
+#[tactic(auto, unfolding(crate::proofs::Turns::singular_at, crate::proofs::Turns::components_behind), using(crate::proofs::Equations::singular_expression_is))]
+pub fn parse_singular_expression(
+    alloc: Global,
+    tokens: &mut Cursor,
+) -> Result<ExpressionNode, Fault>
+    ensures value { Gives expression_node_view result (state tokens.new) (reader (of singular_expression) (state tokens.old)) }
+    ensures shorter { OnOk result (length (state tokens.new).rest < length (state tokens.old).rest) }
+{
+    let primary = parse_primary_expression(alloc, tokens)?;
+    parse_components(alloc, tokens, primary)
+}
+
+#[cycle(expression)]
+#[tactic(auto, unfolding(crate::proofs::Turns::placed_primary_at), using(crate::proofs::Equations::primary_expression_is))]
+fn parse_primary_expression(alloc: Global, tokens: &mut Cursor) -> Result<ExpressionNode, Fault>
+    ensures value { Gives expression_node_view result (state tokens.new) (reader (of primary_expression) (state tokens.old)) }
+    ensures shorter { OnOk result (length (state tokens.new).rest < length (state tokens.old).rest) }
+{
+    let start = tokens.start();
+    let primary = parse_primary(alloc, tokens)?;
+    Ok(Spanned::new(alloc, primary, tokens.span_from(start))?)
+}
+
+/// A primary expression, without its place.
+#[cycle(expression)]
+#[tactic(auto, unfolding(crate::specs::Rules::primary_at))]
+fn parse_primary(alloc: Global, tokens: &mut Cursor) -> Result<Expression, Fault>
+    ensures value { Gives expression_view result (state tokens.new) (primary_at (state tokens.old)) }
+    ensures shorter { OnOk result (length (state tokens.new).rest < length (state tokens.old).rest) }
+{
+    if tokens.is_at(TokenKind::Ident) || tokens.is_at(TokenKind::ReservedWord) {
+        return parse_call_or_type(alloc, tokens);
+    }
+    if tokens.is_at(TokenKind::SymParenLeft) {
+        return parse_parenthesized(alloc, tokens);
+    }
+    let literal = tokens.literal()?;
+    Ok(Expression::Literal(literal))
+}
+
+/// A call where arguments follow the type, else the type or identifier alone.
+#[cycle(expression)]
+#[tactic(auto, unfolding(crate::specs::Rules::call_or_type_at))]
+fn parse_call_or_type(alloc: Global, tokens: &mut Cursor) -> Result<Expression, Fault>
+    ensures value { Gives expression_view result (state tokens.new) (call_or_type_at (state tokens.old)) }
+    ensures shorter { OnOk result (length (state tokens.new).rest < length (state tokens.old).rest) }
+{
+    let ty = parse_type_specifier(alloc, tokens)?;
+    if !tokens.is_at(TokenKind::SymParenLeft) {
+        return Ok(Expression::TypeOrIdentifier(ty));
+    }
+    let arguments = parse_arguments(alloc, tokens)?;
+    Ok(call(ty, arguments))
+}
+
+#[cycle(expression)]
+#[tactic(auto, unfolding(crate::specs::Rules::parenthesized_at))]
+fn parse_parenthesized(alloc: Global, tokens: &mut Cursor) -> Result<Expression, Fault>
+    ensures value { Gives expression_view result (state tokens.new) (parenthesized_at (state tokens.old)) }
+    ensures shorter { OnOk result (length (state tokens.new).rest < length (state tokens.old).rest) }
+{
+    tokens.expect(TokenKind::SymParenLeft)?;
+    let expression = parse_expression(alloc, tokens)?;
+    tokens.expect(TokenKind::SymParenRight)?;
+    Ok(parenthesized(expression))
+}
+
+/// The components behind a base, none too.
+#[cycle(expression)]
+#[tactic(auto, unfolding(crate::proofs::Turns::components_behind, crate::proofs::Turns::components_turn), using(crate::proofs::Equations::components_are))]
+pub fn parse_components(
+    alloc: Global,
+    tokens: &mut Cursor,
+    base: ExpressionNode,
+) -> Result<ExpressionNode, Fault>
+    ensures value { Gives expression_node_view result (state tokens.new) (grown (expression_node_view base) (reader (further components)) (state tokens.old)) }
+    ensures shorter { OnOk result (length (state tokens.new).rest ≤ length (state tokens.old).rest) }
+{
+    let mut base = base;
+    'components: while begins_component(tokens) {
+        base = parse_component(alloc, tokens, base)?;
+    }
+    Ok(base)
+}
+
+/// Whether the next token begins a component.
+fn begins_component(tokens: &Cursor) -> bool
+    ensures { result ≡ is_any (SymBracketLeft ∷ SymPeriod ∷ []) (state tokens.now) }
+{
+    tokens.is_at(TokenKind::SymBracketLeft) || tokens.is_at(TokenKind::SymPeriod)
+}
+
+/// A component behind a base.
+#[cycle(expression)]
+#[tactic(auto, unfolding(crate::specs::Rules::component_behind, wgsl_grammar_theory::specs::ExpressionRules::component_at, grammar::specs::States::take), using(wgsl_grammar_theory::proofs::ExpressionEquations::component_is))]
+fn parse_component(
+    alloc: Global,
+    tokens: &mut Cursor,
+    base: ExpressionNode,
+) -> Result<ExpressionNode, Fault>
+    ensures value { Gives expression_node_view result (state tokens.new) (component_behind (expression_node_view base) (state tokens.old)) }
+    ensures shorter { OnOk result (length (state tokens.new).rest < length (state tokens.old).rest) }
+{
+    let start = base.span().start;
+    if tokens.eat(TokenKind::SymBracketLeft) {
+        let index = parse_expression(alloc, tokens)?;
+        tokens.expect(TokenKind::SymBracketRight)?;
+        let span = tokens.span_from(start);
+        return Ok(Spanned::new(alloc, indexing(base, index), span)?);
+    }
+    tokens.expect(TokenKind::SymPeriod)?;
+    let component = tokens.ident()?;
+    let span = tokens.span_from(start);
+    Ok(Spanned::new(alloc, named_component(base, component), span)?)
+}

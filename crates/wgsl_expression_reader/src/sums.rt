@@ -1,0 +1,180 @@
+//! Products, sums and shifts.
+
+ghost use Rattle.std.specs.Prelude.{◌≡◌, ◌<◌, ◌≤◌, [], ◌∷◌, length, OnOk};
+ghost use Rattle.grammar.specs.States.{is_any};
+ghost use Rattle.wgsl_model.specs.Classes.{SymMinus, SymMinusMinus, SymPlus};
+ghost use Rattle.wgsl_model.specs.Faults.{next_place};
+ghost use Rattle.wgsl_model.specs.Symbols.{Symbol.multiplicative_expression, Symbol.negated_expression, Symbol.shift_expression};
+ghost use Rattle.wgsl_grammar_theory.specs.Factored.{FactoredSymbol.of};
+ghost use Rattle.wgsl_grammar_theory.specs.Reader.{reader};
+ghost use Rattle.wgsl_named_values.specs.View.{binary_operator_view};
+ghost use Rattle.wgsl_expression.specs.View.{expression_node_view};
+ghost use Rattle.wgsl_cursor.specs.Reading.{state, Gives};
+ghost use Rattle.wgsl_expression_reader.specs.Rules.{factors_behind, products_from, summand_at, summands_behind, sum_behind};
+
+use crate::nodes::{binary, join, unary};
+use crate::operators::{additive_operator, multiplicative_operator};
+use crate::unary::parse_unary_expression;
+use std::alloc::Global;
+use wgsl_cursor::{Cursor, Fault};
+use wgsl_expression::ExpressionNode;
+use wgsl_named_values::{BinaryOperator, UnaryOperator};
+use wgsl_span::Spanned;
+use wgsl_token::kind::TokenKind;
+
+/// A shift or a sum.
+#[cycle(expression)]
+#[tactic(auto, unfolding(crate::proofs::Turns::shift_at), using(crate::proofs::Equations::shift_expression_is))]
+pub fn parse_shift_expression(alloc: Global, tokens: &mut Cursor) -> Result<ExpressionNode, Fault>
+    ensures value { Gives expression_node_view result (state tokens.new) (reader (of shift_expression) (state tokens.old)) }
+    ensures shorter { OnOk result (length (state tokens.new).rest < length (state tokens.old).rest) }
+{
+    let left = parse_unary_expression(alloc, tokens)?;
+    parse_sum_rest(alloc, tokens, left)
+}
+
+/// What makes an operand a shift, or a sum of products.
+#[cycle(expression)]
+#[tactic(auto, unfolding(crate::proofs::Turns::sum_turn, grammar::specs::States::take), using(crate::proofs::Equations::sum_is))]
+pub fn parse_sum_rest(
+    alloc: Global,
+    tokens: &mut Cursor,
+    left: ExpressionNode,
+) -> Result<ExpressionNode, Fault>
+    ensures value { Gives expression_node_view result (state tokens.new) (sum_behind (expression_node_view left) (state tokens.old)) }
+    ensures shorter { OnOk result (length (state tokens.new).rest ≤ length (state tokens.old).rest) }
+{
+    if tokens.eat(TokenKind::SymShiftLeft) {
+        let right = parse_unary_expression(alloc, tokens)?;
+        return Ok(join(alloc, left, BinaryOperator::ShiftLeft, right)?);
+    }
+    if tokens.eat(TokenKind::SymShiftRight) {
+        let right = parse_unary_expression(alloc, tokens)?;
+        return Ok(join(alloc, left, BinaryOperator::ShiftRight, right)?);
+    }
+    let product = parse_factors(alloc, tokens, left)?;
+    parse_summands(alloc, tokens, product)
+}
+
+/// The factors behind a first one, none too.
+#[cycle(expression)]
+#[tactic(auto, unfolding(crate::proofs::Turns::factors_turn), using(crate::proofs::Equations::factors_are))]
+fn parse_factors(
+    alloc: Global,
+    tokens: &mut Cursor,
+    left: ExpressionNode,
+) -> Result<ExpressionNode, Fault>
+    ensures value { Gives expression_node_view result (state tokens.new) (factors_behind (expression_node_view left) (state tokens.old)) }
+    ensures shorter { OnOk result (length (state tokens.new).rest ≤ length (state tokens.old).rest) }
+{
+    let mut left = left;
+    'factors: while let Some(operator) = multiplicative_operator(tokens) {
+        let right = parse_unary_expression(alloc, tokens)?;
+        left = join(alloc, left, operator, right)?;
+    }
+    Ok(left)
+}
+
+/// The summands behind a first one, none too.
+#[cycle(expression)]
+#[tactic(auto, unfolding(crate::proofs::Turns::summands_turn), using(crate::proofs::Equations::summands_are))]
+fn parse_summands(
+    alloc: Global,
+    tokens: &mut Cursor,
+    left: ExpressionNode,
+) -> Result<ExpressionNode, Fault>
+    ensures value { Gives expression_node_view result (state tokens.new) (summands_behind (expression_node_view left) (state tokens.old)) }
+    ensures shorter { OnOk result (length (state tokens.new).rest ≤ length (state tokens.old).rest) }
+{
+    let mut left = left;
+    'summands: while begins_summand(tokens) {
+        let (operator, right) = parse_summand(alloc, tokens)?;
+        left = join(alloc, left, operator, right)?;
+    }
+    Ok(left)
+}
+
+/// Whether the next token begins a summand.
+fn begins_summand(tokens: &Cursor) -> bool
+    ensures { result ≡ is_any (SymPlus ∷ SymMinus ∷ SymMinusMinus ∷ []) (state tokens.now) }
+{
+    tokens.is_at(TokenKind::SymPlus)
+        || tokens.is_at(TokenKind::SymMinus)
+        || tokens.is_at(TokenKind::SymMinusMinus)
+}
+
+/// A summand with its operator; `--` subtracts a negation.
+#[cycle(expression)]
+#[tactic(auto, unfolding(crate::specs::Rules::summand_at))]
+fn parse_summand(
+    alloc: Global,
+    tokens: &mut Cursor,
+) -> Result<(BinaryOperator, ExpressionNode), Fault>
+    ensures value { Gives (λ summand. (binary_operator_view summand.0, expression_node_view summand.1)) result (state tokens.new) (summand_at (state tokens.old)) }
+    ensures shorter { OnOk result (length (state tokens.new).rest < length (state tokens.old).rest) }
+{
+    let Some(operator) = additive_operator(tokens) else {
+        let negated = parse_negated_expression(alloc, tokens)?;
+        return Ok((BinaryOperator::Subtraction, negated));
+    };
+    let product = parse_multiplicative_expression(alloc, tokens)?;
+    Ok((operator, product))
+}
+
+/// A product.
+#[cycle(expression)]
+#[tactic(auto, unfolding(crate::proofs::Turns::product_at), using(crate::proofs::Equations::multiplicative_expression_is))]
+fn parse_multiplicative_expression(
+    alloc: Global,
+    tokens: &mut Cursor,
+) -> Result<ExpressionNode, Fault>
+    ensures value { Gives expression_node_view result (state tokens.new) (reader (of multiplicative_expression) (state tokens.old)) }
+    ensures shorter { OnOk result (length (state tokens.new).rest < length (state tokens.old).rest) }
+{
+    let start = tokens.start();
+    let left = parse_unary_expression(alloc, tokens)?;
+    parse_product_rest(alloc, tokens, start, left)
+}
+
+/// A product of the negation that the second minus of `--` begins.
+#[cycle(expression)]
+#[tactic(auto, unfolding(crate::proofs::Turns::negated_product_at), using(crate::proofs::Equations::negated_expression_is))]
+fn parse_negated_expression(alloc: Global, tokens: &mut Cursor) -> Result<ExpressionNode, Fault>
+    ensures value { Gives expression_node_view result (state tokens.new) (reader (of negated_expression) (state tokens.old)) }
+    ensures shorter { OnOk result (length (state tokens.new).rest < length (state tokens.old).rest) }
+{
+    let start = next_place(tokens.start());
+    tokens.expect(TokenKind::SymMinusMinus)?;
+    let operand = parse_unary_expression(alloc, tokens)?;
+    let negation = unary(UnaryOperator::Negation, operand);
+    let left = Spanned::new(alloc, negation, tokens.span_from(start))?;
+    parse_product_rest(alloc, tokens, start, left)
+}
+
+/// The place behind a place; the greatest place is behind itself.
+fn next_place(place: usize) -> usize
+    ensures { result ≡ next_place place }
+{
+    place.saturating_add(1)
+}
+
+/// The factors behind a first one, of a product that starts at a place.
+#[cycle(expression)]
+#[tactic(auto, unfolding(crate::proofs::Turns::products_turn), using(crate::proofs::Equations::products_are))]
+fn parse_product_rest(
+    alloc: Global,
+    tokens: &mut Cursor,
+    start: usize,
+    left: ExpressionNode,
+) -> Result<ExpressionNode, Fault>
+    ensures value { Gives expression_node_view result (state tokens.new) (products_from start (expression_node_view left) (state tokens.old)) }
+    ensures shorter { OnOk result (length (state tokens.new).rest ≤ length (state tokens.old).rest) }
+{
+    let mut left = left;
+    'factors: while let Some(operator) = multiplicative_operator(tokens) {
+        let right = parse_unary_expression(alloc, tokens)?;
+        let span = tokens.span_from(start);
+        left = Spanned::new(alloc, binary(left, operator, right), span)?;
+    }
+    Ok(left)
+}

@@ -1,0 +1,32 @@
+//! Operators before operands.
+
+ghost use Rattle.std.specs.Prelude.{◌<◌, length, OnOk};
+ghost use Rattle.wgsl_model.specs.Symbols.{Symbol.unary_expression};
+ghost use Rattle.wgsl_grammar_theory.specs.Factored.{FactoredSymbol.of};
+ghost use Rattle.wgsl_grammar_theory.specs.Reader.{reader};
+ghost use Rattle.wgsl_expression.specs.View.{expression_node_view};
+ghost use Rattle.wgsl_cursor.specs.Reading.{state, Gives};
+
+use crate::nodes::unary;
+use crate::operators::unary_operator;
+use crate::primary::parse_singular_expression;
+use std::alloc::Global;
+use wgsl_cursor::{Cursor, Fault};
+use wgsl_expression::ExpressionNode;
+use wgsl_span::Spanned;
+
+/// An operand with the operators before it.
+#[cycle(expression)]
+#[tactic(auto, unfolding(crate::proofs::Turns::unary_at), using(crate::proofs::Equations::unary_expression_is))]
+pub fn parse_unary_expression(alloc: Global, tokens: &mut Cursor) -> Result<ExpressionNode, Fault>
+    ensures value { Gives expression_node_view result (state tokens.new) (reader (of unary_expression) (state tokens.old)) }
+    ensures shorter { OnOk result (length (state tokens.new).rest < length (state tokens.old).rest) }
+{
+    let start = tokens.start();
+    let Some(operator) = unary_operator(tokens) else {
+        return parse_singular_expression(alloc, tokens);
+    };
+    let operand = parse_unary_expression(alloc, tokens)?;
+    let span = tokens.span_from(start);
+    Ok(Spanned::new(alloc, unary(operator, operand), span)?)
+}

@@ -1,0 +1,150 @@
+-- What the symbols of attributes and statements read by their right sides, each as a word of its own, which no computation opens; written by tools/rules.py.
+use Rattle.grammar.specs.States.{State, Read, go}
+use Rattle.wgsl_model.specs.Symbols.{Value, Symbol.attribute, Symbol.compound_statement, Symbol.statement, Symbol.return_statement, Symbol.if_statement, Symbol.switch_statement, Symbol.loop_statement, Symbol.for_statement, Symbol.while_statement, Symbol.call_statement, Symbol.var_statement, Symbol.value_statement, Symbol.break_statement, Symbol.continue_statement, Symbol.discard_statement, Symbol.assignment, Symbol.phony_assignment, Symbol.increment, Symbol.decrement, Symbol.const_assert, Symbol.switch_clause, Symbol.case_selector, Symbol.continuing_statement, Symbol.for_init, Symbol.for_update, Symbol.var_template, Symbol.typed_ident}
+use Rattle.wgsl_grammar_theory.specs.Factored.{FactoredSymbol.of, FactoredSymbol.further, FurtherValue, Further.selectors, Further.attribute_list, Further.statement_rest, Further.loop_rest, Further.continuing_rest, Further.clause_rest, Further.else_rest, Further.init_part, Further.condition_part, Further.update_part, Further.if_part, Further.switch_part, Further.loop_part, Further.for_part, Further.while_part, Further.block_part, Further.left_side_rest, Further.other_left_side, Further.name_rest_statement, Further.simple_statement, Further.other_statement, body}
+use Rattle.wgsl_grammar_theory.specs.Tables.{tables}
+use Rattle.wgsl_grammar_theory.specs.Reader.{reader}
+
+unfoldable pub attribute_at : State → Read (Value attribute)
+attribute_at s = go tables reader (body (of attribute)) s
+
+unfoldable pub compound_statement_at : State → Read (Value compound_statement)
+compound_statement_at s = go tables reader (body (of compound_statement)) s
+
+unfoldable pub statement_at : State → Read (Value statement)
+statement_at s = go tables reader (body (of statement)) s
+
+unfoldable pub return_statement_at : State → Read (Value return_statement)
+return_statement_at s = go tables reader (body (of return_statement)) s
+
+unfoldable pub if_statement_at : State → Read (Value if_statement)
+if_statement_at s = go tables reader (body (of if_statement)) s
+
+unfoldable pub switch_statement_at : State → Read (Value switch_statement)
+switch_statement_at s = go tables reader (body (of switch_statement)) s
+
+unfoldable pub loop_statement_at : State → Read (Value loop_statement)
+loop_statement_at s = go tables reader (body (of loop_statement)) s
+
+unfoldable pub for_statement_at : State → Read (Value for_statement)
+for_statement_at s = go tables reader (body (of for_statement)) s
+
+unfoldable pub while_statement_at : State → Read (Value while_statement)
+while_statement_at s = go tables reader (body (of while_statement)) s
+
+unfoldable pub call_statement_at : State → Read (Value call_statement)
+call_statement_at s = go tables reader (body (of call_statement)) s
+
+unfoldable pub var_statement_at : State → Read (Value var_statement)
+var_statement_at s = go tables reader (body (of var_statement)) s
+
+unfoldable pub value_statement_at : State → Read (Value value_statement)
+value_statement_at s = go tables reader (body (of value_statement)) s
+
+unfoldable pub break_statement_at : State → Read (Value break_statement)
+break_statement_at s = go tables reader (body (of break_statement)) s
+
+unfoldable pub continue_statement_at : State → Read (Value continue_statement)
+continue_statement_at s = go tables reader (body (of continue_statement)) s
+
+unfoldable pub discard_statement_at : State → Read (Value discard_statement)
+discard_statement_at s = go tables reader (body (of discard_statement)) s
+
+unfoldable pub assignment_at : State → Read (Value assignment)
+assignment_at s = go tables reader (body (of assignment)) s
+
+unfoldable pub phony_assignment_at : State → Read (Value phony_assignment)
+phony_assignment_at s = go tables reader (body (of phony_assignment)) s
+
+unfoldable pub increment_at : State → Read (Value increment)
+increment_at s = go tables reader (body (of increment)) s
+
+unfoldable pub decrement_at : State → Read (Value decrement)
+decrement_at s = go tables reader (body (of decrement)) s
+
+unfoldable pub const_assert_at : State → Read (Value const_assert)
+const_assert_at s = go tables reader (body (of const_assert)) s
+
+unfoldable pub switch_clause_at : State → Read (Value switch_clause)
+switch_clause_at s = go tables reader (body (of switch_clause)) s
+
+unfoldable pub case_selector_at : State → Read (Value case_selector)
+case_selector_at s = go tables reader (body (of case_selector)) s
+
+unfoldable pub continuing_statement_at : State → Read (Value continuing_statement)
+continuing_statement_at s = go tables reader (body (of continuing_statement)) s
+
+unfoldable pub for_init_at : State → Read (Value for_init)
+for_init_at s = go tables reader (body (of for_init)) s
+
+unfoldable pub for_update_at : State → Read (Value for_update)
+for_update_at s = go tables reader (body (of for_update)) s
+
+unfoldable pub var_template_at : State → Read (Value var_template)
+var_template_at s = go tables reader (body (of var_template)) s
+
+unfoldable pub typed_ident_at : State → Read (Value typed_ident)
+typed_ident_at s = go tables reader (body (of typed_ident)) s
+
+unfoldable pub selectors_at : State → Read (FurtherValue selectors)
+selectors_at s = go tables reader (body (further selectors)) s
+
+unfoldable pub attribute_list_at : State → Read (FurtherValue attribute_list)
+attribute_list_at s = go tables reader (body (further attribute_list)) s
+
+unfoldable pub statement_rest_at : State → Read (FurtherValue statement_rest)
+statement_rest_at s = go tables reader (body (further statement_rest)) s
+
+unfoldable pub loop_rest_at : State → Read (FurtherValue loop_rest)
+loop_rest_at s = go tables reader (body (further loop_rest)) s
+
+unfoldable pub continuing_rest_at : State → Read (FurtherValue continuing_rest)
+continuing_rest_at s = go tables reader (body (further continuing_rest)) s
+
+unfoldable pub clause_rest_at : State → Read (FurtherValue clause_rest)
+clause_rest_at s = go tables reader (body (further clause_rest)) s
+
+unfoldable pub else_rest_at : State → Read (FurtherValue else_rest)
+else_rest_at s = go tables reader (body (further else_rest)) s
+
+unfoldable pub init_part_at : State → Read (FurtherValue init_part)
+init_part_at s = go tables reader (body (further init_part)) s
+
+unfoldable pub condition_part_at : State → Read (FurtherValue condition_part)
+condition_part_at s = go tables reader (body (further condition_part)) s
+
+unfoldable pub update_part_at : State → Read (FurtherValue update_part)
+update_part_at s = go tables reader (body (further update_part)) s
+
+unfoldable pub if_part_at : State → Read (FurtherValue if_part)
+if_part_at s = go tables reader (body (further if_part)) s
+
+unfoldable pub switch_part_at : State → Read (FurtherValue switch_part)
+switch_part_at s = go tables reader (body (further switch_part)) s
+
+unfoldable pub loop_part_at : State → Read (FurtherValue loop_part)
+loop_part_at s = go tables reader (body (further loop_part)) s
+
+unfoldable pub for_part_at : State → Read (FurtherValue for_part)
+for_part_at s = go tables reader (body (further for_part)) s
+
+unfoldable pub while_part_at : State → Read (FurtherValue while_part)
+while_part_at s = go tables reader (body (further while_part)) s
+
+unfoldable pub block_part_at : State → Read (FurtherValue block_part)
+block_part_at s = go tables reader (body (further block_part)) s
+
+unfoldable pub left_side_rest_at : State → Read (FurtherValue left_side_rest)
+left_side_rest_at s = go tables reader (body (further left_side_rest)) s
+
+unfoldable pub other_left_side_at : State → Read (FurtherValue other_left_side)
+other_left_side_at s = go tables reader (body (further other_left_side)) s
+
+unfoldable pub name_rest_statement_at : State → Read (FurtherValue name_rest_statement)
+name_rest_statement_at s = go tables reader (body (further name_rest_statement)) s
+
+unfoldable pub simple_statement_at : State → Read (FurtherValue simple_statement)
+simple_statement_at s = go tables reader (body (further simple_statement)) s
+
+unfoldable pub other_statement_at : State → Read (FurtherValue other_statement)
+other_statement_at s = go tables reader (body (further other_statement)) s

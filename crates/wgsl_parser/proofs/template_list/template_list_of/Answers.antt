@@ -1,0 +1,10 @@
+use Rattle.std.proofs.Common.{map}
+use Rattle.wgsl_expression.specs.View.{template_arg_view}
+use Rattle.wgsl_lexer.specs.Placed.{tokens_view, ending_view}
+use Rattle.wgsl_parser.proofs.Spans.{span_answered}
+use Rattle.wgsl_parser.proofs.template_list.template_list_of.Goals as goal
+
+pub returns : goal.returns
+returns c =
+    span_answered (λ args. map template_arg_view args.items) (tokens_view c.args.found) (ending_view c.args.found.error) c.span_of-span.result c.template_args_of.result c.in_ok-template_args_of.field-0
+    c.template_args_of.ensures c.in_ok-template_args_of.was c.span_of-span.ensures

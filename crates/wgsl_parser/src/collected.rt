@@ -1,0 +1,79 @@
+//! Reading from collected tokens, a function for each symbol that is read by itself.
+
+ghost use Rattle.wgsl_model.specs.Symbols.{Symbol.unit, Symbol.global_directive, Symbol.global_declaration, Symbol.statement, Symbol.expression, Symbol.literal};
+ghost use Rattle.wgsl_grammar_theory.specs.Answers.{answer_of};
+ghost use Rattle.wgsl_lexer.specs.Placed.{tokens_view, ending_view};
+ghost use Rattle.wgsl_span.specs.View.{spanned_view};
+ghost use Rattle.wgsl_expression.specs.View.{expression_node_view, literal_view};
+ghost use Rattle.wgsl_statement.specs.View.{statement_node_view};
+ghost use Rattle.wgsl_unit.specs.View.{unit_view, global_directive_view, global_declaration_view};
+ghost use Rattle.wgsl_answer.specs.Answers.{Answered};
+
+use crate::expected::{BEHIND_EXPRESSION, NOTHING};
+use std::alloc::Global;
+use wgsl_answer::{BEHIND_UNIT, TokenSource};
+use wgsl_error::Error;
+use wgsl_expression::{ExpressionNode, LiteralExpression};
+use wgsl_expression_reader::parse_expression;
+use wgsl_lexer::Collected;
+use wgsl_statement::StatementNode;
+use wgsl_statement_reader::parse_statement;
+use wgsl_unit::{GlobalDeclarationNode, GlobalDirective, TranslationUnit};
+use wgsl_unit_reader::{parse_global_declaration, parse_global_directive, parse_translation_unit};
+
+#[tactic(auto, using(wgsl_answer::proofs::Seen::seen))]
+pub(crate) fn unit_of(alloc: Global, found: Collected) -> Result<TranslationUnit, Error>
+    ensures { Answered unit_view result (answer_of unit (tokens_view found) (ending_view found.error)) }
+{
+    let mut source = TokenSource::new(found)?;
+    let read = parse_translation_unit(alloc, &mut source.tokens);
+    source.answer(alloc, read, BEHIND_UNIT)
+}
+
+#[tactic(auto, using(wgsl_answer::proofs::Seen::seen))]
+pub(crate) fn directive_of(alloc: Global, found: Collected) -> Result<GlobalDirective, Error>
+    ensures { Answered global_directive_view result (answer_of global_directive (tokens_view found) (ending_view found.error)) }
+{
+    let mut source = TokenSource::new(found)?;
+    let read = parse_global_directive(alloc, &mut source.tokens);
+    source.answer(alloc, read, NOTHING)
+}
+
+#[tactic(auto, using(wgsl_answer::proofs::Seen::seen))]
+pub(crate) fn declaration_of(
+    alloc: Global,
+    found: Collected,
+) -> Result<GlobalDeclarationNode, Error>
+    ensures { Answered (spanned_view global_declaration_view) result (answer_of global_declaration (tokens_view found) (ending_view found.error)) }
+{
+    let mut source = TokenSource::new(found)?;
+    let read = parse_global_declaration(alloc, &mut source.tokens);
+    source.answer(alloc, read, NOTHING)
+}
+
+#[tactic(auto, using(wgsl_answer::proofs::Seen::seen))]
+pub(crate) fn statement_of(alloc: Global, found: Collected) -> Result<StatementNode, Error>
+    ensures { Answered statement_node_view result (answer_of statement (tokens_view found) (ending_view found.error)) }
+{
+    let mut source = TokenSource::new(found)?;
+    let read = parse_statement(alloc, &mut source.tokens);
+    source.answer(alloc, read, NOTHING)
+}
+
+#[tactic(auto, using(wgsl_answer::proofs::Seen::seen))]
+pub(crate) fn expression_of(alloc: Global, found: Collected) -> Result<ExpressionNode, Error>
+    ensures { Answered expression_node_view result (answer_of expression (tokens_view found) (ending_view found.error)) }
+{
+    let mut source = TokenSource::new(found)?;
+    let read = parse_expression(alloc, &mut source.tokens);
+    source.answer(alloc, read, BEHIND_EXPRESSION)
+}
+
+#[tactic(auto, using(wgsl_answer::proofs::Seen::seen))]
+pub(crate) fn literal_of(alloc: Global, found: Collected) -> Result<LiteralExpression, Error>
+    ensures { Answered literal_view result (answer_of literal (tokens_view found) (ending_view found.error)) }
+{
+    let mut source = TokenSource::new(found)?;
+    let read = source.tokens.literal();
+    source.answer(alloc, read, NOTHING)
+}

@@ -1,0 +1,136 @@
+//! Parsers of lists of tokens that iterators give.
+
+ghost use Rattle.wgsl_model.specs.Symbols.{Symbol.unit, Symbol.global_directive, Symbol.global_declaration, Symbol.statement, Symbol.expression, Symbol.literal};
+ghost use Rattle.wgsl_span.specs.View.{spanned_view};
+ghost use Rattle.wgsl_expression.specs.View.{expression_node_view, literal_view};
+ghost use Rattle.wgsl_statement.specs.View.{statement_node_view};
+ghost use Rattle.wgsl_unit.specs.View.{unit_view, global_directive_view, global_declaration_view};
+ghost use Rattle.wgsl_parser.specs.Iterators.{Derived, IsParsed};
+
+use crate::collected::{
+    declaration_of, directive_of, expression_of, literal_of, statement_of, unit_of,
+};
+use std::alloc::Global;
+use wgsl_error::Error;
+use wgsl_expression::{ExpressionNode, LiteralExpression};
+use wgsl_lexer::{TokenIterator, collect_tokens};
+use wgsl_statement::StatementNode;
+use wgsl_unit::{GlobalDeclarationNode, GlobalDirective, TranslationUnit};
+
+/// Reads a module from all tokens of an iterator. It keeps nothing between calls.
+#[derive(Default, Drop)]
+pub struct TranslationUnitParser;
+
+impl TranslationUnitParser {
+    pub fn new() -> Self {
+        TranslationUnitParser
+    }
+
+    /// What the tokens are, or what is wrong with them. Behind its first error the iterator is asked for nothing more.
+    pub fn parse<T: TokenIterator>(
+        &self,
+        alloc: Global,
+        tokens: T,
+    ) -> Result<TranslationUnit, Error>
+        ensures { IsParsed unit (λ v found. Derived unit (unit_view v) found) (T.into_iter_gives tokens) T.IntoIter.next_gives result }
+    {
+        unit_of(alloc, collect_tokens(alloc, tokens)?)
+    }
+}
+
+/// Reads a directive from all tokens of an iterator. It keeps nothing between calls.
+#[derive(Default, Drop)]
+pub struct GlobalDirectiveParser;
+
+impl GlobalDirectiveParser {
+    pub fn new() -> Self {
+        GlobalDirectiveParser
+    }
+
+    /// What the tokens are, or what is wrong with them. Behind its first error the iterator is asked for nothing more.
+    pub fn parse<T: TokenIterator>(
+        &self,
+        alloc: Global,
+        tokens: T,
+    ) -> Result<GlobalDirective, Error>
+        ensures { IsParsed global_directive (λ v found. Derived global_directive (global_directive_view v) found) (T.into_iter_gives tokens) T.IntoIter.next_gives result }
+    {
+        directive_of(alloc, collect_tokens(alloc, tokens)?)
+    }
+}
+
+/// Reads a declaration from all tokens of an iterator. It keeps nothing between calls.
+#[derive(Default, Drop)]
+pub struct GlobalDeclParser;
+
+impl GlobalDeclParser {
+    pub fn new() -> Self {
+        GlobalDeclParser
+    }
+
+    /// What the tokens are, or what is wrong with them. Behind its first error the iterator is asked for nothing more.
+    pub fn parse<T: TokenIterator>(
+        &self,
+        alloc: Global,
+        tokens: T,
+    ) -> Result<GlobalDeclarationNode, Error>
+        ensures { IsParsed global_declaration (λ v found. Derived global_declaration (spanned_view global_declaration_view v) found) (T.into_iter_gives tokens) T.IntoIter.next_gives result }
+    {
+        declaration_of(alloc, collect_tokens(alloc, tokens)?)
+    }
+}
+
+/// Reads a statement from all tokens of an iterator. It keeps nothing between calls.
+#[derive(Default, Drop)]
+pub struct StatementParser;
+
+impl StatementParser {
+    pub fn new() -> Self {
+        StatementParser
+    }
+
+    /// What the tokens are, or what is wrong with them. Behind its first error the iterator is asked for nothing more.
+    pub fn parse<T: TokenIterator>(&self, alloc: Global, tokens: T) -> Result<StatementNode, Error>
+        ensures { IsParsed statement (λ v found. Derived statement (statement_node_view v) found) (T.into_iter_gives tokens) T.IntoIter.next_gives result }
+    {
+        statement_of(alloc, collect_tokens(alloc, tokens)?)
+    }
+}
+
+/// Reads an expression from all tokens of an iterator. It keeps nothing between calls.
+#[derive(Default, Drop)]
+pub struct ExpressionParser;
+
+impl ExpressionParser {
+    pub fn new() -> Self {
+        ExpressionParser
+    }
+
+    /// What the tokens are, or what is wrong with them. Behind its first error the iterator is asked for nothing more.
+    pub fn parse<T: TokenIterator>(&self, alloc: Global, tokens: T) -> Result<ExpressionNode, Error>
+        ensures { IsParsed expression (λ v found. Derived expression (expression_node_view v) found) (T.into_iter_gives tokens) T.IntoIter.next_gives result }
+    {
+        expression_of(alloc, collect_tokens(alloc, tokens)?)
+    }
+}
+
+/// Reads a literal from all tokens of an iterator. It keeps nothing between calls.
+#[derive(Default, Drop)]
+pub struct LiteralParser;
+
+impl LiteralParser {
+    pub fn new() -> Self {
+        LiteralParser
+    }
+
+    /// What the tokens are, or what is wrong with them. Behind its first error the iterator is asked for nothing more.
+    pub fn parse<T: TokenIterator>(
+        &self,
+        alloc: Global,
+        tokens: T,
+    ) -> Result<LiteralExpression, Error>
+        ensures { IsParsed literal (λ v found. Derived literal (literal_view v) found) (T.into_iter_gives tokens) T.IntoIter.next_gives result }
+    {
+        literal_of(alloc, collect_tokens(alloc, tokens)?)
+    }
+}

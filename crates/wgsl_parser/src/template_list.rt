@@ -1,0 +1,90 @@
+//! Reading a template list from all tokens of an iterator.
+
+ghost use Rattle.std.specs.Prelude.{◌≡◌, List, map};
+ghost use Rattle.grammar.specs.States.{first_start};
+ghost use Rattle.wgsl_model.specs.Expressions as plain;
+ghost use Rattle.wgsl_model.specs.Symbols.{Symbol.template_list};
+ghost use Rattle.wgsl_grammar_theory.specs.Answers.{answer_of};
+ghost use Rattle.wgsl_token.specs.Placed.{placed_view};
+ghost use Rattle.wgsl_lexer.specs.Placed.{tokens_view, ending_view};
+ghost use Rattle.wgsl_expression.specs.View.{template_arg_view};
+ghost use Rattle.wgsl_answer.specs.Answers.{Answered};
+ghost use Rattle.wgsl_parser.specs.Iterators.{Derived, IsParsed};
+ghost use Rattle.wgsl_parser.specs.Spans.{IsSpanOf, SpanAnswered};
+
+use crate::expected::NOTHING;
+use std::alloc::Global;
+use std::collections::VecDeque;
+use wgsl_answer::{TokenSource, last_end};
+use wgsl_error::Error;
+use wgsl_expression::TemplateArg;
+use wgsl_expression_reader::parse_template_list;
+use wgsl_lexer::{Collected, TokenIterator, collect_tokens};
+use wgsl_span::Span;
+use wgsl_token::placed::PlacedToken;
+
+/// Where the first token starts, or 0 where there is none.
+fn first_start(tokens: &VecDeque<PlacedToken>) -> usize
+    ensures { result ≡ first_start (map placed_view tokens.now.items) }
+{
+    match tokens.front() {
+        Some(first) => first.span.start,
+        None => 0,
+    }
+}
+
+/// From where the first token starts to where the last one ends.
+#[tactic(auto, using(crate::proofs::Spans::span_is))]
+fn span_of(found: &Collected) -> Span
+    ensures { IsSpanOf result (tokens_view found.now) }
+{
+    Span {
+        start: first_start(&found.tokens),
+        end: last_end(&found.tokens),
+    }
+}
+
+/// The arguments of the template list that the tokens are.
+#[tactic(auto, using(wgsl_answer::proofs::Seen::seen))]
+fn template_args_of(alloc: Global, found: Collected) -> Result<Vec<TemplateArg>, Error>
+    ensures { Answered (λ args. map template_arg_view args.items) result (answer_of template_list (tokens_view found) (ending_view found.error)) }
+{
+    let mut source = TokenSource::new(found)?;
+    let read = parse_template_list(alloc, &mut source.tokens);
+    source.answer(alloc, read, NOTHING)
+}
+
+/// The span of the template list that the tokens are.
+fn template_list_of(alloc: Global, found: Collected) -> Result<Span, Error>
+    ensures { SpanAnswered result (tokens_view found) (ending_view found.error) }
+{
+    let span = span_of(&found);
+    template_args_of(alloc, found)?;
+    Ok(span)
+}
+
+/// Reads a template list from all tokens of an iterator. It keeps nothing between calls.
+#[derive(Default, Drop)]
+pub struct TryTemplateListParser;
+
+impl TryTemplateListParser {
+    pub fn new() -> Self {
+        TryTemplateListParser
+    }
+
+    /// The span of the template list that the tokens are, from its start to its end, or what is wrong with them.
+    /// Behind its first error the iterator is asked for nothing more.
+    pub fn parse<T: TokenIterator>(&self, alloc: Global, tokens: T) -> Result<Span, Error>
+        ensures { IsParsed template_list (λ span found. (es : List plain.ExpressionNode) × Derived template_list es found × IsSpanOf span (tokens_view found)) (T.into_iter_gives tokens) T.IntoIter.next_gives result }
+    {
+        template_list_of(alloc, collect_tokens(alloc, tokens)?)
+    }
+}
+
+/// Whether all tokens of an iterator are a template list: Ok where they are, or what is wrong with them.
+pub fn recognize_template_list<T: TokenIterator>(alloc: Global, lexer: T) -> Result<(), Error>
+    ensures { IsParsed template_list (λ _ found. (es : List plain.ExpressionNode) × Derived template_list es found) (T.into_iter_gives lexer) T.IntoIter.next_gives result }
+{
+    TryTemplateListParser::new().parse(alloc, lexer)?;
+    Ok(())
+}

@@ -1,0 +1,2 @@
+pub mod ExpressionLists
+pub mod Advancing

@@ -1,0 +1,10 @@
+//! Whether the tokens behind a `<` are a list of expressions, told by their kinds alone and without memory.
+#![tactic(auto)]
+
+mod expression;
+mod list;
+mod next;
+#[cfg(test)]
+mod tests;
+
+pub use list::is_expression_list;

@@ -1,0 +1,91 @@
+//! Declarations that are read by themselves, and what is printed of them.
+
+use crate::reading::{assert_printed, assert_refused};
+use std::test::Fail;
+use wgsl_parse::syntax::GlobalDeclaration;
+
+#[test]
+fn prints(rt: HostRuntime) -> Result<(), Fail> {
+    for (text, wanted) in [
+        (
+            "struct S { @size(16) x: f32, y: array<f32, 4>, }",
+            "struct S {\n    @size(16)\n    x: f32,\n    y: array<f32, 4>\n}",
+        ),
+        (
+            "fn f(@builtin(position) p: vec4<f32>,) -> @location(0) u32 { return 1u; }",
+            "fn f(@builtin(position) p: vec4<f32>) -> @location(0) u32 {\n    return 1u;\n}",
+        ),
+        (
+            "@compute @workgroup_size(8, 8) fn main() { var<function> x = 1; }",
+            "@compute @workgroup_size(8, 8)\nfn main() {\n    var<function> x = 1;\n}",
+        ),
+        (
+            "var<storage, read_write> s: array<vec4<f32>>=t;",
+            "var<storage, read_write> s: array<vec4<f32>> = t;",
+        ),
+        ("@const fn f() {}", "@const\nfn f() {\n\n}"),
+        (
+            "@type(T, i32 | f32) fn f() {}",
+            "@type(T, i32 | f32)\nfn f() {\n\n}",
+        ),
+    ] {
+        assert_printed::<GlobalDeclaration>(&rt, rt.alloc(), text, wanted)?;
+    }
+    Ok(())
+}
+
+#[test]
+fn unexpected_tokens(rt: HostRuntime) -> Result<(), Fail> {
+    for (text, wanted) in [
+        ("struct S {}", "chars 10..11: unexpected token `}`"),
+        (
+            "@x struct S { a: b }",
+            "chars 3..9: unexpected token `struct`",
+        ),
+        ("@align(", "chars 7..8: unexpected end of file"),
+    ] {
+        assert_refused::<GlobalDeclaration>(&rt, rt.alloc(), text, wanted)?;
+    }
+    Ok(())
+}
+
+#[test]
+fn checked_arguments(rt: HostRuntime) -> Result<(), Fail> {
+    for (text, wanted) in [
+        (
+            "@vertex() fn f() {}",
+            "chars 0..9: invalid `vertex` attribute, expected 0 arguments",
+        ),
+        (
+            "@align",
+            "chars 0..6: invalid `align` attribute, expected 1 argument",
+        ),
+        (
+            "@align(1, 2) fn (",
+            "chars 0..12: invalid `align` attribute, expected 1 argument",
+        ),
+        (
+            "@builtin(foo) var x: i32;",
+            "chars 0..13: invalid `builtin` attribute, the argument is not a valid built-in value name",
+        ),
+        (
+            "@diagnostic(off)",
+            "chars 0..16: invalid `diagnostic` attribute, expected 2 arguments",
+        ),
+        (
+            "@type(T, 1) fn f() {}",
+            "chars 0..11: invalid `type` attribute, invalid second argument (type constraint)",
+        ),
+        (
+            "var<private, read> p: i32;",
+            "chars 0..18: invalid `var` template arguments, only variables with `storage` address space can have an access mode",
+        ),
+        (
+            "var<storage, write, read> a: b;",
+            "chars 0..25: invalid `var` template arguments, template is empty",
+        ),
+    ] {
+        assert_refused::<GlobalDeclaration>(&rt, rt.alloc(), text, wanted)?;
+    }
+    Ok(())
+}

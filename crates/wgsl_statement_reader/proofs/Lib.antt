@@ -1,0 +1,10 @@
+pub mod Binding
+pub mod LeftSides
+pub mod SimpleStatements
+pub mod Statements
+pub mod Blocks
+pub mod IfChains
+pub mod Switches
+pub mod LoopItems
+pub mod Made
+pub mod MadeStatements

@@ -1,0 +1,59 @@
+-- Statements by their parts.
+use Rattle.std.proofs.Common.{◌≡◌, ◌∙◌, sym, ap, ap₂, [], ◌∷◌, cond}
+use Rattle.grammar.specs.Tokens.{Token}
+use Rattle.grammar.specs.States.{State, Read, Read.done, ◌>>=◌, is_at, is_any, take, start_of, span_from}
+use Rattle.wgsl_model.specs.Classes.{SymSemicolon, KwConst, KwContinue, KwDiscard, KwLet, KwReturn, KwVar}
+use Rattle.wgsl_model.specs.Statements.{ConstAssert, StatementNode, Statement}
+use Rattle.wgsl_model.specs.StatementParts.{placed_statement}
+use Rattle.wgsl_model.specs.Symbols.{Symbol.return_statement, Symbol.var_statement, Symbol.value_statement, Symbol.continue_statement, Symbol.discard_statement, Symbol.const_assert}
+use Rattle.wgsl_grammar_theory.specs.Factored.{FactoredSymbol.of, FactoredSymbol.further, Further.attribute_list, Further.simple_statement, Further.other_statement}
+use Rattle.wgsl_grammar_theory.specs.Tables.{begin_for_update}
+use Rattle.wgsl_grammar_theory.specs.Reader.{reader}
+use Rattle.wgsl_grammar_theory.specs.StatementRules.{other_statement_at}
+use Rattle.wgsl_grammar_theory.proofs.StatementEquations.{other_statement_is}
+use Rattle.wgsl_statement_reader.specs.Statements.{ended, assert_statement_at, plain_statement_at, statement_part_at, attributed_statement_at, attributed_classes, unplaced_statement_at}
+use Rattle.wgsl_statement_reader.proofs.Binding.{bind_associates, bind_cond, pair_goes_on, token_behind, given_is}
+
+-- a statement other than `break`
+unfoldable pub other_statement_parts : State → Read StatementNode
+other_statement_parts s = unplaced_statement_at s >>= λ a s'. done (placed_statement a (span_from (start_of s) s')) s'
+
+-- a `;` behind each of two is one behind both
+abbrev ended_of : Read Statement → Read Statement
+ended_of m = m >>= λ a s'. take SymSemicolon s' >>= λ t s''. done a s''
+
+-- as the grammar writes it
+abbrev written_ended : Read Statement → Read Statement
+written_ended m = (m >>= λ a s'. take SymSemicolon s' >>= λ t s''. done (a, t) s'') >>= λ (p : Statement × Token) s'. done p.0 s'
+
+ended_is : (m : Read Statement) → written_ended m ≡ ended_of m
+ended_is m = pair_goes_on m (take SymSemicolon) _
+
+plain_is : (s : State) → cond (is_at KwVar s) (written_ended (reader (of var_statement) s))
+    (cond (is_any (KwConst ∷ KwLet ∷ []) s) (written_ended (reader (of value_statement) s))
+    (cond (is_at KwContinue s) (written_ended (reader (of continue_statement) s))
+    (cond (is_at KwDiscard s) (written_ended (reader (of discard_statement) s))
+    (cond (is_any begin_for_update s) (written_ended (reader (further simple_statement) s))
+    (((reader (of const_assert) s >>= λ c s'. take SymSemicolon s' >>= λ t s''. done (c, t) s'') >>= λ (p : ConstAssert × Token) s'. done p.0 s') >>= λ c s'. done (Statement.const_assert c) s')))))
+    ≡ ended plain_statement_at s
+unfolding plain_statement_at assert_statement_at
+plain_is s =
+    ap₂ (cond (is_at KwVar s)) (ended_is (reader (of var_statement) s))
+    (ap₂ (cond (is_any (KwConst ∷ KwLet ∷ []) s)) (ended_is (reader (of value_statement) s))
+    (ap₂ (cond (is_at KwContinue s)) (ended_is (reader (of continue_statement) s))
+    (ap₂ (cond (is_at KwDiscard s)) (ended_is (reader (of discard_statement) s))
+    (ap₂ (cond (is_any begin_for_update s)) (ended_is (reader (further simple_statement) s))
+    (token_behind (reader (of const_assert) s) (take SymSemicolon) (λ c s'. done (Statement.const_assert c) s') ∙ sym (bind_associates (reader (of const_assert) s) _ _))
+    ∙ sym (bind_cond (is_any begin_for_update s) _ _ _))
+    ∙ sym (bind_cond (is_at KwDiscard s) _ _ _))
+    ∙ sym (bind_cond (is_at KwContinue s) _ _ _))
+    ∙ sym (bind_cond (is_any (KwConst ∷ KwLet ∷ []) s) _ _ _))
+    ∙ sym (bind_cond (is_at KwVar s) _ _ _)
+
+pub other_statement_by_parts : (s : State) → reader (further other_statement) s ≡ other_statement_parts s
+unfolding other_statement_at other_statement_parts unplaced_statement_at attributed_statement_at statement_part_at
+other_statement_by_parts s = other_statement_is s
+    ∙ ap (λ m. m >>= λ a s'. done (placed_statement a (span_from (start_of s) s')) s')
+    (ap (cond (is_at SymSemicolon s) (take SymSemicolon s >>= λ t s'. done Statement.void s'))
+    (ap₂ (cond (is_at KwReturn s)) (ended_is (reader (of return_statement) s))
+    (ap₂ (cond (is_any attributed_classes s)) (given_is (reader (further attribute_list) s) statement_part_at) (plain_is s))))

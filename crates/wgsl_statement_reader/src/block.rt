@@ -1,0 +1,70 @@
+//! Blocks.
+
+ghost use Rattle.std.specs.Prelude.{◌<◌, length, map, OnOk};
+ghost use Rattle.wgsl_model.specs.Symbols.{Symbol.compound_statement};
+ghost use Rattle.wgsl_attribute.specs.View.{attributes_view};
+ghost use Rattle.wgsl_statement.specs.View.{statement_view, statement_node_view, compound_statement_view};
+ghost use Rattle.wgsl_grammar_theory.specs.Factored.{FactoredSymbol.of, FactoredSymbol.further, Further.block_part, Further.statement_rest};
+ghost use Rattle.wgsl_grammar_theory.specs.Reader.{reader};
+ghost use Rattle.wgsl_cursor.specs.Reading.{state, Gives};
+ghost use Rattle.wgsl_statement_reader.specs.Given.{given};
+
+use crate::statement::parse_statement;
+use std::alloc::Global;
+use wgsl_attribute::Attributes;
+use wgsl_attribute_reader::parse_attributes;
+use wgsl_cursor::{Cursor, Fault};
+use wgsl_statement::{CompoundStatement, Statement, StatementNode};
+use wgsl_token::kind::TokenKind;
+
+/// A block.
+#[cycle(statement)]
+#[tactic(auto, unfolding(wgsl_grammar_theory::specs::StatementRules::compound_statement_at), using(wgsl_grammar_theory::proofs::StatementEquations::compound_statement_is, crate::proofs::MadeStatements::compound_is))]
+pub fn parse_compound_statement(
+    alloc: Global,
+    tokens: &mut Cursor,
+) -> Result<CompoundStatement, Fault>
+    ensures value { Gives compound_statement_view result (state tokens.new) (reader (of compound_statement) (state tokens.old)) }
+    ensures shorter { OnOk result (length (state tokens.new).rest < length (state tokens.old).rest) }
+{
+    let attributes = parse_attributes(alloc, tokens)?;
+    tokens.expect(TokenKind::SymBraceLeft)?;
+    let statements = parse_statement_rest(alloc, tokens)?;
+    Ok(CompoundStatement {
+        attributes,
+        statements,
+    })
+}
+
+/// A block as a statement, behind its attributes.
+#[cycle(statement)]
+#[tactic(auto, unfolding(wgsl_grammar_theory::specs::StatementRules::block_part_at), using(wgsl_grammar_theory::proofs::StatementEquations::block_part_is, crate::proofs::MadeStatements::block_is))]
+pub fn parse_block_part(
+    alloc: Global,
+    tokens: &mut Cursor,
+    attributes: Attributes,
+) -> Result<Statement, Fault>
+    ensures value { Gives statement_view result (state tokens.new) (given (attributes_view attributes.items) (reader (further block_part)) (state tokens.old)) }
+    ensures shorter { OnOk result (length (state tokens.new).rest < length (state tokens.old).rest) }
+{
+    tokens.expect(TokenKind::SymBraceLeft)?;
+    let statements = parse_statement_rest(alloc, tokens)?;
+    Ok(Statement::Compound(CompoundStatement {
+        attributes,
+        statements,
+    }))
+}
+
+/// Statements up to the `}` behind them.
+#[cycle(statement)]
+#[tactic(auto, unfolding(crate::proofs::Blocks::statements_turn, grammar::specs::States::take), using(crate::proofs::Blocks::statement_rest_from, crate::proofs::Blocks::statements_are, std::proofs::lemmas::List::map_push))]
+fn parse_statement_rest(alloc: Global, tokens: &mut Cursor) -> Result<Vec<StatementNode>, Fault>
+    ensures value { Gives (λ statements. map statement_node_view statements.items) result (state tokens.new) (reader (further statement_rest) (state tokens.old)) }
+    ensures shorter { OnOk result (length (state tokens.new).rest < length (state tokens.old).rest) }
+{
+    let mut statements = Vec::new(alloc);
+    'statements: while !tokens.eat(TokenKind::SymBraceRight) {
+        statements.push(parse_statement(alloc, tokens)?)?;
+    }
+    Ok(statements)
+}

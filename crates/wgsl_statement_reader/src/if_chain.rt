@@ -1,0 +1,63 @@
+//! `if` and its `else` parts.
+
+ghost use Rattle.std.specs.Prelude.{◌<◌, ◌≤◌, length, map, OnOk, option_map};
+ghost use Rattle.wgsl_attribute.specs.View.{attributes_view};
+ghost use Rattle.wgsl_statement.specs.View.{statement_view, else_if_clause_view, else_clause_view};
+ghost use Rattle.wgsl_grammar_theory.specs.Factored.{FactoredSymbol.further, Further.if_part, Further.else_rest};
+ghost use Rattle.wgsl_grammar_theory.specs.Reader.{reader};
+ghost use Rattle.wgsl_cursor.specs.Reading.{state, Gives};
+ghost use Rattle.wgsl_statement_reader.specs.Given.{given};
+
+use crate::block::parse_compound_statement;
+use std::alloc::Global;
+use wgsl_attribute::Attributes;
+use wgsl_cursor::{Cursor, Fault};
+use wgsl_expression_reader::parse_expression;
+use wgsl_statement::{ElseClause, ElseIfClause, IfClause, IfStatement, Statement};
+use wgsl_token::kind::TokenKind;
+
+/// An `if` with all of its clauses, behind its attributes.
+#[cycle(statement)]
+#[tactic(auto, unfolding(wgsl_grammar_theory::specs::StatementRules::if_part_at), using(wgsl_grammar_theory::proofs::StatementEquations::if_part_is, crate::proofs::MadeStatements::if_statement_is))]
+pub fn parse_if_part(
+    alloc: Global,
+    tokens: &mut Cursor,
+    attributes: Attributes,
+) -> Result<Statement, Fault>
+    ensures value { Gives statement_view result (state tokens.new) (given (attributes_view attributes.items) (reader (further if_part)) (state tokens.old)) }
+    ensures shorter { OnOk result (length (state tokens.new).rest < length (state tokens.old).rest) }
+{
+    tokens.expect(TokenKind::KwIf)?;
+    let expression = parse_expression(alloc, tokens)?;
+    let body = parse_compound_statement(alloc, tokens)?;
+    let (else_if_clauses, else_clause) = parse_else_rest(alloc, tokens)?;
+    Ok(Statement::If(IfStatement {
+        attributes,
+        if_clause: IfClause { expression, body },
+        else_if_clauses,
+        else_clause,
+    }))
+}
+
+/// The clauses behind the first.
+#[cycle(statement)]
+#[tactic(auto, unfolding(crate::proofs::IfChains::elses_turn, grammar::specs::States::take), using(crate::proofs::IfChains::else_rest_from, crate::proofs::IfChains::elses_are, crate::proofs::MadeStatements::else_if_clause_is, crate::proofs::MadeStatements::else_clause_is, std::proofs::lemmas::List::map_push))]
+fn parse_else_rest(
+    alloc: Global,
+    tokens: &mut Cursor,
+) -> Result<(Vec<ElseIfClause>, Option<ElseClause>), Fault>
+    ensures value { Gives (λ rest. (map else_if_clause_view rest.0.items, option_map else_clause_view rest.1)) result (state tokens.new) (reader (further else_rest) (state tokens.old)) }
+    ensures shorter { OnOk result (length (state tokens.new).rest ≤ length (state tokens.old).rest) }
+{
+    let mut clauses = Vec::new(alloc);
+    'clauses: while tokens.eat(TokenKind::KwElse) {
+        if !tokens.eat(TokenKind::KwIf) {
+            let body = parse_compound_statement(alloc, tokens)?;
+            return Ok((clauses, Some(ElseClause { body })));
+        }
+        let expression = parse_expression(alloc, tokens)?;
+        let body = parse_compound_statement(alloc, tokens)?;
+        clauses.push(ElseIfClause { expression, body })?;
+    }
+    Ok((clauses, None))
+}

@@ -1,0 +1,43 @@
+//! The statements, and the clauses of statements, that have no span, name or attributes of their own.
+
+use crate::syntax_node::BareNode;
+use wgsl_simple_statement::{
+    AssignmentStatement, BreakIfStatement, BreakStatement, ConstAssert, ContinueStatement,
+    DecrementStatement, DiscardStatement, FunctionCallStatement, IncrementStatement,
+    ReturnStatement,
+};
+use wgsl_statement::{
+    ContinuingStatement, ElseClause, ElseIfClause, IfClause, Statement, SwitchClause,
+};
+
+impl BareNode for Statement {}
+
+impl BareNode for AssignmentStatement {}
+
+impl BareNode for IncrementStatement {}
+
+impl BareNode for DecrementStatement {}
+
+impl BareNode for BreakStatement {}
+
+impl BareNode for ContinueStatement {}
+
+impl BareNode for ReturnStatement {}
+
+impl BareNode for DiscardStatement {}
+
+impl BareNode for FunctionCallStatement {}
+
+impl BareNode for ConstAssert {}
+
+impl BareNode for BreakIfStatement {}
+
+impl BareNode for IfClause {}
+
+impl BareNode for ElseIfClause {}
+
+impl BareNode for ElseClause {}
+
+impl BareNode for SwitchClause {}
+
+impl BareNode for ContinuingStatement {}

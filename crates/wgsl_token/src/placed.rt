@@ -1,0 +1,11 @@
+//! Tokens where they stand.
+
+use crate::token::Token;
+use wgsl_span::Span;
+
+/// A token and where it stands.
+#[derive(PartialEq, Debug, Drop)]
+pub struct PlacedToken {
+    pub token: Token,
+    pub span: Span,
+}

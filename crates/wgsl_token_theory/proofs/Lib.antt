@@ -1,0 +1,9 @@
+pub mod Cuts
+pub mod Bounds
+pub mod Classes
+pub mod Inside
+pub mod Unique
+pub mod Decided
+pub mod Lists
+pub mod Refuted
+pub mod Widths

@@ -1,0 +1,5 @@
+pub mod ClosedLists
+pub mod Turns
+pub mod Names
+pub mod Severities
+pub mod Results

@@ -1,0 +1,114 @@
+//! Reading functions.
+
+ghost use Rattle.std.specs.Prelude.{◌≡◌, ◌<◌, ◌≤◌, length, map, OnOk, option_map};
+ghost use Rattle.grammar.specs.Grammar.{Grammar.symbol};
+ghost use Rattle.wgsl_model.specs.Symbols.{Symbol.formal_parameter};
+ghost use Rattle.wgsl_expression.specs.View.{type_expression_view};
+ghost use Rattle.wgsl_attribute.specs.View.{attributes_view};
+ghost use Rattle.wgsl_unit.specs.View.{global_declaration_view, parameter_view};
+ghost use Rattle.wgsl_grammar_theory.specs.Factored.{FactoredSymbol.of, FactoredSymbol.further, Further.function_part, Further.parameter_rest};
+ghost use Rattle.wgsl_grammar_theory.specs.Reader.{reader};
+ghost use Rattle.wgsl_cursor.specs.Reading.{state, Gives};
+ghost use Rattle.wgsl_unit_reader.specs.Parts.{behind_attributes, return_part_at};
+ghost use Rattle.wgsl_unit_reader.specs.Results.{returned_view, return_attributes, return_type};
+
+use std::alloc::Global;
+use wgsl_attribute::Attributes;
+use wgsl_attribute_reader::parse_attributes;
+use wgsl_cursor::{Cursor, Fault};
+use wgsl_expression::TypeExpression;
+use wgsl_expression_reader::parse_type_specifier;
+use wgsl_statement_reader::parse_compound_statement;
+use wgsl_token::kind::TokenKind;
+use wgsl_unit::{FormalParameter, Function, GlobalDeclaration};
+
+/// A function behind its attributes.
+#[tactic(auto, unfolding(wgsl_grammar_theory::specs::UnitRules::function_part_at, crate::specs::Parts::return_part_at), using(wgsl_grammar_theory::proofs::UnitEquations::function_part_is, crate::proofs::Results::function_parts_is))]
+pub fn parse_function(
+    alloc: Global,
+    tokens: &mut Cursor,
+    attributes: Attributes,
+) -> Result<GlobalDeclaration, Fault>
+    ensures value { Gives global_declaration_view result (state tokens.new) (behind_attributes (attributes_view attributes.items) (symbol (further function_part)) (state tokens.old)) }
+    ensures shorter { OnOk result (length (state tokens.new).rest < length (state tokens.old).rest) }
+{
+    tokens.expect(TokenKind::KwFn)?;
+    let ident = tokens.ident()?;
+    tokens.expect(TokenKind::SymParenLeft)?;
+    let parameters = parse_parameters(alloc, tokens)?;
+    let returned = parse_return_part(alloc, tokens)?;
+    let body = parse_compound_statement(alloc, tokens)?;
+    let (return_attributes, return_type) = split_return_part(alloc, returned);
+    Ok(GlobalDeclaration::Function(Function {
+        attributes,
+        ident,
+        parameters,
+        return_attributes,
+        return_type,
+        body,
+    }))
+}
+
+/// Parameters, none too, with a comma after each, or after each but the last, and the `)` behind them.
+#[tactic(auto, unfolding(crate::proofs::Turns::parameters_turn, grammar::specs::States::take), using(crate::proofs::Turns::parameters_is, crate::proofs::Turns::parameters_are, std::proofs::lemmas::List::map_push))]
+fn parse_parameters(alloc: Global, tokens: &mut Cursor) -> Result<Vec<FormalParameter>, Fault>
+    ensures value { Gives (λ v. map parameter_view v.items) result (state tokens.new) (reader (further parameter_rest) (state tokens.old)) }
+    ensures shorter { OnOk result (length (state tokens.new).rest < length (state tokens.old).rest) }
+{
+    let mut parameters = Vec::new(alloc);
+    'parameters: while !tokens.eat(TokenKind::SymParenRight) {
+        parameters.push(parse_formal_parameter(alloc, tokens)?)?;
+        if !tokens.eat(TokenKind::SymComma) {
+            tokens.expect(TokenKind::SymParenRight)?;
+            break;
+        }
+    }
+    Ok(parameters)
+}
+
+#[tactic(auto, unfolding(wgsl_grammar_theory::specs::UnitRules::formal_parameter_at), using(wgsl_grammar_theory::proofs::UnitEquations::formal_parameter_is))]
+fn parse_formal_parameter(alloc: Global, tokens: &mut Cursor) -> Result<FormalParameter, Fault>
+    ensures value { Gives parameter_view result (state tokens.new) (reader (of formal_parameter) (state tokens.old)) }
+    ensures shorter { OnOk result (length (state tokens.new).rest < length (state tokens.old).rest) }
+{
+    let attributes = parse_attributes(alloc, tokens)?;
+    let ident = tokens.ident()?;
+    tokens.expect(TokenKind::SymColon)?;
+    let ty = parse_type_specifier(alloc, tokens)?;
+    Ok(FormalParameter {
+        attributes,
+        ident,
+        ty,
+    })
+}
+
+/// The attributes and the type of what a function returns behind a `->`, or none.
+#[tactic(auto, unfolding(crate::specs::Parts::return_part_at, grammar::specs::States::take))]
+fn parse_return_part(
+    alloc: Global,
+    tokens: &mut Cursor,
+) -> Result<Option<(Attributes, TypeExpression)>, Fault>
+    ensures value { Gives returned_view result (state tokens.new) (return_part_at (state tokens.old)) }
+    ensures shorter { OnOk result (length (state tokens.new).rest ≤ length (state tokens.old).rest) }
+{
+    if !tokens.eat(TokenKind::SymArrow) {
+        return Ok(None);
+    }
+    let attributes = parse_attributes(alloc, tokens)?;
+    let ty = parse_type_specifier(alloc, tokens)?;
+    Ok(Some((attributes, ty)))
+}
+
+/// The attributes, none where nothing is returned, and the type.
+fn split_return_part(
+    alloc: Global,
+    returned: Option<(Attributes, TypeExpression)>,
+) -> (Attributes, Option<TypeExpression>)
+    ensures attributes { attributes_view result.0.items ≡ return_attributes (returned_view returned) }
+    ensures ty { option_map type_expression_view result.1 ≡ return_type (returned_view returned) }
+{
+    match returned {
+        None => (Vec::new(alloc), None),
+        Some((attributes, ty)) => (attributes, Some(ty)),
+    }
+}

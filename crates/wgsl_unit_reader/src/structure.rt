@@ -1,0 +1,68 @@
+//! Reading structures.
+
+ghost use Rattle.std.specs.Prelude.{◌<◌, length, map, OnOk};
+ghost use Rattle.wgsl_model.specs.Symbols.{Symbol.struct_declaration, Symbol.struct_member};
+ghost use Rattle.wgsl_span.specs.View.{spanned_view};
+ghost use Rattle.wgsl_unit.specs.View.{global_declaration_view, member_view};
+ghost use Rattle.wgsl_grammar_theory.specs.Factored.{FactoredSymbol.of, FactoredSymbol.further, Further.member_items};
+ghost use Rattle.wgsl_grammar_theory.specs.Reader.{reader};
+ghost use Rattle.wgsl_cursor.specs.Reading.{state, Gives};
+
+use std::alloc::Global;
+use wgsl_attribute_reader::parse_attributes;
+use wgsl_cursor::{Cursor, Fault};
+use wgsl_expression_reader::parse_type_specifier;
+use wgsl_span::Spanned;
+use wgsl_token::kind::TokenKind;
+use wgsl_unit::{GlobalDeclaration, Struct, StructMember, StructMemberNode};
+
+#[tactic(auto, unfolding(wgsl_grammar_theory::specs::UnitRules::struct_declaration_at), using(wgsl_grammar_theory::proofs::UnitEquations::struct_declaration_is))]
+pub fn parse_struct_declaration(
+    alloc: Global,
+    tokens: &mut Cursor,
+) -> Result<GlobalDeclaration, Fault>
+    ensures value { Gives global_declaration_view result (state tokens.new) (reader (of struct_declaration) (state tokens.old)) }
+    ensures shorter { OnOk result (length (state tokens.new).rest < length (state tokens.old).rest) }
+{
+    tokens.expect(TokenKind::KwStruct)?;
+    let ident = tokens.ident()?;
+    tokens.expect(TokenKind::SymBraceLeft)?;
+    let members = parse_members(alloc, tokens)?;
+    Ok(GlobalDeclaration::Struct(Struct { ident, members }))
+}
+
+/// Members, one at least, with a comma after each, or after each but the last, and the `}` behind them.
+#[tactic(auto, unfolding(crate::proofs::Turns::members_at, crate::proofs::Turns::members_turn, grammar::specs::States::take), using(crate::proofs::Turns::members_is, crate::proofs::Turns::members_are, std::proofs::lemmas::List::map_push))]
+fn parse_members(alloc: Global, tokens: &mut Cursor) -> Result<Vec<StructMemberNode>, Fault>
+    ensures value { Gives (λ v. map (spanned_view member_view) v.items) result (state tokens.new) (reader (further member_items) (state tokens.old)) }
+    ensures shorter { OnOk result (length (state tokens.new).rest < length (state tokens.old).rest) }
+{
+    let mut members = Vec::new(alloc);
+    members.push(parse_struct_member(alloc, tokens)?)?;
+    'members: while tokens.eat(TokenKind::SymComma) {
+        if tokens.eat(TokenKind::SymBraceRight) {
+            return Ok(members);
+        }
+        members.push(parse_struct_member(alloc, tokens)?)?;
+    }
+    tokens.expect(TokenKind::SymBraceRight)?;
+    Ok(members)
+}
+
+#[tactic(auto, unfolding(wgsl_grammar_theory::specs::UnitRules::struct_member_at), using(wgsl_grammar_theory::proofs::UnitEquations::struct_member_is))]
+fn parse_struct_member(alloc: Global, tokens: &mut Cursor) -> Result<StructMemberNode, Fault>
+    ensures value { Gives (spanned_view member_view) result (state tokens.new) (reader (of struct_member) (state tokens.old)) }
+    ensures shorter { OnOk result (length (state tokens.new).rest < length (state tokens.old).rest) }
+{
+    let start = tokens.start();
+    let attributes = parse_attributes(alloc, tokens)?;
+    let ident = tokens.ident()?;
+    tokens.expect(TokenKind::SymColon)?;
+    let ty = parse_type_specifier(alloc, tokens)?;
+    let member = StructMember {
+        attributes,
+        ident,
+        ty,
+    };
+    Ok(Spanned::new(alloc, member, tokens.span_from(start))?)
+}

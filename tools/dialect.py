@@ -1,0 +1,271 @@
+#!/usr/bin/env python3
+"""Writes the rules of the dialect that is recognised alone as steps over tokens.
+
+Run it at the top of the repository, and lay out what it wrote by `rt fmt`:
+
+    tools/dialect.py crates/wgsl_dialect
+
+It reads the rules from the definitions. Nothing rests on it: the prover checks every rule.
+"""
+import re
+import sys
+from pathlib import Path
+
+from tables import MODEL, PARTS, Rules, Tables, definitions, rules
+
+THEORY = Path("crates/wgsl_grammar_theory")
+
+
+def dialect(theory):
+    """The right side of each symbol where a text is recognised alone."""
+    table = rules(theory)
+    files = [MODEL / f"{part}.antt" for part in PARTS] + [MODEL / "Small.antt", theory / "specs/Factored.antt"]
+    found = definitions(files + [theory / "specs/FactoredSmall.antt"])
+    classes = set(re.findall(r"^(\w+) = \d+$", (MODEL / "Classes.antt").read_text(), re.M))
+    reader = Rules(found, classes)
+    for patterns, body in found["small"]:
+        if patterns[0][1] != "n":
+            table["of", patterns[0][1]] = reader.right_side(body)
+    for patterns, body in found["small_body"]:
+        if patterns[0][0] == "apply" and patterns[0][1][1] == "further":
+            table[Rules.symbol(patterns[0])] = reader.right_side(body)
+    return table
+
+
+class Steps:
+    """The steps of right sides, each a tuple, with the sets of the tables in their order."""
+
+    def __init__(self, tables, place):
+        self.tables = tables
+        self.place = place
+
+    def begins(self, g):
+        if g.kind == "symbol":
+            return sorted(self.tables.first[g.data], key=self.place.get)
+        if g.kind in ("empty", "token"):
+            return list(g.data or ())
+        sets = list(map(self.begins, g.parts))
+        if g.kind == "choice":
+            return sets[0] + sets[1]
+        if g.kind in ("sequence", "left_chain") and self.tables.nullable(g.parts[0]):
+            return sets[0] + sets[1]
+        return sets[0]
+
+    def of(self, g):
+        if g.kind == "empty":
+            return []
+        if g.kind == "token":
+            return [("Token", list(g.data))]
+        if g.kind == "symbol":
+            return [("Symbol", g.data)]
+        if g.kind == "sequence":
+            return self.of(g.parts[0]) + self.of(g.parts[1])
+        if g.kind == "choice":
+            return [("Choice", self.begins(g.parts[0]), self.of(g.parts[0]), self.of(g.parts[1]))]
+        if g.kind == "left_chain":
+            return self.of(g.parts[0]) + [("Repeat", self.begins(g.parts[1]), self.of(g.parts[1]))]
+        return self.of(g.parts[0])
+
+
+def symbols_in(steps):
+    for step in steps:
+        if step[0] == "Symbol":
+            yield step[1]
+        if step[0] in ("Choice", "Repeat"):
+            for part in step[2:]:
+                yield from symbols_in(part)
+
+
+def kinds_in(steps):
+    for step in steps:
+        yield step[0]
+        if step[0] in ("Choice", "Repeat"):
+            for part in step[2:]:
+                yield from kinds_in(part)
+
+
+def reached(found, start):
+    """The symbols that the steps of a symbol lead to."""
+    seen, waiting = set(), [start]
+    while waiting:
+        n = waiting.pop()
+        if n not in seen:
+            seen.add(n)
+            waiting += symbols_in(found[n])
+    return seen
+
+
+def camel(n):
+    return "".join(word.capitalize() for word in n[1].split("_"))
+
+
+def capitals(n):
+    return n[1].upper()
+
+
+# the last written symbol of each part of the grammar, and the further symbols of the first two
+LAST = {"expressions": "lhs_expression", "statements": "for_update"}
+FURTHER = {
+    "expressions": ["template_", "argument_", "components", "factors", "summands", "sum_rest", "relation_rest", "and_rest",
+                    "or_rest", "bitwise_", "expression_rest", "other_left_side"],
+    "statements": ["selectors", "statement_rest", "loop_", "continuing_rest", "clause_rest", "else_rest", "init_part",
+                   "condition_part", "update_part", "if_part", "switch_part", "for_part", "while_part", "block_part",
+                   "left_side_rest", "name_rest_statement", "simple_statement", "other_statement"],
+}
+SAYS = {"expressions": "The rules of names, expressions and templates.", "statements": "The rules of statements.",
+        "units": "The rules of attributes, declarations, directives and units."}
+
+
+def in_parts(order, needed):
+    """The symbols that are needed, by the part of the grammar that they belong to."""
+    parts = {part: [] for part in SAYS}
+    names = list(parts)
+    at = 0
+    for n in order:
+        if n[0] == "of":
+            parts[names[at]].append(n)
+            if n[1] == LAST.get(names[at]):
+                at += 1
+        else:
+            home = [part for part, starts in FURTHER.items() if n[1].startswith(tuple(starts))]
+            parts[home[0] if home else "units"].append(n)
+    parts["statements"] = [n for n in parts["statements"] if n[1] != "attribute"]
+    parts["units"].insert(0, ("of", "attribute"))
+    return {part: [n for n in symbols if n in needed] for part, symbols in parts.items()}
+
+
+class Writer:
+    """Writes the rules; sets of more than two classes that stand in several places get a name."""
+
+    def __init__(self, found, parts):
+        self.found = found
+        self.parts = parts
+        users = {}
+        for n, steps in found.items():
+            for classes in self.sets(steps):
+                users.setdefault(tuple(classes), []).append(n)
+        shared = [classes for classes, symbols in users.items() if len(classes) > 2 and len(symbols) > 1]
+        self.names = {classes: f"BEGINS_{self.begun(classes, users)}" for classes in shared}
+
+    def begun(self, classes, users):
+        """The first symbol before which such a set is asked for."""
+        for steps in self.found.values():
+            for step in self.choices(steps):
+                if tuple(step[1]) == classes and step[2] and step[2][0][0] == "Symbol":
+                    return capitals(step[2][0][1])
+        return capitals(users[classes][0])
+
+    def choices(self, steps):
+        for step in steps:
+            if step[0] in ("Choice", "Repeat"):
+                yield step
+                for part in step[2:]:
+                    yield from self.choices(part)
+
+    def sets(self, steps):
+        for step in self.choices(steps):
+            yield step[1]
+
+    def kinds(self, classes):
+        name = self.names.get(tuple(classes))
+        return name or "&[" + ", ".join(f"TokenKind::{c}" for c in classes) + "]"
+
+    def steps(self, steps):
+        return "&[" + ", ".join(map(self.step, steps)) + "]"
+
+    def step(self, step):
+        if step[0] == "Token":
+            return f"Token({self.kinds(step[1])})"
+        if step[0] == "Symbol":
+            return f"Rule(Symbol::{camel(step[1])})"
+        return f"{step[0]}({', '.join([self.kinds(step[1])] + list(map(self.steps, step[2:])))})"
+
+    def rules(self, part):
+        consts = [f"pub const {capitals(n)}: &[Step] = {self.steps(self.found[n])};" for n in self.parts[part]]
+        body = "\n\n".join(consts)
+        used = [v for v in ("Choice", "Repeat", "Rule", "Token") if v + "(" in body]
+        names = sorted(name for name in self.names.values() if re.search(rf"\b{name}\b", body))
+        lines = [f"//! {SAYS[part]}", ""]
+        if names:
+            lines.append(f"use crate::begins::{{{', '.join(names)}}};")
+        lines += [f"use crate::step::Step::{{self, {', '.join(used)}}};", "use crate::symbol::Symbol;",
+                  "use wgsl_token::kind::TokenKind;", "", body, ""]
+        return "\n".join(lines)
+
+    def begins(self):
+        lines = ["//! Kinds of tokens by which one of two ways is chosen.", "", "use wgsl_token::kind::TokenKind;", ""]
+        for classes, name in self.names.items():
+            kinds = ", ".join(f"TokenKind::{c}" for c in classes)
+            lines += [f"pub const {name}: &[TokenKind] = &[{kinds}];", ""]
+        return "\n".join(lines)
+
+
+def symbols_text(order):
+    lines = ["//! The symbols of the grammar, in the form in which one token decides.", "",
+             "/// A symbol: those of the written grammar, and behind them those that stand for a part of a rule.",
+             "#[derive(Clone, Copy)]", "pub enum Symbol {"]
+    lines += [f"    {camel(n)}," for n in order]
+    return "\n".join(lines + ["}", ""])
+
+
+def view_text(order):
+    lines = ["-- The symbols of the code as those of the grammar, written by tools/dialect.py."]
+    lines += [f"use Rattle.wgsl_model.specs.Symbols.{{{', '.join('Symbol.' + n[1] for n in order if n[0] == 'of')}}}"]
+    lines += [f"use Rattle.wgsl_grammar_theory.specs.Factored.{{FactoredSymbol, FactoredSymbol.of, FactoredSymbol.further, {', '.join('Further.' + n[1] for n in order if n[0] == 'further')}}}"]
+    lines += ["use Rattle.wgsl_dialect.specs.declared.symbol.Symbol.{Symbol}",
+              "use Rattle.wgsl_dialect.specs.declared.symbol.Symbol.TheVariants as variant", "",
+              "-- which symbol it is", "abbrev pub symbol_view : Symbol → FactoredSymbol"]
+    lines += [f"symbol_view variant.{camel(n)} = {n[0]} {n[1]}" for n in order]
+    return "\n".join(lines + [""])
+
+
+def right_sides(parts):
+    lines = ["//! The rules of the dialect, as steps over tokens.", "",
+             "ghost use Rattle.std.specs.Prelude.{◌≡◌};", "ghost use Rattle.wgsl_dialect.specs.Steps.{rule_steps};",
+             "ghost use Rattle.wgsl_dialect.specs.Symbols.{symbol_view};",
+             "ghost use Rattle.wgsl_dialect.specs.View.{steps_view};", ""]
+    lines += [f"use crate::{part};" for part in parts]
+    lines += ["use crate::step::Step;", "use crate::symbol::Symbol;", "",
+              "/// The steps of a symbol.", "pub fn right_side(symbol: Symbol) -> &'static [Step]",
+              "    ensures { steps_view result.now ≡ rule_steps (symbol_view symbol) }", "{", "    match symbol {"]
+    lines += [f"        Symbol::{camel(n)} => {part}::{capitals(n)}," for part, symbols in parts.items() for n in symbols]
+    return "\n".join(lines + ["    }", "}", ""])
+
+
+def answers(found, parts):
+    lines = ["-- Each rule has the steps of its symbol, written by tools/dialect.py.", "use Rattle.wgsl_dialect.specs.Steps.{rule_steps}",
+             "use Rattle.wgsl_dialect.proofs.Views.{choice_is, repeat_is}", "use Rattle.wgsl_dialect.proofs.rules.right_side.Goals as goal"]
+    for n in (n for symbols in parts.values() for n in symbols):
+        goal = f"returns-in-{camel(n)}"
+        kinds = set(kinds_in(found[n]))
+        laws = [f"c.in-{camel(n)}.is"] + [law for kind, law in (("Choice", "choice_is"), ("Repeat", "repeat_is")) if kind in kinds]
+        choices = [step for step in found[n] if step[0] == "Choice"]
+        tactic = "simp"
+        if len(choices) > 1:
+            tactic, laws = "rw", laws[:1] + ["choice_is"] * len(choices)
+        lines += ["", f"pub {goal} : goal.{goal}", "unfolding rule_steps", f"{goal} c = {tactic} {laws[0] if len(laws) == 1 else '(' + ', '.join(laws) + ')'}"]
+    return "\n".join(lines + [""])
+
+
+def main(crate):
+    classes = re.findall(r"^(\w+) = \d+$", (MODEL / "Classes.antt").read_text(), re.M)
+    tables = Tables(rules(THEORY))
+    steps = Steps(tables, {c: i for i, c in enumerate(classes)})
+    every = {n: steps.of(g) for n, g in dialect(THEORY).items()}
+    needed = reached(every, ("of", "unit"))
+    found = {n: s for n, s in every.items() if n in needed}
+    parts = in_parts(every, needed)
+    writer = Writer(found, parts)
+    for part in parts:
+        (crate / f"src/{part}.rt").write_text(writer.rules(part))
+    (crate / "src/begins.rt").write_text(writer.begins())
+    (crate / "src/symbol.rt").write_text(symbols_text(found))
+    (crate / "src/rules.rt").write_text(right_sides(parts))
+    (crate / "specs/Symbols.antt").write_text(view_text(found))
+    proofs = crate / "proofs/rules/right_side"
+    proofs.mkdir(parents=True, exist_ok=True)
+    (proofs / "Answers.antt").write_text(answers(found, parts))
+
+
+if __name__ == "__main__":
+    main(Path(sys.argv[1]))
