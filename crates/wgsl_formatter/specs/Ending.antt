@@ -30,7 +30,7 @@ pub record Ends (input : Option (List ℕ)) (end : Outcome) : Type 0 where
   pub owed : IsDue bytes due
   pub written : GoesOut due end
 
--- The text is the printed unit of these bytes, and reads as that unit without its empty declarations, where the unit is on the first path.
+-- The text is the printed unit of these bytes, and reads as that unit without its empty items, where the unit is on the first path.
 pub record IsReprinted (bytes text : List ℕ) : Type 0 where
   pub unit : TranslationUnit
   pub derived : IsUnit (chars bytes) unit

@@ -9,7 +9,7 @@ ghost use Rattle.grammar.specs.Reading.{read_all, Outcome.ok};
 ghost use Rattle.wgsl_model.specs.Symbols.{Symbol, Value, is_read_alone};
 ghost use Rattle.wgsl_model.specs.Written.{written};
 ghost use Rattle.wgsl_model.specs.Small.{small};
-ghost use Rattle.wgsl_model.specs.Named.{IsNamed};
+ghost use Rattle.wgsl_model.specs.Named.{IsNamed, IsNamedSmall};
 ghost use Rattle.wgsl_model.specs.CheckedFaults.{IsCheckedFault, wants_memory};
 ghost use Rattle.wgsl_grammar_theory.specs.Factored.{FactoredSymbol.of, body};
 ghost use Rattle.wgsl_grammar_theory.specs.FactoredSmall.{small_body};
@@ -63,4 +63,6 @@ pub fn same_faults()
 pub fn one_name()
     ensures once { (n : Symbol) (ts : List Token) (ending : Ending) (x y : Fault) → IsNamed n ts ending x → IsNamed n ts ending y → x ≡ y }
     ensures no_tree { (n : Symbol) (ts : List Token) (x : Fault) → IsNamed n ts finished x → (v : Value n) → Derives full written n v ts → ⊥ }
+    ensures alone_once { (n : Symbol) (ts : List Token) (ending : Ending) (x y : Fault) → IsNamedSmall n ts ending x → IsNamedSmall n ts ending y → x ≡ y }
+    ensures alone_no_tree { (n : Symbol) (ts : List Token) (x : Fault) → IsNamedSmall n ts finished x → (v : Value n) → Derives full small n v ts → ⊥ }
 {}

@@ -1,5 +1,5 @@
 -- The reader of a text that is recognised alone answers what the definitions name.
-use Rattle.std.proofs.Common.{◌≡◌, List, [], ◌∷◌, ◌++◌, refl, sym, ap, subst, ◌∙◌, append-nil}
+use Rattle.std.proofs.Common.{◌≡◌, List, [], ◌∷◌, ◌++◌, refl, sym, ap, subst, ◌∙◌, append_assoc, append-nil}
 use Rattle.std.specs.Prelude.{None}
 use Rattle.grammar.specs.Tokens.{Token, Fault, span_between}
 use Rattle.grammar.specs.Grammar.{Mode.full, Mode.unchecked, Derives, IsSentence, IsViable}
@@ -27,7 +27,11 @@ viable_in n ts (zs, s) = (zs, sentence_in n (ts ++ zs) s)
 viable_out : (n : Symbol) (ts : List Token) → IsViable small_body (of n) ts → IsViable small n ts
 viable_out n ts (zs, (v, d)) = (zs, (v, read_is_small unchecked n v (ts ++ zs) [] d))
 
-derived_is_viable : (n : Symbol) (v : Value n) (ts : List Token) → Derives full small n v ts → IsViable small n ts
+-- what begins so, begins with each front of it
+pub viable_front_alone : (n : Symbol) (p q : List Token) → IsViable small n (p ++ q) → IsViable small n p
+viable_front_alone n p q (zs, (v, d)) = (q ++ zs, (v, subst (λ (x : List Token). Derives unchecked small n v x) (append_assoc p q zs) d))
+
+pub derived_is_viable : (n : Symbol) (v : Value n) (ts : List Token) → Derives full small n v ts → IsViable small n ts
 derived_is_viable n v ts d = ([], (v, subst (λ (x : List Token). Derives unchecked small n v x) (sym (append-nil ts)) (loosen full small n v ts [] d)))
 
 -- nothing is checked

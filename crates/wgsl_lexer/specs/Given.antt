@@ -19,6 +19,6 @@ abbrev pub last_of : Option PlacedError → Option TokenItem
 last_of None = None
 last_of (Some x) = Some (Err x)
 
--- calls from an iterator gave these tokens and then nothing more or this error, and none came behind
+-- calls from an iterator gave these tokens, and then nothing more or this error
 abbrev pub Gave : {S : Type 0} → (S → Option TokenItem → S → Type 0) → S → Collected → Type 0
 Gave {S} steps it found = (last : S) × YieldsThen steps it (map item_of found.tokens.items) (last_of found.error) last

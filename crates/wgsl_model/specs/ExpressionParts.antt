@@ -26,7 +26,7 @@ call_of p = call p.0 (expressions_of p.1)
 abbrev pub variable : List ℕ → Expression
 variable name = type_or_identifier (type_expression name no_template)
 
--- `[` and an index behind a base, or `.` and a name
+-- `[` and an index behind a base
 abbrev pub index_of : ExpressionNode → ExpressionNode → Expression
 index_of index base = indexing base index
 
@@ -66,7 +66,7 @@ negated_product_of left p span = binary_of left p (later span)
 abbrev pub unary_operator : Rule UnaryOperator
 unary_operator = SymMinus means negation or SymBang means logical_negation or SymTilde means bitwise_complement or SymStar means indirection or SymAnd means address_of
 
--- the operators of products, sums and comparisons
+-- the operators of products
 abbrev pub multiplicative_operator : Rule BinaryOperator
 multiplicative_operator = SymStar means multiplication or SymForwardSlash means division or SymModulo means remainder
 

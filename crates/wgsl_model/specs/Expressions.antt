@@ -55,7 +55,7 @@ abbrev pub template_of : Option (List ExpressionNode) → TemplateArguments
 template_of None = no_template
 template_of (Some es) = template (expressions_of es)
 
--- where an expression starts, and where it ends
+-- where an expression starts
 abbrev pub start_of : ExpressionNode → ℕ
 start_of (expression_node e s) = s.start
 

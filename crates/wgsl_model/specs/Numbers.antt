@@ -77,7 +77,7 @@ abstract_float =
     (digits_with_point is_ascii_digit then optional (exponent is_e)) or (digits is_ascii_digit then exponent is_e)
     or hexadecimal ((digits_with_point is_ascii_hexdigit then optional (exponent is_p)) or (digits is_ascii_hexdigit then exponent is_p))
 
--- a float with a suffix: a hexadecimal one has an exponent, since `f` behind its digits is a digit
+-- a float with a suffix: a hexadecimal one has an exponent before it
 abbrev pub float : Pattern → Pattern
 float suffix =
     ((digits_with_point is_ascii_digit or digits is_ascii_digit) then (optional (exponent is_e) then suffix))

@@ -47,6 +47,6 @@ pub data Formats (bytes : List ℕ) : Outcome → Type 0 where
 abbrev pub out_of_memory : Outcome
 out_of_memory = complaint 3 (codes "out of memory\n")
 
--- the text reads as the unit without its empty declarations, spans aside
+-- the text reads as the unit without its empty items, spans aside
 abbrev pub ReadsBack : List ℕ → TranslationUnit → Type 0
 ReadsBack text u = (again : TranslationUnit) × IsUnit (chars text) again × (bare_unit again ≡ bare_unit (full_unit u))

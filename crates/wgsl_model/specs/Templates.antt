@@ -64,7 +64,7 @@ pub data Enclosed (total : ℕ) (IsTemplate : TemplateRelation) : List ℕ → L
       → Derives full written expressions v ts
       → Enclosed total IsTemplate text (placed (plain TemplateArgsStart) (place total from) (place total after) ∷ (ts ++ placed (plain TemplateArgsEnd) (place total end) (place total (drop 1 end)) ∷ [])) (drop 1 end)
 
--- the same, where the template lists inside have fewer characters than a bound, one fewer at each nesting
+-- the same, where the lists stand within one another at most so many deep
 abbrev pub TemplateUpTo : ℕ → ℕ → List ℕ → List Token → List ℕ → Type 0
 TemplateUpTo zero total text ts rest = ⊥
 TemplateUpTo (suc bound) total text ts rest = Enclosed total (TemplateUpTo bound total) text ts rest

@@ -20,7 +20,7 @@ Derived n v found = (ending_view found.error ≡ finished) × Derives full writt
 abbrev pub Refused : Symbol → Error → Collected → Type 0
 Refused n e found = IsNamed n (tokens_view found) (ending_view found.error) (fault_view e)
 
--- an iterator that starts so gave these tokens, and none behind its first error
+-- an iterator that starts so gave these tokens up to its first error
 abbrev pub Gives : {S : Type 0} → (S → Type 0) → (S → Option TokenItem → S → Type 0) → Collected → Type 0
 Gives {S} starts steps found = (it : S) × starts it × Gave steps it found
 

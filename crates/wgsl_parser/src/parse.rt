@@ -13,8 +13,8 @@ use wgsl_error::Error;
 use wgsl_unit::TranslationUnit;
 
 /// The module that a text is, or what is wrong with it: the checked fault that ends first, as a reserved word in place
-/// of a name or an attribute whose arguments do not fit; else the first token that can't stand where it stands; else
-/// the text that is no token; else that the text ends too early.
+/// of a name or an attribute whose arguments do not fit, if it ends before the first token that can't stand where it
+/// stands; else that token; else the text that is no token; else that the text ends too early.
 pub fn parse_str(alloc: Global, source: &str) -> Result<TranslationUnit, Error>
     ensures accepted { IfOk result (λ unit. IsUnit (chars source.now) (unit_view unit)) }
     ensures refused { IfErr result (λ e. IsOutOfMemory e ⊎ IsFaultOf (chars source.now) (fault_view e)) }

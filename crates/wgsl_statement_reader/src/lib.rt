@@ -14,6 +14,3 @@ mod value;
 pub use block::parse_compound_statement;
 pub use statement::parse_statement;
 pub use value::parse_const_assert;
-
-#[cfg(test)]
-mod tests;

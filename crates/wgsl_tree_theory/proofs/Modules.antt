@@ -17,7 +17,7 @@ void_kept (tree.structure s) = refl
 void_kept (tree.function f) = refl
 void_kept (tree.const_assert c) = refl
 
-declaration_twice : (d : tree.GlobalDeclaration) → items.full_declaration (items.full_declaration d) ≡ items.full_declaration d
+pub declaration_twice : (d : tree.GlobalDeclaration) → items.full_declaration (items.full_declaration d) ≡ items.full_declaration d
 declaration_twice tree.void = refl
 declaration_twice (tree.declaration d) = refl
 declaration_twice (tree.type_alias a) = refl
@@ -39,7 +39,7 @@ declarations_twice (d ∷ ds) = one_twice d (items.full_declarations ds) (printe
 pub unit_twice : (u : tree.TranslationUnit) → items.full_unit (items.full_unit u) ≡ items.full_unit u
 unit_twice u = λ i. record u { global_declarations = declarations_twice u.global_declarations i }
 
-declaration_printed : (d : tree.GlobalDeclaration) → printed.print_global_declaration (items.full_declaration d) ≡ printed.print_global_declaration d
+pub declaration_printed : (d : tree.GlobalDeclaration) → printed.print_global_declaration (items.full_declaration d) ≡ printed.print_global_declaration d
 declaration_printed tree.void = refl
 declaration_printed (tree.declaration d) = refl
 declaration_printed (tree.type_alias a) = refl

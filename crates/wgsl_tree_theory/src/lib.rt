@@ -3,15 +3,16 @@
 
 ghost use Rattle.std.specs.Prelude.{◌≡◌};
 ghost use Rattle.wgsl_model.specs.Statements.{Statement, CompoundStatement};
-ghost use Rattle.wgsl_model.specs.Units.{TranslationUnit};
-ghost use Rattle.wgsl_model.specs.EmptyItems.{full_statement, full_compound, full_unit};
+ghost use Rattle.wgsl_model.specs.Units.{GlobalDeclaration, TranslationUnit};
+ghost use Rattle.wgsl_model.specs.EmptyItems.{full_statement, full_compound, full_declaration, full_unit};
 ghost use Rattle.wgsl_model.specs.PrintedStatements.{print_statement, print_compound};
-ghost use Rattle.wgsl_model.specs.PrintedUnits.{print_unit};
+ghost use Rattle.wgsl_model.specs.PrintedUnits.{print_global_declaration, print_unit};
 
 /// Removing the empty items twice is removing them once.
 pub fn voids_twice()
     ensures statement { (s : Statement) → full_statement (full_statement s) ≡ full_statement s }
     ensures block { (b : CompoundStatement) → full_compound (full_compound b) ≡ full_compound b }
+    ensures declaration { (d : GlobalDeclaration) → full_declaration (full_declaration d) ≡ full_declaration d }
     ensures unit { (u : TranslationUnit) → full_unit (full_unit u) ≡ full_unit u }
 {}
 
@@ -19,5 +20,6 @@ pub fn voids_twice()
 pub fn voids_unprinted()
     ensures statement { (s : Statement) → print_statement (full_statement s) ≡ print_statement s }
     ensures block { (b : CompoundStatement) → print_compound (full_compound b) ≡ print_compound b }
+    ensures declaration { (d : GlobalDeclaration) → print_global_declaration (full_declaration d) ≡ print_global_declaration d }
     ensures unit { (u : TranslationUnit) → print_unit (full_unit u) ≡ print_unit u }
 {}
