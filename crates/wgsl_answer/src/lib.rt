@@ -2,11 +2,9 @@
 #![tactic(auto)]
 
 mod answer;
-mod expected;
 mod message;
 mod source;
 mod text;
 
-pub use expected::BEHIND_UNIT;
 pub use source::{TokenSource, is_out_of_memory, last_end};
 pub use text::tokens_of;

@@ -12,6 +12,3 @@ pub use attribute::{
     InterpolateAttribute, TypeConstraint, WorkgroupSizeAttribute,
 };
 pub use display::AttributesBefore;
-
-#[cfg(test)]
-mod tests;

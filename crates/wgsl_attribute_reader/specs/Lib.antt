@@ -4,3 +4,4 @@ pub mod Counted
 pub mod Makes
 pub mod Settles
 pub mod Rules
+pub mod Initializers

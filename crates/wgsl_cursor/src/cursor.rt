@@ -178,14 +178,14 @@ impl Cursor {
         }
     }
 
-    /// Takes a literal.
+    /// Takes a literal, where other tokens than those of literals could stand too.
     #[tactic(auto, unfolding(wgsl_grammar_theory::specs::ExpressionRules::literal_at, grammar::specs::States::is_at, grammar::specs::States::first_of, grammar::specs::States::after), using(wgsl_grammar_theory::proofs::ExpressionEquations::literal_is))]
-    pub fn literal(&mut self) -> Result<LiteralExpression, Fault>
+    pub fn literal(&mut self, expected: Expected) -> Result<LiteralExpression, Fault>
         ensures value { Gives literal_view result (state self.new) (reader (of literal) (state self.old)) }
         ensures shorter { OnOk result (length (state self.new).rest < length (state self.old).rest) }
     {
         match self.tokens.pop_front() {
-            None => Err(Fault::UnexpectedEnd(Expected::LITERAL)),
+            None => Err(Fault::UnexpectedEnd(expected)),
             Some(PlacedToken { token, span }) => {
                 let literal = match token {
                     Token::KwTrue => LiteralExpression::Bool(true),
@@ -198,7 +198,7 @@ impl Cursor {
                     Token::F16(text) => LiteralExpression::F16(text),
                     token => return Err(Fault::UnexpectedToken(
                         PlacedToken { token, span },
-                        Expected::LITERAL,
+                        expected,
                     )),
                 };
                 self.end = span.end;

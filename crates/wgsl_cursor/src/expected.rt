@@ -23,10 +23,68 @@ impl Expected {
         TokenKind::F16,
     ]);
 
+    /// What an expression begins with.
+    pub const EXPRESSION: Expected = Expected::OneOf(&[
+        TokenKind::SymAnd,
+        TokenKind::SymBang,
+        TokenKind::SymMinus,
+        TokenKind::SymParenLeft,
+        TokenKind::SymStar,
+        TokenKind::SymTilde,
+        TokenKind::KwFalse,
+        TokenKind::KwTrue,
+        TokenKind::Ident,
+        TokenKind::AbstractInt,
+        TokenKind::I32,
+        TokenKind::U32,
+        TokenKind::AbstractFloat,
+        TokenKind::F32,
+        TokenKind::F16,
+    ]);
+
     /// What the name of an attribute is.
     pub const ATTRIBUTE_NAME: Expected = Expected::OneOf(&[
+        TokenKind::KwAlias,
+        TokenKind::KwBreak,
+        TokenKind::KwCase,
+        TokenKind::KwConst,
+        TokenKind::KwConstAssert,
+        TokenKind::KwContinue,
+        TokenKind::KwContinuing,
+        TokenKind::KwDefault,
+        TokenKind::KwDiagnostic,
+        TokenKind::KwDiscard,
+        TokenKind::KwElse,
+        TokenKind::KwEnable,
+        TokenKind::KwFalse,
+        TokenKind::KwFn,
+        TokenKind::KwFor,
+        TokenKind::KwIf,
+        TokenKind::KwLet,
+        TokenKind::KwLoop,
+        TokenKind::KwOverride,
+        TokenKind::KwRequires,
+        TokenKind::KwReturn,
+        TokenKind::KwStruct,
+        TokenKind::KwSwitch,
+        TokenKind::KwTrue,
+        TokenKind::KwVar,
+        TokenKind::KwWhile,
         TokenKind::Ident,
         TokenKind::ReservedWord,
+    ]);
+
+    /// What a declaration begins with.
+    pub const DECLARATION: Expected = Expected::OneOf(&[
+        TokenKind::SymAttr,
+        TokenKind::SymSemicolon,
+        TokenKind::KwAlias,
+        TokenKind::KwConst,
+        TokenKind::KwConstAssert,
+        TokenKind::KwFn,
+        TokenKind::KwOverride,
+        TokenKind::KwStruct,
+        TokenKind::KwVar,
     ]);
 
     /// Their texts.
@@ -48,6 +106,7 @@ impl Expected {
 fn text_of(kind: TokenKind) -> &'static str {
     match kind {
         TokenKind::Ident => "identifier",
+        TokenKind::ReservedWord => "reserved word",
         TokenKind::AbstractInt => "integer literal",
         TokenKind::I32 => "i32 literal",
         TokenKind::U32 => "u32 literal",

@@ -12,7 +12,8 @@ use crate::accept::accept;
 use crate::rules::right_side;
 use crate::symbol::Symbol;
 use std::alloc::Global;
-use wgsl_answer::{BEHIND_UNIT, TokenSource, tokens_of};
+use wgsl_answer::{TokenSource, tokens_of};
+use wgsl_cursor::Expected;
 use wgsl_error::Error;
 use wgsl_lexer::Collected;
 
@@ -24,7 +25,7 @@ fn recognize_unit(alloc: Global, found: Collected) -> Result<(), Error>
 {
     let mut source = TokenSource::new(found)?;
     let read = accept(right_side(Symbol::Unit), &mut source.tokens);
-    source.answer(alloc, read, BEHIND_UNIT)
+    source.answer(alloc, read, Expected::DECLARATION)
 }
 
 /// Whether a text is a module where it is recognised alone: names are identifiers alone, after `@` too, `--` stands in

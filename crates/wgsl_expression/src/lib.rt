@@ -18,6 +18,3 @@ pub use expression::{
 };
 pub use ident::Ident;
 pub use literal::LiteralExpression;
-
-#[cfg(test)]
-mod tests;

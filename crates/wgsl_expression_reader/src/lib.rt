@@ -14,6 +14,3 @@ pub use arguments::parse_arguments;
 pub use expression::parse_expression;
 pub use primary::parse_components;
 pub use types::{parse_template_list, parse_type_specifier};
-
-#[cfg(test)]
-mod tests;

@@ -16,7 +16,7 @@ use crate::expression::parse_expression;
 use crate::nodes::{call, indexing, named_component, parenthesized};
 use crate::types::parse_type_specifier;
 use std::alloc::Global;
-use wgsl_cursor::{Cursor, Fault};
+use wgsl_cursor::{Cursor, Expected, Fault};
 use wgsl_expression::{Expression, ExpressionNode};
 use wgsl_span::Spanned;
 use wgsl_token::kind::TokenKind;
@@ -59,7 +59,7 @@ fn parse_primary(alloc: Global, tokens: &mut Cursor) -> Result<Expression, Fault
     if tokens.is_at(TokenKind::SymParenLeft) {
         return parse_parenthesized(alloc, tokens);
     }
-    let literal = tokens.literal()?;
+    let literal = tokens.literal(Expected::EXPRESSION)?;
     Ok(Expression::Literal(literal))
 }
 

@@ -6,7 +6,7 @@ mod streams;
 #[cfg(test)]
 mod tests;
 
-ghost use Rattle.std.specs.Prelude.{◌≡◌, ◌≤◌, ◌<◌, ℕ, List};
+ghost use Rattle.std.specs.Prelude.{◌≡◌, ◌⊎◌, ◌≤◌, ◌<◌, ℕ, List};
 ghost use Rattle.std.specs.Io.KnownBytes.{Appends, IsAtEnd};
 ghost use Rattle.wgsl_model.specs.Program.{Outcome, out_of_memory};
 ghost use Rattle.wgsl_formatter.specs.Ending.{IsInput, Ends, GoesOut, IsReprinted, no_arguments};
@@ -29,6 +29,8 @@ pub fn run<R: Read, W: Write, E: Write>(
         × Appends (W.contents output.old) (W.contents output.new) end.output
         × Appends (E.contents errors.old) (E.contents errors.new) end.errors }
     ensures all_read { result < 3 → IsAtEnd (R.remaining input.new) }
+    // Before all was read, the output is not touched.
+    ensures spared { IsAtEnd (R.remaining input.new) ⊎ (output.new ≡ output.old) }
     ensures reads_back { result ≡ 0 → (bytes : List ℕ) × (text : List ℕ)
         × IsInput (R.remaining input.old) bytes × IsReprinted bytes text
         × Appends (W.contents output.old) (W.contents output.new) text }
@@ -38,7 +40,7 @@ pub fn run<R: Read, W: Write, E: Write>(
             let report = report_on(alloc, &source).unwrap_or(Report::OutOfMemory);
             deliver(&report, output, errors)
         }
-        Err(ReadError::OutOfMemory) => deliver(&Report::OutOfMemory, output, errors),
+        Err(ReadError::OutOfMemory) => refuse_memory(errors),
         Err(ReadError::Failed) => FAILED,
     }
 }
@@ -58,6 +60,7 @@ pub fn start<R: Read, W: Write, E: Write>(
         × Appends (W.contents output.old) (W.contents output.new) end.output
         × Appends (E.contents errors.old) (E.contents errors.new) end.errors }
     ensures all_read { arguments ≡ 0 → result < 3 → IsAtEnd (R.remaining input.new) }
+    ensures spared { arguments ≡ 0 → IsAtEnd (R.remaining input.new) ⊎ (output.new ≡ output.old) }
     ensures reads_back { arguments ≡ 0 → result ≡ 0 → (bytes : List ℕ) × (text : List ℕ)
         × IsInput (R.remaining input.old) bytes × IsReprinted bytes text
         × Appends (W.contents output.old) (W.contents output.new) text }

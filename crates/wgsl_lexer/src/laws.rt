@@ -6,7 +6,7 @@ ghost use Rattle.grammar.specs.Faults.{Ending};
 ghost use Rattle.wgsl_model.specs.TokenList.{IsTokenList, width};
 ghost use Rattle.wgsl_lexer.specs.declared.lexer.Lexer.{Lexer};
 ghost use Rattle.wgsl_lexer.specs.Given.{TokenItem};
-ghost use Rattle.wgsl_lexer.specs.Left.{HasEnded, Gives};
+ghost use Rattle.wgsl_lexer.specs.Left.{HasEnded, IsLeft, Gives};
 ghost use Rattle.wgsl_lexer.specs.InOrder.{AreInOrder, IsFaultBehind};
 
 /// Every text has a token list, and only one.
@@ -19,6 +19,12 @@ pub fn one_token_list()
 pub fn tokens_in_order()
     ensures tokens { (source : List ℕ) (ts : List Token) (e : Ending) → IsTokenList source ts e → AreInOrder 0 ts (width source) }
     ensures fault { (source : List ℕ) (ts : List Token) (e : Ending) → IsTokenList source ts e → IsFaultBehind ts e (width source) }
+{}
+
+/// Each lexer has one list of tokens left, and one way in which they end.
+pub fn one_list_left()
+    ensures exists { (lexer : Lexer) → (ts : List Token) × (e : Ending) × IsLeft lexer ts e }
+    ensures one { (lexer : Lexer) (ts us : List Token) (e f : Ending) → IsLeft lexer ts e → IsLeft lexer us f → (ts ≡ us) × (e ≡ f) }
 {}
 
 /// Behind a fault, and behind the last token, each call of `next` gives nothing.

@@ -11,15 +11,17 @@ ghost use Rattle.wgsl_answer.specs.Answers.{Answered};
 
 use crate::expected::{BEHIND_EXPRESSION, NOTHING};
 use std::alloc::Global;
-use wgsl_answer::{BEHIND_UNIT, TokenSource};
+use wgsl_answer::TokenSource;
+use wgsl_cursor::Expected;
 use wgsl_error::Error;
 use wgsl_expression::{ExpressionNode, LiteralExpression};
 use wgsl_expression_reader::parse_expression;
 use wgsl_lexer::Collected;
 use wgsl_statement::StatementNode;
-use wgsl_statement_reader::parse_statement;
 use wgsl_unit::{GlobalDeclarationNode, GlobalDirective, TranslationUnit};
-use wgsl_unit_reader::{parse_global_declaration, parse_global_directive, parse_translation_unit};
+use wgsl_unit_reader::{
+    parse_global_declaration, parse_global_directive, parse_statement, parse_translation_unit,
+};
 
 #[tactic(auto, using(wgsl_answer::proofs::Seen::seen))]
 pub(crate) fn unit_of(alloc: Global, found: Collected) -> Result<TranslationUnit, Error>
@@ -27,7 +29,7 @@ pub(crate) fn unit_of(alloc: Global, found: Collected) -> Result<TranslationUnit
 {
     let mut source = TokenSource::new(found)?;
     let read = parse_translation_unit(alloc, &mut source.tokens);
-    source.answer(alloc, read, BEHIND_UNIT)
+    source.answer(alloc, read, Expected::DECLARATION)
 }
 
 #[tactic(auto, using(wgsl_answer::proofs::Seen::seen))]
@@ -74,6 +76,6 @@ pub(crate) fn literal_of(alloc: Global, found: Collected) -> Result<LiteralExpre
     ensures { Answered literal_view result (answer_of literal (tokens_view found) (ending_view found.error)) }
 {
     let mut source = TokenSource::new(found)?;
-    let read = source.tokens.literal();
+    let read = source.tokens.literal(Expected::LITERAL);
     source.answer(alloc, read, NOTHING)
 }

@@ -28,6 +28,38 @@ fn prints(rt: HostRuntime) -> Result<(), Fail> {
             "@type(T, i32 | f32) fn f() {}",
             "@type(T, i32 | f32)\nfn f() {\n\n}",
         ),
+        (
+            "@fragment fn frag_main() -> @location(0) vec4f { return vec4(1); }",
+            "@fragment\nfn frag_main() -> @location(0) vec4f {\n    return vec4(1);\n}",
+        ),
+        ("const x = 5--7*2;", "const x = 5 - -7 * 2;"),
+        ("const a = f<b>==c;", "const a = f<b> == c;"),
+        ("const b = a < c;", "const b = a < c;"),
+    ] {
+        assert_printed::<GlobalDeclaration>(&rt, rt.alloc(), text, wanted)?;
+    }
+    Ok(())
+}
+
+#[test]
+fn bodies(rt: HostRuntime) -> Result<(), Fail> {
+    for (text, wanted) in [
+        (
+            "fn f() { loop { ; continuing { ; break if true; } } }",
+            "fn f() {\n    loop {\n    \n        continuing {\n        \n            break if true;\n        }\n    }\n}",
+        ),
+        (
+            "fn f() { while (a) { x = - -y; z = & &w; v = 1 .k; } }",
+            "fn f() {\n    while (a) {\n        x = - -y;\n        z = & &w;\n        v = 1 .k;\n    }\n}",
+        ),
+        (
+            "fn f() { switch x { default: {} } }",
+            "fn f() {\n    switch x {\n        case default {\n        \n        }\n    }\n}",
+        ),
+        (
+            "fn f() { switch x { case a < b, : {} } }",
+            "fn f() {\n    switch x {\n        case a < b {\n        \n        }\n    }\n}",
+        ),
     ] {
         assert_printed::<GlobalDeclaration>(&rt, rt.alloc(), text, wanted)?;
     }
@@ -43,6 +75,29 @@ fn unexpected_tokens(rt: HostRuntime) -> Result<(), Fail> {
             "chars 3..9: unexpected token `struct`",
         ),
         ("@align(", "chars 7..8: unexpected end of file"),
+        ("var x: array<type>;", "chars 12..13: unexpected token `<`"),
+        ("const a = 01;", "chars 11..12: unexpected token `1`"),
+        ("fn f(", "chars 5..6: unexpected end of file"),
+    ] {
+        assert_refused::<GlobalDeclaration>(&rt, rt.alloc(), text, wanted)?;
+    }
+    Ok(())
+}
+
+#[test]
+fn invalid_tokens_and_reserved_words(rt: HostRuntime) -> Result<(), Fail> {
+    for (text, wanted) in [
+        ("const x = 1 #;", "chars 12..13: invalid token"),
+        ("const x = 2147483648i;", "chars 10..21: invalid token"),
+        ("const € = 1;", "chars 6..9: invalid token"),
+        (
+            "const self = 1;",
+            "chars 6..10: use of a reserved word `self`",
+        ),
+        (
+            "const self = #",
+            "chars 6..10: use of a reserved word `self`",
+        ),
     ] {
         assert_refused::<GlobalDeclaration>(&rt, rt.alloc(), text, wanted)?;
     }

@@ -53,6 +53,7 @@ fn blocks(rt: HostRuntime) -> Result<(), Fail> {
     let unit: TranslationUnit = assert_read(&rt, alloc, text.as_str());
     let printed = format!(in alloc; "{unit}")?;
     let again: TranslationUnit = assert_read(&rt, alloc, printed.as_str());
+    assert_eq!(rt; format!(in alloc; "{again}")?.as_str(), printed.as_str());
     assert!(rt; again == unit);
     Ok(())
 }

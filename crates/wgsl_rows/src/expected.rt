@@ -23,6 +23,14 @@ fn tells_what_was_expected(rt: HostRuntime) -> Result<(), Fail> {
             "unexpected token `}`, expected `case, default`",
         ),
         ("fn f() { continue }", "unexpected token `}`, expected `;`"),
+        (
+            "const a = ;",
+            "unexpected token `;`, expected `&, !, -, (, *, ~, false, true, identifier, integer literal, i32 literal, u32 literal, float literal, f32 literal, f16 literal`",
+        ),
+        (
+            "@;",
+            "unexpected token `;`, expected `alias, break, case, const, const_assert, continue, continuing, default, diagnostic, discard, else, enable, false, fn, for, if, let, loop, override, requires, return, struct, switch, true, var, while, identifier, reserved word`",
+        ),
     ] {
         let error = parse_str(rt.alloc(), text).err().ok_or("a unit")?;
         let shown = format!(in rt.alloc(); "{}", error.error)?;

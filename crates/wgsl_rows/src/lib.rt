@@ -22,8 +22,6 @@ mod numbers;
 #[cfg(test)]
 mod reading;
 #[cfg(test)]
-mod statements;
-#[cfg(test)]
 mod statements_from;
 #[cfg(test)]
 mod template_lists;

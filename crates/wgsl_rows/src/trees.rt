@@ -4,8 +4,8 @@ use crate::reading::assert_read;
 use std::test::Fail;
 use wgsl_parse::parse_str;
 use wgsl_parse::syntax::{
-    Declaration, DeclarationKind, Expression, ExpressionNode, GlobalDeclaration, LiteralExpression,
-    Span,
+    BinaryOperator, Declaration, DeclarationKind, Expression, ExpressionNode, GlobalDeclaration,
+    LiteralExpression, Span,
 };
 
 fn declared(declaration: GlobalDeclaration) -> Result<Declaration, Fail> {
@@ -70,5 +70,15 @@ fn counts_places_from_the_front_of_the_module(rt: HostRuntime) -> Result<(), Fai
     };
     assert!(rt; product.left.node().is_unary());
     assert_eq!(rt; product.left.span(), Span::new(12..14));
+    Ok(())
+}
+
+#[test]
+fn a_less_than_sign_that_opens_no_list_compares(rt: HostRuntime) -> Result<(), Fail> {
+    let constant = declared(assert_read(&rt, rt.alloc(), "const b = a < c;"))?;
+    let Expression::Binary(comparison) = initializer(constant)?.into_inner() else {
+        return Err(Fail::new("no comparison"));
+    };
+    assert_eq!(rt; comparison.operator, BinaryOperator::LessThan);
     Ok(())
 }

@@ -58,6 +58,7 @@ fn values(rt: HostRuntime) -> Result<(), Fail> {
         ("const x = 5--7*2;", "const x = 5 - -7 * 2;\n"),
         ("const a = f<b>==c;", "const a = f<b> == c;\n"),
         ("const b = a < c;", "const b = a < c;\n"),
+        ("const a = 1.5;", "const a = 1.5;\n"),
         (
             "var<storage, read_write> s: array<vec4<f32>>=t;",
             "var<storage, read_write> s: array<vec4<f32>> = t;\n",

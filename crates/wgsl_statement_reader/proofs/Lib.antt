@@ -1,10 +1,9 @@
-pub mod Binding
-pub mod LeftSides
-pub mod SimpleStatements
 pub mod Statements
 pub mod Blocks
 pub mod IfChains
 pub mod Switches
+pub mod LoopParts
 pub mod LoopItems
-pub mod Made
+pub mod ContinuingItems
 pub mod MadeStatements
+pub mod ReadParts

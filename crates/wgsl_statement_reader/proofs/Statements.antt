@@ -1,6 +1,7 @@
 -- Statements by their parts.
-use Rattle.std.proofs.Common.{◌≡◌, ◌∙◌, sym, ap, ap₂, [], ◌∷◌, cond}
-use Rattle.grammar.specs.Tokens.{Token}
+use Rattle.std.proofs.Common.{◌≡◌, ◌∙◌, ℕ, Bool, true, false, refl, sym, ap, ap₂, List, [], ◌∷◌, cond}
+use Rattle.std.proofs.lemmas.Bool.{eqb-true}
+use Rattle.grammar.specs.Tokens.{Token, Payload.nothing}
 use Rattle.grammar.specs.States.{State, Read, Read.done, ◌>>=◌, is_at, is_any, take, start_of, span_from}
 use Rattle.wgsl_model.specs.Classes.{SymSemicolon, KwConst, KwContinue, KwDiscard, KwLet, KwReturn, KwVar}
 use Rattle.wgsl_model.specs.Statements.{ConstAssert, StatementNode, Statement}
@@ -11,8 +12,9 @@ use Rattle.wgsl_grammar_theory.specs.Tables.{begin_for_update}
 use Rattle.wgsl_grammar_theory.specs.Reader.{reader}
 use Rattle.wgsl_grammar_theory.specs.StatementRules.{other_statement_at}
 use Rattle.wgsl_grammar_theory.proofs.StatementEquations.{other_statement_is}
-use Rattle.wgsl_statement_reader.specs.Statements.{ended, assert_statement_at, plain_statement_at, statement_part_at, attributed_statement_at, attributed_classes, unplaced_statement_at}
-use Rattle.wgsl_statement_reader.proofs.Binding.{bind_associates, bind_cond, pair_goes_on, token_behind, given_is}
+use Rattle.wgsl_statement_reader.specs.Statements.{statement_part_at, attributed_statement_at, unplaced_statement_at}
+use Rattle.wgsl_statement_part_reader.specs.Plain.{ended, assert_statement_at, plain_statement_at, attributed_classes, unattributed_statement_at}
+use Rattle.wgsl_simple_statement_reader.proofs.Binding.{bind_associates, bind_cond, pair_goes_on, token_behind, given_is}
 
 -- a statement other than `break`
 unfoldable pub other_statement_parts : State → Read StatementNode
@@ -50,10 +52,48 @@ plain_is s =
     ∙ sym (bind_cond (is_any (KwConst ∷ KwLet ∷ []) s) _ _ _))
     ∙ sym (bind_cond (is_at KwVar s) _ _ _)
 
+-- ---- the attributed ones first
+-- of two tests that exclude one another, the second may come first
+second_first : {A : Type 0} (b c : Bool) (x y z : A) → (b ≡ true → c ≡ false) → cond b x (cond c y z) ≡ cond c y (cond b x z)
+second_first true c x y z h = sym (ap (λ d. cond d y x) (h refl))
+second_first false c x y z h = refl
+
+-- a token of a class, alone
+abbrev alone : ℕ → State
+alone c = record { end = 0; rest = record { class = c; payload = nothing; start = 0; end = 0 } ∷ [] }
+
+-- a token of another class begins none of them
+other_class_in : (c e : ℕ) (ts : List Token) → is_any attributed_classes (alone c) ≡ false → is_at c (record { end = e; rest = ts }) ≡ true → is_any attributed_classes (record { end = e; rest = ts }) ≡ false
+unfolding is_at
+other_class_in c e [] apart h = absurd cc
+other_class_in c e (u ∷ ts) apart h = ap (λ d. is_any attributed_classes (alone d)) (eqb-true u.class c h) ∙ apart
+
+other_class : (c : ℕ) (s : State) → is_any attributed_classes (alone c) ≡ false → is_at c s ≡ true → is_any attributed_classes s ≡ false
+other_class c s apart h = other_class_in c s.end s.rest apart h
+
+semicolon_apart : is_any attributed_classes (alone SymSemicolon) ≡ false
+unfolding is_at
+semicolon_apart = refl
+
+return_apart : is_any attributed_classes (alone KwReturn) ≡ false
+unfolding is_at
+return_apart = refl
+
+-- a `;` alone
+abbrev void_at : State → Read Statement
+void_at s = take SymSemicolon s >>= λ t s'. done Statement.void s'
+
+attributed_first : (s : State) → cond (is_at SymSemicolon s) (void_at s) (cond (is_at KwReturn s) (ended (reader (of return_statement)) s) (cond (is_any attributed_classes s) (attributed_statement_at s) (ended plain_statement_at s))) ≡ unplaced_statement_at s
+unfolding unplaced_statement_at unattributed_statement_at
+attributed_first s =
+    ap (cond (is_at SymSemicolon s) (void_at s)) (second_first (is_at KwReturn s) (is_any attributed_classes s) _ _ _ (other_class KwReturn s return_apart))
+    ∙ second_first (is_at SymSemicolon s) (is_any attributed_classes s) _ _ _ (other_class SymSemicolon s semicolon_apart)
+
 pub other_statement_by_parts : (s : State) → reader (further other_statement) s ≡ other_statement_parts s
-unfolding other_statement_at other_statement_parts unplaced_statement_at attributed_statement_at statement_part_at
+unfolding other_statement_at other_statement_parts attributed_statement_at statement_part_at
 other_statement_by_parts s = other_statement_is s
     ∙ ap (λ m. m >>= λ a s'. done (placed_statement a (span_from (start_of s) s')) s')
-    (ap (cond (is_at SymSemicolon s) (take SymSemicolon s >>= λ t s'. done Statement.void s'))
+    (ap (cond (is_at SymSemicolon s) (void_at s))
     (ap₂ (cond (is_at KwReturn s)) (ended_is (reader (of return_statement) s))
-    (ap₂ (cond (is_any attributed_classes s)) (given_is (reader (further attribute_list) s) statement_part_at) (plain_is s))))
+    (ap₂ (cond (is_any attributed_classes s)) (given_is (reader (further attribute_list) s) statement_part_at) (plain_is s)))
+    ∙ attributed_first s)

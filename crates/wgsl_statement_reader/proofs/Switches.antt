@@ -1,75 +1,47 @@
 -- `switch` by its parts.
-use Rattle.std.proofs.Common.{◌≡◌, ◌∙◌, refl, sym, ap, ap₂, List, [], ◌∷◌, ◌++◌, cond, append_assoc}
+use Rattle.std.proofs.Common.{◌≡◌, ◌∙◌, refl, sym, ap, ap₂, List, [], ◌∷◌, ◌++◌, cond}
 use Rattle.std.specs.Prelude.{Option}
 use Rattle.grammar.specs.Tokens.{Token}
-use Rattle.grammar.specs.Grammar.{Grammar.empty, Grammar.symbol}
-use Rattle.grammar.specs.Notation.{one_token, ◌then◌, ◌or◌, ◌▹◌, optional}
-use Rattle.grammar.specs.States.{State, Read, Read.done, ◌>>=◌, is_at, is_any, take, go}
-use Rattle.grammar.proofs.Lists.{until, behind_none}
-use Rattle.wgsl_model.specs.Classes.{SymBraceLeft, SymBraceRight, SymColon, SymComma, KwCase, KwDefault, KwSwitch}
-use Rattle.wgsl_model.specs.Expressions.{ExpressionNode}
+use Rattle.grammar.specs.Grammar.{Grammar.symbol}
+use Rattle.grammar.specs.Notation.{one_token, ◌then◌, ◌▹◌, optional}
+use Rattle.grammar.specs.States.{State, Read, Read.done, ◌>>=◌, is_at, take, go}
+use Rattle.grammar.proofs.Lists.{until}
+use Rattle.wgsl_model.specs.Classes.{SymBraceRight, SymColon, KwCase, KwDefault}
 use Rattle.wgsl_model.specs.Attributes.{Attributes}
 use Rattle.wgsl_model.specs.Statements.{Statement, CaseSelector, CompoundStatement, SwitchClause}
 use Rattle.wgsl_model.specs.StatementParts.{clause_of, switch_of}
-use Rattle.wgsl_model.specs.Symbols.{Symbol.compound_statement, Symbol.expression, Symbol.switch_clause, Symbol.case_selector}
-use Rattle.wgsl_grammar_theory.specs.Factored.{FactoredSymbol.of, FactoredSymbol.further, Further.attribute_list, Further.selectors, Further.clause_rest, Further.switch_part, FactoredRule}
-use Rattle.wgsl_grammar_theory.specs.Tables.{tables, begin_case_selector}
+use Rattle.wgsl_model.specs.Symbols.{Symbol.compound_statement, Symbol.switch_clause}
+use Rattle.wgsl_grammar_theory.specs.Factored.{FactoredSymbol.of, FactoredSymbol.further, Further.selectors, Further.clause_rest, Further.switch_part, FactoredRule}
+use Rattle.wgsl_grammar_theory.specs.Tables.{tables}
 use Rattle.wgsl_grammar_theory.specs.Reader.{reader}
-use Rattle.wgsl_grammar_theory.specs.StatementRules.{switch_clause_at, selectors_at, clause_rest_at, switch_part_at}
-use Rattle.wgsl_grammar_theory.proofs.StatementEquations.{switch_clause_is, selectors_is, clause_rest_is, switch_part_is}
-use Rattle.wgsl_statement_reader.specs.Given.{given}
-use Rattle.wgsl_statement_reader.specs.Switches.{maybe_colon_at, clauses_at}
-use Rattle.wgsl_statement_reader.proofs.Binding.{bind_associates, bind_alike, bind_cond, pair_goes_on, triple_goes_on, token_before}
-
--- ---- selectors
--- a comma and more, or nothing, behind the selectors that were read so far
-unfoldable pub selectors_behind : List CaseSelector → State → Read (List CaseSelector)
-selectors_behind selected s = cond (is_at SymComma s) (take SymComma s >>= λ t s'. cond (is_any begin_case_selector s') (reader (further selectors) s' >>= λ more s''. done (selected ++ more) s'') (done selected s')) (done selected s)
-
-unfoldable pub selectors_turn : List CaseSelector → State → Read (List CaseSelector)
-selectors_turn selected s = cond (is_at SymComma s) (take SymComma s >>= λ t s'. cond (is_any begin_case_selector s') (reader (of case_selector) s' >>= λ c s''. selectors_behind (selected ++ c ∷ []) s'') (done selected s')) (done selected s)
-
--- as the grammar writes what follows a selector
-abbrev selectors_more : FactoredRule (List CaseSelector)
-selectors_more = SymComma ▹ (symbol (further selectors) or empty []) or empty []
-
-more_is : (l : List CaseSelector) (c : CaseSelector) (s : State) → (go tables reader selectors_more s >>= λ more s'. done (l ++ (c ∷ more)) s') ≡ selectors_behind (l ++ (c ∷ [])) s
-unfolding selectors_behind
-more_is l c s =
-    bind_cond (is_at SymComma s) (go tables reader (SymComma ▹ (symbol (further selectors) or empty [])) s) (done [] s) (λ more s'. done (l ++ (c ∷ more)) s')
-    ∙ ap (λ m. cond (is_at SymComma s) m (done (l ++ (c ∷ [])) s))
-    (token_before (take SymComma s) (go tables reader (symbol (further selectors) or empty [])) (λ more s'. done (l ++ (c ∷ more)) s')
-    ∙ bind_alike (take SymComma s) _ _ (λ t s' h. bind_cond (is_any begin_case_selector s') (reader (further selectors) s') (done [] s') (λ more s''. done (l ++ (c ∷ more)) s'')
-    ∙ ap (λ m. cond (is_any begin_case_selector s') m (done (l ++ (c ∷ [])) s')) (bind_alike (reader (further selectors) s') _ _ (λ more s'' h'. ap (λ xs. done xs s'') (sym (append_assoc l (c ∷ []) more))))))
-
--- behind some
-selectors_from : (l : List CaseSelector) (s : State) → (reader (further selectors) s >>= λ more s'. done (l ++ more) s') ≡ (reader (of case_selector) s >>= λ c s'. selectors_behind (l ++ c ∷ []) s')
-unfolding selectors_at
-selectors_from l s =
-    ap (λ m. m >>= λ more s'. done (l ++ more) s') (selectors_is s)
-    ∙ bind_associates (go tables reader (symbol (of case_selector) then selectors_more) s) (λ p s'. done (p.0 ∷ p.1) s') (λ more s'. done (l ++ more) s')
-    ∙ pair_goes_on (reader (of case_selector) s) (go tables reader selectors_more) (λ p s'. done (l ++ (p.0 ∷ p.1)) s')
-    ∙ bind_alike (reader (of case_selector) s) _ _ (λ c s' h. more_is l c s')
-
-pub selectors_are : (selected : List CaseSelector) (s : State) → selectors_behind selected s ≡ selectors_turn selected s
-unfolding selectors_behind selectors_turn
-selectors_are l s = ap (λ m. cond (is_at SymComma s) m (done l s)) (bind_alike (take SymComma s) _ _ (λ t s' h. ap (λ m. cond (is_any begin_case_selector s') m (done l s')) (selectors_from l s')))
-
--- the first, and those behind it
-unfoldable pub selectors_parts : State → Read (List CaseSelector)
-selectors_parts s = reader (of case_selector) s >>= λ c s'. selectors_behind (c ∷ []) s'
-
-pub selectors_by_parts : (s : State) → reader (further selectors) s ≡ selectors_parts s
-unfolding selectors_parts
-selectors_by_parts s = behind_none (reader (further selectors) s) ∙ selectors_from [] s
+use Rattle.wgsl_grammar_theory.specs.StatementRules.{switch_clause_at, clause_rest_at, switch_part_at}
+use Rattle.wgsl_grammar_theory.proofs.StatementEquations.{switch_clause_is, clause_rest_is, switch_part_is}
+use Rattle.wgsl_simple_statement_reader.specs.Given.{given}
+use Rattle.wgsl_simple_statement_reader.proofs.Binding.{bind_associates, bind_alike, bind_cond, pair_goes_on, triple_goes_on, token_before}
+use Rattle.wgsl_statement_part_reader.specs.Clauses.{maybe_colon_at, clause_head_at}
+use Rattle.wgsl_statement_part_reader.specs.Heads.{switch_head_at}
+use Rattle.wgsl_statement_part_reader.proofs.Heads.{with_switch_head, switch_head_first}
+use Rattle.wgsl_statement_reader.specs.Switches.{clauses_at}
 
 -- ---- a clause
--- `case` with its selectors, or `default`
+-- what stands before the block, and the block
 unfoldable pub switch_clause_parts : State → Read SwitchClause
-switch_clause_parts s = cond (is_at KwCase s)
-    (take KwCase s >>= λ t s1. reader (further selectors) s1 >>= λ l s2. maybe_colon_at s2 >>= λ o s3. reader (of compound_statement) s3 >>= λ b s4. done (clause_of l b) s4)
-    (take KwDefault s >>= λ t s1. maybe_colon_at s1 >>= λ o s2. reader (of compound_statement) s2 >>= λ b s3. done (clause_of (CaseSelector.default_selector ∷ []) b) s3)
+switch_clause_parts s = clause_head_at s >>= λ l s1. reader (of compound_statement) s1 >>= λ b s2. done (clause_of l b) s2
 
+-- the block, and the clause that it ends
+abbrev block_behind : List CaseSelector → State → Read SwitchClause
+block_behind l s = reader (of compound_statement) s >>= λ b s'. done (clause_of l b) s'
+
+abbrev default_only : List CaseSelector
+default_only = CaseSelector.default_selector ∷ []
+
+abbrev case_head : State → Read (List CaseSelector)
+case_head s = take KwCase s >>= λ t s1. reader (further selectors) s1 >>= λ l s2. maybe_colon_at s2 >>= λ o s3. done l s3
+
+abbrev default_head : State → Read (List CaseSelector)
+default_head s = take KwDefault s >>= λ t s1. maybe_colon_at s1 >>= λ o s2. done default_only s2
+
+-- as the grammar writes it
 abbrev behind_colon : FactoredRule (Option Token × CompoundStatement)
 behind_colon = optional (one_token SymColon) then symbol (of compound_statement)
 
@@ -77,16 +49,29 @@ abbrev case_made : List CaseSelector × (Option Token × CompoundStatement) → 
 case_made p s = done (clause_of p.0 p.1.1) s
 
 abbrev default_made : Option Token × CompoundStatement → State → Read SwitchClause
-default_made p s = done (clause_of (CaseSelector.default_selector ∷ []) p.1) s
+default_made p s = done (clause_of default_only p.1) s
+
+case_is : (s : State) → (go tables reader (KwCase ▹ symbol (further selectors) then behind_colon) s >>= case_made) ≡ (case_head s >>= block_behind)
+unfolding maybe_colon_at
+case_is s =
+    token_before (take KwCase s) (go tables reader (symbol (further selectors) then behind_colon)) case_made
+    ∙ bind_alike (take KwCase s) _ _ (λ t s1 h. triple_goes_on (reader (further selectors) s1) maybe_colon_at (reader (of compound_statement)) case_made)
+    ∙ sym (bind_associates (take KwCase s) _ block_behind
+    ∙ bind_alike (take KwCase s) _ _ (λ t s1 h. bind_associates (reader (further selectors) s1) _ block_behind
+    ∙ bind_alike (reader (further selectors) s1) _ _ (λ l s2 h2. bind_associates (maybe_colon_at s2) _ block_behind)))
+
+default_is : (s : State) → (go tables reader (KwDefault ▹ behind_colon) s >>= default_made) ≡ (default_head s >>= block_behind)
+unfolding maybe_colon_at
+default_is s =
+    token_before (take KwDefault s) (go tables reader behind_colon) default_made
+    ∙ bind_alike (take KwDefault s) _ _ (λ t s1 h. pair_goes_on (maybe_colon_at s1) (reader (of compound_statement)) default_made)
+    ∙ sym (bind_associates (take KwDefault s) _ block_behind ∙ bind_alike (take KwDefault s) _ _ (λ t s1 h. bind_associates (maybe_colon_at s1) _ block_behind))
 
 pub switch_clause_by_parts : (s : State) → reader (of switch_clause) s ≡ switch_clause_parts s
-unfolding switch_clause_at switch_clause_parts maybe_colon_at
-switch_clause_by_parts s = switch_clause_is s
-    ∙ ap₂ (cond (is_at KwCase s))
-    (token_before (take KwCase s) (go tables reader (symbol (further selectors) then behind_colon)) case_made
-    ∙ bind_alike (take KwCase s) _ _ (λ t s1 h. triple_goes_on (reader (further selectors) s1) maybe_colon_at (reader (of compound_statement)) case_made))
-    (token_before (take KwDefault s) (go tables reader behind_colon) default_made
-    ∙ bind_alike (take KwDefault s) _ _ (λ t s1 h. pair_goes_on (maybe_colon_at s1) (reader (of compound_statement)) default_made))
+unfolding switch_clause_at switch_clause_parts clause_head_at
+switch_clause_by_parts s =
+    switch_clause_is s ∙ ap₂ (cond (is_at KwCase s)) (case_is s) (default_is s)
+    ∙ sym (bind_cond (is_at KwCase s) (case_head s) (default_head s) block_behind)
 
 -- ---- clauses
 -- further clauses, behind those that were read so far
@@ -110,17 +95,11 @@ clauses_by_parts s = refl
 
 -- ---- the statement
 unfoldable pub switch_parts : Attributes → State → Read Statement
-switch_parts a s = take KwSwitch s >>= λ t s1. reader (of expression) s1 >>= λ e s2. reader (further attribute_list) s2 >>= λ b s3. take SymBraceLeft s3 >>= λ u s4. clauses_at s4 >>= λ clauses s5. done (switch_of a e b clauses) s5
+switch_parts a s = switch_head_at s >>= λ h s1. clauses_at s1 >>= λ clauses s2. done (switch_of a h.0 h.1 clauses) s2
 
--- as the grammar writes them
+-- as the grammar writes its clauses
 abbrev clauses_written : FactoredRule (SwitchClause × List SwitchClause)
 clauses_written = symbol (of switch_clause) then symbol (further clause_rest)
-
-abbrev switch_rest : FactoredRule (ExpressionNode × (Attributes × (SwitchClause × List SwitchClause)))
-switch_rest = symbol (of expression) then symbol (further attribute_list) then SymBraceLeft ▹ clauses_written
-
-abbrev switch_made : Attributes → ExpressionNode × (Attributes × (SwitchClause × List SwitchClause)) → State → Read Statement
-switch_made a p s = done (switch_of a p.0 p.1.0 (p.1.1.0 ∷ p.1.1.1)) s
 
 clauses_go_on : (f : List SwitchClause → State → Read Statement) (s : State) → (reader (of switch_clause) s >>= λ c s'. reader (further clause_rest) s' >>= λ cs s''. f (c ∷ cs) s'') ≡ (clauses_at s >>= f)
 unfolding clauses_at
@@ -130,10 +109,7 @@ pub switch_by_parts : (a : Attributes) (s : State) → given a (reader (further 
 unfolding switch_part_at switch_parts
 switch_by_parts a s =
     ap (λ m. m >>= λ f s'. done (f a) s') (switch_part_is s)
-    ∙ bind_associates (go tables reader (KwSwitch ▹ switch_rest) s) _ _
-    ∙ token_before (take KwSwitch s) (go tables reader switch_rest) (switch_made a)
-    ∙ bind_alike (take KwSwitch s) _ _ (λ t s1 h1. triple_goes_on (reader (of expression) s1) (reader (further attribute_list)) (go tables reader (SymBraceLeft ▹ clauses_written)) (switch_made a)
-    ∙ bind_alike (reader (of expression) s1) _ _ (λ e s2 h2. bind_alike (reader (further attribute_list) s2) _ _ (λ b s3 h3.
-    token_before (take SymBraceLeft s3) (go tables reader clauses_written) (λ p s'. switch_made a (e, (b, p)) s')
-    ∙ bind_alike (take SymBraceLeft s3) _ _ (λ u s4 h4. pair_goes_on (reader (of switch_clause) s4) (reader (further clause_rest)) (λ p s'. switch_made a (e, (b, p)) s')
-    ∙ clauses_go_on (λ clauses s'. done (switch_of a e b clauses) s') s4))))
+    ∙ bind_associates (go tables reader (with_switch_head clauses_written) s) (λ p s'. done (λ a. switch_of a p.0 p.1.0 (p.1.1.0 ∷ p.1.1.1)) s') (λ f s'. done (f a) s')
+    ∙ switch_head_first clauses_written (λ p s'. done (switch_of a p.0 p.1.0 (p.1.1.0 ∷ p.1.1.1)) s') s
+    ∙ bind_alike (switch_head_at s) _ _ (λ h s1 k. pair_goes_on (reader (of switch_clause) s1) (reader (further clause_rest)) (λ p s'. done (switch_of a h.0 h.1 (p.0 ∷ p.1)) s')
+    ∙ clauses_go_on (λ clauses s'. done (switch_of a h.0 h.1 clauses) s') s1)

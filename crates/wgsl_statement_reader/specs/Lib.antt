@@ -1,8 +1,3 @@
 -- What the parts of rules that have functions of their own read.
-pub mod Given
-pub mod LeftSides
-pub mod SimpleStatements
-pub mod Values
 pub mod Statements
 pub mod Switches
-pub mod Loops

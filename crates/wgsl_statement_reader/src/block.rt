@@ -7,19 +7,19 @@ ghost use Rattle.wgsl_statement.specs.View.{statement_view, statement_node_view,
 ghost use Rattle.wgsl_grammar_theory.specs.Factored.{FactoredSymbol.of, FactoredSymbol.further, Further.block_part, Further.statement_rest};
 ghost use Rattle.wgsl_grammar_theory.specs.Reader.{reader};
 ghost use Rattle.wgsl_cursor.specs.Reading.{state, Gives};
-ghost use Rattle.wgsl_statement_reader.specs.Given.{given};
+ghost use Rattle.wgsl_simple_statement_reader.specs.Given.{given};
 
 use crate::statement::parse_statement;
 use std::alloc::Global;
 use wgsl_attribute::Attributes;
-use wgsl_attribute_reader::parse_attributes;
 use wgsl_cursor::{Cursor, Fault};
 use wgsl_statement::{CompoundStatement, Statement, StatementNode};
+use wgsl_statement_part_reader::parse_block_start;
 use wgsl_token::kind::TokenKind;
 
 /// A block.
 #[cycle(statement)]
-#[tactic(auto, unfolding(wgsl_grammar_theory::specs::StatementRules::compound_statement_at), using(wgsl_grammar_theory::proofs::StatementEquations::compound_statement_is, crate::proofs::MadeStatements::compound_is))]
+#[tactic(auto, unfolding(crate::proofs::Blocks::compound_parts), using(crate::proofs::Blocks::compound_by_parts, crate::proofs::MadeStatements::compound_is))]
 pub fn parse_compound_statement(
     alloc: Global,
     tokens: &mut Cursor,
@@ -27,8 +27,7 @@ pub fn parse_compound_statement(
     ensures value { Gives compound_statement_view result (state tokens.new) (reader (of compound_statement) (state tokens.old)) }
     ensures shorter { OnOk result (length (state tokens.new).rest < length (state tokens.old).rest) }
 {
-    let attributes = parse_attributes(alloc, tokens)?;
-    tokens.expect(TokenKind::SymBraceLeft)?;
+    let attributes = parse_block_start(alloc, tokens)?;
     let statements = parse_statement_rest(alloc, tokens)?;
     Ok(CompoundStatement {
         attributes,

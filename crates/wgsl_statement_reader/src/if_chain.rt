@@ -6,7 +6,7 @@ ghost use Rattle.wgsl_statement.specs.View.{statement_view, else_if_clause_view,
 ghost use Rattle.wgsl_grammar_theory.specs.Factored.{FactoredSymbol.further, Further.if_part, Further.else_rest};
 ghost use Rattle.wgsl_grammar_theory.specs.Reader.{reader};
 ghost use Rattle.wgsl_cursor.specs.Reading.{state, Gives};
-ghost use Rattle.wgsl_statement_reader.specs.Given.{given};
+ghost use Rattle.wgsl_simple_statement_reader.specs.Given.{given};
 
 use crate::block::parse_compound_statement;
 use std::alloc::Global;
@@ -14,11 +14,12 @@ use wgsl_attribute::Attributes;
 use wgsl_cursor::{Cursor, Fault};
 use wgsl_expression_reader::parse_expression;
 use wgsl_statement::{ElseClause, ElseIfClause, IfClause, IfStatement, Statement};
+use wgsl_statement_part_reader::parse_condition;
 use wgsl_token::kind::TokenKind;
 
 /// An `if` with all of its clauses, behind its attributes.
 #[cycle(statement)]
-#[tactic(auto, unfolding(wgsl_grammar_theory::specs::StatementRules::if_part_at), using(wgsl_grammar_theory::proofs::StatementEquations::if_part_is, crate::proofs::MadeStatements::if_statement_is))]
+#[tactic(auto, unfolding(crate::proofs::IfChains::if_parts), using(crate::proofs::IfChains::if_by_parts, crate::proofs::MadeStatements::if_statement_is))]
 pub fn parse_if_part(
     alloc: Global,
     tokens: &mut Cursor,
@@ -27,8 +28,7 @@ pub fn parse_if_part(
     ensures value { Gives statement_view result (state tokens.new) (given (attributes_view attributes.items) (reader (further if_part)) (state tokens.old)) }
     ensures shorter { OnOk result (length (state tokens.new).rest < length (state tokens.old).rest) }
 {
-    tokens.expect(TokenKind::KwIf)?;
-    let expression = parse_expression(alloc, tokens)?;
+    let expression = parse_condition(alloc, tokens, TokenKind::KwIf)?;
     let body = parse_compound_statement(alloc, tokens)?;
     let (else_if_clauses, else_clause) = parse_else_rest(alloc, tokens)?;
     Ok(Statement::If(IfStatement {

@@ -1,36 +1,33 @@
-//! `loop` with its `continuing`, and `while`.
+//! `loop` with its `continuing`, `while` and `for`.
 
-ghost use Rattle.std.specs.Prelude.{◌≡◌, ◌<◌, length, map, OnOk, IfOk, option_map};
-ghost use Rattle.wgsl_model.specs.Statements as plain;
-ghost use Rattle.wgsl_model.specs.StatementParts.{placed_statement};
+ghost use Rattle.std.specs.Prelude.{◌<◌, length, map, OnOk, option_map};
 ghost use Rattle.wgsl_model.specs.Symbols.{Symbol.continuing_statement};
-ghost use Rattle.wgsl_span.specs.View.{span_view};
 ghost use Rattle.wgsl_attribute.specs.View.{attributes_view};
 ghost use Rattle.wgsl_simple_statement.specs.View.{break_if_view};
 ghost use Rattle.wgsl_statement.specs.View.{statement_view, statement_node_view, continuing_statement_view};
-ghost use Rattle.wgsl_grammar_theory.specs.Factored.{FactoredSymbol.of, FactoredSymbol.further, Further.loop_part, Further.loop_rest, Further.continuing_rest, Further.while_part};
+ghost use Rattle.wgsl_grammar_theory.specs.Factored.{FactoredSymbol.of, FactoredSymbol.further, Further.loop_part, Further.loop_rest, Further.continuing_rest, Further.while_part, Further.for_part};
 ghost use Rattle.wgsl_grammar_theory.specs.Reader.{reader};
 ghost use Rattle.wgsl_cursor.specs.Reading.{state, Gives};
-ghost use Rattle.wgsl_statement_reader.specs.Given.{given};
-ghost use Rattle.wgsl_statement_reader.specs.Loops.{break_if_rest_at};
+ghost use Rattle.wgsl_simple_statement_reader.specs.Given.{given};
 
 use crate::block::parse_compound_statement;
 use crate::statement::{parse_other_statement, parse_statement};
-use std::alloc::{AllocError, Global};
+use std::alloc::Global;
 use wgsl_attribute::Attributes;
-use wgsl_attribute_reader::parse_attributes;
 use wgsl_cursor::{Cursor, Fault};
-use wgsl_expression_reader::parse_expression;
-use wgsl_simple_statement::{BreakIfStatement, BreakStatement};
-use wgsl_span::{Span, Spanned};
+use wgsl_simple_statement::BreakIfStatement;
 use wgsl_statement::{
-    CompoundStatement, ContinuingStatement, LoopStatement, Statement, StatementNode, WhileStatement,
+    CompoundStatement, ContinuingStatement, ForStatement, LoopStatement, Statement, StatementNode,
+    WhileStatement,
+};
+use wgsl_statement_part_reader::{
+    break_node, parse_block_start_after, parse_break_if_rest, parse_condition, parse_for_header,
 };
 use wgsl_token::kind::TokenKind;
 
 /// A `loop`, behind its attributes.
 #[cycle(statement)]
-#[tactic(auto, unfolding(wgsl_grammar_theory::specs::StatementRules::loop_part_at), using(wgsl_grammar_theory::proofs::StatementEquations::loop_part_is, crate::proofs::MadeStatements::loop_statement_is))]
+#[tactic(auto, unfolding(crate::proofs::LoopParts::loop_parts), using(crate::proofs::LoopParts::loop_by_parts, crate::proofs::MadeStatements::loop_statement_is))]
 pub fn parse_loop_part(
     alloc: Global,
     tokens: &mut Cursor,
@@ -39,9 +36,7 @@ pub fn parse_loop_part(
     ensures value { Gives statement_view result (state tokens.new) (given (attributes_view attributes.items) (reader (further loop_part)) (state tokens.old)) }
     ensures shorter { OnOk result (length (state tokens.new).rest < length (state tokens.old).rest) }
 {
-    tokens.expect(TokenKind::KwLoop)?;
-    let body_attributes = parse_attributes(alloc, tokens)?;
-    tokens.expect(TokenKind::SymBraceLeft)?;
+    let body_attributes = parse_block_start_after(alloc, tokens, TokenKind::KwLoop)?;
     let (statements, continuing) = parse_loop_rest(alloc, tokens)?;
     Ok(Statement::Loop(LoopStatement {
         attributes,
@@ -77,7 +72,7 @@ fn parse_loop_rest(
 
 /// What a `loop` does after each turn.
 #[cycle(statement)]
-#[tactic(auto, unfolding(wgsl_grammar_theory::specs::StatementRules::continuing_statement_at), using(wgsl_grammar_theory::proofs::StatementEquations::continuing_statement_is, crate::proofs::MadeStatements::continuing_statement_is))]
+#[tactic(auto, unfolding(crate::proofs::LoopParts::continuing_parts), using(crate::proofs::LoopParts::continuing_by_parts, crate::proofs::MadeStatements::continuing_statement_is))]
 fn parse_continuing_statement(
     alloc: Global,
     tokens: &mut Cursor,
@@ -85,9 +80,7 @@ fn parse_continuing_statement(
     ensures value { Gives continuing_statement_view result (state tokens.new) (reader (of continuing_statement) (state tokens.old)) }
     ensures shorter { OnOk result (length (state tokens.new).rest < length (state tokens.old).rest) }
 {
-    tokens.expect(TokenKind::KwContinuing)?;
-    let attributes = parse_attributes(alloc, tokens)?;
-    tokens.expect(TokenKind::SymBraceLeft)?;
+    let attributes = parse_block_start_after(alloc, tokens, TokenKind::KwContinuing)?;
     let (statements, break_if) = parse_continuing_rest(alloc, tokens)?;
     Ok(ContinuingStatement {
         body: CompoundStatement {
@@ -100,7 +93,7 @@ fn parse_continuing_statement(
 
 /// The statements of a `continuing`, its `break if` if there is one, and the `}` behind them.
 #[cycle(statement)]
-#[tactic(auto, unfolding(crate::proofs::LoopItems::continuing_items_turn, grammar::specs::States::take), using(crate::proofs::LoopItems::continuing_rest_from, crate::proofs::LoopItems::continuing_items_are, std::proofs::lemmas::List::map_push))]
+#[tactic(auto, unfolding(crate::proofs::ContinuingItems::continuing_items_turn, grammar::specs::States::take), using(crate::proofs::ContinuingItems::continuing_rest_from, crate::proofs::ContinuingItems::continuing_items_are, std::proofs::lemmas::List::map_push))]
 fn parse_continuing_rest(
     alloc: Global,
     tokens: &mut Cursor,
@@ -124,30 +117,9 @@ fn parse_continuing_rest(
     Ok((statements, None))
 }
 
-/// A `break` that stands there.
-#[tactic(auto, using(wgsl_statement::proofs::StatementViews::is_break))]
-fn break_node(alloc: Global, span: Span) -> Result<StatementNode, AllocError>
-    ensures { IfOk result (λ node. statement_node_view node ≡ placed_statement plain.break_statement (span_view span)) }
-{
-    Spanned::new(alloc, Statement::Break(BreakStatement {}), span)
-}
-
-/// A `break if` behind its `break`, and the `}` behind it.
-#[tactic(auto, unfolding(crate::specs::Loops::break_if_rest_at))]
-fn parse_break_if_rest(alloc: Global, tokens: &mut Cursor) -> Result<BreakIfStatement, Fault>
-    ensures value { Gives break_if_view result (state tokens.new) (break_if_rest_at (state tokens.old)) }
-    ensures shorter { OnOk result (length (state tokens.new).rest < length (state tokens.old).rest) }
-{
-    tokens.expect(TokenKind::KwIf)?;
-    let expression = parse_expression(alloc, tokens)?;
-    tokens.expect(TokenKind::SymSemicolon)?;
-    tokens.expect(TokenKind::SymBraceRight)?;
-    Ok(BreakIfStatement { expression })
-}
-
 /// A `while`, behind its attributes.
 #[cycle(statement)]
-#[tactic(auto, unfolding(wgsl_grammar_theory::specs::StatementRules::while_part_at), using(wgsl_grammar_theory::proofs::StatementEquations::while_part_is, crate::proofs::MadeStatements::while_statement_is))]
+#[tactic(auto, unfolding(crate::proofs::LoopParts::while_parts), using(crate::proofs::LoopParts::while_by_parts, crate::proofs::MadeStatements::while_statement_is))]
 pub fn parse_while_part(
     alloc: Global,
     tokens: &mut Cursor,
@@ -156,12 +128,33 @@ pub fn parse_while_part(
     ensures value { Gives statement_view result (state tokens.new) (given (attributes_view attributes.items) (reader (further while_part)) (state tokens.old)) }
     ensures shorter { OnOk result (length (state tokens.new).rest < length (state tokens.old).rest) }
 {
-    tokens.expect(TokenKind::KwWhile)?;
-    let condition = parse_expression(alloc, tokens)?;
+    let condition = parse_condition(alloc, tokens, TokenKind::KwWhile)?;
     let body = parse_compound_statement(alloc, tokens)?;
     Ok(Statement::While(WhileStatement {
         attributes,
         condition,
+        body,
+    }))
+}
+
+/// A `for`, behind its attributes.
+#[cycle(statement)]
+#[tactic(auto, unfolding(crate::proofs::LoopParts::for_parts), using(crate::proofs::LoopParts::for_by_parts, crate::proofs::MadeStatements::for_statement_is))]
+pub fn parse_for_part(
+    alloc: Global,
+    tokens: &mut Cursor,
+    attributes: Attributes,
+) -> Result<Statement, Fault>
+    ensures value { Gives statement_view result (state tokens.new) (given (attributes_view attributes.items) (reader (further for_part)) (state tokens.old)) }
+    ensures shorter { OnOk result (length (state tokens.new).rest < length (state tokens.old).rest) }
+{
+    let (initializer, condition, update) = parse_for_header(alloc, tokens)?;
+    let body = parse_compound_statement(alloc, tokens)?;
+    Ok(Statement::For(ForStatement {
+        attributes,
+        initializer,
+        condition,
+        update,
         body,
     }))
 }

@@ -16,6 +16,3 @@ pub use unit::{
     GlobalDeclarationNode, GlobalDirective, RequiresDirective, Struct, StructMember,
     StructMemberNode, TranslationUnit, TypeAlias,
 };
-
-#[cfg(test)]
-mod tests;

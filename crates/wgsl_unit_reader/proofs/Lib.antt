@@ -1,5 +1,2 @@
-pub mod ClosedLists
 pub mod Turns
-pub mod Names
-pub mod Severities
 pub mod Results

@@ -1,42 +1,18 @@
--- Lists of members, parameters, directives and declarations, item by item.
-use Rattle.std.proofs.Common.{◌≡◌, ℕ, cond, List, [], ◌∷◌, ◌++◌, refl, ◌∙◌}
+-- Lists of parameters, directives and declarations, item by item.
+use Rattle.std.proofs.Common.{◌≡◌, ℕ, cond, List, [], ◌∷◌, ◌++◌, refl}
 use Rattle.grammar.specs.Grammar.{Grammar.symbol}
 use Rattle.grammar.specs.States.{State, Read, Read.done, ◌>>=◌, is_at, is_any, start_of, take, turns}
 use Rattle.grammar.proofs.States.{turns_are, shortens}
 use Rattle.grammar.proofs.Lists.{separated, behind_none}
-use Rattle.wgsl_model.specs.Classes.{SymBraceRight, SymComma, SymParenRight}
+use Rattle.wgsl_model.specs.Classes.{SymComma, SymParenRight}
 use Rattle.wgsl_model.specs.Spanned.{Spanned}
-use Rattle.wgsl_model.specs.Units.{GlobalDirective, StructMember, FormalParameter, GlobalDeclaration}
-use Rattle.wgsl_model.specs.Symbols.{Symbol.struct_member, Symbol.formal_parameter, Symbol.global_directive, Symbol.global_declaration}
-use Rattle.wgsl_grammar_theory.specs.Factored.{FactoredSymbol.of, FactoredSymbol.further, Further.member_items, Further.member_rest, Further.member_more, Further.parameter_rest, Further.parameter_more, Further.directive_list, Further.declaration_list, body}
+use Rattle.wgsl_model.specs.Units.{GlobalDirective, FormalParameter, GlobalDeclaration}
+use Rattle.wgsl_model.specs.Symbols.{Symbol.formal_parameter, Symbol.global_directive, Symbol.global_declaration}
+use Rattle.wgsl_grammar_theory.specs.Factored.{FactoredSymbol.of, FactoredSymbol.further, Further.parameter_rest, Further.parameter_more, Further.directive_list, Further.declaration_list, body}
 use Rattle.wgsl_grammar_theory.specs.Tables.{begin_global_directive, begin_global_declaration, rank_limit, tables}
 use Rattle.wgsl_grammar_theory.specs.Reader.{reader}
 use Rattle.wgsl_grammar_theory.proofs.Passes.{passes}
 use Rattle.wgsl_grammar_theory.proofs.Reader.{step}
-use Rattle.wgsl_unit_reader.proofs.ClosedLists.{put_behind, from_first, further_items}
-
--- ---- members
--- the members behind some
-unfoldable pub members_from : List (Spanned StructMember) → State → Read (List (Spanned StructMember))
-members_from ms s = put_behind ms (reader (further member_more) s)
-
--- one more behind a comma, where the list is not closed
-unfoldable pub members_turn : List (Spanned StructMember) → State → Read (List (Spanned StructMember))
-members_turn ms s = cond (is_at SymComma s)
-    (take SymComma s >>= λ t s'. cond (is_at SymBraceRight s') (take SymBraceRight s' >>= λ u s''. done ms s'') (reader (of struct_member) s' >>= λ m s''. members_from (ms ++ (m ∷ [])) s''))
-    (take SymBraceRight s >>= λ t s'. done ms s')
-
--- a first member and those behind it
-unfoldable pub members_at : State → Read (List (Spanned StructMember))
-members_at s = reader (of struct_member) s >>= λ m s'. members_from (m ∷ []) s'
-
-pub members_is : (s : State) → reader (further member_items) s ≡ members_at s
-unfolding members_at members_from
-members_is s = step (further member_items) s ∙ from_first (reader (further member_more)) (reader (of struct_member) s)
-
-pub members_are : (ms : List (Spanned StructMember)) (s : State) → members_from ms s ≡ members_turn ms s
-unfolding members_from members_turn
-members_are ms s = further_items (reader (further member_rest)) (reader (further member_more)) (reader (of struct_member)) _ _ (step (further member_rest)) (step (further member_more)) ms s
 
 -- ---- parameters
 -- the parameters behind some

@@ -1,27 +1,16 @@
 -- What is read by the parts of rules that are no symbols of the grammar.
 use Rattle.std.specs.Prelude.{ℕ, List, [], ◌∷◌, Option}
-use Rattle.grammar.specs.Tokens.{Token}
-use Rattle.grammar.specs.Grammar.{Grammar.empty, Grammar.symbol}
+use Rattle.grammar.specs.Grammar.{Grammar.symbol}
 use Rattle.grammar.specs.Notation.{◌then◌, ◌or◌, ◌gives◌, ◌▹◌, ◌◃◌, ◌means◌, optional}
-use Rattle.grammar.specs.States.{State, Read, Read.done, ◌>>=◌, go}
-use Rattle.wgsl_model.specs.Classes.{SymAttr, SymArrow, SymPeriod, SymSemicolon, KwFn, KwOverride, KwVar}
-use Rattle.wgsl_model.specs.Expressions.{ExpressionNode, TypeExpression}
+use Rattle.grammar.specs.States.{State, Read, go}
+use Rattle.wgsl_model.specs.Classes.{SymAttr, SymArrow, SymSemicolon, KwFn, KwOverride, KwVar}
+use Rattle.wgsl_model.specs.Expressions.{TypeExpression}
 use Rattle.wgsl_model.specs.Attributes.{Attributes}
 use Rattle.wgsl_model.specs.Units.{GlobalDeclaration}
-use Rattle.wgsl_model.specs.StatementParts.{initializer}
-use Rattle.wgsl_model.specs.UnitParts.{texts_of}
-use Rattle.wgsl_model.specs.Symbols.{Symbol.ident, Symbol.type_specifier, Symbol.const_assert, Symbol.const_declaration, Symbol.alias_declaration, Symbol.struct_declaration}
-use Rattle.wgsl_grammar_theory.specs.Factored.{FactoredRule, FactoredSymbol.of, FactoredSymbol.further, Further.attribute_list, Further.name_items, Further.var_part, Further.override_part, Further.function_part, attributed, lifted}
+use Rattle.wgsl_model.specs.Symbols.{Symbol.type_specifier, Symbol.const_assert, Symbol.const_declaration, Symbol.alias_declaration, Symbol.struct_declaration}
+use Rattle.wgsl_grammar_theory.specs.Factored.{FactoredRule, FactoredSymbol.of, FactoredSymbol.further, Further.attribute_list, Further.var_part, Further.override_part, Further.function_part, attributed}
 use Rattle.wgsl_grammar_theory.specs.Tables.{tables}
 use Rattle.wgsl_grammar_theory.specs.Reader.{reader}
-
--- what waits for its attributes, behind attributes that were read
-abbrev pub behind_attributes : {A : Type 0} → Attributes → FactoredRule (Attributes → A) → State → Read A
-behind_attributes attributes part s = go tables reader (empty attributes then part gives λ p. p.1 p.0) s
-
--- "=" Expression, or nothing
-unfoldable pub initializer_at : State → Read (Option ExpressionNode)
-initializer_at s = go tables reader (optional (lifted initializer)) s
 
 -- "->" A* TypeSpecifier, or nothing
 unfoldable pub return_part_at : State → Read (Option (Attributes × TypeExpression))
@@ -50,11 +39,3 @@ unplaced_declaration_at s = go tables reader (SymSemicolon means GlobalDeclarati
     or symbol (of alias_declaration)
     or symbol (of struct_declaration)
     or symbol (of const_assert) ◃ SymSemicolon gives GlobalDeclaration.const_assert) s
-
--- list(Name) ";", as texts
-unfoldable pub names_at : State → Read (List (List ℕ))
-names_at s = reader (further name_items) s >>= λ names s'. done (texts_of names) s'
-
--- "." Ident, or nothing
-unfoldable pub second_name_at : State → Read (Option Token)
-second_name_at s = go tables reader (optional (SymPeriod ▹ symbol (of ident))) s

@@ -9,7 +9,8 @@ ghost use Rattle.wgsl_unit.specs.View.{global_declaration_view, parameter_view};
 ghost use Rattle.wgsl_grammar_theory.specs.Factored.{FactoredSymbol.of, FactoredSymbol.further, Further.function_part, Further.parameter_rest};
 ghost use Rattle.wgsl_grammar_theory.specs.Reader.{reader};
 ghost use Rattle.wgsl_cursor.specs.Reading.{state, Gives};
-ghost use Rattle.wgsl_unit_reader.specs.Parts.{behind_attributes, return_part_at};
+ghost use Rattle.wgsl_declaration_reader.specs.Parts.{behind_attributes};
+ghost use Rattle.wgsl_unit_reader.specs.Parts.{return_part_at};
 ghost use Rattle.wgsl_unit_reader.specs.Results.{returned_view, return_attributes, return_type};
 
 use std::alloc::Global;

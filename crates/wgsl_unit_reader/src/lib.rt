@@ -1,14 +1,9 @@
-//! Reading directives, declarations and modules from tokens, a function for each rule of the grammar.
+//! Reading functions, declarations and modules from tokens, a function for each rule of the grammar.
 #![tactic(auto)]
 
-mod directive;
 mod function;
-mod structure;
 mod unit;
-mod value;
 
-pub use directive::parse_global_directive;
-pub use unit::{DECLARATION, parse_global_declaration, parse_translation_unit};
-
-#[cfg(test)]
-mod tests;
+pub use unit::{parse_global_declaration, parse_translation_unit};
+pub use wgsl_declaration_reader::parse_global_directive;
+pub use wgsl_statement_reader::parse_statement;

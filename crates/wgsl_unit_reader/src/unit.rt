@@ -11,30 +11,18 @@ ghost use Rattle.wgsl_grammar_theory.specs.Reader.{reader};
 ghost use Rattle.wgsl_cursor.specs.Reading.{state, Gives};
 ghost use Rattle.wgsl_unit_reader.specs.Parts.{begin_attributed_declaration, unplaced_declaration_at, attributed_declaration_at, const_assert_declaration_at};
 
-use crate::directive::parse_global_directive;
 use crate::function::parse_function;
-use crate::structure::parse_struct_declaration;
-use crate::value::{parse_alias_declaration, parse_const_declaration, parse_override, parse_var};
 use std::alloc::Global;
 use wgsl_attribute_reader::parse_attributes;
 use wgsl_cursor::{Cursor, Expected, Fault};
+use wgsl_declaration_reader::{
+    parse_alias_declaration, parse_const_declaration, parse_global_directive, parse_override,
+    parse_struct_declaration, parse_var,
+};
 use wgsl_span::Spanned;
 use wgsl_statement_reader::parse_const_assert;
 use wgsl_token::kind::TokenKind;
 use wgsl_unit::{GlobalDeclaration, GlobalDeclarationNode, GlobalDirective, TranslationUnit};
-
-/// What begins a declaration.
-pub const DECLARATION: Expected = Expected::OneOf(&[
-    TokenKind::SymAttr,
-    TokenKind::SymSemicolon,
-    TokenKind::KwAlias,
-    TokenKind::KwConst,
-    TokenKind::KwConstAssert,
-    TokenKind::KwFn,
-    TokenKind::KwOverride,
-    TokenKind::KwStruct,
-    TokenKind::KwVar,
-]);
 
 /// What goes on behind attributes of a declaration.
 const ATTRIBUTED_DECLARATION: Expected = Expected::OneOf(&[
@@ -154,7 +142,7 @@ fn parse_unplaced_declaration(
     if tokens.is_at(TokenKind::KwConstAssert) {
         return parse_const_assert_declaration(alloc, tokens);
     }
-    Err(tokens.refuse(DECLARATION))
+    Err(tokens.refuse(Expected::DECLARATION))
 }
 
 /// Whether the next token begins a declaration that may have attributes.

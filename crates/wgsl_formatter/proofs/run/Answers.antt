@@ -1,14 +1,14 @@
 use Rattle.std.proofs.Common.{refl, sym, ◌∙◌}
 use Rattle.std.proofs.KnownBytes.{Appends-nil}
-use Rattle.wgsl_formatter.proofs.Endings.{ends_without_memory, ends_unread}
+use Rattle.wgsl_formatter.proofs.Endings.{ends_without_memory, ends_unread, nothing_goes_out}
 use Rattle.wgsl_formatter.proofs.Reports.{due_report}
 use Rattle.wgsl_formatter.proofs.Reprinted.{end_reprinted}
 use Rattle.wgsl_formatter.proofs.run.Goals as goal
 
 pub returns-in-Err-OutOfMemory-clause-ends : goal.returns-in-Err-OutOfMemory-clause-ends
 returns-in-Err-OutOfMemory-clause-ends g c =
-    let told = c.deliver-in-Err-OutOfMemory.ensures.sent in
-    (told.0, ends_without_memory _ _ told.1, told.2, told.3, told.4)
+    let told = c.refuse_memory.ensures in
+    (told.0, ends_without_memory _ _ told.1, told.2, nothing_goes_out _ _ told.1, told.3)
 
 pub returns-in-Err-Failed-clause-ends : goal.returns-in-Err-Failed-clause-ends
 returns-in-Err-Failed-clause-ends g c = (_, ends_unread _, refl, Appends-nil _, Appends-nil _)

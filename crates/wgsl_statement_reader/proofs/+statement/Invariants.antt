@@ -7,7 +7,8 @@ use Rattle.wgsl_statement_reader.specs.Switches.{clauses_at}
 use Rattle.wgsl_statement_reader.proofs.Blocks.{statements_from}
 use Rattle.wgsl_statement_reader.proofs.IfChains.{elses_from}
 use Rattle.wgsl_statement_reader.proofs.Switches.{clauses_from}
-use Rattle.wgsl_statement_reader.proofs.LoopItems.{loop_items_from, continuing_items_from}
+use Rattle.wgsl_statement_reader.proofs.LoopItems.{loop_items_from}
+use Rattle.wgsl_statement_reader.proofs.ContinuingItems.{continuing_items_from}
 use Rattle.wgsl_statement_reader.proofs.+statement.Given as goal
 
 abbrev pub decreases-block::parse_statement_rest : goal.decreases-block::parse_statement_rest
@@ -46,8 +47,8 @@ decreases-switch::parse_switch_part l = 9 * length (state l.tokens.now).rest
 abbrev pub decreases-loops::parse_loop_part : goal.decreases-loops::parse_loop_part
 decreases-loops::parse_loop_part l = 9 * length (state l.tokens.now).rest
 
-abbrev pub decreases-for_header::parse_for_part : goal.decreases-for_header::parse_for_part
-decreases-for_header::parse_for_part l = 9 * length (state l.tokens.now).rest
+abbrev pub decreases-loops::parse_for_part : goal.decreases-loops::parse_for_part
+decreases-loops::parse_for_part l = 9 * length (state l.tokens.now).rest
 
 abbrev pub decreases-loops::parse_while_part : goal.decreases-loops::parse_while_part
 decreases-loops::parse_while_part l = 9 * length (state l.tokens.now).rest

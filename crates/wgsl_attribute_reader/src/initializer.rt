@@ -1,0 +1,37 @@
+//! The value that a declaration begins with.
+
+ghost use Rattle.std.specs.Prelude.{◌<◌, ◌≤◌, length, OnOk, option_map};
+ghost use Rattle.wgsl_expression.specs.View.{expression_node_view};
+ghost use Rattle.wgsl_cursor.specs.Reading.{state, Gives};
+ghost use Rattle.wgsl_attribute_reader.specs.Initializers.{initializer_at, maybe_initializer_at};
+
+use std::alloc::Global;
+use wgsl_cursor::{Cursor, Fault};
+use wgsl_expression::ExpressionNode;
+use wgsl_expression_reader::parse_expression;
+use wgsl_token::kind::TokenKind;
+
+/// `=` and a value.
+#[tactic(auto, unfolding(crate::specs::Initializers::initializer_at))]
+pub fn parse_initializer(alloc: Global, tokens: &mut Cursor) -> Result<ExpressionNode, Fault>
+    ensures value { Gives expression_node_view result (state tokens.new) (initializer_at (state tokens.old)) }
+    ensures shorter { OnOk result (length (state tokens.new).rest < length (state tokens.old).rest) }
+{
+    tokens.expect(TokenKind::SymEqual)?;
+    parse_expression(alloc, tokens)
+}
+
+/// `=` and a value, or nothing.
+#[tactic(auto, unfolding(crate::specs::Initializers::initializer_at, crate::specs::Initializers::maybe_initializer_at))]
+pub fn parse_maybe_initializer(
+    alloc: Global,
+    tokens: &mut Cursor,
+) -> Result<Option<ExpressionNode>, Fault>
+    ensures value { Gives (option_map expression_node_view) result (state tokens.new) (maybe_initializer_at (state tokens.old)) }
+    ensures shorter { OnOk result (length (state tokens.new).rest ≤ length (state tokens.old).rest) }
+{
+    if !tokens.is_at(TokenKind::SymEqual) {
+        return Ok(None);
+    }
+    Ok(Some(parse_initializer(alloc, tokens)?))
+}

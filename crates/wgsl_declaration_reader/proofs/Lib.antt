@@ -1,0 +1,4 @@
+pub mod ClosedLists
+pub mod Turns
+pub mod Names
+pub mod Severities

@@ -1,0 +1,25 @@
+-- What is read by the parts of rules that are no symbols of the grammar.
+use Rattle.std.specs.Prelude.{ℕ, List, Option}
+use Rattle.grammar.specs.Tokens.{Token}
+use Rattle.grammar.specs.Grammar.{Grammar.empty, Grammar.symbol}
+use Rattle.grammar.specs.Notation.{◌then◌, ◌or◌, ◌gives◌, ◌▹◌, optional}
+use Rattle.grammar.specs.States.{State, Read, Read.done, ◌>>=◌, go}
+use Rattle.wgsl_model.specs.Classes.{SymPeriod}
+use Rattle.wgsl_model.specs.Attributes.{Attributes}
+use Rattle.wgsl_model.specs.UnitParts.{texts_of}
+use Rattle.wgsl_model.specs.Symbols.{Symbol.ident}
+use Rattle.wgsl_grammar_theory.specs.Factored.{FactoredRule, FactoredSymbol.of, FactoredSymbol.further, Further.name_items}
+use Rattle.wgsl_grammar_theory.specs.Tables.{tables}
+use Rattle.wgsl_grammar_theory.specs.Reader.{reader}
+
+-- what waits for its attributes, behind attributes that were read
+abbrev pub behind_attributes : {A : Type 0} → Attributes → FactoredRule (Attributes → A) → State → Read A
+behind_attributes attributes part s = go tables reader (empty attributes then part gives λ p. p.1 p.0) s
+
+-- list(Name) ";", as texts
+unfoldable pub names_at : State → Read (List (List ℕ))
+names_at s = reader (further name_items) s >>= λ names s'. done (texts_of names) s'
+
+-- "." Ident, or nothing
+unfoldable pub second_name_at : State → Read (Option Token)
+second_name_at s = go tables reader (optional (SymPeriod ▹ symbol (of ident))) s

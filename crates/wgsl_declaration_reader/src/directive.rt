@@ -1,0 +1,149 @@
+//! Reading directives.
+
+ghost use Rattle.std.specs.Prelude.{◌≡◌, ◌<◌, ◌≤◌, length, map, OnOk, IfOk, option_map, string_bytes};
+ghost use Rattle.wgsl_model.specs.TokenValues.{text_of};
+ghost use Rattle.wgsl_model.specs.Checks.{severity_of};
+ghost use Rattle.wgsl_model.specs.Symbols.{Symbol.global_directive, Symbol.enable_directive, Symbol.requires_directive, Symbol.diagnostic_severity, Symbol.diagnostic_directive};
+ghost use Rattle.wgsl_named_values.specs.View.{severity_view};
+ghost use Rattle.wgsl_unit.specs.View.{global_directive_view};
+ghost use Rattle.wgsl_grammar_theory.specs.Factored.{FactoredSymbol.of};
+ghost use Rattle.wgsl_grammar_theory.specs.Reader.{reader};
+ghost use Rattle.wgsl_cursor.specs.Reading.{state, Gives};
+ghost use Rattle.wgsl_declaration_reader.specs.Parts.{names_at, second_name_at};
+ghost use Rattle.wgsl_declaration_reader.specs.Names.{third_of, second_name_of, joined};
+
+use std::alloc::{AllocError, Global};
+use wgsl_cursor::{Cursor, Expected, Fault};
+use wgsl_error::{Error, ErrorKind};
+use wgsl_named_values::DiagnosticSeverity;
+use wgsl_token::kind::TokenKind;
+use wgsl_unit::{DiagnosticDirective, EnableDirective, GlobalDirective, RequiresDirective};
+
+/// What begins a directive.
+const DIRECTIVE: Expected = Expected::OneOf(&[
+    TokenKind::KwDiagnostic,
+    TokenKind::KwEnable,
+    TokenKind::KwRequires,
+]);
+
+/// A directive with its `;` (WGSL, "Directives"). A name in the place of a severity that is none is a checked fault
+/// where that name stands.
+#[tactic(auto, unfolding(wgsl_grammar_theory::specs::UnitRules::global_directive_at, wgsl_grammar_theory::specs::UnitRules::diagnostic_directive_at, wgsl_grammar_theory::specs::UnitRules::diagnostic_severity_at, grammar::specs::States::take), using(wgsl_grammar_theory::proofs::UnitEquations::global_directive_is, wgsl_grammar_theory::proofs::UnitEquations::diagnostic_directive_is, wgsl_grammar_theory::proofs::UnitEquations::diagnostic_severity_is))]
+pub fn parse_global_directive(alloc: Global, tokens: &mut Cursor) -> Result<GlobalDirective, Fault>
+    ensures value { Gives global_directive_view result (state tokens.new) (reader (of global_directive) (state tokens.old)) }
+    ensures shorter { OnOk result (length (state tokens.new).rest < length (state tokens.old).rest) }
+{
+    if tokens.is_at(TokenKind::KwEnable) {
+        return parse_enable_directive(alloc, tokens);
+    }
+    if tokens.is_at(TokenKind::KwRequires) {
+        return parse_requires_directive(alloc, tokens);
+    }
+    if tokens.is_at(TokenKind::KwDiagnostic) {
+        return parse_diagnostic_directive(tokens);
+    }
+    Err(tokens.refuse(DIRECTIVE))
+}
+
+#[tactic(auto, unfolding(crate::proofs::Names::enable_directive_at), using(crate::proofs::Names::enable_directive_is))]
+fn parse_enable_directive(alloc: Global, tokens: &mut Cursor) -> Result<GlobalDirective, Fault>
+    ensures value { Gives global_directive_view result (state tokens.new) (reader (of enable_directive) (state tokens.old)) }
+    ensures shorter { OnOk result (length (state tokens.new).rest < length (state tokens.old).rest) }
+{
+    tokens.expect(TokenKind::KwEnable)?;
+    let extensions = parse_names(alloc, tokens)?;
+    Ok(GlobalDirective::Enable(EnableDirective { extensions }))
+}
+
+#[tactic(auto, unfolding(crate::proofs::Names::requires_directive_at), using(crate::proofs::Names::requires_directive_is))]
+fn parse_requires_directive(alloc: Global, tokens: &mut Cursor) -> Result<GlobalDirective, Fault>
+    ensures value { Gives global_directive_view result (state tokens.new) (reader (of requires_directive) (state tokens.old)) }
+    ensures shorter { OnOk result (length (state tokens.new).rest < length (state tokens.old).rest) }
+{
+    tokens.expect(TokenKind::KwRequires)?;
+    let extensions = parse_names(alloc, tokens)?;
+    Ok(GlobalDirective::Requires(RequiresDirective { extensions }))
+}
+
+/// Names, one at least, with a comma after each, or after each but the last, and the `;` behind them.
+#[tactic(auto, unfolding(crate::proofs::Names::first_names, crate::proofs::Names::names_turn, grammar::specs::States::take), using(crate::proofs::Names::names_is, crate::proofs::Names::names_are, std::proofs::lemmas::List::map_push))]
+fn parse_names(alloc: Global, tokens: &mut Cursor) -> Result<Vec<String>, Fault>
+    ensures value { Gives (λ v. map string_bytes v.items) result (state tokens.new) (names_at (state tokens.old)) }
+    ensures shorter { OnOk result (length (state tokens.new).rest < length (state tokens.old).rest) }
+{
+    let mut names = Vec::new(alloc);
+    names.push(tokens.name()?)?;
+    'names: while tokens.eat(TokenKind::SymComma) {
+        if tokens.eat(TokenKind::SymSemicolon) {
+            return Ok(names);
+        }
+        names.push(tokens.name()?)?;
+    }
+    tokens.expect(TokenKind::SymSemicolon)?;
+    Ok(names)
+}
+
+/// A `diagnostic` with its severity and the name of its rule (WGSL, "Diagnostics").
+#[tactic(auto, unfolding(wgsl_grammar_theory::specs::UnitRules::diagnostic_directive_at, crate::specs::Parts::second_name_at, grammar::specs::States::take), using(wgsl_grammar_theory::proofs::UnitEquations::diagnostic_directive_is, crate::proofs::Names::rule_of_is))]
+fn parse_diagnostic_directive(tokens: &mut Cursor) -> Result<GlobalDirective, Fault>
+    ensures value { Gives global_directive_view result (state tokens.new) (reader (of diagnostic_directive) (state tokens.old)) }
+    ensures shorter { OnOk result (length (state tokens.new).rest < length (state tokens.old).rest) }
+{
+    let severity = parse_severity(tokens)?;
+    tokens.expect(TokenKind::SymComma)?;
+    let first = tokens.name()?;
+    let second = parse_second_name(tokens)?;
+    tokens.eat(TokenKind::SymComma);
+    tokens.expect(TokenKind::SymParenRight)?;
+    tokens.expect(TokenKind::SymSemicolon)?;
+    Ok(GlobalDirective::Diagnostic(DiagnosticDirective {
+        severity,
+        rule_name: join(first, second)?,
+    }))
+}
+
+/// `diagnostic (` and a name, which has to be a severity's.
+#[tactic(auto, unfolding(wgsl_grammar_theory::specs::UnitRules::diagnostic_severity_at), using(wgsl_grammar_theory::proofs::UnitEquations::diagnostic_severity_is))]
+fn parse_severity(tokens: &mut Cursor) -> Result<DiagnosticSeverity, Fault>
+    ensures value { Gives (λ _. third_of (state tokens.old)) result (state tokens.new) (reader (of diagnostic_severity) (state tokens.old)) }
+    ensures severity { IfOk result (λ severity. severity_view severity ≡ severity_of (third_of (state tokens.old))) }
+    ensures shorter { OnOk result (length (state tokens.new).rest < length (state tokens.old).rest) }
+{
+    tokens.expect(TokenKind::KwDiagnostic)?;
+    tokens.expect(TokenKind::SymParenLeft)?;
+    let start = tokens.start();
+    let name = tokens.name()?;
+    let span = tokens.span_from(start);
+    match DiagnosticSeverity::from_str(name.as_str()) {
+        Ok(severity) => Ok(severity),
+        Err(()) => Err(Fault::Checked(Error {
+            error: ErrorKind::DiagnosticSeverity,
+            span,
+        })),
+    }
+}
+
+/// A `.` with a name, or none.
+#[tactic(auto, unfolding(crate::specs::Parts::second_name_at, grammar::specs::States::take))]
+fn parse_second_name(tokens: &mut Cursor) -> Result<Option<String>, Fault>
+    ensures value { Gives (λ _. second_name_of (state tokens.old)) result (state tokens.new) (second_name_at (state tokens.old)) }
+    ensures text { IfOk result (λ name. option_map string_bytes name ≡ option_map text_of (second_name_of (state tokens.old))) }
+    ensures shorter { OnOk result (length (state tokens.new).rest ≤ length (state tokens.old).rest) }
+{
+    if !tokens.eat(TokenKind::SymPeriod) {
+        return Ok(None);
+    }
+    Ok(Some(tokens.name()?))
+}
+
+/// The name of a rule: a name, or two with a `.` between.
+fn join(first: String, second: Option<String>) -> Result<String, AllocError>
+    ensures { IfOk result (λ name. string_bytes name ≡ joined (string_bytes first) (option_map string_bytes second)) }
+{
+    let mut name = first;
+    if let Some(second) = second {
+        name.push('.')?;
+        name.push_str(second.as_str())?;
+    }
+    Ok(name)
+}

@@ -1,0 +1,104 @@
+//! Reading the declarations of values, and further names for types.
+
+ghost use Rattle.std.specs.Prelude.{◌<◌, length, OnOk};
+ghost use Rattle.grammar.specs.Grammar.{Grammar.symbol};
+ghost use Rattle.wgsl_model.specs.Symbols.{Symbol.const_declaration, Symbol.alias_declaration};
+ghost use Rattle.wgsl_attribute.specs.View.{attributes_view};
+ghost use Rattle.wgsl_unit.specs.View.{global_declaration_view};
+ghost use Rattle.wgsl_grammar_theory.specs.Factored.{FactoredSymbol.of, FactoredSymbol.further, Further.var_part, Further.override_part};
+ghost use Rattle.wgsl_grammar_theory.specs.Reader.{reader};
+ghost use Rattle.wgsl_cursor.specs.Reading.{state, Gives};
+ghost use Rattle.wgsl_declaration_reader.specs.Parts.{behind_attributes};
+
+use std::alloc::Global;
+use wgsl_attribute::Attributes;
+use wgsl_attribute_reader::{parse_maybe_initializer, parse_typed_ident, parse_var_kind};
+use wgsl_cursor::{Cursor, Fault};
+use wgsl_expression_reader::{parse_expression, parse_type_specifier};
+use wgsl_simple_statement::{Declaration, DeclarationKind};
+use wgsl_token::kind::TokenKind;
+use wgsl_unit::{GlobalDeclaration, TypeAlias};
+
+/// A `var` behind its attributes.
+#[tactic(auto, unfolding(wgsl_grammar_theory::specs::UnitRules::var_part_at, wgsl_attribute_reader::specs::VarKinds::var_kind_at, wgsl_attribute_reader::specs::Initializers::maybe_initializer_at), using(wgsl_grammar_theory::proofs::UnitEquations::var_part_is))]
+pub fn parse_var(
+    alloc: Global,
+    tokens: &mut Cursor,
+    attributes: Attributes,
+) -> Result<GlobalDeclaration, Fault>
+    ensures value { Gives global_declaration_view result (state tokens.new) (behind_attributes (attributes_view attributes.items) (symbol (further var_part)) (state tokens.old)) }
+    ensures shorter { OnOk result (length (state tokens.new).rest < length (state tokens.old).rest) }
+{
+    let kind = parse_var_kind(alloc, tokens)?;
+    let (ident, ty) = parse_typed_ident(alloc, tokens)?;
+    let initializer = parse_maybe_initializer(alloc, tokens)?;
+    tokens.expect(TokenKind::SymSemicolon)?;
+    Ok(GlobalDeclaration::Declaration(Declaration {
+        attributes,
+        kind,
+        ident,
+        ty,
+        initializer,
+    }))
+}
+
+/// An `override` behind its attributes.
+#[tactic(auto, unfolding(wgsl_grammar_theory::specs::UnitRules::override_part_at, wgsl_attribute_reader::specs::Initializers::maybe_initializer_at), using(wgsl_grammar_theory::proofs::UnitEquations::override_part_is))]
+pub fn parse_override(
+    alloc: Global,
+    tokens: &mut Cursor,
+    attributes: Attributes,
+) -> Result<GlobalDeclaration, Fault>
+    ensures value { Gives global_declaration_view result (state tokens.new) (behind_attributes (attributes_view attributes.items) (symbol (further override_part)) (state tokens.old)) }
+    ensures shorter { OnOk result (length (state tokens.new).rest < length (state tokens.old).rest) }
+{
+    tokens.expect(TokenKind::KwOverride)?;
+    let (ident, ty) = parse_typed_ident(alloc, tokens)?;
+    let initializer = parse_maybe_initializer(alloc, tokens)?;
+    tokens.expect(TokenKind::SymSemicolon)?;
+    Ok(GlobalDeclaration::Declaration(Declaration {
+        attributes,
+        kind: DeclarationKind::Override,
+        ident,
+        ty,
+        initializer,
+    }))
+}
+
+#[tactic(auto, unfolding(wgsl_grammar_theory::specs::UnitRules::const_declaration_at), using(wgsl_grammar_theory::proofs::UnitEquations::const_declaration_is))]
+pub fn parse_const_declaration(
+    alloc: Global,
+    tokens: &mut Cursor,
+) -> Result<GlobalDeclaration, Fault>
+    ensures value { Gives global_declaration_view result (state tokens.new) (reader (of const_declaration) (state tokens.old)) }
+    ensures shorter { OnOk result (length (state tokens.new).rest < length (state tokens.old).rest) }
+{
+    tokens.expect(TokenKind::KwConst)?;
+    let (ident, ty) = parse_typed_ident(alloc, tokens)?;
+    tokens.expect(TokenKind::SymEqual)?;
+    let initializer = parse_expression(alloc, tokens)?;
+    tokens.expect(TokenKind::SymSemicolon)?;
+    Ok(GlobalDeclaration::Declaration(Declaration {
+        attributes: Vec::new(alloc),
+        kind: DeclarationKind::Const,
+        ident,
+        ty,
+        initializer: Some(initializer),
+    }))
+}
+
+#[tactic(auto, unfolding(wgsl_grammar_theory::specs::UnitRules::alias_declaration_at), using(wgsl_grammar_theory::proofs::UnitEquations::alias_declaration_is))]
+pub fn parse_alias_declaration(
+    alloc: Global,
+    tokens: &mut Cursor,
+) -> Result<GlobalDeclaration, Fault>
+    ensures value { Gives global_declaration_view result (state tokens.new) (reader (of alias_declaration) (state tokens.old)) }
+    ensures shorter { OnOk result (length (state tokens.new).rest < length (state tokens.old).rest) }
+{
+    tokens.expect(TokenKind::KwAlias)?;
+    let ident = tokens.ident()?;
+    tokens.expect(TokenKind::SymEqual)?;
+    let ty = parse_type_specifier(alloc, tokens)?;
+    tokens.expect(TokenKind::SymSemicolon)?;
+    Ok(GlobalDeclaration::TypeAlias(TypeAlias { ident, ty }))
+}

@@ -1,0 +1,4 @@
+pub mod Binding
+pub mod LeftSides
+pub mod SimpleStatements
+pub mod Made

@@ -1,0 +1,15 @@
+use Rattle.std.proofs.Common.{◌+◌, ◌*◌, length}
+use Rattle.wgsl_cursor.specs.Reading.{state}
+use Rattle.wgsl_simple_statement_reader.proofs.left_side.+left_side.Given as goal
+
+abbrev pub decreases-parse_lhs_expression : goal.decreases-parse_lhs_expression
+decreases-parse_lhs_expression l = 3 * length (state l.tokens.now).rest + 2
+
+abbrev pub decreases-parse_other_left_side : goal.decreases-parse_other_left_side
+decreases-parse_other_left_side l = 3 * length (state l.tokens.now).rest + 1
+
+abbrev pub decreases-parse_parenthesized_left_side : goal.decreases-parse_parenthesized_left_side
+decreases-parse_parenthesized_left_side l = 3 * length (state l.tokens.now).rest
+
+abbrev pub decreases-parse_unary_left_side : goal.decreases-parse_unary_left_side
+decreases-parse_unary_left_side l = 3 * length (state l.tokens.now).rest

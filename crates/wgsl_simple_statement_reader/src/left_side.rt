@@ -1,0 +1,138 @@
+//! Left sides of assignments.
+
+ghost use Rattle.std.specs.Prelude.{◌≡◌, ◌<◌, [], ◌∷◌, length, OnOk, IfOk};
+ghost use Rattle.grammar.specs.States.{is_any};
+ghost use Rattle.wgsl_model.specs.Classes as class;
+ghost use Rattle.wgsl_model.specs.Expressions.{expression_node};
+ghost use Rattle.wgsl_model.specs.ExpressionParts.{variable};
+ghost use Rattle.wgsl_model.specs.Symbols.{Symbol.lhs_expression};
+ghost use Rattle.wgsl_span.specs.View.{span_view};
+ghost use Rattle.wgsl_token.specs.View.{class_of_kind};
+ghost use Rattle.wgsl_named_values.specs.View.{unary_operator_view};
+ghost use Rattle.wgsl_expression.specs.View.{ident_name, expression_node_view};
+ghost use Rattle.wgsl_grammar_theory.specs.Factored.{FactoredSymbol.of, FactoredSymbol.further, Further.other_left_side};
+ghost use Rattle.wgsl_grammar_theory.specs.Reader.{reader};
+ghost use Rattle.wgsl_cursor.specs.Reading.{state, Gives};
+ghost use Rattle.wgsl_simple_statement_reader.specs.LeftSides.{left_name_at, parenthesized_left_side_at, unary_left_side_at};
+
+use std::alloc::{AllocError, Global};
+use wgsl_cursor::{Cursor, Expected, Fault};
+use wgsl_expression::{
+    Expression, ExpressionNode, Ident, ParenthesizedExpression, TypeExpression, UnaryExpression,
+};
+use wgsl_expression_reader::parse_components;
+use wgsl_named_values::UnaryOperator;
+use wgsl_span::{Span, Spanned};
+use wgsl_token::kind::TokenKind;
+
+/// What begins a left side.
+const LEFT_SIDE: Expected = Expected::OneOf(&[
+    TokenKind::SymAnd,
+    TokenKind::SymParenLeft,
+    TokenKind::SymStar,
+    TokenKind::Ident,
+]);
+
+/// Whether the next token is a name, or a reserved word in the place of one.
+pub fn begins_name(tokens: &Cursor) -> bool
+    ensures { result ≡ is_any (class.Ident ∷ (class.ReservedWord ∷ [])) (state tokens.now) }
+{
+    tokens.is_at(TokenKind::Ident) || tokens.is_at(TokenKind::ReservedWord)
+}
+
+/// A name with its components, or another left side.
+#[cycle(left_side)]
+#[tactic(auto, unfolding(crate::proofs::LeftSides::lhs_expression_parts), using(crate::proofs::LeftSides::lhs_expression_by_parts))]
+pub fn parse_lhs_expression(alloc: Global, tokens: &mut Cursor) -> Result<ExpressionNode, Fault>
+    ensures value { Gives expression_node_view result (state tokens.new) (reader (of lhs_expression) (state tokens.old)) }
+    ensures shorter { OnOk result (length (state tokens.new).rest < length (state tokens.old).rest) }
+{
+    if begins_name(tokens) {
+        let name = parse_left_name(alloc, tokens)?;
+        return parse_components(alloc, tokens, name);
+    }
+    parse_other_left_side(alloc, tokens)
+}
+
+/// A name.
+#[tactic(auto, unfolding(crate::specs::LeftSides::left_name_at))]
+fn parse_left_name(alloc: Global, tokens: &mut Cursor) -> Result<ExpressionNode, Fault>
+    ensures value { Gives expression_node_view result (state tokens.new) (left_name_at (state tokens.old)) }
+    ensures shorter { OnOk result (length (state tokens.new).rest < length (state tokens.old).rest) }
+{
+    let start = tokens.start();
+    let ident = tokens.ident()?;
+    Ok(left_name(alloc, ident, tokens.span_from(start))?)
+}
+
+/// A name as a left side.
+pub fn left_name(alloc: Global, ident: Ident, span: Span) -> Result<ExpressionNode, AllocError>
+    ensures { IfOk result (λ made. expression_node_view made ≡ expression_node (variable (ident_name ident)) (span_view span)) }
+{
+    let variable = Expression::TypeOrIdentifier(TypeExpression {
+        ident,
+        template_args: None,
+    });
+    Spanned::new(alloc, variable, span)
+}
+
+/// A left side that begins with no name.
+#[cycle(left_side)]
+#[tactic(auto, unfolding(crate::proofs::LeftSides::other_left_side_parts, crate::specs::LeftSides::unary_left_side_at, grammar::specs::States::take), using(crate::proofs::LeftSides::other_left_side_by_parts))]
+pub fn parse_other_left_side(alloc: Global, tokens: &mut Cursor) -> Result<ExpressionNode, Fault>
+    ensures value { Gives expression_node_view result (state tokens.new) (reader (further other_left_side) (state tokens.old)) }
+    ensures shorter { OnOk result (length (state tokens.new).rest < length (state tokens.old).rest) }
+{
+    if tokens.is_at(TokenKind::SymParenLeft) {
+        let base = parse_parenthesized_left_side(alloc, tokens)?;
+        return parse_components(alloc, tokens, base);
+    }
+    if tokens.is_at(TokenKind::SymStar) {
+        return parse_unary_left_side(
+            alloc,
+            tokens,
+            TokenKind::SymStar,
+            UnaryOperator::Indirection,
+        );
+    }
+    if tokens.is_at(TokenKind::SymAnd) {
+        return parse_unary_left_side(alloc, tokens, TokenKind::SymAnd, UnaryOperator::AddressOf);
+    }
+    Err(tokens.refuse(LEFT_SIDE))
+}
+
+#[cycle(left_side)]
+#[tactic(auto, unfolding(crate::specs::LeftSides::parenthesized_left_side_at), using(crate::proofs::Made::parenthesized_is))]
+fn parse_parenthesized_left_side(
+    alloc: Global,
+    tokens: &mut Cursor,
+) -> Result<ExpressionNode, Fault>
+    ensures value { Gives expression_node_view result (state tokens.new) (parenthesized_left_side_at (state tokens.old)) }
+    ensures shorter { OnOk result (length (state tokens.new).rest < length (state tokens.old).rest) }
+{
+    let start = tokens.start();
+    tokens.expect(TokenKind::SymParenLeft)?;
+    let expression = parse_lhs_expression(alloc, tokens)?;
+    tokens.expect(TokenKind::SymParenRight)?;
+    let parenthesized = Expression::Parenthesized(ParenthesizedExpression { expression });
+    Ok(Spanned::new(alloc, parenthesized, tokens.span_from(start))?)
+}
+
+/// An operator, by the kind of its token, and its operand.
+#[cycle(left_side)]
+#[tactic(auto, unfolding(crate::specs::LeftSides::unary_left_side_at), using(crate::proofs::Made::unary_is))]
+fn parse_unary_left_side(
+    alloc: Global,
+    tokens: &mut Cursor,
+    kind: TokenKind,
+    operator: UnaryOperator,
+) -> Result<ExpressionNode, Fault>
+    ensures value { Gives expression_node_view result (state tokens.new) (unary_left_side_at (class_of_kind kind) (unary_operator_view operator) (state tokens.old)) }
+    ensures shorter { OnOk result (length (state tokens.new).rest < length (state tokens.old).rest) }
+{
+    let start = tokens.start();
+    tokens.expect(kind)?;
+    let operand = parse_lhs_expression(alloc, tokens)?;
+    let unary = Expression::Unary(UnaryExpression { operator, operand });
+    Ok(Spanned::new(alloc, unary, tokens.span_from(start))?)
+}

@@ -1,0 +1,254 @@
+//! Calls, assignments, increments and decrements, without their `;`.
+
+ghost use Rattle.std.specs.Prelude.{◌≡◌, ◌<◌, ◌≤◌, [], ◌∷◌, length, map, OnOk, option_map};
+ghost use Rattle.grammar.specs.States.{is_any};
+ghost use Rattle.wgsl_model.specs.Classes as class;
+ghost use Rattle.wgsl_model.specs.Symbols.{Symbol.phony_assignment};
+ghost use Rattle.wgsl_named_values.specs.View.{assignment_operator_view};
+ghost use Rattle.wgsl_expression.specs.View.{ident_name, expression_node_view, template_arg_view};
+ghost use Rattle.wgsl_statement.specs.View.{statement_view};
+ghost use Rattle.wgsl_grammar_theory.specs.Factored.{FactoredSymbol.of, FactoredSymbol.further, Further.left_side_rest, Further.simple_statement};
+ghost use Rattle.wgsl_grammar_theory.specs.Reader.{reader};
+ghost use Rattle.wgsl_cursor.specs.Reading.{state, Gives};
+ghost use Rattle.wgsl_simple_statement_reader.specs.Given.{given};
+ghost use Rattle.wgsl_simple_statement_reader.specs.SimpleStatements.{named_statement_at, maybe_template_list_at, call_rest_at, assignment_operator_at, underscore_left_side_at, assignment_classes};
+
+use crate::left_side::{begins_name, left_name, parse_other_left_side};
+use std::alloc::Global;
+use wgsl_attribute_reader::parse_initializer;
+use wgsl_cursor::{Cursor, Expected, Fault};
+use wgsl_expression::{ExpressionNode, FunctionCall, Ident, TemplateArg, TypeExpression};
+use wgsl_expression_reader::{
+    parse_arguments, parse_components, parse_expression, parse_template_list,
+};
+use wgsl_named_values::AssignmentOperator;
+use wgsl_simple_statement::{
+    AssignmentStatement, DecrementStatement, FunctionCallStatement, IncrementStatement,
+};
+use wgsl_statement::Statement;
+use wgsl_token::kind::TokenKind;
+
+/// What begins a call, an assignment, an increment or a decrement.
+const SIMPLE_STATEMENT: Expected = Expected::OneOf(&[
+    TokenKind::SymAnd,
+    TokenKind::SymParenLeft,
+    TokenKind::SymStar,
+    TokenKind::SymUnderscore,
+    TokenKind::Ident,
+]);
+
+/// What goes on behind a left side.
+const LEFT_SIDE_REST: Expected = Expected::OneOf(&[
+    TokenKind::SymBracketLeft,
+    TokenKind::SymEqual,
+    TokenKind::SymMinusMinus,
+    TokenKind::SymPeriod,
+    TokenKind::SymPlusPlus,
+    TokenKind::SymPlusEqual,
+    TokenKind::SymMinusEqual,
+    TokenKind::SymTimesEqual,
+    TokenKind::SymDivisionEqual,
+    TokenKind::SymModuloEqual,
+    TokenKind::SymAndEqual,
+    TokenKind::SymOrEqual,
+    TokenKind::SymXorEqual,
+    TokenKind::SymShiftRightAssign,
+    TokenKind::SymShiftLeftAssign,
+]);
+
+/// A call, an assignment, an increment or a decrement.
+#[tactic(auto, unfolding(crate::proofs::SimpleStatements::simple_statement_parts, wgsl_grammar_theory::specs::StatementRules::phony_assignment_at, crate::specs::SimpleStatements::underscore_left_side_at, grammar::specs::States::take), using(crate::proofs::SimpleStatements::simple_statement_by_parts, wgsl_grammar_theory::proofs::StatementEquations::phony_assignment_is))]
+pub fn parse_simple_statement(alloc: Global, tokens: &mut Cursor) -> Result<Statement, Fault>
+    ensures value { Gives statement_view result (state tokens.new) (reader (further simple_statement) (state tokens.old)) }
+    ensures shorter { OnOk result (length (state tokens.new).rest < length (state tokens.old).rest) }
+{
+    if begins_name(tokens) {
+        return parse_named_statement(alloc, tokens);
+    }
+    if begins_other_left_side(tokens) {
+        let left = parse_other_left_side(alloc, tokens)?;
+        return parse_left_side_rest(alloc, tokens, left);
+    }
+    if tokens.is_at(TokenKind::SymUnderscore) {
+        return parse_phony_assignment(alloc, tokens);
+    }
+    Err(tokens.refuse(SIMPLE_STATEMENT))
+}
+
+/// Whether the next token begins a left side, and is no name.
+fn begins_other_left_side(tokens: &Cursor) -> bool
+    ensures { result ≡ is_any (class.SymAnd ∷ (class.SymParenLeft ∷ (class.SymStar ∷ []))) (state tokens.now) }
+{
+    tokens.is_at(TokenKind::SymAnd)
+        || tokens.is_at(TokenKind::SymParenLeft)
+        || tokens.is_at(TokenKind::SymStar)
+}
+
+/// A statement that begins with a name.
+#[tactic(auto, unfolding(crate::proofs::SimpleStatements::named_statement_parts), using(crate::proofs::SimpleStatements::named_statement_by_parts))]
+fn parse_named_statement(alloc: Global, tokens: &mut Cursor) -> Result<Statement, Fault>
+    ensures value { Gives statement_view result (state tokens.new) (named_statement_at (state tokens.old)) }
+    ensures shorter { OnOk result (length (state tokens.new).rest < length (state tokens.old).rest) }
+{
+    let start = tokens.start();
+    let ident = tokens.ident()?;
+    if begins_call_rest(tokens) {
+        return parse_call_rest(alloc, tokens, ident);
+    }
+    let name = left_name(alloc, ident, tokens.span_from(start))?;
+    let left = parse_components(alloc, tokens, name)?;
+    parse_left_side_rest(alloc, tokens, left)
+}
+
+/// Whether the next token makes the name before it that of a call.
+fn begins_call_rest(tokens: &Cursor) -> bool
+    ensures { result ≡ is_any (class.TemplateArgsStart ∷ (class.SymParenLeft ∷ [])) (state tokens.now) }
+{
+    tokens.is_at(TokenKind::TemplateArgsStart) || tokens.is_at(TokenKind::SymParenLeft)
+}
+
+/// What follows the name in a call.
+#[tactic(auto, unfolding(crate::specs::SimpleStatements::call_rest_at), using(crate::proofs::Made::call_is, wgsl_statement::proofs::StatementViews::is_function_call))]
+fn parse_call_rest(alloc: Global, tokens: &mut Cursor, ident: Ident) -> Result<Statement, Fault>
+    ensures value { Gives statement_view result (state tokens.new) (call_rest_at (ident_name ident) (state tokens.old)) }
+    ensures shorter { OnOk result (length (state tokens.new).rest < length (state tokens.old).rest) }
+{
+    let template_args = parse_maybe_template_list(alloc, tokens)?;
+    let arguments = parse_arguments(alloc, tokens)?;
+    Ok(Statement::FunctionCall(FunctionCallStatement {
+        call: FunctionCall {
+            ty: TypeExpression {
+                ident,
+                template_args,
+            },
+            arguments,
+        },
+    }))
+}
+
+/// A template list, or none.
+#[tactic(auto, unfolding(crate::specs::SimpleStatements::maybe_template_list_at))]
+fn parse_maybe_template_list(
+    alloc: Global,
+    tokens: &mut Cursor,
+) -> Result<Option<Vec<TemplateArg>>, Fault>
+    ensures value { Gives (option_map (λ args. map template_arg_view args.items)) result (state tokens.new) (maybe_template_list_at (state tokens.old)) }
+    ensures shorter { OnOk result (length (state tokens.new).rest ≤ length (state tokens.old).rest) }
+{
+    if !tokens.is_at(TokenKind::TemplateArgsStart) {
+        return Ok(None);
+    }
+    Ok(Some(parse_template_list(alloc, tokens)?))
+}
+
+/// What follows a left side: an assignment to it, or `++` or `--`.
+#[tactic(auto, unfolding(crate::proofs::SimpleStatements::left_side_rest_parts, grammar::specs::States::take), using(crate::proofs::SimpleStatements::left_side_rest_by_parts, wgsl_statement::proofs::StatementViews::is_assignment, wgsl_statement::proofs::StatementViews::is_increment, wgsl_statement::proofs::StatementViews::is_decrement))]
+fn parse_left_side_rest(
+    alloc: Global,
+    tokens: &mut Cursor,
+    left: ExpressionNode,
+) -> Result<Statement, Fault>
+    ensures value { Gives statement_view result (state tokens.new) (given (expression_node_view left) (reader (further left_side_rest)) (state tokens.old)) }
+    ensures shorter { OnOk result (length (state tokens.new).rest < length (state tokens.old).rest) }
+{
+    if begins_assignment(tokens) {
+        let operator = parse_assignment_operator(tokens)?;
+        let rhs = parse_expression(alloc, tokens)?;
+        return Ok(Statement::Assignment(AssignmentStatement {
+            operator,
+            lhs: left,
+            rhs,
+        }));
+    }
+    if tokens.eat(TokenKind::SymPlusPlus) {
+        return Ok(Statement::Increment(IncrementStatement { expression: left }));
+    }
+    if tokens.eat(TokenKind::SymMinusMinus) {
+        return Ok(Statement::Decrement(DecrementStatement { expression: left }));
+    }
+    Err(tokens.refuse(LEFT_SIDE_REST))
+}
+
+/// Whether the next token is `=` or a compound operator.
+fn begins_assignment(tokens: &Cursor) -> bool
+    ensures { result ≡ is_any assignment_classes (state tokens.now) }
+{
+    tokens.is_at(TokenKind::SymEqual)
+        || tokens.is_at(TokenKind::SymPlusEqual)
+        || tokens.is_at(TokenKind::SymMinusEqual)
+        || tokens.is_at(TokenKind::SymTimesEqual)
+        || tokens.is_at(TokenKind::SymDivisionEqual)
+        || tokens.is_at(TokenKind::SymModuloEqual)
+        || tokens.is_at(TokenKind::SymAndEqual)
+        || tokens.is_at(TokenKind::SymOrEqual)
+        || tokens.is_at(TokenKind::SymXorEqual)
+        || tokens.is_at(TokenKind::SymShiftRightAssign)
+        || tokens.is_at(TokenKind::SymShiftLeftAssign)
+}
+
+/// `=` or a compound operator.
+#[tactic(auto, unfolding(crate::specs::SimpleStatements::assignment_operator_at, grammar::specs::States::take))]
+fn parse_assignment_operator(tokens: &mut Cursor) -> Result<AssignmentOperator, Fault>
+    ensures value { Gives assignment_operator_view result (state tokens.new) (assignment_operator_at (state tokens.old)) }
+    ensures shorter { OnOk result (length (state tokens.new).rest < length (state tokens.old).rest) }
+{
+    if tokens.eat(TokenKind::SymEqual) {
+        return Ok(AssignmentOperator::Equal);
+    }
+    if tokens.eat(TokenKind::SymPlusEqual) {
+        return Ok(AssignmentOperator::PlusEqual);
+    }
+    if tokens.eat(TokenKind::SymMinusEqual) {
+        return Ok(AssignmentOperator::MinusEqual);
+    }
+    if tokens.eat(TokenKind::SymTimesEqual) {
+        return Ok(AssignmentOperator::TimesEqual);
+    }
+    if tokens.eat(TokenKind::SymDivisionEqual) {
+        return Ok(AssignmentOperator::DivisionEqual);
+    }
+    if tokens.eat(TokenKind::SymModuloEqual) {
+        return Ok(AssignmentOperator::ModuloEqual);
+    }
+    if tokens.eat(TokenKind::SymAndEqual) {
+        return Ok(AssignmentOperator::AndEqual);
+    }
+    if tokens.eat(TokenKind::SymOrEqual) {
+        return Ok(AssignmentOperator::OrEqual);
+    }
+    if tokens.eat(TokenKind::SymXorEqual) {
+        return Ok(AssignmentOperator::XorEqual);
+    }
+    if tokens.eat(TokenKind::SymShiftRightAssign) {
+        return Ok(AssignmentOperator::ShiftRightAssign);
+    }
+    tokens.expect(TokenKind::SymShiftLeftAssign)?;
+    Ok(AssignmentOperator::ShiftLeftAssign)
+}
+
+/// An assignment to `_`.
+#[tactic(auto, unfolding(wgsl_grammar_theory::specs::StatementRules::phony_assignment_at, crate::specs::SimpleStatements::underscore_left_side_at, wgsl_attribute_reader::specs::Initializers::initializer_at), using(wgsl_grammar_theory::proofs::StatementEquations::phony_assignment_is, wgsl_statement::proofs::StatementViews::is_assignment))]
+fn parse_phony_assignment(alloc: Global, tokens: &mut Cursor) -> Result<Statement, Fault>
+    ensures value { Gives statement_view result (state tokens.new) (reader (of phony_assignment) (state tokens.old)) }
+    ensures shorter { OnOk result (length (state tokens.new).rest < length (state tokens.old).rest) }
+{
+    let lhs = parse_underscore(alloc, tokens)?;
+    let rhs = parse_initializer(alloc, tokens)?;
+    Ok(Statement::Assignment(AssignmentStatement {
+        operator: AssignmentOperator::Equal,
+        lhs,
+        rhs,
+    }))
+}
+
+/// `_` as a left side.
+#[tactic(auto, unfolding(crate::specs::SimpleStatements::underscore_left_side_at))]
+fn parse_underscore(alloc: Global, tokens: &mut Cursor) -> Result<ExpressionNode, Fault>
+    ensures value { Gives expression_node_view result (state tokens.new) (underscore_left_side_at (state tokens.old)) }
+    ensures shorter { OnOk result (length (state tokens.new).rest < length (state tokens.old).rest) }
+{
+    let start = tokens.start();
+    tokens.expect(TokenKind::SymUnderscore)?;
+    let ident = Ident::new(String::from_str(alloc, "_")?);
+    Ok(left_name(alloc, ident, tokens.span_from(start))?)
+}

@@ -1,0 +1,178 @@
+//! Declarations of values, `return`, and the statements of one word or one expression.
+
+ghost use Rattle.std.specs.Prelude.{◌≡◌, ◌<◌, ◌≤◌, [], ◌∷◌, length, OnOk, option_map};
+ghost use Rattle.grammar.specs.States.{is_any};
+ghost use Rattle.wgsl_model.specs.Classes as class;
+ghost use Rattle.wgsl_model.specs.Symbols.{Symbol.return_statement, Symbol.var_statement, Symbol.value_statement, Symbol.break_statement, Symbol.continue_statement, Symbol.discard_statement, Symbol.const_assert};
+ghost use Rattle.wgsl_expression.specs.View.{expression_node_view};
+ghost use Rattle.wgsl_simple_statement.specs.View.{assert_view, declaration_kind_view};
+ghost use Rattle.wgsl_statement.specs.View.{statement_view};
+ghost use Rattle.wgsl_grammar_theory.specs.Factored.{FactoredSymbol.of};
+ghost use Rattle.wgsl_grammar_theory.specs.Tables.{begin_expressions};
+ghost use Rattle.wgsl_grammar_theory.specs.Reader.{reader};
+ghost use Rattle.wgsl_cursor.specs.Reading.{state, Gives};
+ghost use Rattle.wgsl_simple_statement_reader.specs.Values.{maybe_expression_at, value_kind_at};
+
+use std::alloc::Global;
+use wgsl_attribute_reader::{
+    parse_initializer, parse_maybe_initializer, parse_typed_ident, parse_var_kind,
+};
+use wgsl_cursor::{Cursor, Expected, Fault};
+use wgsl_expression::ExpressionNode;
+use wgsl_expression_reader::parse_expression;
+use wgsl_simple_statement::{
+    BreakStatement, ConstAssert, ContinueStatement, Declaration, DeclarationKind, DiscardStatement,
+    ReturnStatement,
+};
+use wgsl_statement::Statement;
+use wgsl_token::kind::TokenKind;
+
+/// What begins the declaration of a value that does not vary.
+const VALUE_STATEMENT: Expected = Expected::OneOf(&[TokenKind::KwConst, TokenKind::KwLet]);
+
+/// `return`, with a value if there is one.
+#[tactic(auto, unfolding(wgsl_grammar_theory::specs::StatementRules::return_statement_at, crate::specs::Values::maybe_expression_at), using(wgsl_grammar_theory::proofs::StatementEquations::return_statement_is, wgsl_statement::proofs::StatementViews::is_return))]
+pub fn parse_return_statement(alloc: Global, tokens: &mut Cursor) -> Result<Statement, Fault>
+    ensures value { Gives statement_view result (state tokens.new) (reader (of return_statement) (state tokens.old)) }
+    ensures shorter { OnOk result (length (state tokens.new).rest < length (state tokens.old).rest) }
+{
+    tokens.expect(TokenKind::KwReturn)?;
+    let expression = parse_maybe_expression(alloc, tokens)?;
+    Ok(Statement::Return(ReturnStatement { expression }))
+}
+
+/// An expression, or none.
+#[tactic(auto, unfolding(crate::specs::Values::maybe_expression_at))]
+fn parse_maybe_expression(
+    alloc: Global,
+    tokens: &mut Cursor,
+) -> Result<Option<ExpressionNode>, Fault>
+    ensures value { Gives (option_map expression_node_view) result (state tokens.new) (maybe_expression_at (state tokens.old)) }
+    ensures shorter { OnOk result (length (state tokens.new).rest ≤ length (state tokens.old).rest) }
+{
+    if !begins_expression(tokens) {
+        return Ok(None);
+    }
+    Ok(Some(parse_expression(alloc, tokens)?))
+}
+
+/// Whether the next token begins an expression.
+fn begins_expression(tokens: &Cursor) -> bool
+    ensures { result ≡ is_any begin_expressions (state tokens.now) }
+{
+    tokens.is_at(TokenKind::SymAnd)
+        || tokens.is_at(TokenKind::SymBang)
+        || tokens.is_at(TokenKind::SymMinus)
+        || tokens.is_at(TokenKind::SymParenLeft)
+        || tokens.is_at(TokenKind::SymStar)
+        || tokens.is_at(TokenKind::SymTilde)
+        || tokens.is_at(TokenKind::KwFalse)
+        || tokens.is_at(TokenKind::KwTrue)
+        || tokens.is_at(TokenKind::Ident)
+        || tokens.is_at(TokenKind::ReservedWord)
+        || tokens.is_at(TokenKind::AbstractInt)
+        || tokens.is_at(TokenKind::I32)
+        || tokens.is_at(TokenKind::U32)
+        || tokens.is_at(TokenKind::AbstractFloat)
+        || tokens.is_at(TokenKind::F32)
+        || tokens.is_at(TokenKind::F16)
+}
+
+/// A `var`, without its `;`.
+#[tactic(auto, unfolding(wgsl_grammar_theory::specs::StatementRules::var_statement_at, wgsl_attribute_reader::specs::VarKinds::var_kind_at, wgsl_attribute_reader::specs::Initializers::maybe_initializer_at), using(wgsl_grammar_theory::proofs::StatementEquations::var_statement_is, wgsl_statement::proofs::StatementViews::is_declaration))]
+pub fn parse_var_statement(alloc: Global, tokens: &mut Cursor) -> Result<Statement, Fault>
+    ensures value { Gives statement_view result (state tokens.new) (reader (of var_statement) (state tokens.old)) }
+    ensures shorter { OnOk result (length (state tokens.new).rest < length (state tokens.old).rest) }
+{
+    let kind = parse_var_kind(alloc, tokens)?;
+    let (ident, ty) = parse_typed_ident(alloc, tokens)?;
+    let initializer = parse_maybe_initializer(alloc, tokens)?;
+    Ok(Statement::Declaration(Declaration {
+        attributes: Vec::new(alloc),
+        kind,
+        ident,
+        ty,
+        initializer,
+    }))
+}
+
+/// A `let` or `const`, without its `;`.
+#[tactic(auto, unfolding(wgsl_grammar_theory::specs::StatementRules::value_statement_at, crate::specs::Values::value_kind_at, wgsl_attribute_reader::specs::Initializers::initializer_at), using(wgsl_grammar_theory::proofs::StatementEquations::value_statement_is, wgsl_statement::proofs::StatementViews::is_declaration))]
+pub fn parse_value_statement(alloc: Global, tokens: &mut Cursor) -> Result<Statement, Fault>
+    ensures value { Gives statement_view result (state tokens.new) (reader (of value_statement) (state tokens.old)) }
+    ensures shorter { OnOk result (length (state tokens.new).rest < length (state tokens.old).rest) }
+{
+    let kind = parse_value_kind(tokens)?;
+    let (ident, ty) = parse_typed_ident(alloc, tokens)?;
+    let initializer = parse_initializer(alloc, tokens)?;
+    Ok(Statement::Declaration(Declaration {
+        attributes: Vec::new(alloc),
+        kind,
+        ident,
+        ty,
+        initializer: Some(initializer),
+    }))
+}
+
+/// Whether the next token is `let` or `const`.
+pub fn begins_value_statement(tokens: &Cursor) -> bool
+    ensures { result ≡ is_any (class.KwConst ∷ (class.KwLet ∷ [])) (state tokens.now) }
+{
+    tokens.is_at(TokenKind::KwConst) || tokens.is_at(TokenKind::KwLet)
+}
+
+/// `let` or `const`.
+#[tactic(auto, unfolding(crate::specs::Values::value_kind_at, grammar::specs::States::take))]
+fn parse_value_kind(tokens: &mut Cursor) -> Result<DeclarationKind, Fault>
+    ensures value { Gives declaration_kind_view result (state tokens.new) (value_kind_at (state tokens.old)) }
+    ensures shorter { OnOk result (length (state tokens.new).rest < length (state tokens.old).rest) }
+{
+    if tokens.eat(TokenKind::KwLet) {
+        return Ok(DeclarationKind::Let);
+    }
+    if tokens.eat(TokenKind::KwConst) {
+        return Ok(DeclarationKind::Const);
+    }
+    Err(tokens.refuse(VALUE_STATEMENT))
+}
+
+/// `break`, without its `;`.
+#[tactic(auto, unfolding(wgsl_grammar_theory::specs::StatementRules::break_statement_at), using(wgsl_grammar_theory::proofs::StatementEquations::break_statement_is, wgsl_statement::proofs::StatementViews::is_break))]
+pub fn parse_break_statement(tokens: &mut Cursor) -> Result<Statement, Fault>
+    ensures value { Gives statement_view result (state tokens.new) (reader (of break_statement) (state tokens.old)) }
+    ensures shorter { OnOk result (length (state tokens.new).rest < length (state tokens.old).rest) }
+{
+    tokens.expect(TokenKind::KwBreak)?;
+    Ok(Statement::Break(BreakStatement {}))
+}
+
+/// `continue`, without its `;`.
+#[tactic(auto, unfolding(wgsl_grammar_theory::specs::StatementRules::continue_statement_at), using(wgsl_grammar_theory::proofs::StatementEquations::continue_statement_is, wgsl_statement::proofs::StatementViews::is_continue))]
+pub fn parse_continue_statement(tokens: &mut Cursor) -> Result<Statement, Fault>
+    ensures value { Gives statement_view result (state tokens.new) (reader (of continue_statement) (state tokens.old)) }
+    ensures shorter { OnOk result (length (state tokens.new).rest < length (state tokens.old).rest) }
+{
+    tokens.expect(TokenKind::KwContinue)?;
+    Ok(Statement::Continue(ContinueStatement {}))
+}
+
+/// `discard`, without its `;`.
+#[tactic(auto, unfolding(wgsl_grammar_theory::specs::StatementRules::discard_statement_at), using(wgsl_grammar_theory::proofs::StatementEquations::discard_statement_is, wgsl_statement::proofs::StatementViews::is_discard))]
+pub fn parse_discard_statement(tokens: &mut Cursor) -> Result<Statement, Fault>
+    ensures value { Gives statement_view result (state tokens.new) (reader (of discard_statement) (state tokens.old)) }
+    ensures shorter { OnOk result (length (state tokens.new).rest < length (state tokens.old).rest) }
+{
+    tokens.expect(TokenKind::KwDiscard)?;
+    Ok(Statement::Discard(DiscardStatement {}))
+}
+
+/// A `const_assert`, without its `;`.
+#[tactic(auto, unfolding(wgsl_grammar_theory::specs::StatementRules::const_assert_at), using(wgsl_grammar_theory::proofs::StatementEquations::const_assert_is))]
+pub fn parse_const_assert(alloc: Global, tokens: &mut Cursor) -> Result<ConstAssert, Fault>
+    ensures value { Gives assert_view result (state tokens.new) (reader (of const_assert) (state tokens.old)) }
+    ensures shorter { OnOk result (length (state tokens.new).rest < length (state tokens.old).rest) }
+{
+    tokens.expect(TokenKind::KwConstAssert)?;
+    let expression = parse_expression(alloc, tokens)?;
+    Ok(ConstAssert { expression })
+}

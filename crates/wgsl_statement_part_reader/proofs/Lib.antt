@@ -1,0 +1,4 @@
+pub mod Heads
+pub mod Selectors
+pub mod Items
+pub mod TokenSpans

@@ -1,0 +1,122 @@
+//! The header of `for`.
+
+ghost use Rattle.std.specs.Prelude.{◌<◌, length, OnOk, option_map};
+ghost use Rattle.wgsl_model.specs.Symbols.{Symbol.for_init, Symbol.for_update};
+ghost use Rattle.wgsl_expression.specs.View.{expression_node_view};
+ghost use Rattle.wgsl_statement.specs.View.{statement_view, statement_node_view};
+ghost use Rattle.wgsl_grammar_theory.specs.Factored.{FactoredSymbol.of, FactoredSymbol.further, Further.init_part, Further.condition_part, Further.update_part};
+ghost use Rattle.wgsl_grammar_theory.specs.Reader.{reader};
+ghost use Rattle.wgsl_cursor.specs.Reading.{state, Gives};
+ghost use Rattle.wgsl_statement_part_reader.specs.Heads.{for_header_at};
+ghost use Rattle.wgsl_statement_part_reader.specs.Plain.{init_statement_at};
+
+use std::alloc::Global;
+use wgsl_cursor::{Cursor, Fault};
+use wgsl_expression::ExpressionNode;
+use wgsl_expression_reader::parse_expression;
+use wgsl_simple_statement_reader::{
+    begins_value_statement, parse_simple_statement, parse_value_statement, parse_var_statement,
+};
+use wgsl_span::Spanned;
+use wgsl_statement::{Statement, StatementNode};
+use wgsl_token::kind::TokenKind;
+
+/// What is done before the first turn of a `for`, its condition, and what is done after each turn.
+pub type ForHeader = (
+    Option<StatementNode>,
+    Option<ExpressionNode>,
+    Option<StatementNode>,
+);
+
+/// `for` and its header in parentheses.
+#[tactic(auto, unfolding(crate::specs::Heads::for_header_at))]
+pub fn parse_for_header(alloc: Global, tokens: &mut Cursor) -> Result<ForHeader, Fault>
+    ensures value { Gives (λ header. (option_map statement_node_view header.0, (option_map expression_node_view header.1, option_map statement_node_view header.2))) result (state tokens.new) (for_header_at (state tokens.old)) }
+    ensures shorter { OnOk result (length (state tokens.new).rest < length (state tokens.old).rest) }
+{
+    tokens.expect(TokenKind::KwFor)?;
+    tokens.expect(TokenKind::SymParenLeft)?;
+    let initializer = parse_init_part(alloc, tokens)?;
+    let condition = parse_condition_part(alloc, tokens)?;
+    let update = parse_update_part(alloc, tokens)?;
+    Ok((initializer, condition, update))
+}
+
+/// What is done before the first turn, if anything, and its `;`.
+#[tactic(auto, unfolding(wgsl_grammar_theory::specs::StatementRules::init_part_at, grammar::specs::States::take), using(wgsl_grammar_theory::proofs::StatementEquations::init_part_is))]
+fn parse_init_part(alloc: Global, tokens: &mut Cursor) -> Result<Option<StatementNode>, Fault>
+    ensures value { Gives (option_map statement_node_view) result (state tokens.new) (reader (further init_part) (state tokens.old)) }
+    ensures shorter { OnOk result (length (state tokens.new).rest < length (state tokens.old).rest) }
+{
+    if tokens.eat(TokenKind::SymSemicolon) {
+        return Ok(None);
+    }
+    let initializer = parse_for_init(alloc, tokens)?;
+    tokens.expect(TokenKind::SymSemicolon)?;
+    Ok(Some(initializer))
+}
+
+/// What is done before the first turn.
+#[tactic(auto, unfolding(wgsl_grammar_theory::specs::StatementRules::for_init_at, crate::specs::Plain::init_statement_at), using(wgsl_grammar_theory::proofs::StatementEquations::for_init_is))]
+fn parse_for_init(alloc: Global, tokens: &mut Cursor) -> Result<StatementNode, Fault>
+    ensures value { Gives statement_node_view result (state tokens.new) (reader (of for_init) (state tokens.old)) }
+    ensures shorter { OnOk result (length (state tokens.new).rest < length (state tokens.old).rest) }
+{
+    let start = tokens.start();
+    let statement = parse_init_statement(alloc, tokens)?;
+    Ok(Spanned::new(alloc, statement, tokens.span_from(start))?)
+}
+
+/// What is done before the first turn, without its place.
+#[tactic(auto, unfolding(crate::specs::Plain::init_statement_at))]
+fn parse_init_statement(alloc: Global, tokens: &mut Cursor) -> Result<Statement, Fault>
+    ensures value { Gives statement_view result (state tokens.new) (init_statement_at (state tokens.old)) }
+    ensures shorter { OnOk result (length (state tokens.new).rest < length (state tokens.old).rest) }
+{
+    if tokens.is_at(TokenKind::KwVar) {
+        return parse_var_statement(alloc, tokens);
+    }
+    if begins_value_statement(tokens) {
+        return parse_value_statement(alloc, tokens);
+    }
+    parse_simple_statement(alloc, tokens)
+}
+
+/// The condition, if there is one, and its `;`.
+#[tactic(auto, unfolding(wgsl_grammar_theory::specs::StatementRules::condition_part_at, grammar::specs::States::take), using(wgsl_grammar_theory::proofs::StatementEquations::condition_part_is))]
+fn parse_condition_part(alloc: Global, tokens: &mut Cursor) -> Result<Option<ExpressionNode>, Fault>
+    ensures value { Gives (option_map expression_node_view) result (state tokens.new) (reader (further condition_part) (state tokens.old)) }
+    ensures shorter { OnOk result (length (state tokens.new).rest < length (state tokens.old).rest) }
+{
+    if tokens.eat(TokenKind::SymSemicolon) {
+        return Ok(None);
+    }
+    let condition = parse_expression(alloc, tokens)?;
+    tokens.expect(TokenKind::SymSemicolon)?;
+    Ok(Some(condition))
+}
+
+/// What is done after each turn, if anything, and the `)`.
+#[tactic(auto, unfolding(wgsl_grammar_theory::specs::StatementRules::update_part_at, grammar::specs::States::take), using(wgsl_grammar_theory::proofs::StatementEquations::update_part_is))]
+fn parse_update_part(alloc: Global, tokens: &mut Cursor) -> Result<Option<StatementNode>, Fault>
+    ensures value { Gives (option_map statement_node_view) result (state tokens.new) (reader (further update_part) (state tokens.old)) }
+    ensures shorter { OnOk result (length (state tokens.new).rest < length (state tokens.old).rest) }
+{
+    if tokens.eat(TokenKind::SymParenRight) {
+        return Ok(None);
+    }
+    let update = parse_for_update(alloc, tokens)?;
+    tokens.expect(TokenKind::SymParenRight)?;
+    Ok(Some(update))
+}
+
+/// What is done after each turn.
+#[tactic(auto, unfolding(wgsl_grammar_theory::specs::StatementRules::for_update_at), using(wgsl_grammar_theory::proofs::StatementEquations::for_update_is))]
+fn parse_for_update(alloc: Global, tokens: &mut Cursor) -> Result<StatementNode, Fault>
+    ensures value { Gives statement_node_view result (state tokens.new) (reader (of for_update) (state tokens.old)) }
+    ensures shorter { OnOk result (length (state tokens.new).rest < length (state tokens.old).rest) }
+{
+    let start = tokens.start();
+    let update = parse_simple_statement(alloc, tokens)?;
+    Ok(Spanned::new(alloc, update, tokens.span_from(start))?)
+}

@@ -1,0 +1,70 @@
+//! What stands before a block or between its attributes and its statements.
+
+ghost use Rattle.std.specs.Prelude.{◌<◌, length, OnOk};
+ghost use Rattle.wgsl_token.specs.View.{class_of_kind};
+ghost use Rattle.wgsl_expression.specs.View.{expression_node_view};
+ghost use Rattle.wgsl_attribute.specs.View.{attributes_view};
+ghost use Rattle.wgsl_cursor.specs.Reading.{state, Gives};
+ghost use Rattle.wgsl_statement_part_reader.specs.Heads.{condition_at, block_start_at, block_start_after_at, switch_head_at};
+
+use std::alloc::Global;
+use wgsl_attribute::Attributes;
+use wgsl_attribute_reader::parse_attributes;
+use wgsl_cursor::{Cursor, Fault};
+use wgsl_expression::ExpressionNode;
+use wgsl_expression_reader::parse_expression;
+use wgsl_token::kind::TokenKind;
+
+/// A keyword and the condition behind it.
+#[tactic(auto, unfolding(crate::specs::Heads::condition_at))]
+pub fn parse_condition(
+    alloc: Global,
+    tokens: &mut Cursor,
+    keyword: TokenKind,
+) -> Result<ExpressionNode, Fault>
+    ensures value { Gives expression_node_view result (state tokens.new) (condition_at (class_of_kind keyword) (state tokens.old)) }
+    ensures shorter { OnOk result (length (state tokens.new).rest < length (state tokens.old).rest) }
+{
+    tokens.expect(keyword)?;
+    parse_expression(alloc, tokens)
+}
+
+/// Attributes and the `{` behind them.
+#[tactic(auto, unfolding(crate::specs::Heads::block_start_at))]
+pub fn parse_block_start(alloc: Global, tokens: &mut Cursor) -> Result<Attributes, Fault>
+    ensures value { Gives (λ attributes. attributes_view attributes.items) result (state tokens.new) (block_start_at (state tokens.old)) }
+    ensures shorter { OnOk result (length (state tokens.new).rest < length (state tokens.old).rest) }
+{
+    let attributes = parse_attributes(alloc, tokens)?;
+    tokens.expect(TokenKind::SymBraceLeft)?;
+    Ok(attributes)
+}
+
+/// A keyword, attributes, and the `{` behind them.
+#[tactic(auto, unfolding(crate::specs::Heads::block_start_after_at))]
+pub fn parse_block_start_after(
+    alloc: Global,
+    tokens: &mut Cursor,
+    keyword: TokenKind,
+) -> Result<Attributes, Fault>
+    ensures value { Gives (λ attributes. attributes_view attributes.items) result (state tokens.new) (block_start_after_at (class_of_kind keyword) (state tokens.old)) }
+    ensures shorter { OnOk result (length (state tokens.new).rest < length (state tokens.old).rest) }
+{
+    tokens.expect(keyword)?;
+    parse_block_start(alloc, tokens)
+}
+
+/// `switch`, its expression, the attributes of its body, and the `{` behind them.
+#[tactic(auto, unfolding(crate::specs::Heads::switch_head_at))]
+pub fn parse_switch_head(
+    alloc: Global,
+    tokens: &mut Cursor,
+) -> Result<(ExpressionNode, Attributes), Fault>
+    ensures value { Gives (λ head. (expression_node_view head.0, attributes_view head.1.items)) result (state tokens.new) (switch_head_at (state tokens.old)) }
+    ensures shorter { OnOk result (length (state tokens.new).rest < length (state tokens.old).rest) }
+{
+    tokens.expect(TokenKind::KwSwitch)?;
+    let expression = parse_expression(alloc, tokens)?;
+    let body_attributes = parse_block_start(alloc, tokens)?;
+    Ok((expression, body_attributes))
+}

@@ -1,0 +1,220 @@
+//! Printed texts, copies and equality of modules made by hand, and what their declarations do as nodes.
+
+use crate::nodes::{ident, integer, text};
+use std::alloc::{AllocError, Global};
+use std::test::Fail;
+use wgsl_attribute::{Attribute, AttributeNode};
+use wgsl_expression::{Expression, LiteralExpression, TypeExpression};
+use wgsl_named_values::{BuiltinValue, DiagnosticSeverity};
+use wgsl_span::{Span, Spanned};
+use wgsl_statement::{ConstAssert, Declaration, DeclarationKind, Statement};
+use wgsl_syntax_node::SyntaxNode;
+use wgsl_unit::{
+    DiagnosticDirective, EnableDirective, FormalParameter, Function, GlobalDeclaration,
+    GlobalDirective, RequiresDirective, Struct, StructMember, TranslationUnit, TypeAlias,
+};
+
+fn ty(alloc: Global, name: &str) -> Result<TypeExpression, AllocError> {
+    Ok(TypeExpression::new(ident(alloc, name)?))
+}
+
+fn node(alloc: Global, attribute: Attribute) -> Result<AttributeNode, AllocError> {
+    Spanned::with_default_span(alloc, attribute)
+}
+
+fn alias(alloc: Global) -> Result<TypeAlias, AllocError> {
+    Ok(TypeAlias::new(ident(alloc, "A")?, ty(alloc, "B")?))
+}
+
+fn constant(
+    alloc: Global,
+    name: &str,
+    value: LiteralExpression,
+) -> Result<GlobalDeclaration, AllocError> {
+    let value = Spanned::with_default_span(alloc, Expression::from(value))?;
+    Ok(GlobalDeclaration::from(Declaration {
+        attributes: Vec::new(alloc),
+        kind: DeclarationKind::Const,
+        ident: ident(alloc, name)?,
+        ty: None,
+        initializer: Some(value),
+    }))
+}
+
+/// A structure whose first member has an attribute, and whose second has a line end in its name.
+fn structure(alloc: Global) -> Result<Struct, Fail> {
+    let mut first = StructMember::new(alloc, ident(alloc, "a")?, ty(alloc, "f32")?);
+    first
+        .attributes
+        .push(node(alloc, Attribute::Align(integer(alloc, 4)?))?)?;
+    let second = StructMember::new(alloc, ident(alloc, "b\nc")?, ty(alloc, "T")?);
+    let mut structure = Struct::new(alloc, ident(alloc, "S")?);
+    let members = &mut structure.members;
+    members.push(Spanned::new(alloc, first, Span::new(2..5))?)?;
+    members.push(Spanned::new(alloc, second, Span::new(5..9))?)?;
+    Ok(structure)
+}
+
+/// A function with attributes on itself, its parameter and its result.
+fn function(alloc: Global) -> Result<Function, Fail> {
+    let mut parameter = FormalParameter::new(alloc, ident(alloc, "p")?, ty(alloc, "vec4f")?);
+    let position = node(alloc, Attribute::Builtin(BuiltinValue::Position))?;
+    parameter.attributes.push(position)?;
+    let mut function = Function::new(alloc, ident(alloc, "f")?);
+    function.attributes.push(node(alloc, Attribute::Fragment)?)?;
+    function.parameters.push(parameter)?;
+    let location = node(alloc, Attribute::Location(integer(alloc, 0)?))?;
+    function.return_attributes.push(location)?;
+    function.return_type = Some(ty(alloc, "vec4f")?);
+    Ok(function)
+}
+
+fn enable(alloc: Global, name: &str) -> Result<GlobalDirective, Fail> {
+    Ok(GlobalDirective::from(EnableDirective {
+        extensions: vec![in alloc; text(alloc, name)?]?,
+    }))
+}
+
+fn diagnostic(alloc: Global) -> Result<GlobalDirective, Fail> {
+    Ok(GlobalDirective::from(DiagnosticDirective {
+        severity: DiagnosticSeverity::Off,
+        rule_name: text(alloc, "x.y")?,
+    }))
+}
+
+/// A module with the declarations, each of which takes one byte from the place on.
+fn unit(
+    alloc: Global,
+    directives: Vec<GlobalDirective>,
+    declarations: Vec<GlobalDeclaration>,
+    place: u8,
+) -> Result<TranslationUnit, Fail> {
+    let start = place as usize;
+    let mut unit = TranslationUnit::new(alloc);
+    unit.global_directives = directives;
+    for declaration in declarations {
+        let node = Spanned::new(alloc, declaration, Span::new(start..start + 1))?;
+        unit.global_declarations.push(node)?;
+    }
+    Ok(unit)
+}
+
+/// A module with an empty declaration, an alias and a constant, at a place.
+fn placed(alloc: Global, place: u8) -> Result<TranslationUnit, Fail> {
+    let declarations = vec![in alloc;
+        GlobalDeclaration::Void,
+        GlobalDeclaration::from(alias(alloc)?),
+        constant(alloc, "N", LiteralExpression::AbstractInt(31))?,
+    ]?;
+    unit(alloc, Vec::new(alloc), declarations, place)
+}
+
+#[test]
+fn declarations(rt: HostRuntime) -> Result<(), Fail> {
+    let alloc = rt.alloc();
+    let assertion = ConstAssert::new(alloc, Expression::from(true))?;
+    let cases = vec![in alloc;
+        (GlobalDeclaration::Void, ";"),
+        (GlobalDeclaration::from(alias(alloc)?), "alias A = B;"),
+        (GlobalDeclaration::from(assertion), "const_assert true;"),
+        (
+            GlobalDeclaration::from(Struct::new(alloc, ident(alloc, "E")?)),
+            "struct E {\n\n}"
+        ),
+        (
+            GlobalDeclaration::from(structure(alloc)?),
+            "struct S {\n    @align(4)\n    a: f32,\n    b\n    c: T\n}"
+        ),
+        (
+            GlobalDeclaration::from(function(alloc)?),
+            "@fragment\nfn f(@builtin(position) p: vec4f) -> @location(0) vec4f {\n\n}"
+        ),
+    ]?;
+    for (declaration, text) in cases {
+        assert_eq!(rt; format!(in alloc; "{declaration}")?.as_str(), text);
+        assert!(rt; declaration.clone(alloc)? == declaration);
+    }
+    Ok(())
+}
+
+#[test]
+fn units(rt: HostRuntime) -> Result<(), Fail> {
+    let alloc = rt.alloc();
+    let required = GlobalDirective::from(RequiresDirective {
+        extensions: vec![in alloc; text(alloc, "a")?, text(alloc, "b")?]?,
+    });
+    let float = constant(
+        alloc,
+        "a",
+        LiteralExpression::AbstractFloat(text(alloc, "01.5")?),
+    )?;
+    let directives = vec![in alloc; enable(alloc, "f16")?, diagnostic(alloc)?]?;
+    let cases = vec![in alloc;
+        (TranslationUnit::new(alloc), "\n"),
+        (
+            unit(
+                alloc,
+                vec![in alloc; enable(alloc, "a")?]?,
+                Vec::new(alloc),
+                0
+            )?,
+            "enable a;\n\n\n"
+        ),
+        (
+            unit(alloc, vec![in alloc; required]?, Vec::new(alloc), 0)?,
+            "requires a, b;\n\n\n"
+        ),
+        (placed(alloc, 0)?, "alias A = B;\n\nconst N = 31;\n"),
+        (
+            unit(alloc, directives, vec![in alloc; float]?, 0)?,
+            "enable f16;\ndiagnostic (off, x.y);\n\nconst a = 01.5;\n"
+        ),
+    ]?;
+    for (unit, text) in cases {
+        assert_eq!(rt; format!(in alloc; "{unit}")?.as_str(), text);
+        assert!(rt; unit.clone(alloc)? == unit);
+    }
+    Ok(())
+}
+
+#[test]
+fn places(rt: HostRuntime) -> Result<(), Fail> {
+    let alloc = rt.alloc();
+    let here = placed(alloc, 0)?;
+    assert!(rt; here == placed(alloc, 7)?);
+    assert!(rt; here != TranslationUnit::new(alloc));
+    for node in &placed(alloc, 7)?.clone(alloc)?.global_declarations {
+        assert_eq!(rt; node.span(), Span::new(7..8));
+    }
+    Ok(())
+}
+
+#[test]
+fn empty_items(rt: HostRuntime) -> Result<(), Fail> {
+    let alloc = rt.alloc();
+    let mut emptied = function(alloc)?;
+    let empty = Spanned::with_default_span(alloc, Statement::Void)?;
+    emptied.body.statements.push(empty)?;
+    let declarations = vec![in alloc; GlobalDeclaration::Void, GlobalDeclaration::from(emptied)]?;
+    let mut made = unit(alloc, Vec::new(alloc), declarations, 0)?;
+    made.remove_voids();
+    let declarations = vec![in alloc; GlobalDeclaration::from(function(alloc)?)]?;
+    assert!(rt; made == unit(alloc, Vec::new(alloc), declarations, 0)?);
+    Ok(())
+}
+
+#[test]
+fn nodes(rt: HostRuntime) -> Result<(), Fail> {
+    let alloc = rt.alloc();
+    let mut function = function(alloc)?;
+    assert!(rt; function.ident(alloc)? == Some(ident(alloc, "f")?));
+    assert!(rt; function.contains_attribute(&Attribute::Fragment));
+    function.retain_attributes_mut(|_| false);
+    assert!(rt; function.attributes().is_empty());
+    assert!(rt; GlobalDeclaration::from(function).ident(alloc)? == Some(ident(alloc, "f")?));
+    assert!(rt; GlobalDeclaration::Void.ident(alloc)? == None);
+    let declaration = GlobalDeclaration::from(alias(alloc)?);
+    assert!(rt; declaration.is_type_alias());
+    assert!(rt; declaration.unwrap_type_alias() == alias(alloc)?);
+    Ok(())
+}
