@@ -125,7 +125,11 @@ impl Statement {
     pub fn unwrap_void(self)
         requires { IsTrue (is_void (statement_view self)) }
         ensures { self ≡ statement.Void }
-    {}
+    {
+        let Statement::Void = self else {
+            unreachable!()
+        };
+    }
 
     pub fn unwrap_compound(self) -> CompoundStatement
         requires { IsTrue (is_compound (statement_view self)) }

@@ -164,11 +164,5 @@ impl WhileStatement {
 fn remove_empty(statements: &mut Vec<StatementNode>)
     ensures { statements.new.items ≡ filter (λ node. not (printed.is_void (statement_view (spanned_node node)))) statements.old.items }
 {
-    statements.retain(|statement| !is_void(statement.node()));
-}
-
-fn is_void(statement: &Statement) -> bool
-    ensures { result ≡ printed.is_void (statement_view statement.now) }
-{
-    matches!(statement, Statement::Void)
+    statements.retain(|statement| !statement.node().is_void());
 }

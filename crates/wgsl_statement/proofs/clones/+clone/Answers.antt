@@ -3,7 +3,9 @@ use Rattle.std.proofs.lemmas.List.{take_all}
 use Rattle.wgsl_model.specs.Statements as plain
 use Rattle.wgsl_expression.specs.View.{expression_node_view}
 use Rattle.wgsl_statement.specs.declared.statement.Statement.TheViews as layers
+use Rattle.wgsl_statement.specs.declared.statement.Statement.{Statement}
 use Rattle.wgsl_statement.specs.View as V
+use Rattle.wgsl_statement.proofs.StatementViews.{is_compound, is_assignment, is_increment, is_decrement, is_if, is_switch, is_loop, is_for, is_while, is_break, is_continue, is_return, is_discard, is_function_call, is_const_assert, is_declaration}
 use Rattle.wgsl_statement.proofs.Views.{compound_statement_roll, compound_statement_out, if_statement_roll, if_statement_out, switch_statement_roll, switch_statement_out, loop_statement_roll, loop_statement_out, for_statement_roll, for_statement_out, switch_clause_roll, switch_clause_out, while_statement_roll, while_statement_out}
 use Rattle.wgsl_simple_statement.proofs.Copies.{attributes_shown, maybe_node_shown}
 use Rattle.wgsl_statement.proofs.Copies.{selectors_shown, node_more, item_more}
@@ -103,3 +105,51 @@ clone_clauses-clauses-preserved t c =
 
 pub clone_clauses-returns : goal.clone_clauses-returns
 clone_clauses-returns t c = c.clauses.invariant ∙ ap (map V.switch_clause_view) (take_all _ c.args.clauses.now c.clauses-test.false)
+
+pub StatementCloneWith::clone_with-returns-in_ok-clone_with-in-Compound : goal.StatementCloneWith::clone_with-returns-in_ok-clone_with-in-Compound
+StatementCloneWith::clone_with-returns-in_ok-clone_with-in-Compound t c = record { copy = is_compound _ ∙ ap plain.compound c.in_ok-clone_with-in-Compound.ensures.copy ∙ sym (ap (λ (s : Statement). V.statement_view s) c.in-Compound.is ∙ is_compound _) }
+
+pub StatementCloneWith::clone_with-returns-in_ok-clone_with-in-Assignment : goal.StatementCloneWith::clone_with-returns-in_ok-clone_with-in-Assignment
+StatementCloneWith::clone_with-returns-in_ok-clone_with-in-Assignment t c = record { copy = is_assignment _ ∙ ap plain.assignment c.in_ok-clone_with-in-Assignment.ensures.copy ∙ sym (ap (λ (s : Statement). V.statement_view s) c.in-Assignment.is ∙ is_assignment _) }
+
+pub StatementCloneWith::clone_with-returns-in_ok-clone_with-in-Increment : goal.StatementCloneWith::clone_with-returns-in_ok-clone_with-in-Increment
+StatementCloneWith::clone_with-returns-in_ok-clone_with-in-Increment t c = record { copy = is_increment _ ∙ ap plain.increment c.in_ok-clone_with-in-Increment.ensures.copy ∙ sym (ap (λ (s : Statement). V.statement_view s) c.in-Increment.is ∙ is_increment _) }
+
+pub StatementCloneWith::clone_with-returns-in_ok-clone_with-in-Decrement : goal.StatementCloneWith::clone_with-returns-in_ok-clone_with-in-Decrement
+StatementCloneWith::clone_with-returns-in_ok-clone_with-in-Decrement t c = record { copy = is_decrement _ ∙ ap plain.decrement c.in_ok-clone_with-in-Decrement.ensures.copy ∙ sym (ap (λ (s : Statement). V.statement_view s) c.in-Decrement.is ∙ is_decrement _) }
+
+pub StatementCloneWith::clone_with-returns-in_ok-clone_with-in-If : goal.StatementCloneWith::clone_with-returns-in_ok-clone_with-in-If
+StatementCloneWith::clone_with-returns-in_ok-clone_with-in-If t c = record { copy = is_if _ ∙ ap plain.if_statement c.in_ok-clone_with-in-If.ensures.copy ∙ sym (ap (λ (s : Statement). V.statement_view s) c.in-If.is ∙ is_if _) }
+
+pub StatementCloneWith::clone_with-returns-in_ok-clone_with-in-Switch : goal.StatementCloneWith::clone_with-returns-in_ok-clone_with-in-Switch
+StatementCloneWith::clone_with-returns-in_ok-clone_with-in-Switch t c = record { copy = is_switch _ ∙ ap plain.switch_statement c.in_ok-clone_with-in-Switch.ensures.copy ∙ sym (ap (λ (s : Statement). V.statement_view s) c.in-Switch.is ∙ is_switch _) }
+
+pub StatementCloneWith::clone_with-returns-in_ok-clone_with-in-Loop : goal.StatementCloneWith::clone_with-returns-in_ok-clone_with-in-Loop
+StatementCloneWith::clone_with-returns-in_ok-clone_with-in-Loop t c = record { copy = is_loop _ ∙ ap plain.loop_statement c.in_ok-clone_with-in-Loop.ensures.copy ∙ sym (ap (λ (s : Statement). V.statement_view s) c.in-Loop.is ∙ is_loop _) }
+
+pub StatementCloneWith::clone_with-returns-in_ok-clone_with-in-For : goal.StatementCloneWith::clone_with-returns-in_ok-clone_with-in-For
+StatementCloneWith::clone_with-returns-in_ok-clone_with-in-For t c = record { copy = is_for _ ∙ ap plain.for_statement c.in_ok-clone_with-in-For.ensures.copy ∙ sym (ap (λ (s : Statement). V.statement_view s) c.in-For.is ∙ is_for _) }
+
+pub StatementCloneWith::clone_with-returns-in_ok-clone_with-in-While : goal.StatementCloneWith::clone_with-returns-in_ok-clone_with-in-While
+StatementCloneWith::clone_with-returns-in_ok-clone_with-in-While t c = record { copy = is_while _ ∙ ap plain.while_statement c.in_ok-clone_with-in-While.ensures.copy ∙ sym (ap (λ (s : Statement). V.statement_view s) c.in-While.is ∙ is_while _) }
+
+pub StatementCloneWith::clone_with-returns-in_ok-clone_with-in-Break : goal.StatementCloneWith::clone_with-returns-in_ok-clone_with-in-Break
+StatementCloneWith::clone_with-returns-in_ok-clone_with-in-Break t c = record { copy = is_break _ ∙ sym (ap (λ (s : Statement). V.statement_view s) c.in-Break.is ∙ is_break _) }
+
+pub StatementCloneWith::clone_with-returns-in_ok-clone_with-in-Continue : goal.StatementCloneWith::clone_with-returns-in_ok-clone_with-in-Continue
+StatementCloneWith::clone_with-returns-in_ok-clone_with-in-Continue t c = record { copy = is_continue _ ∙ sym (ap (λ (s : Statement). V.statement_view s) c.in-Continue.is ∙ is_continue _) }
+
+pub StatementCloneWith::clone_with-returns-in_ok-clone_with-in-Return : goal.StatementCloneWith::clone_with-returns-in_ok-clone_with-in-Return
+StatementCloneWith::clone_with-returns-in_ok-clone_with-in-Return t c = record { copy = is_return _ ∙ ap plain.return_statement c.in_ok-clone_with-in-Return.ensures.copy ∙ sym (ap (λ (s : Statement). V.statement_view s) c.in-Return.is ∙ is_return _) }
+
+pub StatementCloneWith::clone_with-returns-in_ok-clone_with-in-Discard : goal.StatementCloneWith::clone_with-returns-in_ok-clone_with-in-Discard
+StatementCloneWith::clone_with-returns-in_ok-clone_with-in-Discard t c = record { copy = is_discard _ ∙ sym (ap (λ (s : Statement). V.statement_view s) c.in-Discard.is ∙ is_discard _) }
+
+pub StatementCloneWith::clone_with-returns-in_ok-clone_with-in-FunctionCall : goal.StatementCloneWith::clone_with-returns-in_ok-clone_with-in-FunctionCall
+StatementCloneWith::clone_with-returns-in_ok-clone_with-in-FunctionCall t c = record { copy = is_function_call _ ∙ ap plain.function_call_statement c.in_ok-clone_with-in-FunctionCall.ensures.copy ∙ sym (ap (λ (s : Statement). V.statement_view s) c.in-FunctionCall.is ∙ is_function_call _) }
+
+pub StatementCloneWith::clone_with-returns-in_ok-clone_with-in-ConstAssert : goal.StatementCloneWith::clone_with-returns-in_ok-clone_with-in-ConstAssert
+StatementCloneWith::clone_with-returns-in_ok-clone_with-in-ConstAssert t c = record { copy = is_const_assert _ ∙ ap plain.const_assert c.in_ok-clone_with-in-ConstAssert.ensures.copy ∙ sym (ap (λ (s : Statement). V.statement_view s) c.in-ConstAssert.is ∙ is_const_assert _) }
+
+pub StatementCloneWith::clone_with-returns-in_ok-clone_with-in-Declaration : goal.StatementCloneWith::clone_with-returns-in_ok-clone_with-in-Declaration
+StatementCloneWith::clone_with-returns-in_ok-clone_with-in-Declaration t c = record { copy = is_declaration _ ∙ ap plain.declaration c.in_ok-clone_with-in-Declaration.ensures.copy ∙ sym (ap (λ (s : Statement). V.statement_view s) c.in-Declaration.is ∙ is_declaration _) }
