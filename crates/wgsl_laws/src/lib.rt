@@ -1,14 +1,19 @@
 //! Laws of the definitions: each is the contract of a function that takes nothing and does nothing.
 #![tactic(auto)]
 
-ghost use Rattle.std.specs.Prelude.{◌≡◌, ◌⊎◌, ℕ, List, [], true, chars};
+ghost use Rattle.std.specs.Prelude.{◌≡◌, ◌⊎◌, ℕ, List, [], map, true, chars};
 ghost use Rattle.std.specs.Str.{is_utf8};
-ghost use Rattle.grammar.specs.Tokens.{Fault};
+ghost use Rattle.grammar.specs.Tokens.{Token, Fault};
+ghost use Rattle.grammar.specs.Grammar.{Mode.full, Derives};
 ghost use Rattle.wgsl_model.specs.Units.{TranslationUnit};
+ghost use Rattle.wgsl_model.specs.Symbols as symbols;
+ghost use Rattle.wgsl_model.specs.Written.{written};
+ghost use Rattle.wgsl_model.specs.EmptyItems.{full_unit};
+ghost use Rattle.wgsl_model.specs.StatementsWithoutSpans.{bare_unit};
 ghost use Rattle.wgsl_model.specs.PrintedUnits.{print_unit};
 ghost use Rattle.wgsl_model.specs.Program.{IsUnit, IsFaultOf, Formats, ReadsBack};
 ghost use Rattle.wgsl_model.specs.FirstPath.{IsOnFirstPath};
-ghost use Rattle.wgsl_theory.specs.Canonical.{canonical, HasTokens};
+ghost use Rattle.wgsl_canonical_theory.specs.CanonicalUnits.{canonical, without_place, HasTokens};
 
 /// Every text is a unit or has a named fault, never both, and each only once.
 pub fn unit_or_fault()
@@ -33,4 +38,9 @@ pub fn printed_tokens()
 pub fn print_twice()
     ensures unit { (source : List ℕ) (unit again : TranslationUnit) → IsUnit source unit → IsOnFirstPath unit → IsUnit (chars (print_unit unit)) again → print_unit again ≡ print_unit unit }
     ensures program { (source : List ℕ) (unit : TranslationUnit) → IsUnit source unit → IsOnFirstPath unit → Formats (print_unit unit) (record { status = 0; output = print_unit unit; errors = [] }) }
+{}
+
+/// Tokens with the kinds that are written from the tree of a derived module, wherever they stand, derive that module without its empty items, spans aside.
+pub fn canonical_parse()
+    ensures { (source : List ℕ) (unit : TranslationUnit) → IsUnit source unit → (ts : List Token) → map without_place ts ≡ canonical unit → (again : TranslationUnit) × Derives full written symbols.unit again ts × (bare_unit again ≡ bare_unit (full_unit unit)) }
 {}

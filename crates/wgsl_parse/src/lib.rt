@@ -66,10 +66,12 @@ pub mod parser {
 /// What holds of all texts and trees, as contracts of functions that do nothing.
 pub mod laws {
     pub use wgsl_grammar_laws::{checked_is_full, one_fault, one_name, one_tree};
-    pub use wgsl_laws::{print_twice, printed_parse, printed_tokens, unit_or_fault};
+    pub use wgsl_laws::{
+        canonical_parse, print_twice, printed_parse, printed_tokens, unit_or_fault,
+    };
     pub use wgsl_lexer::laws::{
         nothing_behind_the_end, one_list_left, one_token_list, tokens_in_order,
     };
     pub use wgsl_scanner::laws::longest_spelling;
-    pub use wgsl_tree_theory::{voids_twice, voids_unprinted};
+    pub use wgsl_tree_theory::{spans_unprinted, voids_twice, voids_unprinted};
 }

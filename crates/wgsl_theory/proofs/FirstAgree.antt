@@ -1,6 +1,6 @@
--- Of a derived unit the printed text, what is left without its empty declarations, and what is left without its spans are those of the parts that it has.
+-- Of a derived unit the printed text is that of the parts that it has.
 use Rattle.std.proofs.Common.{◌≡◌, Bool, true, false, refl, sym, ap, ap₂, List, [], ◌∷◌, ◌++◌, Option, Some, None, ◌∙◌, append_assoc, append-nil, cond, ℕ}
-use Rattle.std.specs.Prelude.{codes, map}
+use Rattle.std.specs.Prelude.{codes}
 use Rattle.std.specs.List.{flat_map}
 use Rattle.wgsl_model.specs.Spanned.{Spanned}
 use Rattle.wgsl_model.specs.Expressions.{ExpressionNode, expression_node, literal, type_expression, no_template, template, TypeExpression}
@@ -9,9 +9,6 @@ use Rattle.wgsl_model.specs.Units.{GlobalDeclaration, GlobalDeclaration.void, Gl
 use Rattle.wgsl_model.specs.Joining.{joined}
 use Rattle.wgsl_model.specs.PrintedUnits as printed
 use Rattle.wgsl_model.specs.PrintedDeclarations as printed_declaration
-use Rattle.wgsl_model.specs.EmptyItems.{full_declaration, full_declarations, full_unit}
-use Rattle.wgsl_model.specs.WithoutSpans.{no_span, bare_spanned}
-use Rattle.wgsl_model.specs.StatementsWithoutSpans.{bare_global_declaration, bare_unit}
 use Rattle.wgsl_theory.proofs.FirstPrinting as first
 use Rattle.wgsl_theory.proofs.Sound.{IsSound, AllSound, IsSoundInitializer, IsSoundType, constant, sound_constant}
 
@@ -51,12 +48,6 @@ void_same : (n : GlobalDeclaration) → printed.is_void n ≡ first.is_void n
 void_same void = refl
 void_same n = refl
 
-full_same : (n : GlobalDeclaration) → IsSound n → full_declaration n ≡ n
-full_same void h = refl
-full_same (declaration d) h = refl
-full_same (type_alias a) h = refl
-full_same n h = absurd h
-
 -- ---- all of them
 
 texts_kept : (b : Bool) (d : Spanned GlobalDeclaration) (text : List ℕ) (texts : List (List ℕ)) (ds : List (Spanned GlobalDeclaration)) → text ≡ first.print_global_declaration d.node → texts ≡ first.texts_of ds
@@ -69,40 +60,6 @@ texts_same [] h = refl
 texts_same (d ∷ ds) h =
     rw (void_same d.node) (texts_kept (first.is_void d.node) d (printed.print_global_declaration d.node) (printed.declaration_texts ds) (first.without_voids ds) (global_text d.node h.0) (texts_same ds h.1))
 
-declarations_kept : (b : Bool) (d e : Spanned GlobalDeclaration) (ds es : List (Spanned GlobalDeclaration)) → e ≡ d → es ≡ ds → cond b es (e ∷ es) ≡ cond b ds (d ∷ ds)
-declarations_kept true d e ds es same rest = rest
-declarations_kept false d e ds es same rest = ap₂ (λ (x : Spanned GlobalDeclaration) (xs : List (Spanned GlobalDeclaration)). x ∷ xs) same rest
-
-without_voids_same : (ds : List (Spanned GlobalDeclaration)) → AllSound ds → full_declarations ds ≡ first.without_voids ds
-without_voids_same [] h = refl
-without_voids_same (d ∷ ds) h =
-    rw (void_same d.node) (declarations_kept (first.is_void d.node) d (record d { node = full_declaration d.node }) (first.without_voids ds) (full_declarations ds)
-    (ap (λ (n : GlobalDeclaration). record d { node = n }) (full_same d.node h.0)) (without_voids_same ds h.1))
-
--- ---- without spans
-
-bare_initializer_same : (name : List ℕ) (i : Option ExpressionNode) → IsSoundInitializer i → bare_global_declaration (declaration (constant name i)) ≡ first.bare_declaration (declaration (constant name i))
-bare_initializer_same name None h = absurd h
-bare_initializer_same name (Some (expression_node (literal l) s)) h = refl
-bare_initializer_same name (Some (expression_node e s)) h = absurd h
-
-bare_alias_same : (name : List ℕ) (t : TypeExpression) → IsSoundType t → bare_global_declaration (type_alias (record { ident = name; ty = t })) ≡ type_alias (record { ident = name; ty = t })
-bare_alias_same name (type_expression type_name no_template) h = refl
-bare_alias_same name (type_expression type_name (template es)) h = absurd h
-
-bare_same : (n : GlobalDeclaration) → IsSound n → bare_global_declaration n ≡ first.bare_declaration n
-bare_same void h = refl
-bare_same (declaration d) h =
-    let same : d ≡ constant d.ident d.initializer = sound_constant d h in
-    ap (λ (c : Declaration). bare_global_declaration (declaration c)) same ∙ bare_initializer_same d.ident d.initializer h.value ∙ ap (λ (c : Declaration). first.bare_declaration (declaration c)) (sym same)
-bare_same (type_alias a) h = bare_alias_same a.ident a.ty h.1
-bare_same n h = absurd h
-
-bares_same : (ds : List (Spanned GlobalDeclaration)) → AllSound ds → map (bare_spanned bare_global_declaration) ds ≡ first.bare_declarations ds
-bares_same [] h = refl
-bares_same (d ∷ ds) h =
-    ap₂ (λ (n : GlobalDeclaration) (xs : List (Spanned GlobalDeclaration)). record { node = n; span = no_span } ∷ xs) (bare_same d.node h.0) (bares_same ds h.1)
-
 -- ---- units without directives
 
 module _ (u : TranslationUnit) (sound : AllSound u.global_declarations) (none : u.global_directives ≡ []) where
@@ -110,9 +67,3 @@ module _ (u : TranslationUnit) (sound : AllSound u.global_declarations) (none : 
   print_is =
       ap (λ x. printed.print_directives x ++ joined (codes "\n\n") (printed.declaration_texts u.global_declarations) ++ codes "\n") none
       ∙ ap (λ x. x ++ codes "\n") (same_joined (codes "\n\n") (printed.declaration_texts u.global_declarations) ∙ ap (first.joined (codes "\n\n")) (texts_same u.global_declarations sound))
-
-  pub full_is : full_unit u ≡ first.remove_voids u
-  full_is = ap (λ ds. record u { global_declarations = ds }) (without_voids_same u.global_declarations sound)
-
-  pub bare_is : bare_unit u ≡ first.bare u
-  bare_is = ap (λ ds. record u { global_declarations = ds }) (bares_same u.global_declarations sound)

@@ -3,7 +3,7 @@ use Rattle.std.proofs.Common.{◌≡◌, ℕ, true, refl, sym, ap, subst, List, 
 use Rattle.grammar.specs.Tokens.{Token, Span, span_between}
 use Rattle.grammar.specs.Grammar.{Grammar.symbol, Mode.full, Means, Chain, Chain.base, Chain.more, Part, is_among}
 use Rattle.grammar.specs.Notation.{◌▹◌, optional}
-use Rattle.grammar.proofs.Depth.{roll, unroll}
+use Rattle.grammar.proofs.Depth.{unroll}
 use Rattle.wgsl_model.specs.Classes.{SymColon, KwTrue, KwFalse, AbstractInt, I32, U32, AbstractFloat, F32, F16}
 use Rattle.wgsl_model.specs.Expressions.{LiteralExpression, ExpressionNode, expression_node, Expression, Expression.literal, TypeExpression, type_expression, no_template, template_of}
 use Rattle.wgsl_model.specs.Operators.{BinaryOperator}
@@ -24,10 +24,6 @@ Side g = Means full D g
 -- what a symbol derives, its right side derives
 pub opened : (n : Symbol) (v : Value n) (xs ys : List Token) → D n v xs ys → Side (written n) v xs ys
 opened = unroll full written
-
--- and back
-pub closed : (n : Symbol) (v : Value n) (xs ys : List Token) → Side (written n) v xs ys → D n v xs ys
-closed = roll full written
 
 -- ---- parts that may be absent
 
@@ -136,19 +132,6 @@ literal_derived v xs ys d h =
     let primary = at_singular v xs ys (opened singular_expression v xs ys singular) h in
     at_primary v xs ys (opened primary_expression v xs ys primary) h
 
--- and its token derives it
-pub literal_made : (t : Token) (xs ys : List Token) → is_among t.class literal_classes ≡ true → xs ≡ t ∷ ys → D expression (literal_node t xs ys) xs ys
-literal_made t xs ys m w =
-    let v = literal_node t xs ys in
-    let token = closed literal_symbol (literal_of t) xs ys (t, refl, (m, w)) in
-    let primary = closed primary_expression v xs ys (literal (literal_of t), refl, inr (inr (inl (literal_of t, refl, token)))) in
-    let singular = closed singular_expression v xs ys (base v ys primary) in
-    let unary = closed unary_expression v xs ys (inl singular) in
-    let product = closed multiplicative_expression v xs ys (base v ys unary) in
-    let sum = closed additive_expression v xs ys (base v ys product) in
-    let shift = closed shift_expression v xs ys (inl sum) in
-    closed expression v xs ys (inl (closed relational_expression v xs ys (inl shift)))
-
 -- ---- a type that is a name
 
 -- one token is this type
@@ -174,10 +157,6 @@ bare_derived t xs ys d h = of_parts (opened type_specifier t xs ys d)
           type_is = ap (λ (o : Option (List ExpressionNode)). type_of (p.0, o)) (sym none) ∙ e;
         }
 
--- and a name derives it
-pub bare_made : (name : Token) (xs ys : List Token) → D ident name xs ys → D type_specifier (type_expression (text_of name) no_template) xs ys
-bare_made name xs ys d = closed type_specifier _ xs ys ((name, None), refl, (ys, d, inr (refl, refl)))
-
 -- ---- a name without a type
 
 -- one token is this name
@@ -196,7 +175,3 @@ untyped_derived p xs ys d none = of_parts (opened typed_ident p xs ys d)
       derived = subst (D ident q.0 xs) (absent (SymColon ▹ symbol type_specifier) q.1 ms ys rest (ap (λ (r : List ℕ × Option TypeExpression). r.1) e ∙ none)) name;
       name_is = ap (λ (r : List ℕ × Option TypeExpression). r.0) e;
     }
-
--- and its token derives it
-pub untyped_made : (name : Token) (xs ys : List Token) → D ident name xs ys → D typed_ident (text_of name, None) xs ys
-untyped_made name xs ys d = closed typed_ident _ xs ys ((name, None), refl, (ys, d, inr (refl, refl)))

@@ -1,7 +1,6 @@
--- What is printed of the declarations that are read so far, without the parts that they never have; such a module without its empty declarations, and without its spans.
+-- What is printed of the declarations that are read so far, without the parts that they never have.
 use Rattle.std.specs.Prelude.{Bool, true, false, ℕ, List, [], ◌∷◌, ◌++◌, Option, Some, None, codes, if◌then◌else◌}
 use Rattle.std.specs.Fmt.{decimal, signed_decimal}
-use Rattle.grammar.specs.Tokens.{Span}
 use Rattle.wgsl_model.specs.Spanned.{Spanned}
 use Rattle.wgsl_model.specs.Expressions.{LiteralExpression, boolean, abstract_int, i32, u32, abstract_float, f32, f16, ExpressionNode, expression_node, Expression, literal, TypeExpression, type_expression}
 use Rattle.wgsl_model.specs.Statements.{DeclarationKind, const_kind, override_kind, let_kind, var_kind, Declaration}
@@ -82,30 +81,3 @@ texts_of (d ∷ ds) = print_global_declaration d.node ∷ texts_of ds
 -- the declarations that are not empty, with an empty line between them, and a line end
 abbrev pub print : TranslationUnit → List ℕ
 print u = joined (codes "\n\n") (texts_of (without_voids u.global_declarations)) ++ codes "\n"
-
--- the module without its empty declarations
-abbrev pub remove_voids : TranslationUnit → TranslationUnit
-remove_voids u = record { global_directives = u.global_directives; global_declarations = without_voids u.global_declarations }
-
--- the span that stands for every span
-abbrev pub no_span : Span
-no_span = record { start = 0; end = 0 }
-
--- an expression, if there is one, without its span
-abbrev pub bare_initializer : Option ExpressionNode → Option ExpressionNode
-bare_initializer None = None
-bare_initializer (Some (expression_node e s)) = Some (expression_node e no_span)
-
--- a declaration without the spans in it
-abbrev pub bare_declaration : GlobalDeclaration → GlobalDeclaration
-bare_declaration (declaration d) = declaration (record { attributes = d.attributes; kind = d.kind; ident = d.ident; ty = d.ty; initializer = bare_initializer d.initializer })
-bare_declaration d = d
-
--- declarations without spans
-abbrev pub bare_declarations : List (Spanned GlobalDeclaration) → List (Spanned GlobalDeclaration)
-bare_declarations [] = []
-bare_declarations (d ∷ ds) = record { node = bare_declaration d.node; span = no_span } ∷ bare_declarations ds
-
--- the module with its spans set aside
-abbrev pub bare : TranslationUnit → TranslationUnit
-bare u = record { global_directives = u.global_directives; global_declarations = bare_declarations u.global_declarations }

@@ -1,4 +1,4 @@
--- What rules with a sign before or behind a part derive, taken apart and put together.
+-- What rules with a sign before or behind a part derive, taken apart.
 use Rattle.std.proofs.Common.{◌≡◌, ℕ, Bool, true, false, cond, refl, subst, List, [], ◌∷◌}
 use Rattle.std.proofs.lemmas.Bool.{eqb-true}
 use lib.Dec.{eqb}
@@ -15,16 +15,6 @@ behind_token M D c g v xs ys d = (d.0.0, d.2.0, d.2.1.0, d.2.1.1, subst (λ w. M
 pub before_token : {N : Type 0} {Value : N → Type 0} (M : Mode) (D : (n : N) → Value n → List Token → List Token → Type 0) {A : Type 0} (c : ℕ) (g : Grammar N Value A) (v : A) (xs ys : List Token)
     → Means M D (g ◃ c) v xs ys → (t : Token) × (ms : List Token) × Means M D g v xs ms × (is_among t.class (c ∷ []) ≡ true) × (ms ≡ t ∷ ys)
 before_token M D c g v xs ys d = (d.0.1, d.2.0, subst (λ w. Means M D g w xs d.2.0) d.1 d.2.1, d.2.2.0, d.2.2.1)
-
--- the other way: such a part is derived
-pub put_before : {N : Type 0} {Value : N → Type 0} (M : Mode) (D : (n : N) → Value n → List Token → List Token → Type 0) {A : Type 0} (c : ℕ) (g : Grammar N Value A) (v : A) (t : Token) (xs ms ys : List Token)
-    → is_among t.class (c ∷ []) ≡ true → xs ≡ t ∷ ms → Means M D g v ms ys → Means M D (c ▹ g) v xs ys
-put_before M D c g v t xs ms ys h e d = ((t, v), refl, (ms, (h, e), d))
-
--- and a part before a token
-pub put_behind : {N : Type 0} {Value : N → Type 0} (M : Mode) (D : (n : N) → Value n → List Token → List Token → Type 0) {A : Type 0} (c : ℕ) (g : Grammar N Value A) (v : A) (t : Token) (xs ms ys : List Token)
-    → Means M D g v xs ms → is_among t.class (c ∷ []) ≡ true → ms ≡ t ∷ ys → Means M D (g ◃ c) v xs ys
-put_behind M D c g v t xs ms ys d h e = ((v, t), refl, (ms, d, (h, e)))
 
 -- a class of a list of two
 pub one_of_two : (c a b : ℕ) → is_among c (a ∷ b ∷ []) ≡ true → eqb c b ≡ false → c ≡ a

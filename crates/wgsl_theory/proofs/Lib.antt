@@ -13,10 +13,10 @@ pub mod FirstParts
 pub mod FirstPrinting
 pub mod Scanned
 pub mod Sound
+pub mod FirstTokens
 pub mod Printed
 pub mod Text
-pub mod Again
-pub mod Bare
 pub mod FirstAgree
 pub mod UnitOrFault
+pub mod PlainWords
 pub mod RoundTrip

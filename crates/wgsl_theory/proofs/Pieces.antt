@@ -11,7 +11,7 @@ use Rattle.wgsl_model.specs.TokenList.{TokensOf, at_end, at_fault, before_templa
 use Rattle.wgsl_model.specs.Templates.{TemplateRelation, NoTemplate, Enclosed, enclosed, TemplateUpTo}
 use Rattle.wgsl_model.specs.Classes.{SymLessThan}
 use Rattle.wgsl_model.specs.Trivia.{after_trivia}
-use Rattle.wgsl_theory.specs.Canonical.{without_place}
+use Rattle.wgsl_canonical_theory.specs.CanonicalUnits.{without_place}
 
 -- a character of blank space, or a word with its kind
 pub data Piece : Type 0 where
@@ -110,7 +110,3 @@ Begins (c ∷ cs) = (is_blank c ≡ false) × ((c == 47) ≡ false)
 pub stands : (w : List ℕ) (k : Kind) (rest : List ℕ) → Begins w → raw_at (w ++ rest) ≡ token k (w ++ rest) rest → Stands w k rest
 stands [] k rest b h = absurd b
 stands (c ∷ cs) k rest b h = raw_here c (cs ++ rest) b.0 b.1 ∙ h
-
-pub Begins-append : (w v : List ℕ) → Begins w → Begins (w ++ v)
-Begins-append [] v b = absurd b
-Begins-append (c ∷ cs) v b = b

@@ -9,7 +9,8 @@ use Rattle.wgsl_model.specs.Expressions.{LiteralExpression, boolean, ExpressionN
 use Rattle.wgsl_model.specs.Statements.{DeclarationKind, const_kind, override_kind, let_kind, var_kind, Declaration}
 use Rattle.wgsl_model.specs.Units.{TypeAlias, GlobalDeclaration, GlobalDeclaration.void, GlobalDeclaration.declaration, GlobalDeclaration.type_alias}
 use Rattle.wgsl_theory.proofs.FirstPrinting.{print_literal, is_void, without_voids}
-use Rattle.wgsl_theory.specs.Canonical.{literal_token, expression_tokens, type_tokens, kind_tokens, typed_tokens, initializer_tokens, declaration_tokens, global_declaration_tokens, all_tokens}
+use Rattle.wgsl_canonical_theory.specs.CanonicalExpressions.{literal_token}
+use Rattle.wgsl_theory.proofs.FirstTokens.{expression_tokens, type_tokens, kind_tokens, typed_tokens, initializer_tokens, declaration_tokens, global_declaration_tokens, all_tokens}
 use Rattle.wgsl_theory.proofs.Separated.{IsClosed, space_closes, semicolon_closes, line_closes, text_stands}
 use Rattle.wgsl_theory.proofs.Words.{alias_stands, const_stands, equal_stands, semicolon_stands}
 use Rattle.wgsl_theory.proofs.Scanned.{IsName}

@@ -26,7 +26,8 @@ use Rattle.wgsl_model.specs.Templates.{TemplateRelation, Inside, at_greater, at_
 use Rattle.wgsl_model.specs.TokenValues as values
 use Rattle.wgsl_model.specs.TokenValues.{literal_of}
 use Rattle.wgsl_model.specs.Trivia.{after_trivia, outside}
-use Rattle.wgsl_theory.specs.Canonical.{without_place, literal_token}
+use Rattle.wgsl_canonical_theory.specs.CanonicalExpressions.{literal_token}
+use Rattle.wgsl_canonical_theory.specs.CanonicalUnits.{without_place}
 use Rattle.wgsl_theory.proofs.FirstParts.{literal_classes}
 use Rattle.wgsl_theory.proofs.FirstPrinting.{print_literal}
 use Rattle.wgsl_theory.proofs.Characters.{xid_start-not_blank}

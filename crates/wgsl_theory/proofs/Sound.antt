@@ -20,7 +20,7 @@ use Rattle.wgsl_model.specs.Faults.{reserved_word}
 use Rattle.wgsl_model.specs.Program.{IsUnit}
 use Rattle.wgsl_model.specs.FirstPath.{IsPlainConstant, IsOnPath, IsOnFirstPath}
 use Rattle.wgsl_model.specs.TokenList.{width}
-use Rattle.wgsl_theory.specs.Canonical.{without_place}
+use Rattle.wgsl_canonical_theory.specs.CanonicalUnits.{without_place}
 use Rattle.wgsl_theory.proofs.Scanned.{IsName, IsSoundLiteral, IsScanned, AllScanned, tokens_scanned}
 use Rattle.wgsl_theory.proofs.Forms.{behind_token, before_token, one_of_two}
 use Rattle.wgsl_theory.proofs.FirstParts.{D, Side, opened, LiteralToken, literal_derived, bare_derived, untyped_derived}

@@ -42,7 +42,7 @@ pub record Cut (q : ℕ → Bool) (k : List ℕ → Bool) (text : List ℕ) : Ty
   pub passes : k rest ≡ true
 
 -- one of two tests is passed
-by_either : {X : Type 0} (x y : Bool) → (x || y) ≡ true → (x ≡ true → X) → (y ≡ true → X) → X
+pub by_either : {X : Type 0} (x y : Bool) → (x || y) ≡ true → (x ≡ true → X) → (y ≡ true → X) → X
 by_either true y e f g = f refl
 by_either false y e f g = g e
 

@@ -12,7 +12,7 @@ use Rattle.wgsl_model.specs.Expressions.{ExpressionNode, expression_node, Expres
 use Rattle.wgsl_model.specs.Statements.{DeclarationKind, const_kind, Declaration}
 use Rattle.wgsl_model.specs.Units.{GlobalDeclaration, GlobalDeclaration.void, GlobalDeclaration.declaration, GlobalDeclaration.type_alias}
 use Rattle.wgsl_theory.proofs.FirstPrinting.{joined, print_literal, print_expression, print_kind, print_typed, print_initializer, print_declaration, print_type_alias, print_global_declaration, texts_of}
-use Rattle.wgsl_theory.specs.Canonical.{literal_token}
+use Rattle.wgsl_canonical_theory.specs.CanonicalExpressions.{literal_token}
 use Rattle.wgsl_theory.proofs.Separated.{IsSpelled}
 use Rattle.wgsl_theory.proofs.Scanned.{IsName}
 use Rattle.wgsl_theory.proofs.Pieces.{Piece, blank, render, render-append}

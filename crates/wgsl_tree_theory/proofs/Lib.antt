@@ -1,3 +1,6 @@
 mod Twice
 mod Printed
-mod Modules
+pub mod Modules
+mod Spans
+mod SpansStatements
+pub mod SpansUnits

@@ -1,10 +1,14 @@
-//! Laws of the trees without their empty items.
+//! Laws of the trees without their empty items, and without their spans.
 #![tactic(auto)]
 
 ghost use Rattle.std.specs.Prelude.{◌≡◌};
+ghost use Rattle.wgsl_model.specs.Expressions.{Expression};
 ghost use Rattle.wgsl_model.specs.Statements.{Statement, CompoundStatement};
 ghost use Rattle.wgsl_model.specs.Units.{GlobalDeclaration, TranslationUnit};
 ghost use Rattle.wgsl_model.specs.EmptyItems.{full_statement, full_compound, full_declaration, full_unit};
+ghost use Rattle.wgsl_model.specs.WithoutSpans.{bare_expression};
+ghost use Rattle.wgsl_model.specs.StatementsWithoutSpans.{bare_statement, bare_compound, bare_global_declaration, bare_unit};
+ghost use Rattle.wgsl_model.specs.PrintedExpressions.{print_expression};
 ghost use Rattle.wgsl_model.specs.PrintedStatements.{print_statement, print_compound};
 ghost use Rattle.wgsl_model.specs.PrintedUnits.{print_global_declaration, print_unit};
 
@@ -22,4 +26,13 @@ pub fn voids_unprinted()
     ensures block { (b : CompoundStatement) → print_compound (full_compound b) ≡ print_compound b }
     ensures declaration { (d : GlobalDeclaration) → print_global_declaration (full_declaration d) ≡ print_global_declaration d }
     ensures unit { (u : TranslationUnit) → print_unit (full_unit u) ≡ print_unit u }
+{}
+
+/// The printed text is the same with the spans set aside.
+pub fn spans_unprinted()
+    ensures expression { (e : Expression) → print_expression (bare_expression e) ≡ print_expression e }
+    ensures statement { (s : Statement) → print_statement (bare_statement s) ≡ print_statement s }
+    ensures block { (b : CompoundStatement) → print_compound (bare_compound b) ≡ print_compound b }
+    ensures declaration { (d : GlobalDeclaration) → print_global_declaration (bare_global_declaration d) ≡ print_global_declaration d }
+    ensures unit { (u : TranslationUnit) → print_unit (bare_unit u) ≡ print_unit u }
 {}

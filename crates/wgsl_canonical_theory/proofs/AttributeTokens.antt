@@ -1,0 +1,214 @@
+-- Attributes are written as their names and arguments.
+use Rattle.std.proofs.Common.{◌≡◌, ℕ, Bool, true, false, cond, List, [], ◌∷◌, ◌++◌, Option, Some, None, refl, sym, ap, subst, ◌∙◌}
+use Rattle.std.specs.Prelude.{codes, bytes_eq, option_map}
+use Rattle.std.proofs.lemmas.Slice.Eq.{bytes_eq-Decides}
+use Rattle.wgsl_model.specs.Classes.{SymComma, SymOr, SymParenRight, TemplateArgsStart, TemplateArgsEnd}
+use Rattle.wgsl_model.specs.Kind.{Kind, plain}
+use Rattle.wgsl_model.specs.Raw.{word_of}
+use Rattle.wgsl_model.specs.Words.{look_up}
+use Rattle.wgsl_model.specs.Operators.{bitwise_or}
+use Rattle.wgsl_model.specs.NamedValues.{WordTable, DiagnosticSeverity, severities, AccessMode, access_modes, AddressSpace, AddressSpace.storage, address_spaces, InterpolationType, interpolation_types, InterpolationSampling, interpolation_samplings, builtin_values}
+use Rattle.wgsl_model.specs.NamedValueTexts.{address_space_text}
+use Rattle.wgsl_model.specs.Expressions.{ExpressionNode, expression_node, Expression, binary, type_or_identifier, TypeExpression}
+use Rattle.wgsl_model.specs.Attributes.{Attribute, align, binding, blend_src, group, id, location, size, if_attribute, elif_attribute, builtin, const_attribute, invariant, must_use, vertex, fragment, compute, else_attribute, diagnostic, interpolate, workgroup_size, type_constraint, custom}
+use Rattle.wgsl_model.specs.Checks.{Checked, right, right_or, bare_word, bare_name, rule_name, variants, variants_in, space_in_template, space_and_mode, Arguments, with_one, with_none, builtin_attribute, severity_and_rule, diagnostic_attribute, type_and_sampling, interpolate_attribute, workgroup_size_attribute, name_and_variants, type_attribute, attribute_names, named_attribute, AttributeParts, attribute_of}
+use Rattle.wgsl_canonical_theory.specs.CanonicalExpressions.{optional_tokens, expression_tokens, expression_node_tokens, type_tokens}
+use Rattle.wgsl_canonical_theory.specs.CanonicalAttributes.{types_tokens, further_types_tokens, arguments_tokens, one_argument_tokens, named_attribute_tokens}
+use Rattle.wgsl_canonical_theory.specs.CanonicalStatements.{var_template_tokens}
+use Rattle.wgsl_canonical_theory.proofs.Again.{template_list_tokens}
+use Rattle.wgsl_canonical_theory.proofs.NamedWords.{bare_name_tokens, severity_tokens, access_mode_tokens, address_space_tokens, interpolation_type_tokens, interpolation_sampling_tokens, builtin_value_tokens}
+use Rattle.wgsl_canonical_theory.proofs.RuleNames.{PlainArguments, rule_name_tokens}
+
+-- ---- types with `|` between each two
+further_behind : (ts : List TypeExpression) (t : TypeExpression) (rest : List Kind) → further_types_tokens (ts ++ (t ∷ [])) rest ≡ further_types_tokens ts (plain SymOr ∷ type_tokens t rest)
+further_behind [] t rest = refl
+further_behind (x ∷ ts) t rest = ap (λ (z : List Kind). plain SymOr ∷ type_tokens x z) (further_behind ts t rest)
+
+-- there is one at least, and they are written as their expression
+record WritesTypes (e : Expression) (types : List TypeExpression) : Type 0 where
+  first : TypeExpression
+  others : List TypeExpression
+  whole : types ≡ first ∷ others
+  tokens : (rest : List Kind) → expression_tokens e rest ≡ types_tokens types rest
+
+variants_in_tokens : (e : Expression) (types : List TypeExpression) → variants_in e ≡ Some types → WritesTypes e types
+variants_in_tokens (type_or_identifier t) types h = let same : t ∷ [] ≡ types = cc in subst (WritesTypes (type_or_identifier t)) same (record { first = t; others = []; whole = refl; tokens = λ rest. refl })
+variants_in_tokens (binary bitwise_or (expression_node left s) (expression_node (type_or_identifier t) u)) types h = at (λ ts q. variants_in_tokens left ts q) (variants_in left) refl h where
+  whole : Expression
+  whole = binary bitwise_or (expression_node left s) (expression_node (type_or_identifier t) u)
+
+  at : ((ts : List TypeExpression) → variants_in left ≡ Some ts → WritesTypes left ts) → (o : Option (List TypeExpression)) → variants_in left ≡ o → option_map (λ (ts : List TypeExpression). ts ++ (t ∷ [])) o ≡ Some types → WritesTypes whole types
+  at before None q g = absurd (cc)
+  at before (Some ts) q g =
+      let same : ts ++ (t ∷ []) ≡ types = cc in
+      let found = before ts q in
+      let longer : types ≡ found.first ∷ (found.others ++ (t ∷ [])) = sym same ∙ ap (λ (z : List TypeExpression). z ++ (t ∷ [])) found.whole in
+      record {
+        first = found.first;
+        others = found.others ++ (t ∷ []);
+        whole = longer;
+        tokens = λ rest. found.tokens (plain SymOr ∷ type_tokens t rest) ∙ ap (λ (z : List TypeExpression). types_tokens z (plain SymOr ∷ type_tokens t rest)) found.whole
+            ∙ ap (λ (z : List Kind). type_tokens found.first z) (sym (further_behind found.others t rest)) ∙ ap (λ (z : List TypeExpression). types_tokens z rest) (sym longer);
+      }
+variants_in_tokens e types h = absurd (cc)
+
+variants_tokens : (e : ExpressionNode) (types : List TypeExpression) → variants e ≡ Some types → (rest : List Kind) → expression_node_tokens e rest ≡ types_tokens types rest
+variants_tokens (expression_node e s) types h rest = (variants_in_tokens e types h).tokens rest
+
+-- what is right is there
+right_there : {A B : Type 0} (o : Option A) (f : A → B) (text : List ℕ) (b : B) → right_or o f text ≡ right b → (x : A) × (o ≡ Some x) × (f x ≡ b)
+right_there None f text b h = absurd (cc)
+right_there (Some x) f text b h = (x, refl, cc)
+
+-- ---- `var` templates
+pub space_tokens : (es : List ExpressionNode) (p : AddressSpace × Option AccessMode) → space_in_template es ≡ right p → (rest : List Kind) → var_template_tokens p rest ≡ template_list_tokens es rest
+space_tokens [] p h rest = absurd (cc)
+space_tokens (e ∷ []) p h rest =
+    let found = right_there (bare_word address_spaces e) (λ space. (space, None)) (codes "invalid address space") p h in
+    rw (← found.2, address_space_tokens e found.0 found.1 (plain TemplateArgsEnd ∷ rest)) refl
+space_tokens (e ∷ (m ∷ [])) p h rest = at (bare_word address_spaces e) refl h where
+  at : (o : Option AddressSpace) → bare_word address_spaces e ≡ o → space_and_mode o m ≡ right p → var_template_tokens p rest ≡ template_list_tokens (e ∷ (m ∷ [])) rest
+  at (Some storage) f h =
+      let found = right_there (bare_word access_modes m) (λ mode. (storage, Some mode)) (codes "invalid access mode") p h in
+      let first = address_space_tokens e storage f (plain SymComma ∷ expression_node_tokens m (plain TemplateArgsEnd ∷ rest)) in
+      let second = access_mode_tokens m found.0 found.1 (plain TemplateArgsEnd ∷ rest) in
+      ap (λ (z : AddressSpace × Option AccessMode). var_template_tokens z rest) (sym found.2)
+      ∙ sym (ap (λ (z : List Kind). plain TemplateArgsStart ∷ z) (first ∙ ap (λ (z : List Kind). word_of (address_space_text storage) ∷ (plain SymComma ∷ z)) second))
+  at o f h = absurd (cc)
+space_tokens (e ∷ (m ∷ (n ∷ es))) p h rest = absurd (cc)
+
+-- ---- what a name makes of its arguments
+-- it is written as that name and these arguments
+abbrev WritesName : List ℕ → (Arguments → Checked Attribute) → Type 0
+WritesName name f = (x : Arguments) → PlainArguments x → (a : Attribute) → f x ≡ right a → (rest : List Kind) → named_attribute_tokens a rest ≡ word_of name ∷ optional_tokens arguments_tokens x rest
+
+one_written : (name : List ℕ) (f : ExpressionNode → Attribute) → ((e : ExpressionNode) (rest : List Kind) → named_attribute_tokens (f e) rest ≡ one_argument_tokens name e rest) → WritesName name (with_one f)
+one_written name f h (Some (e ∷ [])) p a q rest = let same : f e ≡ a = cc in ap (λ (z : Attribute). named_attribute_tokens z rest) (sym same) ∙ h e rest
+one_written name f h x p a q rest = absurd (cc)
+
+none_written : (name : List ℕ) (b : Attribute) → ((rest : List Kind) → named_attribute_tokens b rest ≡ word_of name ∷ rest) → WritesName name (with_none b)
+none_written name b h None p a q rest = let same : b ≡ a = cc in ap (λ (z : Attribute). named_attribute_tokens z rest) (sym same) ∙ h rest
+none_written name b h x p a q rest = absurd (cc)
+
+size_written : WritesName (codes "workgroup_size") workgroup_size_attribute
+size_written (Some (x ∷ [])) p a q rest = let same : workgroup_size (record { x = x; y = None; z = None }) ≡ a = cc in ap (λ (z : Attribute). named_attribute_tokens z rest) (sym same)
+size_written (Some (x ∷ (y ∷ []))) p a q rest = let same : workgroup_size (record { x = x; y = Some y; z = None }) ≡ a = cc in ap (λ (z : Attribute). named_attribute_tokens z rest) (sym same)
+size_written (Some (x ∷ (y ∷ (z ∷ [])))) p a q rest = let same : workgroup_size (record { x = x; y = Some y; z = Some z }) ≡ a = cc in ap (λ (z : Attribute). named_attribute_tokens z rest) (sym same)
+size_written x p a q rest = absurd (cc)
+
+builtin_written : WritesName (codes "builtin") builtin_attribute
+builtin_written (Some (e ∷ [])) p a q rest =
+    let found = right_there (bare_word builtin_values e) builtin (codes "the argument is not a valid built-in value name") a q in
+    rw (← found.2, builtin_value_tokens e found.0 found.1 (plain SymParenRight ∷ rest)) refl
+builtin_written x p a q rest = absurd (cc)
+
+diagnostic_written : WritesName (codes "diagnostic") diagnostic_attribute
+diagnostic_written (Some (e ∷ (r ∷ []))) p a q rest = at (bare_word severities e) (rule_name r) refl refl q where
+  at : (o : Option DiagnosticSeverity) (m : Option (List ℕ)) → bare_word severities e ≡ o → rule_name r ≡ m → severity_and_rule o m ≡ right a
+      → named_attribute_tokens a rest ≡ word_of (codes "diagnostic") ∷ arguments_tokens (e ∷ (r ∷ [])) rest
+  at (Some severity) (Some rule) f g h =
+      let same : diagnostic (record { severity = severity; rule = rule }) ≡ a = cc in
+      let second : List Kind = plain SymComma ∷ expression_node_tokens r (plain SymParenRight ∷ rest) in
+      rw (← same, severity_tokens e severity f second, rule_name_tokens r rule g p.1.0 (plain SymParenRight ∷ rest)) refl
+  at o m f g h = absurd (cc)
+diagnostic_written x p a q rest = absurd (cc)
+
+interpolate_written : WritesName (codes "interpolate") interpolate_attribute
+interpolate_written (Some (e ∷ [])) p a q rest =
+    let found = right_there (bare_word interpolation_types e) (λ ty. interpolate (record { ty = ty; sampling = None })) (codes "invalid arguments") a q in
+    rw (← found.2, interpolation_type_tokens e found.0 found.1 (plain SymParenRight ∷ rest)) refl
+interpolate_written (Some (e ∷ (s ∷ []))) p a q rest = at (bare_word interpolation_types e) (bare_word interpolation_samplings s) refl refl q where
+  at : (o : Option InterpolationType) (m : Option InterpolationSampling) → bare_word interpolation_types e ≡ o → bare_word interpolation_samplings s ≡ m → type_and_sampling o m ≡ right a
+      → named_attribute_tokens a rest ≡ word_of (codes "interpolate") ∷ arguments_tokens (e ∷ (s ∷ [])) rest
+  at (Some ty) (Some sampling) f g h =
+      let same : interpolate (record { ty = ty; sampling = Some sampling }) ≡ a = cc in
+      let second : List Kind = plain SymComma ∷ expression_node_tokens s (plain SymParenRight ∷ rest) in
+      rw (← same, interpolation_type_tokens e ty f second, interpolation_sampling_tokens s sampling g (plain SymParenRight ∷ rest)) refl
+  at o m f g h = absurd (cc)
+interpolate_written x p a q rest = absurd (cc)
+
+type_written : WritesName (codes "type") type_attribute
+type_written (Some (t ∷ (c ∷ []))) p a q rest = at (bare_name t) (variants c) refl refl q where
+  at : (o : Option (List ℕ)) (m : Option (List TypeExpression)) → bare_name t ≡ o → variants c ≡ m → name_and_variants o m ≡ right a
+      → named_attribute_tokens a rest ≡ word_of (codes "type") ∷ arguments_tokens (t ∷ (c ∷ [])) rest
+  at (Some name) (Some types) f g h =
+      let same : type_constraint (record { ident = name; variants = types }) ≡ a = cc in
+      let second : List Kind = plain SymComma ∷ expression_node_tokens c (plain SymParenRight ∷ rest) in
+      rw (← same, bare_name_tokens t name f second, variants_tokens c types g (plain SymParenRight ∷ rest)) refl
+  at o m f g h = absurd (cc)
+type_written x p a q rest = absurd (cc)
+
+-- ---- the names
+abbrev WritesNames : WordTable (Arguments → Checked Attribute) → Type 0
+WritesNames [] = Unit {0}
+WritesNames (entry ∷ entries) = WritesName entry.0 entry.1 × WritesNames entries
+
+names_written : WritesNames attribute_names
+names_written = (
+  one_written (codes "align") align (λ e rest. refl),
+  (
+    one_written (codes "binding") binding (λ e rest. refl),
+    (
+      one_written (codes "blend_src") blend_src (λ e rest. refl),
+      (
+        one_written (codes "group") group (λ e rest. refl),
+        (
+          one_written (codes "id") id (λ e rest. refl),
+          (
+            one_written (codes "location") location (λ e rest. refl),
+            (
+              one_written (codes "size") size (λ e rest. refl),
+              (
+                one_written (codes "if") if_attribute (λ e rest. refl),
+                (
+                  one_written (codes "elif") elif_attribute (λ e rest. refl),
+                  (
+                    none_written (codes "const") const_attribute (λ rest. refl),
+                    (
+                      none_written (codes "invariant") invariant (λ rest. refl),
+                      (
+                        none_written (codes "must_use") must_use (λ rest. refl),
+                        (
+                          none_written (codes "vertex") vertex (λ rest. refl),
+                          (
+                            none_written (codes "fragment") fragment (λ rest. refl),
+                            (
+                              none_written (codes "compute") compute (λ rest. refl),
+                              (
+                                none_written (codes "else") else_attribute (λ rest. refl),
+                                (
+                                  builtin_written,
+                                  (diagnostic_written, (interpolate_written, (size_written, (type_written, tt)))),
+                                ),
+                              ),
+                            ),
+                          ),
+                        ),
+                      ),
+                    ),
+                  ),
+                ),
+              ),
+            ),
+          ),
+        ),
+      ),
+    ),
+  ),
+)
+
+-- any other name is kept with its arguments
+name_written : (table : WordTable (Arguments → Checked Attribute)) → WritesNames table → (name : List ℕ) → WritesName name (named_attribute (look_up table name) name)
+name_written [] n name x p a q rest = let same : custom (record { name = name; arguments = x }) ≡ a = cc in ap (λ (z : Attribute). named_attribute_tokens z rest) (sym same)
+name_written (entry ∷ entries) n name x p a q rest = at (name_written entries n.1 name x p a) (bytes_eq entry.0 name) refl q where
+  Writes : Type 0
+  Writes = (rest : List Kind) → named_attribute_tokens a rest ≡ word_of name ∷ optional_tokens arguments_tokens x rest
+
+  at : (named_attribute (look_up entries name) name x ≡ right a → Writes) → (b : Bool) → bytes_eq entry.0 name ≡ b → named_attribute (cond b (Some entry.1) (look_up entries name)) name x ≡ right a
+      → named_attribute_tokens a rest ≡ word_of name ∷ optional_tokens arguments_tokens x rest
+  at others true e h = n.0 x p a h rest ∙ ap (λ (z : List ℕ). word_of z ∷ optional_tokens arguments_tokens x rest) ((bytes_eq-Decides entry.0 name).0 e)
+  at others false e h = others h rest
+
+-- an attribute is written as its name and its arguments
+pub attribute_written : (parts : AttributeParts) (a : Attribute) → PlainArguments parts.arguments → attribute_of parts ≡ right a → (rest : List Kind) → named_attribute_tokens a rest ≡ word_of parts.name ∷ optional_tokens arguments_tokens parts.arguments rest
+attribute_written parts a p h rest = name_written attribute_names names_written parts.name parts.arguments p a h rest

@@ -1,0 +1,307 @@
+-- What the rules of statements derive is read again. The rules with attributes take what is proved of one attribute.
+use Rattle.std.proofs.Common.{◌≡◌, ℕ, true, List, [], ◌∷◌, Option, Some, refl, ap, subst, ◌∙◌, inl, inr}
+use Rattle.grammar.specs.Tokens.{Token}
+use Rattle.grammar.specs.Grammar.{Grammar.symbol, Mode.full, Chain.base, Means, is_among}
+use Rattle.grammar.specs.Notation.{one_token, ◌then◌, ◌or◌, ◌gives◌, ◌makes◌, ◌▹◌, ◌◃◌, ◌means◌, optional, list}
+use Rattle.grammar.proofs.Depth.{roll}
+use Rattle.wgsl_model.specs.Classes.{SymBraceLeft, SymBraceRight, SymColon, SymComma, SymMinusMinus, SymParenLeft, SymParenRight, SymPlusPlus, SymSemicolon, SymUnderscore, KwBreak, KwCase, KwConst, KwConstAssert, KwContinue, KwContinuing, KwDefault, KwDiscard, KwFor, KwIf, KwLet, KwLoop, KwReturn, KwSwitch, KwWhile}
+use Rattle.wgsl_model.specs.Kind.{plain}
+use Rattle.wgsl_model.specs.Operators.{AssignmentOperator.equal}
+use Rattle.wgsl_model.specs.Statements as tree
+use Rattle.wgsl_model.specs.Statements.{DeclarationKind, DeclarationKind.let_kind, DeclarationKind.const_kind, CompoundStatement, Statement, StatementNode.statement_node, SwitchClause, CaseSelector, CaseSelector.default_selector, CaseSelector.expression_selector}
+use Rattle.wgsl_model.specs.StatementParts.{underscore_at, clause_of}
+use Rattle.wgsl_model.specs.WithoutSpans.{no_span, bare_expression_node}
+use Rattle.wgsl_model.specs.StatementsWithoutSpans.{bare_statement, bare_compound, bare_switch_clause}
+use Rattle.wgsl_model.specs.EmptyItems.{full_statement, full_compound, full_switch_clause}
+use Rattle.wgsl_model.specs.Symbols.{Symbol.compound_statement, Symbol.statement, Symbol.return_statement, Symbol.if_statement, Symbol.switch_statement, Symbol.loop_statement, Symbol.for_statement, Symbol.while_statement, Symbol.call_statement, Symbol.var_statement, Symbol.value_statement, Symbol.break_statement, Symbol.continue_statement, Symbol.discard_statement, Symbol.assignment, Symbol.phony_assignment, Symbol.increment, Symbol.decrement, Symbol.const_assert, Symbol.switch_clause, Symbol.case_selector, Symbol.continuing_statement, Symbol.for_init, Symbol.for_update, Symbol.typed_ident, Rule}
+use Rattle.wgsl_model.specs.Written.{written}
+use Rattle.wgsl_canonical_theory.specs.CanonicalExpressions.{Writes, expression_node_tokens}
+use Rattle.wgsl_canonical_theory.specs.CanonicalStatements.{kind_tokens, end_token, unended_tokens, compound_tokens, switch_clause_tokens}
+use Rattle.wgsl_canonical_theory.proofs.Words.{AllWords}
+use Rattle.wgsl_canonical_theory.proofs.Again.{D, write, Same, Ended, Unended, Finds, Again}
+use Rattle.wgsl_canonical_theory.proofs.Ways.{Outcome, Reads, first_of, class_of, words_behind, then_reads, or_reads, gives_reads, makes_reads, before_reads, behind_reads, means_reads, optional_reads, no_sign_reads, list_reads}
+use Rattle.wgsl_canonical_theory.proofs.Rules.{AttributeReads, IsReadAgain, attributes_read, call_reads, case_selector_reads, compound_reads, const_assert_reads, expression_reads, for_init_reads, for_update_reads, found_by, ident_reads, initializer_reads, lhs_expression_reads, type_specifier_reads, typed_ident_reads, var_kind_reads, with_known, without_known}
+use Rattle.wgsl_canonical_theory.proofs.StatementParts.{break_if_reads, assignment_operator_reads, else_reads, maybe_continuing_reads, part_reads, else_ifs_read, clauses_read, statements_read}
+
+-- ---- blocks and their parts
+written_compound_statement_reads : AttributeReads → Reads (written compound_statement) (write compound_statement) (Same compound_statement)
+written_compound_statement_reads one = gives_reads (then_reads (attributes_read one) (before_reads SymBraceLeft refl (behind_reads SymBraceRight refl statements_read))) (λ a rest. refl) (λ w a h. λ i. tree.compound_statement (h.0 i) (h.1 i))
+
+pub compound_statement_rule : AttributeReads → IsReadAgain compound_statement
+compound_statement_rule one v xs ys d words = with_known (found_by compound_statement (written_compound_statement_reads one) v xs ys d words) tt
+
+written_continuing_statement_reads : AttributeReads → Reads (written continuing_statement) (write continuing_statement) (Same continuing_statement)
+written_continuing_statement_reads one = gives_reads (before_reads KwContinuing refl (then_reads (attributes_read one) (before_reads SymBraceLeft refl (behind_reads SymBraceRight refl (then_reads statements_read (optional_reads break_if_reads))))))
+    (λ a rest. refl) (λ w a h. λ i. tree.continuing (tree.compound_statement (h.0 i) (h.1.0 i)) (h.1.1 i))
+
+pub continuing_statement_rule : AttributeReads → IsReadAgain continuing_statement
+continuing_statement_rule one v xs ys d words = with_known (found_by continuing_statement (written_continuing_statement_reads one) v xs ys d words) tt
+
+-- ---- statements that no `;` ends
+written_if_statement_reads : AttributeReads → Reads (written if_statement) (write if_statement) (Same if_statement)
+written_if_statement_reads one = gives_reads (then_reads (attributes_read one) (before_reads KwIf refl (then_reads expression_reads (then_reads compound_reads (then_reads else_ifs_read else_reads)))))
+    (λ a rest. refl) (λ w a h. λ i. tree.if_statement (tree.if_else (h.0 i) (tree.if_clause (h.1.0 i) (h.1.1.0 i)) (h.1.1.1.0 i) (h.1.1.1.1 i)))
+
+pub if_statement_rule : AttributeReads → IsReadAgain if_statement
+if_statement_rule one v xs ys d words = with_known (found_by if_statement (written_if_statement_reads one) v xs ys d words) (subst Unended d.1 (λ rest. refl))
+
+written_switch_statement_reads : AttributeReads → Reads (written switch_statement) (write switch_statement) (Same switch_statement)
+written_switch_statement_reads one = gives_reads (then_reads (attributes_read one) (before_reads KwSwitch refl (then_reads expression_reads (then_reads (attributes_read one) (before_reads SymBraceLeft refl (behind_reads SymBraceRight refl clauses_read))))))
+    (λ a rest. refl) (λ w a h. λ i. tree.switch_statement (tree.switch (h.0 i) (h.1.0 i) (h.1.1.0 i) (h.1.1.1 i)))
+
+pub switch_statement_rule : AttributeReads → IsReadAgain switch_statement
+switch_statement_rule one v xs ys d words = with_known (found_by switch_statement (written_switch_statement_reads one) v xs ys d words) (subst Unended d.1 (λ rest. refl))
+
+written_loop_statement_reads : AttributeReads → Reads (written loop_statement) (write loop_statement) (Same loop_statement)
+written_loop_statement_reads one = gives_reads (then_reads (attributes_read one) (before_reads KwLoop refl (then_reads (attributes_read one) (before_reads SymBraceLeft refl (behind_reads SymBraceRight refl (then_reads statements_read maybe_continuing_reads))))))
+    (λ a rest. refl) (λ w a h. λ i. tree.loop_statement (tree.repeat (h.0 i) (tree.compound_statement (h.1.0 i) (h.1.1.0 i)) (h.1.1.1 i)))
+
+pub loop_statement_rule : AttributeReads → IsReadAgain loop_statement
+loop_statement_rule one v xs ys d words = with_known (found_by loop_statement (written_loop_statement_reads one) v xs ys d words) (subst Unended d.1 (λ rest. refl))
+
+written_for_statement_reads : AttributeReads → Reads (written for_statement) (write for_statement) (Same for_statement)
+written_for_statement_reads one = gives_reads (then_reads (attributes_read one) (before_reads KwFor refl (before_reads SymParenLeft refl (then_reads (behind_reads SymSemicolon refl (part_reads for_init_reads))
+    (then_reads (behind_reads SymSemicolon refl (optional_reads expression_reads)) (then_reads (behind_reads SymParenRight refl (part_reads for_update_reads)) compound_reads))))))
+    (λ a rest. refl) (λ w a h. λ i. tree.for_statement (tree.repeat_for (h.0 i) (h.1.0 i) (h.1.1.0 i) (h.1.1.1.0 i) (h.1.1.1.1 i)))
+
+pub for_statement_rule : AttributeReads → IsReadAgain for_statement
+for_statement_rule one v xs ys d words = with_known (found_by for_statement (written_for_statement_reads one) v xs ys d words) (subst Unended d.1 (λ rest. refl))
+
+written_while_statement_reads : AttributeReads → Reads (written while_statement) (write while_statement) (Same while_statement)
+written_while_statement_reads one = gives_reads (then_reads (attributes_read one) (before_reads KwWhile refl (then_reads expression_reads compound_reads))) (λ a rest. refl) (λ w a h. λ i. tree.while_statement (tree.repeat_while (h.0 i) (h.1.0 i) (h.1.1 i)))
+
+pub while_statement_rule : AttributeReads → IsReadAgain while_statement
+while_statement_rule one v xs ys d words = with_known (found_by while_statement (written_while_statement_reads one) v xs ys d words) (subst Unended d.1 (λ rest. refl))
+
+-- ---- statements that a `;` ends
+written_return_statement_reads : Reads (written return_statement) (write return_statement) (Same return_statement)
+written_return_statement_reads = gives_reads (before_reads KwReturn refl (optional_reads expression_reads)) (λ a rest. refl) (λ w a h. λ i. tree.return_statement (record { expression = h i }))
+
+pub return_statement_rule : IsReadAgain return_statement
+return_statement_rule v xs ys d words = with_known (found_by return_statement written_return_statement_reads v xs ys d words) (subst Ended d.1 (λ rest. refl))
+
+written_call_statement_reads : Reads (written call_statement) (write call_statement) (Same call_statement)
+written_call_statement_reads = gives_reads call_reads (λ a rest. refl) (λ w a h. λ i. tree.function_call_statement (record { call = h i }))
+
+pub call_statement_rule : IsReadAgain call_statement
+call_statement_rule v xs ys d words = with_known (found_by call_statement written_call_statement_reads v xs ys d words) (subst Ended d.1 (λ rest. refl))
+
+written_var_statement_reads : Reads (written var_statement) (write var_statement) (Same var_statement)
+written_var_statement_reads = gives_reads (then_reads var_kind_reads (then_reads typed_ident_reads (optional_reads initializer_reads))) (λ a rest. refl)
+    (λ w a h. λ i. tree.declaration (record { attributes = []; kind = h.0 i; ident = h.1.0.0 i; ty = h.1.0.1 i; initializer = h.1.1 i }))
+
+pub var_statement_rule : IsReadAgain var_statement
+var_statement_rule v xs ys d words = with_known (found_by var_statement written_var_statement_reads v xs ys d words) (subst Ended d.1 (λ rest. refl))
+
+value_kind_reads : Reads (KwLet means let_kind or KwConst means const_kind) kind_tokens (λ w v. w ≡ v)
+value_kind_reads = or_reads (means_reads KwLet refl (λ rest. refl) refl) (means_reads KwConst refl (λ rest. refl) refl)
+
+written_value_statement_reads : Reads (written value_statement) (write value_statement) (Same value_statement)
+written_value_statement_reads = gives_reads (then_reads value_kind_reads (then_reads typed_ident_reads initializer_reads)) (λ a rest. refl)
+    (λ w a h. λ i. tree.declaration (record { attributes = []; kind = h.0 i; ident = h.1.0.0 i; ty = h.1.0.1 i; initializer = Some (h.1.1 i) }))
+
+pub value_statement_rule : IsReadAgain value_statement
+value_statement_rule v xs ys d words = with_known (found_by value_statement written_value_statement_reads v xs ys d words) (subst Ended d.1 (λ rest. refl))
+
+pub break_statement_rule : IsReadAgain break_statement
+break_statement_rule v xs ys d words = with_known (found_by break_statement (means_reads KwBreak refl (λ rest. refl) refl) v xs ys d words) (subst Ended d.1 (λ rest. refl))
+
+pub continue_statement_rule : IsReadAgain continue_statement
+continue_statement_rule v xs ys d words = with_known (found_by continue_statement (means_reads KwContinue refl (λ rest. refl) refl) v xs ys d words) (subst Ended d.1 (λ rest. refl))
+
+pub discard_statement_rule : IsReadAgain discard_statement
+discard_statement_rule v xs ys d words = with_known (found_by discard_statement (means_reads KwDiscard refl (λ rest. refl) refl) v xs ys d words) (subst Ended d.1 (λ rest. refl))
+
+written_assignment_reads : Reads (written assignment) (write assignment) (Same assignment)
+written_assignment_reads = gives_reads (then_reads lhs_expression_reads (then_reads assignment_operator_reads expression_reads)) (λ a rest. refl) (λ w a h. λ i. tree.assignment (record { operator = h.1.0 i; lhs = h.0 i; rhs = h.1.1 i }))
+
+pub assignment_rule : IsReadAgain assignment
+assignment_rule v xs ys d words = with_known (found_by assignment written_assignment_reads v xs ys d words) (subst Ended d.1 (λ rest. refl))
+
+written_increment_reads : Reads (written increment) (write increment) (Same increment)
+written_increment_reads = gives_reads (behind_reads SymPlusPlus refl lhs_expression_reads) (λ a rest. refl) (λ w a h. λ i. tree.increment (record { expression = h i }))
+
+pub increment_rule : IsReadAgain increment
+increment_rule v xs ys d words = with_known (found_by increment written_increment_reads v xs ys d words) (subst Ended d.1 (λ rest. refl))
+
+written_decrement_reads : Reads (written decrement) (write decrement) (Same decrement)
+written_decrement_reads = gives_reads (behind_reads SymMinusMinus refl lhs_expression_reads) (λ a rest. refl) (λ w a h. λ i. tree.decrement (record { expression = h i }))
+
+pub decrement_rule : IsReadAgain decrement
+decrement_rule v xs ys d words = with_known (found_by decrement written_decrement_reads v xs ys d words) (subst Ended d.1 (λ rest. refl))
+
+written_const_assert_reads : Reads (written const_assert) (write const_assert) (Same const_assert)
+written_const_assert_reads = gives_reads (before_reads KwConstAssert refl expression_reads) (λ a rest. refl) (λ w a h. λ i. record { expression = h i })
+
+pub const_assert_rule : IsReadAgain const_assert
+const_assert_rule v xs ys d words = with_known (found_by const_assert written_const_assert_reads v xs ys d words) tt
+
+-- ---- a name with its type, and what a clause selects
+written_typed_ident_reads : Reads (written typed_ident) (write typed_ident) (Same typed_ident)
+written_typed_ident_reads = gives_reads (then_reads ident_reads (optional_reads (before_reads SymColon refl type_specifier_reads))) (λ a rest. refl) (λ w a h. h)
+
+pub typed_ident_rule : IsReadAgain typed_ident
+typed_ident_rule v xs ys d words = with_known (found_by typed_ident written_typed_ident_reads v xs ys d words) tt
+
+written_case_selector_reads : Reads (written case_selector) (write case_selector) (Same case_selector)
+written_case_selector_reads = or_reads (means_reads KwDefault refl (λ rest. refl) refl) (gives_reads expression_reads (λ a rest. refl) (λ w a h. λ i. expression_selector (h i)))
+
+pub case_selector_rule : IsReadAgain case_selector
+case_selector_rule v xs ys d words = with_known (found_by case_selector written_case_selector_reads v xs ys d words) tt
+
+-- ---- the phony assignment, whose left side is the identifier `_`
+sign_reads : (c : ℕ) → is_among c (c ∷ []) ≡ true → Reads (one_token c) (λ v rest. plain c ∷ rest) (λ w v. Unit {0})
+sign_reads c known = record {
+  again = λ v xs ys d words. (
+    words_behind v xs ys d.1 words,
+    λ us ks e.
+        let first = first_of (plain c) ks us e in
+        record { value = first.token; rest = first.rest; kinds = first.kinds; like = tt; derived = (class_of (plain c) first.token (c ∷ []) first.kind known, first.whole) },
+  );
+}
+
+underscore_reads : Reads (one_token SymUnderscore makes underscore_at) expression_node_tokens (λ w v. bare_expression_node w ≡ bare_expression_node v)
+underscore_reads = makes_reads (sign_reads SymUnderscore refl) (λ a span rest. refl) (λ w a s r h. refl)
+
+written_phony_assignment_reads : Reads (written phony_assignment) (write phony_assignment) (Same phony_assignment)
+written_phony_assignment_reads = gives_reads (then_reads underscore_reads initializer_reads) (λ a rest. refl) (λ w a h. λ i. tree.assignment (record { operator = equal; lhs = h.0 i; rhs = h.1 i }))
+
+pub phony_assignment_rule : IsReadAgain phony_assignment
+phony_assignment_rule v xs ys d words = with_known (found_by phony_assignment written_phony_assignment_reads v xs ys d words) (subst Ended d.1 (λ rest. refl))
+
+-- ---- clauses: the optional colon is left out, and `default` alone is written `case default`
+-- a block behind the optional colon
+abbrev clause_body : Rule (Option Token × CompoundStatement)
+clause_body = optional (one_token SymColon) then symbol compound_statement
+
+abbrev case_clause : Rule SwitchClause
+case_clause = KwCase ▹ list SymComma (symbol case_selector) then clause_body gives λ p. clause_of p.0 p.1.1
+
+abbrev default_clause : Rule SwitchClause
+default_clause = KwDefault ▹ clause_body gives λ p. clause_of (default_selector ∷ []) p.1
+
+abbrev LikeClause : SwitchClause → SwitchClause → Type 0
+LikeClause w v = bare_switch_clause w ≡ bare_switch_clause (full_switch_clause v)
+
+clause_body_reads : Reads clause_body (λ p rest. compound_tokens p.1 rest) (λ w v. Unit {0} × (bare_compound w.1 ≡ bare_compound (full_compound v.1)))
+clause_body_reads = then_reads no_sign_reads compound_reads
+
+case_clause_reads : Reads case_clause switch_clause_tokens LikeClause
+case_clause_reads = gives_reads (before_reads KwCase refl (then_reads (list_reads case_selector_reads) clause_body_reads)) (λ a rest. refl) (λ w a h. λ i. tree.switch_clause (h.0 i) (h.1.1 i))
+
+-- `case` before `default` and its block
+case_default : (p : Option Token × CompoundStatement) (t : Token) (xs zs ys : List Token) → is_among t.class (KwCase ∷ []) ≡ true → xs ≡ t ∷ zs → Means full D (KwDefault ▹ clause_body) p zs ys → Means full D case_clause (clause_of (default_selector ∷ []) p.1) xs ys
+case_default p t xs zs ys known whole d =
+    let selected : Means full D (list SymComma (symbol case_selector)) (default_selector ∷ []) zs d.2.0 = inl (base (default_selector ∷ []) d.2.0 (default_selector, refl, roll full written case_selector default_selector zs d.2.0 (inl (d.0.0, refl, d.2.1)))) in
+    let body : Means full D clause_body p d.2.0 ys = subst (λ (z : Option Token × CompoundStatement). Means full D clause_body z d.2.0 ys) d.1 d.2.2 in
+    ((default_selector ∷ [], p), refl, ((t, (default_selector ∷ [], p)), refl, (zs, (known, whole), (d.2.0, selected, body))))
+
+default_clause_reads : (v : SwitchClause) (xs ys : List Token) → Means full Again default_clause v xs ys → AllWords xs → Outcome case_clause switch_clause_tokens LikeClause v ys
+default_clause_reads v xs ys d words = subst (λ (z : SwitchClause). Outcome case_clause switch_clause_tokens LikeClause z ys) d.1 (
+    let found = (before_reads KwDefault refl clause_body_reads).again d.0 xs ys d.2 words in (
+      found.0,
+      λ us ks e.
+          let first = first_of (plain KwCase) (plain KwDefault ∷ compound_tokens d.0.1 ks) us e in
+          let a = found.1 first.rest ks first.kinds in
+          record {
+            value = clause_of (default_selector ∷ []) a.value.1;
+            rest = a.rest;
+            kinds = a.kinds;
+            like = λ i. tree.switch_clause (default_selector ∷ []) (a.like.1 i);
+            derived = case_default a.value first.token us first.rest a.rest (class_of (plain KwCase) first.token (KwCase ∷ []) first.kind refl) first.whole a.derived;
+          },
+    )
+    )
+
+written_switch_clause_reads : Reads (written switch_clause) (write switch_clause) (Same switch_clause)
+written_switch_clause_reads = record { again = go } where
+  as_case : (v : SwitchClause) (ys : List Token) → Outcome case_clause switch_clause_tokens LikeClause v ys → Outcome (written switch_clause) switch_clause_tokens LikeClause v ys
+  as_case v ys found = (found.0, λ us ks e. let a = found.1 us ks e in record { value = a.value; rest = a.rest; kinds = a.kinds; like = a.like; derived = inl a.derived })
+
+  go : (v : SwitchClause) (xs ys : List Token) → Means full Again (written switch_clause) v xs ys → AllWords xs → Outcome (written switch_clause) switch_clause_tokens LikeClause v ys
+  go v xs ys (inl d) words = as_case v ys (case_clause_reads.again v xs ys d words)
+  go v xs ys (inr d) words = as_case v ys (default_clause_reads v xs ys d words)
+
+pub switch_clause_rule : IsReadAgain switch_clause
+switch_clause_rule v xs ys d words = with_known (found_by switch_clause written_switch_clause_reads v xs ys d words) tt
+
+-- ---- statements, with the `;` that ends them and without
+abbrev Like : Statement → Statement → Type 0
+Like w v = bare_statement w ≡ bare_statement (full_statement v)
+
+abbrev ended_tokens : Writes Statement
+ended_tokens s rest = unended_tokens s (end_token s rest)
+
+-- statements that are read again without their `;`, with a side fact
+abbrev ReadsWith : (Statement → Type 0) → Rule Statement → Type 0
+ReadsWith P g = (v : Statement) (xs ys : List Token) → Means full Again g v xs ys → AllWords xs → AllWords ys × P v × Finds (Means full D g) (λ w. Like w v) (unended_tokens v)
+
+header_reads : {P : Statement → Type 0} {g : Rule Statement} → ReadsWith P g → Reads g unended_tokens Like
+header_reads f = record { again = λ v xs ys d words. without_known (f v xs ys d words) }
+
+ended_reads : {g : Rule Statement} → ReadsWith Ended g → Reads (g ◃ SymSemicolon) ended_tokens Like
+ended_reads {g} f = record {
+  again = λ v xs ys d words.
+      let found = (behind_reads SymSemicolon refl (header_reads {P = Ended} {g = g} f)).again v xs ys d words in
+      let ended : Ended v = subst Ended d.1 (f d.0.0 xs d.2.0 d.2.1 words).1 in
+      (found.0, λ us ks e. found.1 us ks (e ∙ ap (unended_tokens v) (ended ks)));
+}
+
+unended_reads : {g : Rule Statement} → ReadsWith Unended g → Reads g ended_tokens Like
+unended_reads {g} f = record {
+  again = λ v xs ys d words.
+      let found = f v xs ys d words in
+      (found.0, λ us ks e. found.2 us ks (e ∙ ap (unended_tokens v) (found.1 ks)));
+}
+
+written_statement_reads : Reads (written statement) (write statement) (Same statement)
+written_statement_reads = makes_reads {writes = ended_tokens} {like = Like} (
+    or_reads (means_reads SymSemicolon refl (λ rest. refl) refl)
+    (or_reads (ended_reads {g = symbol return_statement} (λ v xs ys h. h))
+    (or_reads (unended_reads {g = symbol if_statement} (λ v xs ys h. h))
+    (or_reads (unended_reads {g = symbol switch_statement} (λ v xs ys h. h))
+    (or_reads (unended_reads {g = symbol loop_statement} (λ v xs ys h. h))
+    (or_reads (unended_reads {g = symbol for_statement} (λ v xs ys h. h))
+    (or_reads (unended_reads {g = symbol while_statement} (λ v xs ys h. h))
+    (or_reads (ended_reads {g = symbol call_statement} (λ v xs ys h. h))
+    (or_reads (ended_reads {g = symbol var_statement} (λ v xs ys h. h))
+    (or_reads (ended_reads {g = symbol value_statement} (λ v xs ys h. h))
+    (or_reads (ended_reads {g = symbol break_statement} (λ v xs ys h. h))
+    (or_reads (ended_reads {g = symbol continue_statement} (λ v xs ys h. h))
+    (or_reads (ended_reads {g = symbol discard_statement} (λ v xs ys h. h))
+    (or_reads (ended_reads {g = symbol assignment} (λ v xs ys h. h))
+    (or_reads (ended_reads {g = symbol phony_assignment} (λ v xs ys h. h))
+    (or_reads (ended_reads {g = symbol increment} (λ v xs ys h. h))
+    (or_reads (ended_reads {g = symbol decrement} (λ v xs ys h. h))
+    (or_reads (gives_reads compound_reads (λ a rest. refl) (λ w a h. λ i. tree.compound (h i)))
+    (gives_reads (behind_reads SymSemicolon refl const_assert_reads) (λ a rest. refl) (λ w a h. λ i. tree.const_assert (h i))))))))))))))))))))
+    ) (λ a span rest. refl) (λ w a s r h. λ i. statement_node (h i) no_span)
+
+pub statement_rule : IsReadAgain statement
+statement_rule v xs ys d words = with_known (found_by statement written_statement_reads v xs ys d words) tt
+
+-- ---- statements in the header of a `for`
+abbrev update_statement : Rule Statement
+update_statement = symbol assignment or symbol phony_assignment or symbol increment or symbol decrement or symbol call_statement
+
+update_reads : Reads update_statement unended_tokens Like
+update_reads =
+    or_reads (header_reads {P = Ended} {g = symbol assignment} (λ v xs ys h. h))
+    (or_reads (header_reads {P = Ended} {g = symbol phony_assignment} (λ v xs ys h. h))
+    (or_reads (header_reads {P = Ended} {g = symbol increment} (λ v xs ys h. h))
+    (or_reads (header_reads {P = Ended} {g = symbol decrement} (λ v xs ys h. h))
+    (header_reads {P = Ended} {g = symbol call_statement} (λ v xs ys h. h)))))
+
+written_for_update_reads : Reads (written for_update) (write for_update) (Same for_update)
+written_for_update_reads = makes_reads update_reads (λ a span rest. refl) (λ w a s r h. λ i. statement_node (h i) no_span)
+
+pub for_update_rule : IsReadAgain for_update
+for_update_rule v xs ys d words = with_known (found_by for_update written_for_update_reads v xs ys d words) tt
+
+written_for_init_reads : Reads (written for_init) (write for_init) (Same for_init)
+written_for_init_reads = makes_reads {writes = unended_tokens} {like = Like}
+    (or_reads (header_reads {P = Ended} {g = symbol var_statement} (λ v xs ys h. h)) (or_reads (header_reads {P = Ended} {g = symbol value_statement} (λ v xs ys h. h)) update_reads))
+    (λ a span rest. refl) (λ w a s r h. λ i. statement_node (h i) no_span)
+
+pub for_init_rule : IsReadAgain for_init
+for_init_rule v xs ys d words = with_known (found_by for_init written_for_init_reads v xs ys d words) tt

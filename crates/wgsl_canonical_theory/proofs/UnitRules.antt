@@ -1,0 +1,262 @@
+-- The rules of declarations, directives and modules: what each derives is read again.
+use Rattle.std.proofs.Common.{◌≡◌, ℕ, Bool, true, false, List, [], ◌∷◌, ◌++◌, map, map-id, Option, Some, refl, sym, ap, ap₂, subst, ◌∙◌}
+use Rattle.std.specs.Prelude.{if◌then◌else◌}
+use Rattle.std.specs.Option.{option_map}
+use mathlib.Core.List.{append-nil}
+use Rattle.grammar.specs.Tokens.{Token, Span}
+use Rattle.grammar.specs.Grammar.{Grammar.empty, Grammar.symbol, Mode.full, Chain, Chain.base, Chain.more, Means}
+use Rattle.grammar.specs.Notation.{one_token, ◌then◌, ◌gives◌, ◌▹◌, ◌◃◌, optional, many}
+use Rattle.wgsl_model.specs.Classes.{SymBraceLeft, SymBraceRight, SymComma, SymEqual, SymParenLeft, SymParenRight, SymPeriod, SymSemicolon, KwAlias, KwConst, KwDiagnostic, KwEnable, KwFn, KwOverride, KwRequires, KwStruct}
+use Rattle.wgsl_model.specs.Kind.{Kind, plain}
+use Rattle.wgsl_model.specs.Raw.{word_of}
+use Rattle.wgsl_model.specs.Words.{look_up}
+use Rattle.wgsl_model.specs.NamedValues.{DiagnosticSeverity.error, severities}
+use Rattle.wgsl_model.specs.NamedValueTexts.{severity_text}
+use Rattle.wgsl_model.specs.Spanned.{Spanned}
+use Rattle.wgsl_model.specs.Statements.{DeclarationKind.const_kind, DeclarationKind.override_kind}
+use Rattle.wgsl_model.specs.Units as tree
+use Rattle.wgsl_model.specs.Units.{GlobalDeclaration}
+use Rattle.wgsl_model.specs.PrintedUnits.{is_void}
+use Rattle.wgsl_model.specs.Checks.{given_or, severity_of}
+use Rattle.wgsl_model.specs.TokenValues.{text_of}
+use Rattle.wgsl_model.specs.UnitParts.{diagnostic_of}
+use Rattle.wgsl_model.specs.WithoutSpans.{no_span, bare_spanned}
+use Rattle.wgsl_model.specs.StatementsWithoutSpans.{bare_member, bare_parameter, bare_global_declaration}
+use Rattle.wgsl_model.specs.EmptyItems.{full_declaration, full_declarations}
+use Rattle.wgsl_model.specs.Symbols.{ident, struct_member, formal_parameter, global_declaration, var_declaration, const_declaration, override_declaration, alias_declaration, struct_declaration, function_declaration, diagnostic_severity, global_directive, enable_directive, requires_directive, diagnostic_directive, unit, Rule}
+use Rattle.wgsl_model.specs.Written.{written}
+use Rattle.wgsl_canonical_theory.specs.CanonicalExpressions.{Writes, all_tokens, optional_tokens}
+use Rattle.wgsl_canonical_theory.specs.CanonicalUnits.{directive_tokens, global_declaration_tokens, kept_declaration_tokens}
+use Rattle.wgsl_canonical_theory.proofs.Words.{NoPeriod, AllWords}
+use Rattle.wgsl_canonical_theory.proofs.Again.{D, Again, write, Same, Known, Found, Finds}
+use Rattle.wgsl_canonical_theory.proofs.Ways.{Outcome, Reads, words_behind, then_reads, or_reads, gives_reads, makes_reads, equal_reads, before_reads, behind_reads, means_reads, none_reads, optional_reads, no_sign_reads, all_behind, map_behind, many_reads, list_reads, list_or_none_reads}
+use Rattle.wgsl_canonical_theory.proofs.Rules.{AttributeReads, IsReadAgain, alias_declaration_reads, attributes_read, by_reads, compound_reads, const_assert_reads, const_declaration_reads, diagnostic_directive_reads, diagnostic_severity_reads, enable_directive_reads, formal_parameter_reads, function_declaration_reads, global_declaration_reads, global_directive_reads, ident_reads, initializer_reads, override_declaration_reads, requires_directive_reads, struct_declaration_reads, struct_member_reads, type_specifier_reads, typed_ident_reads, var_declaration_reads, var_kind_reads}
+use Rattle.wgsl_canonical_theory.proofs.NamedWords.{severity_word}
+use Rattle.wgsl_canonical_theory.proofs.UnitParts.{attributed_ident_reads, names_read, returned_reads, function_written, same_function, period_tokens, rule_written, same_rule}
+
+-- ---- members and parameters
+struct_member_written : AttributeReads → Reads (written struct_member) (write struct_member) (Same struct_member)
+struct_member_written one = makes_reads (attributed_ident_reads one) (λ a span rest. refl)
+    (λ w a s r h. λ i. record { node = record { attributes = h.0 i; ident = h.1.0 i; ty = h.1.1 i }; span = no_span })
+
+pub struct_member_rule : AttributeReads → IsReadAgain struct_member
+struct_member_rule one v xs ys d = by_reads {n = struct_member} (struct_member_written one) v xs ys d
+
+formal_parameter_written : AttributeReads → Reads (written formal_parameter) (write formal_parameter) (Same formal_parameter)
+formal_parameter_written one = gives_reads (attributed_ident_reads one) (λ a rest. refl) (λ w a h. λ i. record { attributes = h.0 i; ident = h.1.0 i; ty = h.1.1 i })
+
+pub formal_parameter_rule : AttributeReads → IsReadAgain formal_parameter
+formal_parameter_rule one v xs ys d = by_reads {n = formal_parameter} (formal_parameter_written one) v xs ys d
+
+-- ---- declarations of values
+var_declaration_written : AttributeReads → Reads (written var_declaration) (write var_declaration) (Same var_declaration)
+var_declaration_written one = gives_reads (then_reads (attributes_read one) (then_reads var_kind_reads (then_reads typed_ident_reads (behind_reads SymSemicolon refl (optional_reads initializer_reads))))) (λ a rest. refl)
+    (λ w a h. λ i. tree.declaration (record { attributes = h.0 i; kind = h.1.0 i; ident = h.1.1.0.0 i; ty = h.1.1.0.1 i; initializer = h.1.1.1 i }))
+
+pub var_declaration_rule : AttributeReads → IsReadAgain var_declaration
+var_declaration_rule one v xs ys d = by_reads {n = var_declaration} (var_declaration_written one) v xs ys d
+
+const_declaration_written : Reads (written const_declaration) (write const_declaration) (Same const_declaration)
+const_declaration_written = gives_reads (before_reads KwConst refl (then_reads typed_ident_reads (behind_reads SymSemicolon refl initializer_reads))) (λ a rest. refl)
+    (λ w a h. λ i. tree.declaration (record { attributes = []; kind = const_kind; ident = h.0.0 i; ty = h.0.1 i; initializer = Some (h.1 i) }))
+
+pub const_declaration_rule : IsReadAgain const_declaration
+const_declaration_rule v xs ys d = by_reads {n = const_declaration} const_declaration_written v xs ys d
+
+override_declaration_written : AttributeReads → Reads (written override_declaration) (write override_declaration) (Same override_declaration)
+override_declaration_written one = gives_reads (then_reads (attributes_read one) (before_reads KwOverride refl (then_reads typed_ident_reads (behind_reads SymSemicolon refl (optional_reads initializer_reads))))) (λ a rest. refl)
+    (λ w a h. λ i. tree.declaration (record { attributes = h.0 i; kind = override_kind; ident = h.1.0.0 i; ty = h.1.0.1 i; initializer = h.1.1 i }))
+
+pub override_declaration_rule : AttributeReads → IsReadAgain override_declaration
+override_declaration_rule one v xs ys d = by_reads {n = override_declaration} (override_declaration_written one) v xs ys d
+
+-- ---- declarations of types and functions
+alias_declaration_written : Reads (written alias_declaration) (write alias_declaration) (Same alias_declaration)
+alias_declaration_written = gives_reads (before_reads KwAlias refl (then_reads ident_reads (before_reads SymEqual refl (behind_reads SymSemicolon refl type_specifier_reads)))) (λ a rest. refl)
+    (λ w a h. λ i. tree.type_alias (record { ident = h.0 i; ty = h.1 i }))
+
+pub alias_declaration_rule : IsReadAgain alias_declaration
+alias_declaration_rule v xs ys d = by_reads {n = alias_declaration} alias_declaration_written v xs ys d
+
+struct_declaration_written : Reads (written struct_declaration) (write struct_declaration) (Same struct_declaration)
+struct_declaration_written = gives_reads (before_reads KwStruct refl (then_reads ident_reads (before_reads SymBraceLeft refl (behind_reads SymBraceRight refl (list_reads {bare = bare_spanned bare_member} {kept = bare_spanned bare_member} struct_member_reads))))) (λ a rest. refl)
+    (λ w a h. λ i. tree.structure (record { ident = h.0 i; members = h.1 i }))
+
+pub struct_declaration_rule : IsReadAgain struct_declaration
+struct_declaration_rule v xs ys d = by_reads {n = struct_declaration} struct_declaration_written v xs ys d
+
+function_declaration_written : AttributeReads → Reads (written function_declaration) (write function_declaration) (Same function_declaration)
+function_declaration_written one = gives_reads
+    (then_reads (attributes_read one) (before_reads KwFn refl (then_reads ident_reads (before_reads SymParenLeft refl
+    (then_reads (behind_reads SymParenRight refl (list_or_none_reads {bare = bare_parameter} {kept = bare_parameter} formal_parameter_reads)) (then_reads (returned_reads one) compound_reads))))))
+    (λ a rest. function_written a.0 a.1.0 a.1.1.0 a.1.1.1.0 a.1.1.1.1 rest)
+    (λ w a h. ap tree.function (same_function w a h.0 h.1.0 h.1.1.0 h.1.1.1.0 h.1.1.1.1))
+
+pub function_declaration_rule : AttributeReads → IsReadAgain function_declaration
+function_declaration_rule one v xs ys d = by_reads {n = function_declaration} (function_declaration_written one) v xs ys d
+
+-- ---- declarations
+-- declarations that are the same, spans and empty items aside
+abbrev SameDeclaration : GlobalDeclaration → GlobalDeclaration → Type 0
+SameDeclaration w v = bare_global_declaration w ≡ bare_global_declaration (full_declaration v)
+
+global_declaration_written : Reads (written global_declaration) (write global_declaration) (Same global_declaration)
+global_declaration_written = makes_reads {writes = global_declaration_tokens} {like = SameDeclaration}
+    (or_reads (means_reads SymSemicolon refl (λ rest. refl) refl) (or_reads var_declaration_reads (or_reads const_declaration_reads (or_reads override_declaration_reads (or_reads alias_declaration_reads (or_reads struct_declaration_reads
+    (or_reads function_declaration_reads (gives_reads (behind_reads SymSemicolon refl const_assert_reads) (λ a rest. refl) (λ w a h. λ i. tree.const_assert (h i))))))))))
+    (λ a span rest. refl) (λ w a s r h. h)
+
+pub global_declaration_rule : IsReadAgain global_declaration
+global_declaration_rule v xs ys d = by_reads {n = global_declaration} global_declaration_written v xs ys d
+
+-- ---- directives
+enable_directive_written : Reads (written enable_directive) (write enable_directive) (Same enable_directive)
+enable_directive_written = gives_reads (before_reads KwEnable refl (behind_reads SymSemicolon refl names_read)) (λ a rest. refl) (λ w a h. λ i. tree.enable (record { extensions = h i }))
+
+pub enable_directive_rule : IsReadAgain enable_directive
+enable_directive_rule v xs ys d = by_reads {n = enable_directive} enable_directive_written v xs ys d
+
+requires_directive_written : Reads (written requires_directive) (write requires_directive) (Same requires_directive)
+requires_directive_written = gives_reads (before_reads KwRequires refl (behind_reads SymSemicolon refl names_read)) (λ a rest. refl) (λ w a h. λ i. tree.requires (record { extensions = h i }))
+
+pub requires_directive_rule : IsReadAgain requires_directive
+requires_directive_rule v xs ys d = by_reads {n = requires_directive} requires_directive_written v xs ys d
+
+global_directive_written : Reads (written global_directive) (write global_directive) (Same global_directive)
+global_directive_written = or_reads enable_directive_reads (or_reads requires_directive_reads diagnostic_directive_reads)
+
+pub global_directive_rule : IsReadAgain global_directive
+global_directive_rule v xs ys d = by_reads {n = global_directive} global_directive_written v xs ys d
+
+-- ---- `diagnostic`
+-- a value is turned into another, and something is known of it
+known_reads : {A B : Type 0} {g : Rule A} {f : A → B} {writes : Writes A} {made : Writes B} {like : A → A → Type 0} {same : B → B → Type 0} {Fact : A → Type 0}
+    → Reads g writes like → ((v : A) (xs ys : List Token) → Means full Again g v xs ys → AllWords xs → Fact v)
+    → ((a : A) → Fact a → (rest : List Kind) → made (f a) rest ≡ writes a rest) → ((w a : A) → like w a → same (f w) (f a)) → Reads (g gives f) made same
+known_reads {A} {B} {g} {f} {writes} {made} {like} {same} G known s t = record {
+  again = λ v xs ys d words.
+      subst (λ (z : B). Outcome (g gives f) made same z ys) d.1 (
+      let fact = known d.0 xs ys d.2 words in
+      let found = G.again d.0 xs ys d.2 words in (
+        found.0,
+        λ us ks e. let a = found.1 us ks (e ∙ s d.0 fact ks) in record { value = f a.value; rest = a.rest; kinds = a.kinds; like = t a.value d.0 a.like; derived = (a.value, refl, a.derived) },
+      )
+      );
+}
+
+-- a severity and the names of a rule, with a comma behind them or none
+abbrev DiagnosticParts : Type 0
+DiagnosticParts = Token × (Token × (Option Token × Option Token))
+
+abbrev diagnostic_parts : Rule DiagnosticParts
+diagnostic_parts = symbol diagnostic_severity ◃ SymComma then symbol ident then optional (SymPeriod ▹ symbol ident) then optional (one_token SymComma) ◃ SymParenRight ◃ SymSemicolon
+
+abbrev diagnostic_parts_tokens : Writes DiagnosticParts
+diagnostic_parts_tokens p rest =
+    plain KwDiagnostic ∷ (plain SymParenLeft ∷ (word_of (text_of p.0) ∷ (plain SymComma ∷ (word_of (text_of p.1.0) ∷ optional_tokens period_tokens p.1.1.0 (plain SymParenRight ∷ (plain SymSemicolon ∷ rest))))))
+
+diagnostic_parts_read : Reads diagnostic_parts diagnostic_parts_tokens (λ w v. (text_of w.0 ≡ text_of v.0) × ((text_of w.1.0 ≡ text_of v.1.0) × ((option_map text_of w.1.1.0 ≡ option_map text_of v.1.1.0) × Unit {0})))
+diagnostic_parts_read = then_reads (behind_reads SymComma refl diagnostic_severity_reads) (then_reads ident_reads (then_reads (optional_reads (before_reads SymPeriod refl ident_reads)) (behind_reads SymSemicolon refl (behind_reads SymParenRight refl no_sign_reads))))
+
+-- the word of the severity names it, and the first name of the rule has no `.`
+abbrev KnownParts : DiagnosticParts → Type 0
+KnownParts p = Known diagnostic_severity p.0 × NoPeriod (text_of p.1.0)
+
+known_parts : (p : DiagnosticParts) (xs ys : List Token) → Means full Again diagnostic_parts p xs ys → AllWords xs → KnownParts p
+known_parts p xs ys d words =
+    let severity = d.1.2.1 words in
+    let name = d.2.1 (words_behind d.1.0.1 d.1.2.0 d.0 d.1.2.2.1 severity.0) in
+    (subst (λ (z : Token). Known diagnostic_severity z) d.1.1 severity.1, name.1)
+
+severity_written : (t : Token) → Known diagnostic_severity t → severity_text (severity_of t) ≡ text_of t
+severity_written t known = ap (λ z. severity_text (given_or error z)) known.1 ∙ severity_word (text_of t) known.0 known.1
+
+diagnostic_tokens : (p : DiagnosticParts) → KnownParts p → (rest : List Kind) → directive_tokens (diagnostic_of p.0 p.1.0 p.1.1.0) rest ≡ diagnostic_parts_tokens p rest
+diagnostic_tokens p known rest =
+    ap₂ (λ (word : List ℕ) (rule : List Kind). plain KwDiagnostic ∷ (plain SymParenLeft ∷ (word_of word ∷ (plain SymComma ∷ rule)))) (severity_written p.0 known.0)
+    (rule_written p.1.0 p.1.1.0 (plain SymParenRight ∷ (plain SymSemicolon ∷ rest)) known.1)
+
+diagnostic_directive_written : Reads (written diagnostic_directive) (write diagnostic_directive) (Same diagnostic_directive)
+diagnostic_directive_written = known_reads {Fact = KnownParts} diagnostic_parts_read known_parts diagnostic_tokens
+    (λ w a h. λ i. tree.diagnostic (record { severity = given_or error (look_up severities (h.0 i)); rule_name = same_rule w.1.0 a.1.0 w.1.1.0 a.1.1.0 h.1.0 h.1.1.0 i }))
+
+pub diagnostic_directive_rule : IsReadAgain diagnostic_directive
+diagnostic_directive_rule v xs ys d = by_reads {n = diagnostic_directive} diagnostic_directive_written v xs ys d
+
+-- ---- modules, where empty declarations are left out
+abbrev bare_item : Spanned GlobalDeclaration → Spanned GlobalDeclaration
+bare_item = bare_spanned bare_global_declaration
+
+-- a declaration behind others, if it is not empty
+full_behind : (ds : List (Spanned GlobalDeclaration)) (d : Spanned GlobalDeclaration) → full_declarations (ds ++ (d ∷ [])) ≡ full_declarations ds ++ full_declarations (d ∷ [])
+full_behind [] d = refl
+full_behind (e ∷ ds) d = at (full_behind ds d) (is_void e.node) where
+  item : Spanned GlobalDeclaration
+  item = record e { node = full_declaration e.node }
+
+  at : full_declarations (ds ++ (d ∷ [])) ≡ full_declarations ds ++ full_declarations (d ∷ [])
+      → (void : Bool) → (if void then full_declarations (ds ++ (d ∷ [])) else item ∷ full_declarations (ds ++ (d ∷ []))) ≡ (if void then full_declarations ds else item ∷ full_declarations ds) ++ full_declarations (d ∷ [])
+  at further true = further
+  at further false = ap (λ z. item ∷ z) further
+
+-- declarations that are found for a list
+abbrev FoundDeclarations : List (Spanned GlobalDeclaration) → List Token → List Kind → Type 0
+FoundDeclarations v = Found (Means full D (many (symbol global_declaration))) (λ w. map bare_item w ≡ map bare_item (full_declarations v))
+
+-- the same with one more declaration, which is left out if it is empty
+one_more : (a : List (Spanned GlobalDeclaration)) (b : Spanned GlobalDeclaration) → Finds (D global_declaration) (λ w. Same global_declaration w b) (write global_declaration b)
+    → (us : List Token) (ks : List Kind) → FoundDeclarations a us (kept_declaration_tokens b ks) → FoundDeclarations (a ++ (b ∷ [])) us ks
+one_more a b last us ks x = at (is_void b.node) refl x where
+  at : (void : Bool) → is_void b.node ≡ void → FoundDeclarations a us (if void then ks else global_declaration_tokens b.node ks) → FoundDeclarations (a ++ (b ∷ [])) us ks
+  at true q x = record {
+    value = x.value;
+    rest = x.rest;
+    kinds = x.kinds;
+    like = x.like ∙ ap (map bare_item) (sym (full_behind a b ∙ rw q (append-nil (full_declarations a))));
+    derived = x.derived;
+  }
+  at false q x =
+      let y = last x.rest ks x.kinds in
+      record {
+        value = x.value ++ (y.value ∷ []);
+        rest = y.rest;
+        kinds = y.kinds;
+        like = map_behind bare_item x.value y.value
+            ∙ ap₂ (λ (z : List (Spanned GlobalDeclaration)) (u : GlobalDeclaration). z ++ (record { node = u; span = no_span } ∷ [])) x.like y.like
+            ∙ sym (ap (map bare_item) (full_behind a b) ∙ rw q (map_behind bare_item (full_declarations a) (record b { node = full_declaration b.node })));
+        derived = more x.value y.value x.rest y.rest x.derived y.derived;
+      }
+
+declarations_read : Reads (many (symbol global_declaration)) (all_tokens kept_declaration_tokens) (λ w v. map bare_item w ≡ map bare_item (full_declarations v))
+declarations_read = record { again = λ v xs ys d words. go xs v ys d words } where
+  push : List (Spanned GlobalDeclaration) → Spanned GlobalDeclaration → Span → List (Spanned GlobalDeclaration)
+  push ds d span = ds ++ (d ∷ [])
+
+  none : Rule (List (Spanned GlobalDeclaration))
+  none = empty []
+
+  like : List (Spanned GlobalDeclaration) → List (Spanned GlobalDeclaration) → Type 0
+  like w v = map bare_item w ≡ map bare_item (full_declarations v)
+
+  N : Reads none (all_tokens kept_declaration_tokens) like
+  N = none_reads (λ rest. refl) refl
+
+  go : (xs : List Token) (v : List (Spanned GlobalDeclaration)) (ys : List Token) → Chain push (Means full Again none) (Again global_declaration) xs v ys → AllWords xs
+      → Outcome (many (symbol global_declaration)) (all_tokens kept_declaration_tokens) like v ys
+  go xs _ _ (base a ys d) words =
+      let found = N.again a xs ys d words in
+      (found.0, λ us ks e. let x = found.1 us ks e in record { value = x.value; rest = x.rest; kinds = x.kinds; like = x.like; derived = base x.value x.rest x.derived })
+  go xs _ _ (more a b ys zs c d) words =
+      let before = go xs a ys c words in
+      let last = global_declaration_reads.again b ys zs d before.0 in
+      (last.0, λ us ks e. one_more a b last.1 us ks (before.1 us (kept_declaration_tokens b ks) (e ∙ all_behind kept_declaration_tokens a b ks)))
+
+directives_read : Reads (many (symbol global_directive)) (all_tokens directive_tokens) (λ w v. w ≡ v)
+directives_read = equal_reads (many_reads {bare = λ d. d} {kept = λ d. d} global_directive_reads) (λ v rest. refl) (λ w v h. sym (map-id w) ∙ h ∙ map-id v)
+
+unit_written : Reads (written unit) (write unit) (Same unit)
+unit_written = gives_reads (then_reads directives_read declarations_read) (λ a rest. refl)
+    (λ w a h. λ i. record { global_directives = h.0 i; global_declarations = h.1 i })
+
+pub unit_rule : IsReadAgain unit
+unit_rule v xs ys d = by_reads {n = unit} unit_written v xs ys d

@@ -1,0 +1,81 @@
+-- The tokens that printed attributes have, written from their trees before the tokens that follow them. A name is the token that its word is: `const`, `if`, `else` and `diagnostic` are keywords, and `type` is a reserved word.
+use Rattle.std.specs.Prelude.{ℕ, ◌==◌, List, [], ◌∷◌, ◌++◌, if◌then◌else◌, codes}
+use Rattle.wgsl_model.specs.Classes.{SymAttr, SymComma, SymOr, SymParenLeft, SymParenRight, SymPeriod}
+use Rattle.wgsl_model.specs.Kind.{Kind, plain}
+use Rattle.wgsl_model.specs.Raw.{word_of}
+use Rattle.wgsl_model.specs.NamedValueTexts.{severity_text, interpolation_type_text, interpolation_sampling_text, builtin_value_text}
+use Rattle.wgsl_model.specs.NamedValues.{InterpolationSampling}
+use Rattle.wgsl_model.specs.Spanned.{Spanned}
+use Rattle.wgsl_model.specs.Expressions.{ExpressionNode, TypeExpression}
+use Rattle.wgsl_model.specs.Attributes.{Attribute, align, binding, blend_src, group, id, location, size, if_attribute, elif_attribute, builtin, const_attribute, invariant, must_use, vertex, fragment, compute, else_attribute, diagnostic, interpolate, workgroup_size, type_constraint, custom, Attributes}
+use Rattle.wgsl_canonical_theory.specs.CanonicalExpressions.{Writes, optional_tokens, all_tokens, list_tokens, word_token, expression_node_tokens, type_tokens}
+
+-- a part in parentheses
+abbrev pub in_parentheses : {A : Type 0} → Writes A → Writes A
+in_parentheses write a rest = plain SymParenLeft ∷ write a (plain SymParenRight ∷ rest)
+
+-- a further argument behind a comma
+abbrev pub behind_comma : {A : Type 0} → Writes A → Writes A
+behind_comma write a rest = plain SymComma ∷ write a rest
+
+-- the name of a rule, from the bytes that are before and those that are left: a word, or two with `.` between
+abbrev pub rule_tokens_from : List ℕ → List ℕ → List Kind → List Kind
+rule_tokens_from before [] rest = word_of before ∷ rest
+rule_tokens_from before (c ∷ cs) rest = if c == 46 then word_of before ∷ (plain SymPeriod ∷ (word_of cs ∷ rest)) else rule_tokens_from (before ++ (c ∷ [])) cs rest
+
+-- the name of a rule
+abbrev pub rule_tokens : Writes (List ℕ)
+rule_tokens rule rest = rule_tokens_from [] rule rest
+
+-- further types, each behind `|`
+abbrev pub further_types_tokens : Writes (List TypeExpression)
+further_types_tokens [] rest = rest
+further_types_tokens (t ∷ ts) rest = plain SymOr ∷ type_tokens t (further_types_tokens ts rest)
+
+-- types with `|` between each two
+abbrev pub types_tokens : Writes (List TypeExpression)
+types_tokens [] rest = rest
+types_tokens (t ∷ ts) rest = type_tokens t (further_types_tokens ts rest)
+
+-- arguments in parentheses
+abbrev pub arguments_tokens : Writes (List ExpressionNode)
+arguments_tokens = in_parentheses (list_tokens expression_node_tokens)
+
+-- a name with one argument
+abbrev pub one_argument_tokens : List ℕ → ExpressionNode → List Kind → List Kind
+one_argument_tokens name e rest = word_of name ∷ in_parentheses expression_node_tokens e rest
+
+-- an attribute without its `@`
+abbrev pub named_attribute_tokens : Attribute → List Kind → List Kind
+named_attribute_tokens (align e) rest = one_argument_tokens (codes "align") e rest
+named_attribute_tokens (binding e) rest = one_argument_tokens (codes "binding") e rest
+named_attribute_tokens (blend_src e) rest = one_argument_tokens (codes "blend_src") e rest
+named_attribute_tokens (group e) rest = one_argument_tokens (codes "group") e rest
+named_attribute_tokens (id e) rest = one_argument_tokens (codes "id") e rest
+named_attribute_tokens (location e) rest = one_argument_tokens (codes "location") e rest
+named_attribute_tokens (size e) rest = one_argument_tokens (codes "size") e rest
+named_attribute_tokens (if_attribute e) rest = one_argument_tokens (codes "if") e rest
+named_attribute_tokens (elif_attribute e) rest = one_argument_tokens (codes "elif") e rest
+named_attribute_tokens (builtin b) rest = word_of (codes "builtin") ∷ in_parentheses word_token (builtin_value_text b) rest
+named_attribute_tokens const_attribute rest = word_of (codes "const") ∷ rest
+named_attribute_tokens invariant rest = word_of (codes "invariant") ∷ rest
+named_attribute_tokens must_use rest = word_of (codes "must_use") ∷ rest
+named_attribute_tokens vertex rest = word_of (codes "vertex") ∷ rest
+named_attribute_tokens fragment rest = word_of (codes "fragment") ∷ rest
+named_attribute_tokens compute rest = word_of (codes "compute") ∷ rest
+named_attribute_tokens else_attribute rest = word_of (codes "else") ∷ rest
+named_attribute_tokens (diagnostic d) rest = word_of (codes "diagnostic") ∷ (plain SymParenLeft ∷ (word_of (severity_text d.severity) ∷ behind_comma rule_tokens d.rule (plain SymParenRight ∷ rest)))
+named_attribute_tokens (interpolate i) rest =
+    word_of (codes "interpolate") ∷ (plain SymParenLeft ∷ (word_of (interpolation_type_text i.ty) ∷ optional_tokens (behind_comma (λ (s : InterpolationSampling). word_token (interpolation_sampling_text s))) i.sampling (plain SymParenRight ∷ rest)))
+named_attribute_tokens (workgroup_size w) rest =
+    word_of (codes "workgroup_size") ∷ (plain SymParenLeft ∷ expression_node_tokens w.x (optional_tokens (behind_comma expression_node_tokens) w.y (optional_tokens (behind_comma expression_node_tokens) w.z (plain SymParenRight ∷ rest))))
+named_attribute_tokens (type_constraint t) rest = word_of (codes "type") ∷ (plain SymParenLeft ∷ (word_of t.ident ∷ behind_comma types_tokens t.variants (plain SymParenRight ∷ rest)))
+named_attribute_tokens (custom c) rest = word_of c.name ∷ optional_tokens arguments_tokens c.arguments rest
+
+-- an attribute
+abbrev pub attribute_tokens : Writes (Spanned Attribute)
+attribute_tokens a rest = plain SymAttr ∷ named_attribute_tokens a.node rest
+
+-- attributes one after another
+abbrev pub attributes_tokens : Writes Attributes
+attributes_tokens = all_tokens attribute_tokens

@@ -1,0 +1,74 @@
+-- The tokens that a printed module has, written from its tree: no empty declaration, no comma behind the last item of a list, and no places.
+use Rattle.std.specs.Prelude.{◌≡◌, ℕ, List, [], ◌∷◌, Option, Some, None, if◌then◌else◌, map, chars}
+use Rattle.grammar.specs.Tokens.{Token}
+use Rattle.grammar.specs.Faults.{Ending.finished}
+use Rattle.wgsl_model.specs.Classes.{SymArrow, SymBraceLeft, SymBraceRight, SymColon, SymComma, SymEqual, SymParenLeft, SymParenRight, SymSemicolon, KwAlias, KwDiagnostic, KwEnable, KwFn, KwRequires, KwStruct}
+use Rattle.wgsl_model.specs.Kind.{Kind, plain}
+use Rattle.wgsl_model.specs.Raw.{word_of}
+use Rattle.wgsl_model.specs.NamedValueTexts.{severity_text}
+use Rattle.wgsl_model.specs.Spanned.{Spanned}
+use Rattle.wgsl_model.specs.Expressions.{TypeExpression}
+use Rattle.wgsl_model.specs.Attributes.{Attributes}
+use Rattle.wgsl_model.specs.Units.{GlobalDirective, diagnostic, enable, requires, StructMember, FormalParameter, Function, GlobalDeclaration, void, declaration, type_alias, structure, function, const_assert, TranslationUnit}
+use Rattle.wgsl_model.specs.PrintedUnits.{is_void}
+use Rattle.wgsl_model.specs.TokenList.{IsTokenList}
+use Rattle.wgsl_canonical_theory.specs.CanonicalExpressions.{Writes, all_tokens, list_tokens, word_token, type_tokens}
+use Rattle.wgsl_canonical_theory.specs.CanonicalAttributes.{rule_tokens, attributes_tokens}
+use Rattle.wgsl_canonical_theory.specs.CanonicalStatements.{declaration_tokens, assert_tokens, compound_tokens}
+
+-- a directive
+abbrev pub directive_tokens : Writes GlobalDirective
+directive_tokens (diagnostic d) rest = plain KwDiagnostic ∷ (plain SymParenLeft ∷ (word_of (severity_text d.severity) ∷ (plain SymComma ∷ rule_tokens d.rule_name (plain SymParenRight ∷ (plain SymSemicolon ∷ rest)))))
+directive_tokens (enable d) rest = plain KwEnable ∷ list_tokens word_token d.extensions (plain SymSemicolon ∷ rest)
+directive_tokens (requires d) rest = plain KwRequires ∷ list_tokens word_token d.extensions (plain SymSemicolon ∷ rest)
+
+-- attributes, a name and its type
+abbrev pub attributed_tokens : Attributes → List ℕ → TypeExpression → List Kind → List Kind
+attributed_tokens attributes ident ty rest = attributes_tokens attributes (word_of ident ∷ (plain SymColon ∷ type_tokens ty rest))
+
+-- a member of a structure
+abbrev pub member_tokens : Writes (Spanned StructMember)
+member_tokens m rest = attributed_tokens m.node.attributes m.node.ident m.node.ty rest
+
+-- a parameter of a function
+abbrev pub parameter_tokens : Writes FormalParameter
+parameter_tokens p rest = attributed_tokens p.attributes p.ident p.ty rest
+
+-- what a function returns, behind its arrow, if it is there
+abbrev pub result_tokens : Attributes → Option TypeExpression → List Kind → List Kind
+result_tokens attributes None rest = rest
+result_tokens attributes (Some t) rest = plain SymArrow ∷ attributes_tokens attributes (type_tokens t rest)
+
+-- a function
+abbrev pub function_tokens : Writes Function
+function_tokens f rest =
+    attributes_tokens f.attributes (plain KwFn ∷ (word_of f.ident ∷ (plain SymParenLeft ∷ list_tokens parameter_tokens f.parameters (plain SymParenRight ∷ result_tokens f.return_attributes f.return_type (compound_tokens f.body rest)))))
+
+-- a declaration; an empty one is its `;`
+abbrev pub global_declaration_tokens : Writes GlobalDeclaration
+global_declaration_tokens void rest = plain SymSemicolon ∷ rest
+global_declaration_tokens (declaration d) rest = declaration_tokens d (plain SymSemicolon ∷ rest)
+global_declaration_tokens (type_alias a) rest = plain KwAlias ∷ (word_of a.ident ∷ (plain SymEqual ∷ type_tokens a.ty (plain SymSemicolon ∷ rest)))
+global_declaration_tokens (structure s) rest = plain KwStruct ∷ (word_of s.ident ∷ (plain SymBraceLeft ∷ list_tokens member_tokens s.members (plain SymBraceRight ∷ rest)))
+global_declaration_tokens (function f) rest = function_tokens f rest
+global_declaration_tokens (const_assert c) rest = assert_tokens c (plain SymSemicolon ∷ rest)
+
+-- a declaration in a module, where an empty one has no tokens
+abbrev pub kept_declaration_tokens : Writes (Spanned GlobalDeclaration)
+kept_declaration_tokens d rest = if is_void d.node then rest else global_declaration_tokens d.node rest
+
+-- a module: its directives, then its declarations
+abbrev pub unit_tokens : Writes TranslationUnit
+unit_tokens u rest = all_tokens directive_tokens u.global_directives (all_tokens kept_declaration_tokens u.global_declarations rest)
+
+-- the tokens that the printed module has
+abbrev pub canonical : TranslationUnit → List Kind
+canonical u = unit_tokens u []
+
+-- a token without its place
+abbrev pub without_place : Token → Kind
+without_place t = record { class = t.class; payload = t.payload }
+
+-- the tokens of a text, places aside, are these, and end with the text
+abbrev pub HasTokens : List ℕ → List Kind → Type 0
+HasTokens text kinds = (ts : List Token) × IsTokenList (chars text) ts finished × (map without_place ts ≡ kinds)

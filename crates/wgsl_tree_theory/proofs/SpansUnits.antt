@@ -1,0 +1,52 @@
+-- The printed texts of modules and their declarations are the same with the spans set aside.
+use Rattle.std.proofs.Common.{◌≡◌, List, [], ◌∷◌, ◌++◌, map, refl, codes, if◌then◌else◌, Option, Some, None}
+use Rattle.std.specs.Option.{option_map}
+use Rattle.wgsl_model.specs.Spanned.{Spanned}
+use Rattle.wgsl_model.specs.Expressions.{TypeExpression}
+use Rattle.wgsl_model.specs.Attributes.{Attributes}
+use Rattle.wgsl_model.specs.Units as tree
+use Rattle.wgsl_model.specs.Joining.{joined}
+use Rattle.wgsl_model.specs.Indentation.{indented}
+use Rattle.wgsl_model.specs.PrintedUnits as printed
+use Rattle.wgsl_model.specs.WithoutSpans.{bare_spanned, bare_type, bare_attributes}
+use Rattle.wgsl_model.specs.StatementsWithoutSpans as bare
+use Rattle.wgsl_tree_theory.proofs.Spans.{node_bare, type_bare, attribute_line_bare, attributes_before_bare}
+use Rattle.wgsl_tree_theory.proofs.SpansStatements.{declaration_bare, compound_bare}
+
+members_bare : (ms : List (Spanned tree.StructMember)) → map (λ (m : Spanned tree.StructMember). printed.print_member m.node) (map (bare_spanned bare.bare_member) ms) ≡ map (λ (m : Spanned tree.StructMember). printed.print_member m.node) ms
+members_bare [] = refl
+members_bare (m ∷ ms) = λ i. (attribute_line_bare m.node.attributes i ++ m.node.ident ++ codes ": " ++ type_bare m.node.ty i) ∷ members_bare ms i
+
+parameters_bare : (ps : List tree.FormalParameter) → map printed.print_parameter (map bare.bare_parameter ps) ≡ map printed.print_parameter ps
+parameters_bare [] = refl
+parameters_bare (p ∷ ps) = λ i. (attributes_before_bare p.attributes i ++ p.ident ++ codes ": " ++ type_bare p.ty i) ∷ parameters_bare ps i
+
+result_bare : (attributes : Attributes) (t : Option TypeExpression) → printed.print_result (bare_attributes attributes) (option_map bare_type t) ≡ printed.print_result attributes t
+result_bare attributes None = refl
+result_bare attributes (Some t) = λ i. codes "-> " ++ attributes_before_bare attributes i ++ type_bare t i ++ codes " "
+
+function_bare : (f : tree.Function) → printed.print_function (bare.bare_function f) ≡ printed.print_function f
+function_bare f = λ i. attribute_line_bare f.attributes i ++ codes "fn " ++ f.ident ++ codes "(" ++ joined (codes ", ") (parameters_bare f.parameters i) ++ codes ") " ++ result_bare f.return_attributes f.return_type i ++ compound_bare f.body i
+
+pub global_bare : (d : tree.GlobalDeclaration) → printed.print_global_declaration (bare.bare_global_declaration d) ≡ printed.print_global_declaration d
+global_bare tree.void = refl
+global_bare (tree.declaration d) = λ i. declaration_bare d i ++ codes ";"
+global_bare (tree.type_alias a) = λ i. codes "alias " ++ a.ident ++ codes " = " ++ type_bare a.ty i ++ codes ";"
+global_bare (tree.structure s) = λ i. codes "struct " ++ s.ident ++ codes " {\n" ++ indented (joined (codes ",\n") (members_bare s.members i)) ++ codes "\n}"
+global_bare (tree.function f) = function_bare f
+global_bare (tree.const_assert c) = λ i. (codes "const_assert " ++ node_bare c.expression i) ++ codes ";"
+
+void_bare : (d : tree.GlobalDeclaration) → printed.is_void (bare.bare_global_declaration d) ≡ printed.is_void d
+void_bare tree.void = refl
+void_bare (tree.declaration d) = refl
+void_bare (tree.type_alias a) = refl
+void_bare (tree.structure s) = refl
+void_bare (tree.function f) = refl
+void_bare (tree.const_assert c) = refl
+
+texts_bare : (ds : List (Spanned tree.GlobalDeclaration)) → printed.declaration_texts (map (bare_spanned bare.bare_global_declaration) ds) ≡ printed.declaration_texts ds
+texts_bare [] = refl
+texts_bare (d ∷ ds) = λ i. if void_bare d.node i then texts_bare ds i else global_bare d.node i ∷ texts_bare ds i
+
+pub unit_print_bare : (u : tree.TranslationUnit) → printed.print_unit (bare.bare_unit u) ≡ printed.print_unit u
+unit_print_bare u = λ i. printed.print_directives u.global_directives ++ joined (codes "\n\n") (texts_bare u.global_declarations i) ++ codes "\n"
