@@ -4,7 +4,6 @@ use Rattle.std.specs.Str.{is_utf8}
 use Rattle.wgsl_model.specs.Units.{TranslationUnit}
 use Rattle.wgsl_model.specs.PrintedUnits.{print_unit}
 use Rattle.wgsl_model.specs.Program.{Outcome, complaint, Formats, out_of_memory, IsUnit, ReadsBack}
-use Rattle.wgsl_model.specs.FirstPath.{IsOnFirstPath}
 
 -- the reader had these bytes to give, where its bytes are known
 abbrev pub IsInput : Option (List ℕ) → List ℕ → Type 0
@@ -30,13 +29,13 @@ pub record Ends (input : Option (List ℕ)) (end : Outcome) : Type 0 where
   pub owed : IsDue bytes due
   pub written : GoesOut due end
 
--- The text is the printed unit of these bytes, and reads as that unit without its empty items, where the unit is on the first path.
+-- The text is the printed unit of these bytes, and reads as that unit without its empty items, spans aside.
 pub record IsReprinted (bytes text : List ℕ) : Type 0 where
   pub unit : TranslationUnit
   pub derived : IsUnit (chars bytes) unit
   pub printed : text ≡ print_unit unit
   pub valid : is_utf8 text ≡ true
-  pub reads_back : IsOnFirstPath unit → ReadsBack text unit
+  pub reads_back : ReadsBack text unit
 
 -- what is due where the program was given arguments
 abbrev pub no_arguments : Outcome

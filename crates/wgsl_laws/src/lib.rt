@@ -12,7 +12,6 @@ ghost use Rattle.wgsl_model.specs.EmptyItems.{full_unit};
 ghost use Rattle.wgsl_model.specs.StatementsWithoutSpans.{bare_unit};
 ghost use Rattle.wgsl_model.specs.PrintedUnits.{print_unit};
 ghost use Rattle.wgsl_model.specs.Program.{IsUnit, IsFaultOf, Formats, ReadsBack};
-ghost use Rattle.wgsl_model.specs.FirstPath.{IsOnFirstPath};
 ghost use Rattle.wgsl_canonical_theory.specs.CanonicalUnits.{canonical, without_place, HasTokens};
 
 /// Every text is a unit or has a named fault, never both, and each only once.
@@ -23,21 +22,21 @@ pub fn unit_or_fault()
     ensures one_fault { (source : List ℕ) (fault other : Fault) → IsFaultOf source fault → IsFaultOf source other → fault ≡ other }
 {}
 
-/// The printed text of a derived unit of the first path is a text, and reads as that unit without its empty declarations, spans aside.
+/// The printed text of a derived unit is a text, and reads as that unit without its empty items, spans aside.
 pub fn printed_parse()
-    ensures utf8 { (source : List ℕ) (unit : TranslationUnit) → IsUnit source unit → IsOnFirstPath unit → is_utf8 (print_unit unit) ≡ true }
-    ensures reads_back { (source : List ℕ) (unit : TranslationUnit) → IsUnit source unit → IsOnFirstPath unit → ReadsBack (print_unit unit) unit }
+    ensures utf8 { (source : List ℕ) (unit : TranslationUnit) → IsUnit source unit → is_utf8 (print_unit unit) ≡ true }
+    ensures reads_back { (source : List ℕ) (unit : TranslationUnit) → IsUnit source unit → ReadsBack (print_unit unit) unit }
 {}
 
-/// The tokens of the printed text of a derived unit of the first path are those that are written from its tree, so no two of its words or signs run together.
+/// The tokens of the printed text of a derived unit are those that are written from its tree, so no two of its words or signs run together.
 pub fn printed_tokens()
-    ensures { (source : List ℕ) (unit : TranslationUnit) → IsUnit source unit → IsOnFirstPath unit → HasTokens (print_unit unit) (canonical unit) }
+    ensures { (source : List ℕ) (unit : TranslationUnit) → IsUnit source unit → HasTokens (print_unit unit) (canonical unit) }
 {}
 
-/// Printing what the printed text of a derived unit of the first path reads as gives the same bytes, so the program writes what it wrote as it stands.
+/// Printing what the printed text of a derived unit reads as gives the same bytes, so the program writes what it wrote as it stands.
 pub fn print_twice()
-    ensures unit { (source : List ℕ) (unit again : TranslationUnit) → IsUnit source unit → IsOnFirstPath unit → IsUnit (chars (print_unit unit)) again → print_unit again ≡ print_unit unit }
-    ensures program { (source : List ℕ) (unit : TranslationUnit) → IsUnit source unit → IsOnFirstPath unit → Formats (print_unit unit) (record { status = 0; output = print_unit unit; errors = [] }) }
+    ensures unit { (source : List ℕ) (unit again : TranslationUnit) → IsUnit source unit → IsUnit (chars (print_unit unit)) again → print_unit again ≡ print_unit unit }
+    ensures program { (source : List ℕ) (unit : TranslationUnit) → IsUnit source unit → Formats (print_unit unit) (record { status = 0; output = print_unit unit; errors = [] }) }
 {}
 
 /// Tokens with the kinds that are written from the tree of a derived module, wherever they stand, derive that module without its empty items, spans aside.

@@ -44,4 +44,3 @@ pub mod Small
 pub mod CheckedFaults
 pub mod Named
 pub mod Program
-pub mod FirstPath

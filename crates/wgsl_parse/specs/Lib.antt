@@ -1,5 +1,4 @@
 pub use Rattle.wgsl_model.specs.Program
-pub use Rattle.wgsl_model.specs.FirstPath
 pub use Rattle.wgsl_model.specs.TokenList
 pub use Rattle.wgsl_model.specs.Named
 pub use Rattle.wgsl_model.specs.PrintedUnits

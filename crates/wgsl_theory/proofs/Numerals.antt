@@ -19,7 +19,7 @@ use Rattle.wgsl_model.specs.Numbers.{is_nonzero_digit, whole_number, i_suffix, u
 use Rattle.wgsl_model.specs.Spelling.{identifier, spelling}
 use Rattle.wgsl_theory.proofs.Split.{Each, Each-last, spelled_each, other_than, takes, differs, lets_differs}
 use Rattle.wgsl_theory.proofs.Decimal.{IsDecimal, Numeral, decimal-Numeral}
-use Rattle.wgsl_theory.proofs.Separated.{IsWord, IsSpelled}
+use Rattle.wgsl_theory.proofs.Spellings.{IsSpelling, IsSpelled}
 
 -- ---- their spelling
 
@@ -93,14 +93,14 @@ spelled_number : (word : List ℕ) → spells number_spelling word ≡ true → 
 unfolding begins
 spelled_number word h = or_right (spells identifier word) _ (rw h refl)
 
-number_word : (c : ℕ) (cs : List ℕ) (k : Kind) → is_ascii_digit c ≡ true → spells number_spelling (c ∷ cs) ≡ true → number_of (c ∷ cs) ≡ Some k → IsWord k (c ∷ cs)
+number_word : (c : ℕ) (cs : List ℕ) (k : Kind) → is_ascii_digit c ≡ true → spells number_spelling (c ∷ cs) ≡ true → number_of (c ∷ cs) ≡ Some k → IsSpelling k (c ∷ cs)
 number_word c cs k d s n = record {
   spelled = spelled_number (c ∷ cs) s;
   valued = rw (digit_not_start c d, other_than is_ascii_digit c d 95 refl, d) n;
   begins = digit_begins c d;
 }
 
-plain_word : (n : ℕ) (word : List ℕ) → Numeral n word → n < 2 ^ 63 → IsWord (record { class = AbstractInt; payload = number (pos n) }) word
+plain_word : (n : ℕ) (word : List ℕ) → Numeral n word → n < 2 ^ 63 → IsSpelling (record { class = AbstractInt; payload = number (pos n) }) word
 unfolding begins
 plain_word n [] e h = absurd e
 plain_word n (c ∷ cs) e h =
@@ -110,7 +110,7 @@ plain_word n (c ∷ cs) e h =
 value_before : (n c : ℕ) (cs : List ℕ) (d : ℕ) → Numeral n (c ∷ cs) → number_value (without_last ((c ∷ cs) ++ (d ∷ []))) ≡ n
 value_before n c cs d e = ap number_value (without_last-append (c ∷ cs) d) ∙ value_of_digits c cs e.0 ∙ e.1
 
-signed_word : (n : ℕ) (word : List ℕ) → Numeral n word → n < 2 ^ 31 → IsWord (record { class = I32; payload = number (pos n) }) (word ++ codes "i")
+signed_word : (n : ℕ) (word : List ℕ) → Numeral n word → n < 2 ^ 31 → IsSpelling (record { class = I32; payload = number (pos n) }) (word ++ codes "i")
 unfolding begins
 signed_word n [] e h = absurd e
 signed_word n (c ∷ cs) e h =
@@ -119,7 +119,7 @@ signed_word n (c ∷ cs) e h =
     number_word c (cs ++ codes "i") _ (decimal_digit c cs e.0) (or_right (spells (whole_number empty) word) _ (rw whole refl))
     (of_signed word (unspelled (whole_number empty) 105 (c ∷ cs) refl) whole ∙ below-is I32 (2 ^ 31) n (number_value (without_last word)) (value_before n c cs 105 e) h)
 
-unsigned_word : (n : ℕ) (word : List ℕ) → Numeral n word → n < 2 ^ 32 → IsWord (record { class = U32; payload = number (pos n) }) (word ++ codes "u")
+unsigned_word : (n : ℕ) (word : List ℕ) → Numeral n word → n < 2 ^ 32 → IsSpelling (record { class = U32; payload = number (pos n) }) (word ++ codes "u")
 unfolding begins
 unsigned_word n [] e h = absurd e
 unsigned_word n (c ∷ cs) e h =
@@ -130,8 +130,8 @@ unsigned_word n (c ∷ cs) e h =
 
 -- ---- their texts
 
-ascii_spelled : (k : Kind) (text : List ℕ) → IsAscii text → IsWord k text → IsSpelled k text
-ascii_spelled k text a h = record { utf8 = IsUtf8-from_ascii text a; word = subst (IsWord k) (sym (chars-IsAscii text a)) h }
+ascii_spelled : (k : Kind) (text : List ℕ) → IsAscii text → IsSpelling k text → IsSpelled k text
+ascii_spelled k text a h = record { utf8 = IsUtf8-from_ascii text a; word = subst (IsSpelling k) (sym (chars-IsAscii text a)) h }
 
 pub integer_spelled : (n : ℕ) → n < 2 ^ 63 → IsSpelled (record { class = AbstractInt; payload = number (pos n) }) (decimal n)
 integer_spelled n h = ascii_spelled _ (decimal n) (IsAscii-decimal n (omega (arith, h))) (plain_word n (decimal n) (decimal-Numeral n (omega (arith, h))) h)

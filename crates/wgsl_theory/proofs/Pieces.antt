@@ -1,57 +1,82 @@
--- Texts put together of words and blank space: where each word is the token at the front of what is left, the tokens of the text are its words.
-use Rattle.std.proofs.Common.{◌≡◌, ℕ, zero, suc, ◌==◌, true, false, refl, sym, ap, List, [], ◌∷◌, ◌++◌, ◌∙◌, append_assoc}
-use Rattle.std.specs.Prelude.{map, length}
-use Rattle.std.proofs.lemmas.Bool.{eq-eqb, true≢false}
-use Rattle.grammar.specs.Tokens.{Token}
-use Rattle.grammar.specs.Faults.{Ending, Ending.finished}
+-- Texts put together of words, blank space and the ends of template lists.
+use Rattle.std.proofs.Common.{◌≡◌, ℕ, ◌==◌, true, false, refl, List, [], ◌∷◌, ◌++◌, ◌∙◌}
+use Rattle.std.specs.Prelude.{codes}
+use Rattle.std.specs.Str.{IsUtf8, chars}
 use Rattle.wgsl_model.specs.Characters.{is_blank}
-use Rattle.wgsl_model.specs.Kind.{Kind, placed}
-use Rattle.wgsl_model.specs.Raw.{none_left, token, raw, raw_at}
-use Rattle.wgsl_model.specs.TokenList.{TokensOf, at_end, at_fault, before_template, before_more, place}
-use Rattle.wgsl_model.specs.Templates.{TemplateRelation, NoTemplate, Enclosed, enclosed, TemplateUpTo}
-use Rattle.wgsl_model.specs.Classes.{SymLessThan}
+use Rattle.wgsl_model.specs.Classes.{SymLessThan, TemplateArgsStart, TemplateArgsEnd}
+use Rattle.wgsl_model.specs.Kind.{Kind, plain}
+use Rattle.wgsl_model.specs.Raw.{Raw.token, raw, raw_at}
 use Rattle.wgsl_model.specs.Trivia.{after_trivia}
-use Rattle.wgsl_canonical_theory.specs.CanonicalUnits.{without_place}
+use Rattle.wgsl_template_theory.proofs.Reach.{Role, template_start, template_end, role}
 
--- a character of blank space, or a word with its kind
+-- a space, a line end, a word with its bytes and its kind, and the `<` and the `>` of a template list
 pub data Piece : Type 0 where
-  blank : ℕ → Piece
+  space line_end opens closes : Piece
   word : List ℕ → Kind → Piece
 
--- the text of pieces
+-- the bytes of pieces
+abbrev pub bytes_of : List Piece → List ℕ
+bytes_of [] = []
+bytes_of (space ∷ ps) = 32 ∷ bytes_of ps
+bytes_of (line_end ∷ ps) = 10 ∷ bytes_of ps
+bytes_of (opens ∷ ps) = 60 ∷ bytes_of ps
+bytes_of (closes ∷ ps) = 62 ∷ bytes_of ps
+bytes_of (word w k ∷ ps) = w ++ bytes_of ps
+
+-- their characters
 abbrev pub render : List Piece → List ℕ
 render [] = []
-render (blank c ∷ ps) = c ∷ render ps
-render (word w k ∷ ps) = w ++ render ps
+render (space ∷ ps) = 32 ∷ render ps
+render (line_end ∷ ps) = 10 ∷ render ps
+render (opens ∷ ps) = 60 ∷ render ps
+render (closes ∷ ps) = 62 ∷ render ps
+render (word w k ∷ ps) = chars w ++ render ps
 
--- the kinds of the words
+-- the kinds of the tokens
 abbrev pub kinds : List Piece → List Kind
 kinds [] = []
-kinds (blank c ∷ ps) = kinds ps
+kinds (space ∷ ps) = kinds ps
+kinds (line_end ∷ ps) = kinds ps
+kinds (opens ∷ ps) = plain TemplateArgsStart ∷ kinds ps
+kinds (closes ∷ ps) = plain TemplateArgsEnd ∷ kinds ps
 kinds (word w k ∷ ps) = k ∷ kinds ps
 
--- a word before a rest is the token at the front
+-- the kind is no end of a template list
+abbrev pub IsOrdinaryRole : Role → Type 0
+IsOrdinaryRole template_start = ⊥
+IsOrdinaryRole template_end = ⊥
+IsOrdinaryRole r = Unit {0}
+
+abbrev pub IsOrdinary : Kind → Type 0
+IsOrdinary k = IsOrdinaryRole (role k.class)
+
+-- characters before a rest are the token at the front
 abbrev pub Stands : List ℕ → Kind → List ℕ → Type 0
 Stands w k rest = raw (w ++ rest) ≡ token k (w ++ rest) rest
 
--- each word is the token at the front of what is left, and none is `<`
+-- no byte is a line end
+abbrev pub OnOneLine : List ℕ → Type 0
+OnOneLine [] = Unit {0}
+OnOneLine (b ∷ bs) = ((b == 10) ≡ false) × OnOneLine bs
+
+-- a word of UTF-8 on one line is the token at the front before a rest
+pub record FitsBefore (w : List ℕ) (k : Kind) (rest : List ℕ) : Type 0 where
+  pub ordinary : IsOrdinary k
+  pub stands : Stands (chars w) k rest
+  pub utf8 : IsUtf8 w
+  pub on_one_line : OnOneLine w
+
+-- each word is the token at the front of what is left, and the `<` of each template list is a token of its own; the `>` may begin a longer token
 abbrev pub Fits : List Piece → Type 0
 Fits [] = Unit {0}
-Fits (blank c ∷ ps) = (is_blank c ≡ true) × Fits ps
-Fits (word w k ∷ ps) = Stands w k (render ps) × ((k.class == SymLessThan) ≡ false) × Fits ps
-
-pub render-append : (ps qs : List Piece) → render (ps ++ qs) ≡ render ps ++ render qs
-render-append [] qs = refl
-render-append (blank c ∷ ps) qs = ap (λ text. c ∷ text) (render-append ps qs)
-render-append (word w k ∷ ps) qs = ap (λ text. w ++ text) (render-append ps qs) ∙ sym (append_assoc w (render ps) (render qs))
-
-pub kinds-append : (ps qs : List Piece) → kinds (ps ++ qs) ≡ kinds ps ++ kinds qs
-kinds-append [] qs = refl
-kinds-append (blank c ∷ ps) qs = kinds-append ps qs
-kinds-append (word w k ∷ ps) qs = ap (λ ks. k ∷ ks) (kinds-append ps qs)
+Fits (space ∷ ps) = Fits ps
+Fits (line_end ∷ ps) = Fits ps
+Fits (opens ∷ ps) = Stands (codes "<") (plain SymLessThan) (render ps) × Fits ps
+Fits (closes ∷ ps) = Fits ps
+Fits (word w k ∷ ps) = FitsBefore w k (render ps) × Fits ps
 
 -- blank space is passed over
-raw_blank : (c : ℕ) (cs : List ℕ) → is_blank c ≡ true → raw (c ∷ cs) ≡ raw cs
+pub raw_blank : (c : ℕ) (cs : List ℕ) → is_blank c ≡ true → raw (c ∷ cs) ≡ raw cs
 unfolding after_trivia
 raw_blank c cs h = rw h refl
 
@@ -59,48 +84,6 @@ raw_blank c cs h = rw h refl
 raw_here : (c : ℕ) (cs : List ℕ) → is_blank c ≡ false → (c == 47) ≡ false → raw (c ∷ cs) ≡ raw_at (c ∷ cs)
 unfolding after_trivia
 raw_here c cs h k = rw (h, k) refl
-
--- the tokens of two texts with one token at the front are the same
-same_tokens : (total : ℕ) (s t : List ℕ) (ts : List Token) (e : Ending) → raw s ≡ raw t → TokensOf total t ts e → TokensOf total s ts e
-same_tokens total s t ts e h (at_end text r) = at_end s (h ∙ r)
-same_tokens total s t ts e h (at_fault text from after r) = at_fault s from after (h ∙ r)
-same_tokens total s t ts e h (before_template text from after rest kind us vs f r w l more) = before_template s from after rest kind us vs f (h ∙ r) w l more
-same_tokens total s t ts e h (before_more text from after kind us f r n more) = before_more s from after kind us f (h ∙ r) n more
-
-raw_nil : raw [] ≡ none_left
-unfolding after_trivia
-raw_nil = refl
-
--- no such text begins with `<`
-no_less : (ps : List Piece) → Fits ps → (from after : List ℕ) (kind : Kind) → raw (render ps) ≡ token kind from after → (kind.class == SymLessThan) ≡ false
-no_less [] fits from after kind h = absurd (let none = raw_nil in cc)
-no_less (blank c ∷ ps) fits from after kind h = no_less ps fits.1 from after kind (sym (raw_blank c (render ps) fits.0) ∙ h)
-no_less (word w k ∷ ps) fits from after kind h =
-    let front : token k (w ++ render ps) (render ps) ≡ token kind from after = sym fits.0 ∙ h in
-    let same : k ≡ kind = cc in
-    ap (λ (x : Kind). x.class == SymLessThan) (sym same) ∙ fits.1
-
--- nor with a template list
-not_enclosed : (total : ℕ) (R : TemplateRelation) (ps : List Piece) → Fits ps → (text : List ℕ) (ts : List Token) (rest : List ℕ) → text ≡ render ps → Enclosed total R text ts rest → ⊥
-not_enclosed total R ps fits text ts rest same (enclosed _ from after end kind us v r c inside d) =
-    true≢false (sym (eq-eqb kind.class SymLessThan c) ∙ no_less ps fits from after kind (ap raw (sym same) ∙ r))
-
-no_template : (bound total : ℕ) (ps : List Piece) → Fits ps → NoTemplate (TemplateUpTo bound total) (render ps)
-no_template zero total ps fits ts rest h = absurd h
-no_template (suc bound) total ps fits ts rest h = not_enclosed total (TemplateUpTo bound total) ps fits (render ps) ts rest refl h
-
--- the tokens of a text, places aside
-pub lexed : (total : ℕ) (ps : List Piece) → Fits ps → (ts : List Token) × TokensOf total (render ps) ts finished × (map without_place ts ≡ kinds ps)
-lexed total [] fits = ([], at_end [] raw_nil, refl)
-lexed total (blank c ∷ ps) fits =
-    let rest = lexed total ps fits.1 in
-    (rest.0, same_tokens total (c ∷ render ps) (render ps) rest.0 finished (raw_blank c (render ps) fits.0) rest.1, rest.2)
-lexed total (word w k ∷ ps) fits =
-    let rest = lexed total ps fits.2 in (
-      placed k (place total (w ++ render ps)) (place total (render ps)) ∷ rest.0,
-      before_more (w ++ render ps) (w ++ render ps) (render ps) k rest.0 finished fits.0 (λ _. no_template (length (render ps)) total ps fits.2) rest.1,
-      ap (λ ks. k ∷ ks) rest.2,
-    )
 
 -- a word begins with no blank space and no comment
 abbrev pub Begins : List ℕ → Type 0

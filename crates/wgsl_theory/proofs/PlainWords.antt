@@ -154,7 +154,7 @@ words_are_plain text rest kind e v n =
 
 -- ---- modules
 
-module_words : (source : List ℕ) (ts : List Token) (e : Ending) → IsTokenList source ts e → AllWords ts
+pub module_words : (source : List ℕ) (ts : List Token) (e : Ending) → IsTokenList source ts e → AllWords ts
 module_words = text_words words_are_plain
 
 -- tokens with the kinds that are written from the tree of a module derive it again

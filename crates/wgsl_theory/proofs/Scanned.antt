@@ -1,14 +1,12 @@
--- What the tokens of a text hold: a name and a literal are spelled, as they are printed.
-use Rattle.std.proofs.Common.{◌≡◌, ℕ, zero, suc, ◌^◌, ◌<◌, ◌==◌, ◌||◌, Bool, true, false, cond, not, refl, sym, ap, subst, List, [], ◌∷◌, ◌++◌, length, Option, Some, None, ◌∙◌, arith, lit<}
+-- What the tokens of a text hold: words and literals are spelled as they are printed.
+use Rattle.std.proofs.Common.{◌≡◌, ℕ, zero, suc, ◌^◌, ◌<◌, ◌==◌, ◌||◌, Bool, true, false, cond, not, refl, sym, ap, subst, List, [], ◌∷◌, ◌++◌, length, Option, Some, None, ◌∙◌, arith}
 use Rattle.std.specs.Prelude.{pos, nat_lt, codes, bytes_eq, option_map, ◌&&◌}
 use Rattle.std.specs.Char.{is_ascii_digit}
-use Rattle.std.specs.Str.{encode_utf8_all}
+use Rattle.std.specs.Str.{chars, encode_utf8_all}
 use lib.Utf8.{encode}
 use Rattle.std.proofs.lemmas.Bool.{ltb-true, eqb-true, and_parts, true≢false}
 use Rattle.std.proofs.lemmas.Bool.Decides.{nat_tests}
 use Rattle.std.proofs.lemmas.Str.{chars-encodes, encodes-append}
-use Rattle.unicode_ident.specs.Ident.{is_xid_start}
-use Rattle.unicode_ident.proofs.IdentLemmas.{is_xid_start-ascii}
 use Rattle.grammar.specs.Tokens.{Token, Payload.number}
 use Rattle.grammar.specs.Grammar.{is_among}
 use Rattle.grammar.specs.Faults.{Ending}
@@ -17,116 +15,120 @@ use Rattle.wgsl_model.specs.Classes.{Ident, ReservedWord, AbstractInt, I32, U32,
 use Rattle.wgsl_model.specs.Expressions.{LiteralExpression, boolean}
 use Rattle.wgsl_model.specs.Kind.{Kind, plain, named, placed}
 use Rattle.wgsl_model.specs.Words.{look_up, is_among as is_word_among, symbols, keywords, reserved_words}
+use Rattle.wgsl_model.specs.Texts.{word_in}
 use Rattle.wgsl_model.specs.Numbers.{whole_number, i_suffix, u_suffix, f_suffix, h_suffix, abstract_float, float, float_of, number_value, number_of, without_last, below}
 use Rattle.wgsl_model.specs.Pattern.{empty, is_empty, spells, after_spelling}
 use Rattle.wgsl_model.specs.Spelling.{spelling}
-use Rattle.wgsl_model.specs.Raw.{token, raw, raw_at, value, valued, spelled, front, word_of, name_of, keyword_or_name}
+use Rattle.wgsl_model.specs.Raw.{Raw.token, raw, raw_at, value, valued, spelled, front, word_of, keyword_or_name}
 use Rattle.wgsl_model.specs.TokenList.{TokensOf, at_end, at_fault, before_template, before_more}
 use Rattle.wgsl_model.specs.Templates.{TemplateRelation, Inside, at_greater, at_opening, at_closing, at_template, at_other, enclosed, TemplateUpTo}
 use Rattle.wgsl_model.specs.TokenValues as values
 use Rattle.wgsl_model.specs.TokenValues.{literal_of}
 use Rattle.wgsl_model.specs.Trivia.{after_trivia, outside}
-use Rattle.wgsl_canonical_theory.specs.CanonicalExpressions.{literal_token}
+use Rattle.wgsl_model.specs.Written.{keyword_classes}
 use Rattle.wgsl_canonical_theory.specs.CanonicalUnits.{without_place}
-use Rattle.wgsl_theory.proofs.FirstParts.{literal_classes}
-use Rattle.wgsl_theory.proofs.FirstPrinting.{print_literal}
-use Rattle.wgsl_theory.proofs.Characters.{xid_start-not_blank}
 use Rattle.wgsl_theory.proofs.Cut.{front-of, longest_spelling}
 use Rattle.wgsl_theory.proofs.Numerals.{integer_spelled, signed_spelled, unsigned_spelled, without_last-append}
 use Rattle.wgsl_theory.proofs.Scalars.{spelled_scalars}
-use Rattle.wgsl_theory.proofs.Separated.{IsWord, IsSpelled}
+use Rattle.wgsl_theory.proofs.Spellings.{IsSpelling, IsSpelled}
 use Rattle.wgsl_theory.proofs.Split.{other_than, spelled_last}
-use Rattle.wgsl_theory.proofs.Words.{true_spelled, false_spelled}
+use Rattle.wgsl_theory.proofs.Signs.{begins_name}
+use Rattle.wgsl_theory.proofs.Ends.{IsNameText}
+use Rattle.wgsl_theory.proofs.FittingWords.{looked_up_below, word_class}
+use Rattle.wgsl_theory.proofs.SoundExpressions.{IsNumberText, IsSoundLiteral}
+use Rattle.wgsl_canonical_theory.proofs.NamedWords.{named_word}
 
--- the bytes of an identifier that is no keyword, no reserved word and not `_`
-abbrev pub IsName : List ℕ → Type 0
-IsName bytes = IsSpelled (named Ident bytes) bytes
+-- the classes of words and of literals
+abbrev pub word_classes : List ℕ
+word_classes = Ident ∷ ReservedWord ∷ keyword_classes
 
--- a literal is spelled as it is printed
-abbrev pub IsSoundLiteral : LiteralExpression → Type 0
-IsSoundLiteral l = IsSpelled (literal_token l) (print_literal l)
+abbrev pub literal_classes : List ℕ
+literal_classes = KwTrue ∷ KwFalse ∷ AbstractInt ∷ I32 ∷ U32 ∷ AbstractFloat ∷ F32 ∷ F16 ∷ []
 
 -- what a token of a text holds
 pub record IsScanned (k : Kind) : Type 0 where
-  pub names : k.class ≡ Ident → IsName (values.word_of k.class k.payload)
+  pub words : is_among k.class word_classes ≡ true → IsNameText (values.word_of k.class k.payload)
   pub literals : is_among k.class literal_classes ≡ true → IsSoundLiteral (literal_of (placed k 0 0))
 
--- the text of characters that are a word
-text_of_word : (k : Kind) (w : List ℕ) → IsWord k w → IsSpelled k (encode_utf8_all w)
-text_of_word k w h =
-    let s = spelled_scalars w h.spelled in
-    record { utf8 = (w, (s, refl)); word = subst (IsWord k) (sym (chars-encodes w s)) h }
+-- ---- words
 
--- ---- words and signs
+-- the kind of a word has its text
+name_text : (b : Bool) (word : List ℕ) → (values.word_of (cond b (named ReservedWord word) (named Ident word)).class (cond b (named ReservedWord word) (named Ident word)).payload) ≡ word
+name_text true word = refl
+name_text false word = refl
 
-plain_literal : (c : ℕ) → c < 72 → is_among c literal_classes ≡ true → IsSoundLiteral (literal_of (placed (plain c) 0 0))
-plain_literal c h m = go _ (c == KwTrue) (c == KwFalse) (c == AbstractInt) (c == I32) (c == U32) (c == AbstractFloat) (c == F32) (c == F16) refl refl refl refl refl refl m
+keyword_text : (o : Option ℕ) (word : List ℕ) → look_up keywords word ≡ o → values.word_of (keyword_or_name o word).class (keyword_or_name o word).payload ≡ word
+keyword_text (Some c) word h = named_word (λ class. word_in keywords class) keywords refl word c h
+keyword_text None word h = name_text (is_word_among reserved_words word) word
+
+word_text : (word : List ℕ) → is_among (word_of word).class word_classes ≡ true → values.word_of (word_of word).class (word_of word).payload ≡ word
+word_text word h = go (bytes_eq word (codes "_")) h where
+  go : (b : Bool) → is_among (cond b (plain SymUnderscore) (keyword_or_name (look_up keywords word) word)).class word_classes ≡ true
+      → values.word_of (cond b (plain SymUnderscore) (keyword_or_name (look_up keywords word) word)).class (cond b (plain SymUnderscore) (keyword_or_name (look_up keywords word) word)).payload ≡ word
+  go true e = absurd (cc)
+  go false e = keyword_text (look_up keywords word) word refl
+
+-- a word that is a literal is `true` or `false`
+low_literal : (k : Kind) → k.class < 74 → is_among k.class literal_classes ≡ true → IsSoundLiteral (literal_of (placed k 0 0))
+low_literal k h m = go _ (k.class == KwTrue) (k.class == KwFalse) (k.class == AbstractInt) (k.class == I32) (k.class == U32) (k.class == AbstractFloat) (k.class == F32) (k.class == F16) refl refl refl refl refl refl m
   where
-    go : (l : LiteralExpression) (a b d e f g i j : Bool) → (c == AbstractInt) ≡ d → (c == I32) ≡ e → (c == U32) ≡ f → (c == AbstractFloat) ≡ g → (c == F32) ≡ i → (c == F16) ≡ j
+    go : (l : LiteralExpression) (a b d e f g i j : Bool) → (k.class == AbstractInt) ≡ d → (k.class == I32) ≡ e → (k.class == U32) ≡ f → (k.class == AbstractFloat) ≡ g → (k.class == F32) ≡ i → (k.class == F16) ≡ j
         → cond a true (cond b true (cond d true (cond e true (cond f true (cond g true (cond i true (cond j true false))))))) ≡ true
         → IsSoundLiteral (cond a (boolean true) (cond b (boolean false) l))
-    go l true b d e f g i j u v w x y z k = true_spelled
-    go l false true d e f g i j u v w x y z k = false_spelled
-    go l false false true e f g i j u v w x y z k = absurd (omega (arith, eqb-true c AbstractInt u))
-    go l false false false true f g i j u v w x y z k = absurd (omega (arith, eqb-true c I32 v))
-    go l false false false false true g i j u v w x y z k = absurd (omega (arith, eqb-true c U32 w))
-    go l false false false false false true i j u v w x y z k = absurd (omega (arith, eqb-true c AbstractFloat x))
-    go l false false false false false false true j u v w x y z k = absurd (omega (arith, eqb-true c F32 y))
-    go l false false false false false false false true u v w x y z k = absurd (omega (arith, eqb-true c F16 z))
-    go l false false false false false false false false u v w x y z k = absurd (cc)
+    go l true b d e f g i j u v w x y z q = tt
+    go l false true d e f g i j u v w x y z q = tt
+    go l false false true e f g i j u v w x y z q = absurd (omega (arith, h, eqb-true k.class AbstractInt u))
+    go l false false false true f g i j u v w x y z q = absurd (omega (arith, h, eqb-true k.class I32 v))
+    go l false false false false true g i j u v w x y z q = absurd (omega (arith, h, eqb-true k.class U32 w))
+    go l false false false false false true i j u v w x y z q = absurd (omega (arith, h, eqb-true k.class AbstractFloat x))
+    go l false false false false false false true j u v w x y z q = absurd (omega (arith, h, eqb-true k.class F32 y))
+    go l false false false false false false false true u v w x y z q = absurd (omega (arith, h, eqb-true k.class F16 z))
+    go l false false false false false false false false u v w x y z q = absurd (cc)
 
-plain_scanned : (c : ℕ) → c < 72 → IsScanned (plain c)
-plain_scanned c h = record { names = λ e. absurd (omega (arith, e)); literals = plain_literal c h }
-
-name_scanned : (bytes : List ℕ) → IsName bytes → IsScanned (named Ident bytes)
-name_scanned bytes h = record { names = λ e. h; literals = λ e. absurd (cc) }
-
-reserved_scanned : (bytes : List ℕ) → IsScanned (named ReservedWord bytes)
-reserved_scanned bytes = record { names = λ e. absurd (omega (arith, e)); literals = λ e. absurd (cc) }
-
--- each class of a table is below 72
-abbrev small : List (List ℕ × ℕ) → Bool
-small [] = true
-small (e ∷ es) = cond (nat_lt e.1 72) (small es) false
-
-found_small : (b : Bool) (e : List ℕ × ℕ) (es : List (List ℕ × ℕ)) (word : List ℕ) (c : ℕ) → e.1 < 72 → (look_up es word ≡ Some c → c < 72) → cond b (Some e.1) (look_up es word) ≡ Some c → c < 72
-found_small true e es word c h rest f = let same : e.1 ≡ c = cc in omega (arith, same)
-found_small false e es word c h rest f = rest f
-
-small_parts : (b : Bool) (m : ℕ) (rest : Bool) → nat_lt m 72 ≡ b → cond b rest false ≡ true → (m < 72) × (rest ≡ true)
-small_parts true m rest e h = (ltb-true m 72 e, h)
-small_parts false m rest e h = absurd (cc)
-
-look_up-small : (table : List (List ℕ × ℕ)) (word : List ℕ) (c : ℕ) → small table ≡ true → look_up table word ≡ Some c → c < 72
-look_up-small [] word c s f = absurd (cc)
-look_up-small (e ∷ es) word c s f =
-    let parts = small_parts (nat_lt e.1 72) e.1 (small es) refl s in
-    found_small (bytes_eq e.0 word) e es word c parts.0 (look_up-small es word c parts.1) f
+-- the text of characters that are a word
+text_of_word : (k : Kind) (w : List ℕ) → IsSpelling k w → IsSpelled k (encode_utf8_all w)
+text_of_word k w h =
+    let s = spelled_scalars w h.spelled in
+    record { utf8 = (w, (s, refl)); word = subst (IsSpelling k) (sym (chars-encodes w s)) h }
 
 -- an identifier, a keyword, a reserved word or `_`
-by_reserved : (b : Bool) (w : List ℕ) → IsWord (name_of (encode_utf8_all w)) w → is_word_among reserved_words (encode_utf8_all w) ≡ b → IsScanned (name_of (encode_utf8_all w))
-by_reserved true w h r = rw r (reserved_scanned (encode_utf8_all w))
-by_reserved false w h r =
-    let bytes = encode_utf8_all w in
-    rw r (name_scanned bytes (text_of_word (named Ident bytes) w (subst (λ (b : Bool). IsWord (cond b (named ReservedWord bytes) (named Ident bytes)) w) r h)))
-
-by_keyword : (o : Option ℕ) (w : List ℕ) → IsWord (keyword_or_name o (encode_utf8_all w)) w → look_up keywords (encode_utf8_all w) ≡ o → IsScanned (keyword_or_name o (encode_utf8_all w))
-by_keyword (Some c) w h k = plain_scanned c (look_up-small keywords (encode_utf8_all w) c refl k)
-by_keyword None w h k = by_reserved (is_word_among reserved_words (encode_utf8_all w)) w h refl
-
-by_underscore : (b : Bool) (w : List ℕ) → IsWord (cond b (plain SymUnderscore) (keyword_or_name (look_up keywords (encode_utf8_all w)) (encode_utf8_all w))) w
-    → IsScanned (cond b (plain SymUnderscore) (keyword_or_name (look_up keywords (encode_utf8_all w)) (encode_utf8_all w)))
-by_underscore true w h = plain_scanned SymUnderscore (omega arith)
-by_underscore false w h = by_keyword (look_up keywords (encode_utf8_all w)) w h refl
-
-word_scanned : (w : List ℕ) → IsWord (word_of (encode_utf8_all w)) w → IsScanned (word_of (encode_utf8_all w))
-word_scanned w h = by_underscore (bytes_eq (encode_utf8_all w) (codes "_")) w h
+word_scanned : (c : ℕ) (cs : List ℕ) → begins_name c ≡ true → spells spelling (c ∷ cs) ≡ true → IsScanned (word_of (encode_utf8_all (c ∷ cs)))
+word_scanned c cs b h =
+    let bytes = encode_utf8_all (c ∷ cs) in
+    let s = spelled_scalars (c ∷ cs) h in
+    let named_text : IsNameText bytes = record { utf8 = (c ∷ cs, (s, refl)); first = c; others = cs; characters = chars-encodes (c ∷ cs) s; begins = b; spelled = h } in
+    record {
+      words = λ m. subst IsNameText (sym (word_text bytes m)) named_text;
+      literals = low_literal (word_of bytes) (word_class bytes);
+    }
 
 -- ---- numbers
 
--- a number holds no name
-number_made : (k : Kind) → (k.class ≡ Ident → ⊥) → IsSoundLiteral (literal_of (placed k 0 0)) → IsScanned k
-number_made k n h = record { names = λ e. absurd (n e); literals = λ m. h }
+-- the value of the characters of a number
+number_text : (k : Kind) (text : List ℕ) → 73 < k.class → IsSpelled k text → IsNumberText k text
+number_text k text h n = go (chars text) refl n.word
+  where
+    go : (w : List ℕ) → chars text ≡ w → IsSpelling k w → IsNumberText k text
+    go [] e s = absurd s.begins
+    go (c ∷ cs) e s = by (begins_name c) (is_ascii_digit c || (c == 46 && not (is_empty cs))) refl refl s.valued
+      where
+        by : (a b : Bool) → begins_name c ≡ a → (is_ascii_digit c || (c == 46 && not (is_empty cs))) ≡ b
+            → cond a (Some (word_of (encode_utf8_all (c ∷ cs)))) (cond b (number_of (c ∷ cs)) (option_map plain (look_up symbols (c ∷ cs)))) ≡ Some k → IsNumberText k text
+        by true b x y v = let same : word_of (encode_utf8_all (c ∷ cs)) ≡ k = cc in absurd (omega (arith, h, ap (λ (z : Kind). z.class) same, word_class (encode_utf8_all (c ∷ cs))))
+        by false true x y v = record { utf8 = n.utf8; first = c; others = cs; characters = e; begins = begins_so (is_ascii_digit c) refl y; spelling = s; numbered = v }
+          where
+            begins_so : (d : Bool) → is_ascii_digit c ≡ d → (d || (c == 46 && not (is_empty cs))) ≡ true → (is_ascii_digit c || c == 46) ≡ true
+            begins_so true p q = rw p refl
+            begins_so false p q = rw (p, (and_parts (c == 46) _ q).0) refl
+        by false false x y v = symbol_low (look_up symbols (c ∷ cs)) refl v
+          where
+            symbol_low : (o : Option ℕ) → look_up symbols (c ∷ cs) ≡ o → option_map plain o ≡ Some k → IsNumberText k text
+            symbol_low None p q = absurd (cc)
+            symbol_low (Some d) p q = let same : plain d ≡ k = cc in absurd (omega (arith, h, ap (λ (z : Kind). z.class) same, looked_up_below symbols (c ∷ cs) d refl p))
+
+-- a number is no word
+number_made : (k : Kind) → is_among k.class word_classes ≡ false → IsSoundLiteral (literal_of (placed k 0 0)) → IsScanned k
+number_made k n h = record { words = λ e. absurd (true≢false (sym e ∙ n)); literals = λ m. h }
 
 below_scanned : (class limit n : ℕ) (kind : Kind) → ((m : ℕ) → m < limit → IsScanned (record { class = class; payload = number (pos m) })) → below class limit n ≡ Some kind → IsScanned kind
 below_scanned class limit n kind made h = go (nat_lt n limit) refl h
@@ -136,13 +138,13 @@ below_scanned class limit n kind made h = go (nat_lt n limit) refl h
     go false e f = absurd (cc)
 
 -- a float without suffix
-float_scanned : (word : List ℕ) (kind : Kind) → IsWord kind word → float_of AbstractFloat word ≡ Some kind → IsScanned kind
+float_scanned : (word : List ℕ) (kind : Kind) → IsSpelling kind word → float_of AbstractFloat word ≡ Some kind → IsScanned kind
 float_scanned word kind h e =
     let same : named AbstractFloat (encode_utf8_all word) ≡ kind = cc in
-    subst IsScanned same (number_made _ (λ i. omega (arith, i)) (text_of_word _ word (subst (λ (k : Kind). IsWord k word) (sym same) h)))
+    subst IsScanned same (number_made _ refl (number_text _ _ (omega arith) (text_of_word _ word (subst (λ (k : Kind). IsSpelling k word) (sym same) h))))
 
 -- a word with its suffix is spelled as it is printed: the text without the suffix, and the suffix
-suffixed : (k : Kind) (word : List ℕ) (d : ℕ) → IsWord k word → (before : List ℕ) → word ≡ before ++ (d ∷ []) → encode_utf8_all (d ∷ []) ≡ d ∷ [] → IsSpelled k (encode_utf8_all (without_last word) ++ (d ∷ []))
+suffixed : (k : Kind) (word : List ℕ) (d : ℕ) → IsSpelling k word → (before : List ℕ) → word ≡ before ++ (d ∷ []) → encode_utf8_all (d ∷ []) ≡ d ∷ [] → IsSpelled k (encode_utf8_all (without_last word) ++ (d ∷ []))
 suffixed k word d h before e one =
     let without : without_last word ≡ before = ap without_last e ∙ without_last-append before d in
     let text : encode_utf8_all word ≡ encode_utf8_all (without_last word) ++ (d ∷ []) =
@@ -157,27 +159,27 @@ h_is : encode_utf8_all (codes "h") ≡ codes "h"
 unfolding encode
 h_is = refl
 
-f_scanned : (word : List ℕ) (kind : Kind) → IsWord kind word → spells (float f_suffix) word ≡ true → float_of F32 (without_last word) ≡ Some kind → IsScanned kind
+f_scanned : (word : List ℕ) (kind : Kind) → IsSpelling kind word → spells (float f_suffix) word ≡ true → float_of F32 (without_last word) ≡ Some kind → IsScanned kind
 f_scanned word kind h s e =
     let same : named F32 (encode_utf8_all (without_last word)) ≡ kind = cc in
     let last = spelled_last 102 (float f_suffix) ((λ c x. x), (λ c x. x)) word s in
-    subst IsScanned same (number_made _ (λ i. omega (arith, i)) (suffixed _ word 102 (subst (λ (k : Kind). IsWord k word) (sym same) h) last.0 last.1 f_is))
+    subst IsScanned same (number_made _ refl (number_text _ _ (omega arith) (suffixed _ word 102 (subst (λ (k : Kind). IsSpelling k word) (sym same) h) last.0 last.1 f_is)))
 
-h_scanned : (word : List ℕ) (kind : Kind) → IsWord kind word → spells (float h_suffix) word ≡ true → float_of F16 (without_last word) ≡ Some kind → IsScanned kind
+h_scanned : (word : List ℕ) (kind : Kind) → IsSpelling kind word → spells (float h_suffix) word ≡ true → float_of F16 (without_last word) ≡ Some kind → IsScanned kind
 h_scanned word kind h s e =
     let same : named F16 (encode_utf8_all (without_last word)) ≡ kind = cc in
     let last = spelled_last 104 (float h_suffix) ((λ c x. x), (λ c x. x)) word s in
-    subst IsScanned same (number_made _ (λ i. omega (arith, i)) (suffixed _ word 104 (subst (λ (k : Kind). IsWord k word) (sym same) h) last.0 last.1 h_is))
+    subst IsScanned same (number_made _ refl (number_text _ _ (omega arith) (suffixed _ word 104 (subst (λ (k : Kind). IsSpelling k word) (sym same) h) last.0 last.1 h_is)))
 
-number_scanned : (word : List ℕ) (kind : Kind) → IsWord kind word → number_of word ≡ Some kind → IsScanned kind
+number_scanned : (word : List ℕ) (kind : Kind) → IsSpelling kind word → number_of word ≡ Some kind → IsScanned kind
 number_scanned word kind w h = go (spells (whole_number empty) word) (spells (whole_number i_suffix) word) (spells (whole_number u_suffix) word) (spells abstract_float word) (spells (float f_suffix) word) (spells (float h_suffix) word) refl refl h
   where
     go : (a b c d e f : Bool) → spells (float f_suffix) word ≡ e → spells (float h_suffix) word ≡ f
         → cond a (below AbstractInt (2 ^ 63) (number_value word)) (cond b (below I32 (2 ^ 31) (number_value (without_last word))) (cond c (below U32 (2 ^ 32) (number_value (without_last word)))
         (cond d (float_of AbstractFloat word) (cond e (float_of F32 (without_last word)) (cond f (float_of F16 (without_last word)) None))))) ≡ Some kind → IsScanned kind
-    go true b c d e f x y z = below_scanned AbstractInt (2 ^ 63) (number_value word) kind (λ m l. number_made _ (λ i. omega (arith, i)) (integer_spelled m l)) z
-    go false true c d e f x y z = below_scanned I32 (2 ^ 31) (number_value (without_last word)) kind (λ m l. number_made _ (λ i. omega (arith, i)) (signed_spelled m l)) z
-    go false false true d e f x y z = below_scanned U32 (2 ^ 32) (number_value (without_last word)) kind (λ m l. number_made _ (λ i. omega (arith, i)) (unsigned_spelled m l)) z
+    go true b c d e f x y z = below_scanned AbstractInt (2 ^ 63) (number_value word) kind (λ m l. number_made _ refl (number_text _ _ (omega arith) (integer_spelled m l))) z
+    go false true c d e f x y z = below_scanned I32 (2 ^ 31) (number_value (without_last word)) kind (λ m l. number_made _ refl (number_text _ _ (omega arith) (signed_spelled m l))) z
+    go false false true d e f x y z = below_scanned U32 (2 ^ 32) (number_value (without_last word)) kind (λ m l. number_made _ refl (number_text _ _ (omega arith) (unsigned_spelled m l))) z
     go false false false true e f x y z = float_scanned word kind w z
     go false false false false true f x y z = f_scanned word kind w x z
     go false false false false false true x y z = h_scanned word kind w y z
@@ -185,18 +187,33 @@ number_scanned word kind w h = go (spells (whole_number empty) word) (spells (wh
 
 -- ---- each token of a text
 
+-- a symbol holds nothing
+abbrev no_words : List (List ℕ × ℕ) → Bool
+no_words [] = true
+no_words (e ∷ es) = not (is_among e.1 word_classes) && no_words es
+
+symbol_no_word : (es : List (List ℕ × ℕ)) (w : List ℕ) (c : ℕ) → no_words es ≡ true → look_up es w ≡ Some c → is_among c word_classes ≡ false
+symbol_no_word [] w c s h = absurd (cc)
+symbol_no_word (e ∷ es) w c s h = go (symbol_no_word es w c parts.1) (bytes_eq e.0 w) h
+  where
+    parts : (not (is_among e.1 word_classes) ≡ true) × (no_words es ≡ true)
+    parts = and_parts (not (is_among e.1 word_classes)) (no_words es) s
+
+    not_so : (b : Bool) → not b ≡ true → b ≡ false
+    not_so true p = sym p
+    not_so false p = refl
+
+    go : (look_up es w ≡ Some c → is_among c word_classes ≡ false) → (b : Bool) → cond b (Some e.1) (look_up es w) ≡ Some c → is_among c word_classes ≡ false
+    go more true k = let same : e.1 ≡ c = cc in subst (λ d. is_among d word_classes ≡ false) same (not_so (is_among e.1 word_classes) parts.0)
+    go more false k = more k
+
 sign_scanned : (o : Option ℕ) (word : List ℕ) (kind : Kind) → look_up symbols word ≡ o → option_map plain o ≡ Some kind → IsScanned kind
 sign_scanned None word kind e f = absurd (cc)
-sign_scanned (Some c) word kind e f = let same : plain c ≡ kind = cc in subst IsScanned same (plain_scanned c (look_up-small symbols word c refl e))
+sign_scanned (Some c) word kind e f =
+    let same : plain c ≡ kind = cc in
+    subst IsScanned same (record { words = λ m. absurd (true≢false (sym m ∙ symbol_no_word symbols word c refl e)); literals = low_literal (plain c) (omega (arith, looked_up_below symbols word c refl e)) })
 
--- what begins a word and a number
-starts_begins : (c : ℕ) → (is_xid_start c || c == 95) ≡ true → (is_blank c ≡ false) × ((c == 47) ≡ false)
-starts_begins c h = go (is_xid_start c) refl h
-  where
-    go : (b : Bool) → is_xid_start c ≡ b → (b || c == 95) ≡ true → (is_blank c ≡ false) × ((c == 47) ≡ false)
-    go true e f = (xid_start-not_blank c e, other_than is_xid_start c e 47 (is_xid_start-ascii 47 (lit< tt)))
-    go false e f = subst (λ d. (is_blank d ≡ false) × ((d == 47) ≡ false)) (sym (eqb-true c 95 f)) (refl, refl)
-
+-- what begins a number
 number_begins : (c : ℕ) (b : Bool) → (is_ascii_digit c || (c == 46 && b)) ≡ true → (is_blank c ≡ false) × ((c == 47) ≡ false)
 number_begins c b h = go (is_ascii_digit c) refl h
   where
@@ -206,13 +223,11 @@ number_begins c b h = go (is_ascii_digit c) refl h
 
 value_scanned : (word : List ℕ) (kind : Kind) → spells spelling word ≡ true → value word ≡ Some kind → IsScanned kind
 value_scanned [] kind s h = absurd (cc)
-value_scanned (c ∷ cs) kind s h = go (is_xid_start c || c == 95) (is_ascii_digit c || (c == 46 && not (is_empty cs))) refl refl h
+value_scanned (c ∷ cs) kind s h = go (begins_name c) (is_ascii_digit c || (c == 46 && not (is_empty cs))) refl refl h
   where
-    go : (a b : Bool) → (is_xid_start c || c == 95) ≡ a → (is_ascii_digit c || (c == 46 && not (is_empty cs))) ≡ b
+    go : (a b : Bool) → begins_name c ≡ a → (is_ascii_digit c || (c == 46 && not (is_empty cs))) ≡ b
         → cond a (Some (word_of (encode_utf8_all (c ∷ cs)))) (cond b (number_of (c ∷ cs)) (option_map plain (look_up symbols (c ∷ cs)))) ≡ Some kind → IsScanned kind
-    go true b e d f =
-        let same : word_of (encode_utf8_all (c ∷ cs)) ≡ kind = cc in
-        subst IsScanned same (word_scanned (c ∷ cs) (record { spelled = s; valued = h ∙ ap Some (sym same); begins = starts_begins c e }))
+    go true b e d f = let same : word_of (encode_utf8_all (c ∷ cs)) ≡ kind = cc in subst IsScanned same (word_scanned c cs e s)
     go false true e d f = number_scanned (c ∷ cs) kind (record { spelled = s; valued = h; begins = number_begins c (not (is_empty cs)) d }) f
     go false false e d f = sign_scanned (look_up symbols (c ∷ cs)) (c ∷ cs) kind refl f
 
@@ -244,8 +259,8 @@ raw_scanned : (text from after : List ℕ) (kind : Kind) → raw text ≡ token 
 raw_scanned text from after kind h = raw_at_scanned (after_trivia outside text) from after kind h
 
 -- the marks around a template list hold nothing
-mark_scanned : (c : ℕ) → 79 < c → is_among c literal_classes ≡ false → IsScanned (plain c)
-mark_scanned c h n = record { names = λ e. absurd (omega (arith, e, h)); literals = λ m. absurd (true≢false (sym m ∙ n)) }
+mark_scanned : (c : ℕ) → is_among c word_classes ≡ false → is_among c literal_classes ≡ false → IsScanned (plain c)
+mark_scanned c h n = record { words = λ m. absurd (true≢false (sym m ∙ h)); literals = λ m. absurd (true≢false (sym m ∙ n)) }
 
 -- the tokens of template lists are scanned
 abbrev ScannedBy : TemplateRelation → Type 0
@@ -262,7 +277,7 @@ inside_scanned total R s depth text ts end (at_other d t from after e kind us r 
 template_scanned : (bound total : ℕ) → ScannedBy (TemplateUpTo bound total)
 template_scanned zero total text ts rest h = absurd h
 template_scanned (suc bound) total text ts rest (enclosed t from after end kind us v r c h d) =
-    (mark_scanned TemplateArgsStart (omega arith) refl, AllScanned-append us _ (inside_scanned total (TemplateUpTo bound total) (template_scanned bound total) 0 after us end h) (mark_scanned TemplateArgsEnd (omega arith) refl, tt))
+    (mark_scanned TemplateArgsStart refl refl, AllScanned-append us _ (inside_scanned total (TemplateUpTo bound total) (template_scanned bound total) 0 after us end h) (mark_scanned TemplateArgsEnd refl refl, tt))
 
 pub tokens_scanned : (total : ℕ) (text : List ℕ) (ts : List Token) (e : Ending) → TokensOf total text ts e → AllScanned ts
 tokens_scanned total text ts e (at_end s h) = tt

@@ -143,7 +143,7 @@ goes_on_with c (one p) = false
 goes_on_with c (either a b) = goes_on_with c a || goes_on_with c b
 goes_on_with c p = takes c p
 
-or_none : (x y : Bool) → (x || y) ≡ false → (x ≡ false) × (y ≡ false)
+pub or_none : (x y : Bool) → (x || y) ≡ false → (x ≡ false) × (y ≡ false)
 or_none true y e = absurd (true≢false e)
 or_none false y e = (refl, e)
 

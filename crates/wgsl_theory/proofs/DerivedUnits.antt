@@ -1,0 +1,246 @@
+-- A module that a text derives is sound: its printed text is UTF-8, and is read along the tokens that are written from the module.
+use Rattle.std.proofs.Common.{ℕ, refl, List, [], ◌∷◌, Option, Some, None, lit<}
+use Rattle.std.specs.Prelude.{codes}
+use Rattle.std.specs.Str.{IsUtf8, chars}
+use Rattle.std.proofs.lemmas.Str.{IsUtf8-from_ascii, chars-IsAscii}
+use Rattle.unicode_ident.proofs.IdentLemmas.{is_xid_start-ascii}
+use Rattle.grammar.specs.Tokens.{Token}
+use Rattle.grammar.specs.Grammar.{Mode.full, Part}
+use Rattle.grammar.specs.Notation.{◌means◌}
+use Rattle.grammar.proofs.Depth.{least}
+use Rattle.wgsl_model.specs.Classes.{SymArrow, SymBraceLeft, SymBraceRight, SymColon, SymComma, SymEqual, SymMinusMinus, SymParenLeft, SymParenRight, SymPeriod, SymPlusPlus, SymSemicolon, SymUnderscore, KwAlias, KwBreak, KwCase, KwConst, KwConstAssert, KwContinue, KwContinuing, KwDefault, KwDiagnostic, KwDiscard, KwEnable, KwFn, KwIf, KwOverride, KwRequires, KwStruct, KwVar}
+use Rattle.wgsl_model.specs.Operators.{AssignmentOperator.equal}
+use Rattle.wgsl_model.specs.Spanned.{spanned}
+use Rattle.wgsl_model.specs.Words.{symbols}
+use Rattle.wgsl_model.specs.Expressions.{TypeExpression}
+use Rattle.wgsl_model.specs.Attributes.{Attributes}
+use Rattle.wgsl_model.specs.Statements.{DeclarationKind, Statement, CompoundStatement, CaseSelector, BreakIfStatement}
+use Rattle.wgsl_model.specs.Units.{GlobalDeclaration, TranslationUnit, FormalParameter}
+use Rattle.wgsl_model.specs.PrintedUnits.{print_unit}
+use Rattle.wgsl_model.specs.Program.{IsUnit}
+use Rattle.wgsl_model.specs.TokenList.{width}
+use Rattle.grammar.specs.Faults.{Ending.finished}
+use Rattle.wgsl_model.specs.TokenValues.{text_of}
+use Rattle.wgsl_model.specs.Checks.{var_fault, severity_fault}
+use Rattle.wgsl_model.specs.StatementParts.{placed_statement, underscore_at, assignment_of, increment_of, decrement_of, assert_of, clause_of, continuing_part, break_if}
+use Rattle.wgsl_model.specs.UnitParts.{attributed_ident, member_of, parameter_of, value_of, alias_of, struct_of, return_part, function_of, enable_of, requires_of, diagnostic_of}
+use Rattle.wgsl_model.specs.Symbols.{Symbol, ident, type_specifier, template_list, expressions, call, arguments, literal, primary_expression, singular_expression, component, unary_expression, multiplicative_expression, negated_expression, additive_expression, shift_expression, relational_expression, expression, lhs_expression, attribute, compound_statement, statement, return_statement, if_statement, switch_statement, loop_statement, for_statement, while_statement, call_statement, var_statement, value_statement, break_statement, continue_statement, discard_statement, assignment, phony_assignment, increment, decrement, const_assert, switch_clause, case_selector, continuing_statement, for_init, for_update, var_template, typed_ident, struct_member, formal_parameter, global_declaration, var_declaration, const_declaration, override_declaration, alias_declaration, struct_declaration, function_declaration, diagnostic_severity, global_directive, enable_directive, requires_directive, diagnostic_directive, unit, Value}
+use Rattle.wgsl_model.specs.Written.{written}
+use Rattle.wgsl_canonical_theory.specs.CanonicalUnits.{canonical}
+use Rattle.wgsl_template_theory.proofs.LexedAlong.{Along}
+use Rattle.wgsl_theory.proofs.Signs.{looked_up, spelled_symbol}
+use Rattle.wgsl_theory.proofs.Ends.{IsNameText}
+use Rattle.wgsl_theory.proofs.FittingWords.{plain_ascii}
+use Rattle.wgsl_theory.proofs.SoundExpressions.{IsSoundNode, IsSoundType}
+use Rattle.wgsl_theory.proofs.SoundUnits.{IfSome, Every, AreSoundAttributes, IsSoundSelector, IsSoundStatement, IsSoundClause, IsSoundContinuing, IsSoundDirective, IsSoundMember, IsSoundParameter, IsSoundGlobal, IsSoundUnit}
+use Rattle.wgsl_theory.proofs.FittingUnits.{sound_utf8, sound_along}
+use Rattle.wgsl_theory.proofs.Scanned.{tokens_scanned}
+use Rattle.wgsl_theory.proofs.SoundRules.{IsSoundStatementNode, Sound, FromScanned, Gives, symbol_sound, then_sound, or_sound, gives_sound, makes_sound, check_sound, weaker_sound, sign_before, sign_behind, means_sound, optional_sound, many_sound, list_sound, list_or_none_sound, any_token}
+use Rattle.wgsl_theory.proofs.DerivedSound.{texts_sound, rule_of_sound, statements_sound, list_gives, attributes_give, statements_give, initializer_gives, var_kind_gives, additive_expression_gives, arguments_gives, assignment_gives, attribute_gives, call_gives, call_statement_gives, component_gives, compound_statement_gives, expression_gives, for_statement_gives, ident_gives, if_statement_gives, lhs_expression_gives, literal_gives, loop_statement_gives, multiplicative_expression_gives, negated_expression_gives, primary_expression_gives, relational_expression_gives, return_statement_gives, shift_expression_gives, singular_expression_gives, statement_gives, switch_statement_gives, template_list_gives, type_specifier_gives, unary_expression_gives, value_statement_gives, var_statement_gives, while_statement_gives}
+
+-- ---- statements
+
+-- a statement that ends with nothing else
+word_gives : (class : ℕ) (s : Statement) → IsSoundStatement s → Gives (class means s) IsSoundStatement
+word_gives class s h = means_sound class s IsSoundStatement h
+
+-- the name `_`
+underscore_name : IsNameText (codes "_")
+underscore_name = record {
+  utf8 = IsUtf8-from_ascii (codes "_") (plain_ascii (codes "_") refl);
+  first = 95;
+  others = [];
+  characters = chars-IsAscii (codes "_") (plain_ascii (codes "_") refl);
+  begins = rw (is_xid_start-ascii 95 (lit< tt)) refl;
+  spelled = spelled_symbol (codes "_") (looked_up symbols (codes "_") SymUnderscore refl);
+}
+
+phony_assignment_gives : Gives (written phony_assignment) (Sound phony_assignment)
+phony_assignment_gives = gives_sound (then_sound (makes_sound (any_token (SymUnderscore ∷ [])) underscore_at IsSoundNode (λ t s h. (underscore_name, tt))) initializer_gives) (λ p. assignment_of p.0 equal p.1) IsSoundStatement (λ p h. (h.0, h.1))
+
+increment_gives : Gives (written increment) (Sound increment)
+increment_gives = gives_sound (sign_behind SymPlusPlus (symbol_sound lhs_expression)) increment_of IsSoundStatement (λ e h. (h.1, h.2))
+
+decrement_gives : Gives (written decrement) (Sound decrement)
+decrement_gives = gives_sound (sign_behind SymMinusMinus (symbol_sound lhs_expression)) decrement_of IsSoundStatement (λ e h. (h.1, h.2))
+
+const_assert_gives : Gives (written const_assert) (Sound const_assert)
+const_assert_gives = gives_sound (sign_before KwConstAssert (symbol_sound expression)) assert_of (Sound const_assert) (λ e h. h)
+
+switch_clause_gives : Gives (written switch_clause) (Sound switch_clause)
+switch_clause_gives = or_sound
+    (gives_sound (sign_before KwCase (then_sound (list_sound SymComma (symbol_sound case_selector)) (then_sound (optional_sound (any_token (SymColon ∷ []))) (symbol_sound compound_statement)))) (λ p. clause_of p.0 p.1.1) IsSoundClause (λ p h. (h.0, h.1.1)))
+    (gives_sound (sign_before KwDefault (then_sound (optional_sound (any_token (SymColon ∷ []))) (symbol_sound compound_statement))) (λ p. clause_of (CaseSelector.default_selector ∷ []) p.1) IsSoundClause (λ p h. ((tt, tt), h.1)))
+
+case_selector_gives : Gives (written case_selector) (Sound case_selector)
+case_selector_gives = or_sound (means_sound KwDefault CaseSelector.default_selector IsSoundSelector tt) (gives_sound (symbol_sound expression) CaseSelector.expression_selector IsSoundSelector (λ e h. h))
+
+break_if_gives : Gives break_if (λ (b : BreakIfStatement). IsSoundNode b.expression)
+break_if_gives = gives_sound (sign_before KwBreak (sign_before KwIf (sign_behind SymSemicolon (symbol_sound expression)))) (λ e. record { expression = e }) (λ (b : BreakIfStatement). IsSoundNode b.expression) (λ e h. h)
+
+continuing_statement_gives : Gives (written continuing_statement) (Sound continuing_statement)
+continuing_statement_gives = gives_sound (sign_before KwContinuing (then_sound attributes_give (sign_before SymBraceLeft (sign_behind SymBraceRight (then_sound statements_give (optional_sound break_if_gives))))))
+    (λ p. continuing_part p.0 p.1.0 p.1.1) IsSoundContinuing (λ p h. ((h.0, statements_sound p.1.0 h.1.0), h.1.1))
+
+for_init_gives : Gives (written for_init) (Sound for_init)
+for_init_gives = makes_sound (or_sound (symbol_sound var_statement) (or_sound (symbol_sound value_statement) (or_sound (symbol_sound assignment) (or_sound (symbol_sound phony_assignment)
+    (or_sound (symbol_sound increment) (or_sound (symbol_sound decrement) (symbol_sound call_statement))))))) placed_statement IsSoundStatementNode (λ v s h. h)
+
+for_update_gives : Gives (written for_update) (Sound for_update)
+for_update_gives = makes_sound (or_sound (symbol_sound assignment) (or_sound (symbol_sound phony_assignment) (or_sound (symbol_sound increment) (or_sound (symbol_sound decrement) (symbol_sound call_statement))))) placed_statement IsSoundStatementNode (λ v s h. h)
+
+-- ---- declarations
+
+var_template_gives : Gives (written var_template) (Sound var_template)
+var_template_gives = check_sound (weaker_sound (sign_before KwVar (optional_sound (symbol_sound template_list))) (Sound var_template) (λ v h. tt)) var_fault
+
+typed_ident_gives : Gives (written typed_ident) (Sound typed_ident)
+typed_ident_gives = gives_sound (then_sound (symbol_sound ident) (optional_sound (sign_before SymColon (symbol_sound type_specifier)))) (λ p. (text_of p.0, p.1)) (Sound typed_ident) (λ p h. h)
+
+attributed_ident_gives : Gives attributed_ident (λ p. AreSoundAttributes p.0 × (IsNameText (text_of p.1.0) × IsSoundType p.1.1))
+attributed_ident_gives = then_sound attributes_give (then_sound (sign_behind SymColon (symbol_sound ident)) (symbol_sound type_specifier))
+
+struct_member_gives : Gives (written struct_member) (Sound struct_member)
+struct_member_gives = makes_sound attributed_ident_gives member_of IsSoundMember (λ p s h. (h.0, h.1.0, h.1.1))
+
+formal_parameter_gives : Gives (written formal_parameter) (Sound formal_parameter)
+formal_parameter_gives = gives_sound attributed_ident_gives parameter_of IsSoundParameter (λ p h. (h.0, h.1.0, h.1.1))
+
+global_declaration_gives : Gives (written global_declaration) (Sound global_declaration)
+global_declaration_gives = makes_sound
+    (or_sound (means_sound SymSemicolon GlobalDeclaration.void IsSoundGlobal tt) (or_sound (symbol_sound var_declaration) (or_sound (symbol_sound const_declaration) (or_sound (symbol_sound override_declaration)
+    (or_sound (symbol_sound alias_declaration) (or_sound (symbol_sound struct_declaration) (or_sound (symbol_sound function_declaration)
+    (gives_sound (sign_behind SymSemicolon (symbol_sound const_assert)) GlobalDeclaration.const_assert IsSoundGlobal (λ c h. h)))))))))
+    spanned (Sound global_declaration) (λ d s h. h)
+
+var_declaration_gives : Gives (written var_declaration) (Sound var_declaration)
+var_declaration_gives = gives_sound (then_sound attributes_give (then_sound var_kind_gives (then_sound (symbol_sound typed_ident) (sign_behind SymSemicolon (optional_sound initializer_gives)))))
+    (λ p. value_of p.0 p.1.0 p.1.1.0 p.1.1.1) IsSoundGlobal (λ p h. (h.0, h.1.1.0.0, h.1.1.0.1, h.1.1.1))
+
+const_declaration_gives : Gives (written const_declaration) (Sound const_declaration)
+const_declaration_gives = gives_sound (sign_before KwConst (then_sound (symbol_sound typed_ident) (sign_behind SymSemicolon initializer_gives))) (λ p. value_of [] DeclarationKind.const_kind p.0 (Some p.1)) IsSoundGlobal (λ p h. (tt, h.0.0, h.0.1, h.1))
+
+override_declaration_gives : Gives (written override_declaration) (Sound override_declaration)
+override_declaration_gives = gives_sound (then_sound attributes_give (sign_before KwOverride (then_sound (symbol_sound typed_ident) (sign_behind SymSemicolon (optional_sound initializer_gives)))))
+    (λ p. value_of p.0 DeclarationKind.override_kind p.1.0 p.1.1) IsSoundGlobal (λ p h. (h.0, h.1.0.0, h.1.0.1, h.1.1))
+
+alias_declaration_gives : Gives (written alias_declaration) (Sound alias_declaration)
+alias_declaration_gives = gives_sound (sign_before KwAlias (then_sound (symbol_sound ident) (sign_before SymEqual (sign_behind SymSemicolon (symbol_sound type_specifier))))) alias_of IsSoundGlobal (λ p h. h)
+
+struct_declaration_gives : Gives (written struct_declaration) (Sound struct_declaration)
+struct_declaration_gives = gives_sound (sign_before KwStruct (then_sound (symbol_sound ident) (sign_before SymBraceLeft (sign_behind SymBraceRight (list_sound SymComma (symbol_sound struct_member)))))) struct_of IsSoundGlobal (λ p h. h)
+
+return_part_gives : Gives return_part (λ p. AreSoundAttributes p.0 × IsSoundType p.1)
+return_part_gives = sign_before SymArrow (then_sound attributes_give (symbol_sound type_specifier))
+
+function_sound : (a : Attributes) (t : Token) (ps : List FormalParameter) (o : Option (Attributes × TypeExpression)) (b : CompoundStatement) → AreSoundAttributes a → IsNameText (text_of t) → Every IsSoundParameter ps
+    → IfSome (λ (p : Attributes × TypeExpression). AreSoundAttributes p.0 × IsSoundType p.1) o → Sound compound_statement b → IsSoundGlobal (function_of a t ps o b)
+function_sound a t ps None b h n s r c = (h, n, s, tt, tt, c)
+function_sound a t ps (Some p) b h n s r c = (h, n, s, r.0, r.1, c)
+
+function_declaration_gives : Gives (written function_declaration) (Sound function_declaration)
+function_declaration_gives = gives_sound
+    (then_sound attributes_give (sign_before KwFn (then_sound (symbol_sound ident) (sign_before SymParenLeft (then_sound (sign_behind SymParenRight (list_or_none_sound SymComma (symbol_sound formal_parameter)))
+    (then_sound (optional_sound return_part_gives) (symbol_sound compound_statement)))))))
+    (λ p. function_of p.0 p.1.0 p.1.1.0 p.1.1.1.0 p.1.1.1.1) IsSoundGlobal (λ p h. function_sound p.0 p.1.0 p.1.1.0 p.1.1.1.0 p.1.1.1.1 h.0 h.1.0 h.1.1.0 h.1.1.1.0 h.1.1.1.1)
+
+-- ---- directives and modules
+
+diagnostic_severity_gives : Gives (written diagnostic_severity) (Sound diagnostic_severity)
+diagnostic_severity_gives = check_sound (weaker_sound (sign_before KwDiagnostic (sign_before SymParenLeft (symbol_sound ident))) (Sound diagnostic_severity) (λ t h. tt)) severity_fault
+
+global_directive_gives : Gives (written global_directive) (Sound global_directive)
+global_directive_gives = or_sound (symbol_sound enable_directive) (or_sound (symbol_sound requires_directive) (symbol_sound diagnostic_directive))
+
+enable_directive_gives : Gives (written enable_directive) (Sound enable_directive)
+enable_directive_gives = gives_sound (sign_before KwEnable (sign_behind SymSemicolon (list_sound SymComma (symbol_sound ident)))) enable_of IsSoundDirective (λ ts h. texts_sound ts h)
+
+requires_directive_gives : Gives (written requires_directive) (Sound requires_directive)
+requires_directive_gives = gives_sound (sign_before KwRequires (sign_behind SymSemicolon (list_sound SymComma (symbol_sound ident)))) requires_of IsSoundDirective (λ ts h. texts_sound ts h)
+
+diagnostic_directive_gives : Gives (written diagnostic_directive) (Sound diagnostic_directive)
+diagnostic_directive_gives = gives_sound
+    (then_sound (sign_behind SymComma (symbol_sound diagnostic_severity)) (then_sound (symbol_sound ident) (then_sound (optional_sound (sign_before SymPeriod (symbol_sound ident)))
+    (sign_behind SymSemicolon (sign_behind SymParenRight (optional_sound (any_token (SymComma ∷ []))))))))
+    (λ p. diagnostic_of p.0 p.1.0 p.1.1.0) IsSoundDirective (λ p h. rule_of_sound p.1.0 p.1.1.0 h.1.0 h.1.1.0)
+
+unit_gives : Gives (written unit) (Sound unit)
+unit_gives = gives_sound (then_sound (many_sound (symbol_sound global_directive)) (many_sound (symbol_sound global_declaration))) (λ p. record { global_directives = p.0; global_declarations = p.1 }) IsSoundUnit (λ p h. h)
+
+-- each rule of the grammar
+rules : (n : Symbol) → Gives (written n) (Sound n)
+rules ident = ident_gives
+rules type_specifier = type_specifier_gives
+rules template_list = template_list_gives
+rules expressions = list_gives
+rules call = call_gives
+rules arguments = arguments_gives
+rules literal = literal_gives
+rules primary_expression = primary_expression_gives
+rules singular_expression = singular_expression_gives
+rules component = component_gives
+rules unary_expression = unary_expression_gives
+rules multiplicative_expression = multiplicative_expression_gives
+rules negated_expression = negated_expression_gives
+rules additive_expression = additive_expression_gives
+rules shift_expression = shift_expression_gives
+rules relational_expression = relational_expression_gives
+rules expression = expression_gives
+rules lhs_expression = lhs_expression_gives
+rules attribute = attribute_gives
+rules compound_statement = compound_statement_gives
+rules statement = statement_gives
+rules return_statement = return_statement_gives
+rules if_statement = if_statement_gives
+rules switch_statement = switch_statement_gives
+rules loop_statement = loop_statement_gives
+rules for_statement = for_statement_gives
+rules while_statement = while_statement_gives
+rules call_statement = call_statement_gives
+rules var_statement = var_statement_gives
+rules value_statement = value_statement_gives
+rules break_statement = word_gives KwBreak Statement.break_statement tt
+rules continue_statement = word_gives KwContinue Statement.continue_statement tt
+rules discard_statement = word_gives KwDiscard Statement.discard_statement tt
+rules assignment = assignment_gives
+rules phony_assignment = phony_assignment_gives
+rules increment = increment_gives
+rules decrement = decrement_gives
+rules const_assert = const_assert_gives
+rules switch_clause = switch_clause_gives
+rules case_selector = case_selector_gives
+rules continuing_statement = continuing_statement_gives
+rules for_init = for_init_gives
+rules for_update = for_update_gives
+rules var_template = var_template_gives
+rules typed_ident = typed_ident_gives
+rules struct_member = struct_member_gives
+rules formal_parameter = formal_parameter_gives
+rules global_declaration = global_declaration_gives
+rules var_declaration = var_declaration_gives
+rules const_declaration = const_declaration_gives
+rules override_declaration = override_declaration_gives
+rules alias_declaration = alias_declaration_gives
+rules struct_declaration = struct_declaration_gives
+rules function_declaration = function_declaration_gives
+rules diagnostic_severity = diagnostic_severity_gives
+rules global_directive = global_directive_gives
+rules enable_directive = enable_directive_gives
+rules requires_directive = requires_directive_gives
+rules diagnostic_directive = diagnostic_directive_gives
+rules unit = unit_gives
+
+-- what a symbol derives from tokens of a text is sound
+derived_sound : (n : Symbol) (v : Value n) (xs ys : List Token) → Part full written n v xs ys → FromScanned n v xs ys
+derived_sound n v xs ys d = least full written FromScanned (λ m w us vs e. (rules m).sound w us vs e) n v xs ys d
+
+-- a module that a text derives
+pub unit_sound : (source : List ℕ) (u : TranslationUnit) → IsUnit source u → IsSoundUnit u
+unit_sound source u (ts, tokens, d) = (derived_sound unit u ts [] d (tokens_scanned (width source) source ts finished tokens)).1
+
+-- its printed text
+pub unit_utf8 : (source : List ℕ) (u : TranslationUnit) → IsUnit source u → IsUtf8 (print_unit u)
+unit_utf8 source u h = sound_utf8 u (unit_sound source u h)
+
+pub unit_along : (source : List ℕ) (u : TranslationUnit) → IsUnit source u → Along (canonical u) (chars (print_unit u))
+unit_along source u h = sound_along u (unit_sound source u h)

@@ -1,0 +1,268 @@
+-- An attribute whose name and arguments are sound is sound.
+use Rattle.std.proofs.Common.{◌≡◌, ℕ, suc, ◌<◌, ◌==◌, Bool, true, false, cond, not, refl, sym, ap, subst, List, [], ◌∷◌, ◌++◌, length, get_or, Option, Some, None, ◌∙◌, lit<, arith, append_assoc, append-nil}
+use Rattle.std.specs.Prelude.{codes, bytes_eq, option_map}
+use Rattle.std.specs.Str.{NonePass, NoCharPasses, encode_utf8_all}
+use Rattle.std.proofs.lemmas.Bool.{eqb-true, false_from_ne_true, true≢false}
+use Rattle.std.proofs.lemmas.Str.{NoCharPasses-byte, encodes-chars}
+use Rattle.unicode_ident.proofs.IdentLemmas.{is_xid_start-ascii, is_xid_continue-ascii}
+use Rattle.wgsl_model.specs.Numbers.{number_spelling}
+use Rattle.wgsl_model.specs.Pattern.{spells}
+use Rattle.wgsl_model.specs.Spelling.{identifier, symbol, spelling}
+use Rattle.wgsl_model.specs.Words.{look_up}
+use Rattle.wgsl_model.specs.NamedValues.{WordTable, DiagnosticSeverity, severities, InterpolationType, interpolation_types, InterpolationSampling, interpolation_samplings, builtin_values}
+use Rattle.wgsl_model.specs.Operators.{bitwise_or}
+use Rattle.wgsl_model.specs.Expressions.{ExpressionNode, expression_node, Expression, named_component, binary, type_or_identifier, TypeExpression, type_expression, no_template}
+use Rattle.wgsl_model.specs.Attributes.{Attribute, align, binding, blend_src, group, id, location, size, if_attribute, elif_attribute, builtin, const_attribute, invariant, must_use, vertex, fragment, compute, else_attribute, interpolate, custom}
+use Rattle.wgsl_model.specs.Spanned.{Spanned}
+use Rattle.wgsl_model.specs.Checks.{Checked, right, wrong, right_in, right_or, given_or, bare_name_in, bare_name, bare_word, rule_name, variants_in, variants, Arguments, with_one, with_none, builtin_attribute, severity_and_rule, diagnostic_attribute, type_and_sampling, interpolate_attribute, workgroup_size_attribute, name_and_variants, type_attribute, attribute_names, named_attribute, AttributeParts, attribute_of, attribute_node}
+use Rattle.wgsl_theory.proofs.Split.{Each, spelled_each, differs, lets_differs, takes}
+use Rattle.wgsl_theory.proofs.Fronts.{spelled_first}
+use Rattle.wgsl_theory.proofs.Signs.{begins_name, begins_number, number_begins, one_of_three}
+use Rattle.wgsl_theory.proofs.Ends.{IsNameText, name_no_number, name_no_symbol}
+use Rattle.wgsl_theory.proofs.SoundExpressions.{IsSoundNode, IsSoundExpression, IsSoundType}
+use Rattle.wgsl_theory.proofs.SoundUnits.{IfSome, Every, IsSoundRule, IsSoundAttribute}
+
+-- ---- no name has a point
+
+abbrev HasNoPoint : List ℕ → Type 0
+HasNoPoint [] = Unit {0}
+HasNoPoint (b ∷ bs) = ((b == 46) ≡ false) × HasNoPoint bs
+
+no_point : (text : List ℕ) → ((i : ℕ) → i < length text → (get_or text i 0 == 46) ≡ false) → HasNoPoint text
+no_point [] h = tt
+no_point (b ∷ bs) h = (h 0 (omega arith), no_point bs (λ i l. h (suc i) (omega (arith, l))))
+
+none_pass : (cs : List ℕ) → Each (differs 46) cs → NonePass (λ c. c == 46) cs
+none_pass [] h = tt
+none_pass (c ∷ cs) h = (not_so (c == 46) h.0, none_pass cs h.1)
+  where
+    not_so : (b : Bool) → not b ≡ true → b ≡ false
+    not_so true p = sym p
+    not_so false p = refl
+
+point_taken : takes 46 identifier ≡ false
+point_taken = rw (is_xid_start-ascii 46 (lit< tt), is_xid_continue-ascii 46 (lit< tt)) refl
+
+point_no_name : begins_name 46 ≡ false
+point_no_name = rw (is_xid_start-ascii 46 (lit< tt)) refl
+
+-- no character of a name is one
+symbol_without : (x : ℕ) (xs : List ℕ) → begins_name x ≡ true → spells symbol (x ∷ xs) ≡ true → Each (differs 46) (x ∷ xs)
+symbol_without x [] b h = (ap not (false_from_ne_true (x == 46) (λ e. (let same : x ≡ 46 = eqb-true x 46 e in true≢false (sym b ∙ ap begins_name same ∙ point_no_name)))), tt)
+symbol_without x (d ∷ z) b h = absurd (name_no_symbol x [] d z b h)
+
+characters_without : (x : ℕ) (xs : List ℕ) → begins_name x ≡ true → spells spelling (x ∷ xs) ≡ true → Each (differs 46) (x ∷ xs)
+characters_without x xs b h =
+    one_of_three (x ∷ xs) h
+    (λ e. spelled_each (differs 46) identifier (lets_differs 46 identifier point_taken) (x ∷ xs) e)
+    (λ e. absurd (name_no_number x b (spelled_first begins_number number_spelling number_begins x xs e)))
+    (λ e. symbol_without x xs b e)
+
+name_without : (bytes : List ℕ) → IsNameText bytes → HasNoPoint bytes
+name_without bytes n =
+    let none : NoCharPasses (λ c. c == 46) bytes = (n.first ∷ n.others, ap encode_utf8_all (sym n.characters) ∙ encodes-chars bytes n.utf8, none_pass (n.first ∷ n.others) (characters_without n.first n.others n.begins n.spelled)) in
+    no_point bytes (λ i l. false_from_ne_true (get_or bytes i 0 == 46) (λ t.
+    (let point : get_or bytes i 0 ≡ 46 = eqb-true (get_or bytes i 0) 46 t in true≢false (sym t ∙ NoCharPasses-byte (λ c. c == 46) bytes i none l (omega (arith, point))))))
+
+-- ---- names of rules
+
+one_name_from : (start left : List ℕ) → HasNoPoint left → IsNameText (start ++ left) → IsSoundRule start left
+one_name_from start [] p n = subst IsNameText (append-nil start) n
+one_name_from start (c ∷ cs) p n = rw p.0 (one_name_from (start ++ (c ∷ [])) cs p.1 (subst IsNameText (sym (append_assoc start (c ∷ []) cs)) n))
+
+-- one name
+pub one_name_rule : (text : List ℕ) → IsNameText text → IsSoundRule [] text
+one_name_rule text n = one_name_from [] text (name_without text n) n
+
+two_names_from : (start left second : List ℕ) → HasNoPoint left → IsNameText (start ++ left) → IsNameText second → IsSoundRule start (left ++ (46 ∷ second))
+two_names_from start [] second p n m = (subst IsNameText (append-nil start) n, m)
+two_names_from start (c ∷ cs) second p n m = rw p.0 (two_names_from (start ++ (c ∷ [])) cs second p.1 (subst IsNameText (sym (append_assoc start (c ∷ []) cs)) n) m)
+
+-- two names with `.` between
+pub two_names_rule : (first second : List ℕ) → IsNameText first → IsNameText second → IsSoundRule [] (first ++ (codes "." ++ second))
+two_names_rule first second n m = two_names_from [] first second (name_without first n) n m
+
+-- ---- arguments
+
+-- a bare name, the name of a rule, and types, where they are found
+bare_name_in_sound : (e : Expression) → IsSoundExpression e → IfSome IsNameText (bare_name_in e)
+bare_name_in_sound (type_or_identifier (type_expression text no_template)) s = s.0
+bare_name_in_sound e s = tt
+
+bare_name_sound : (e : ExpressionNode) → IsSoundNode e → IfSome IsNameText (bare_name e)
+bare_name_sound (expression_node e span) s = bare_name_in_sound e s
+
+-- the name of a rule
+mapped_sound : (component : List ℕ) (o : Option (List ℕ)) → IsNameText component → IfSome IsNameText o → IfSome (IsSoundRule []) (option_map (λ text. text ++ (codes "." ++ component)) o)
+mapped_sound component None n s = tt
+mapped_sound component (Some text) n s = two_names_rule text component s n
+
+rule_name_sound : (r : ExpressionNode) → IsSoundNode r → IfSome (IsSoundRule []) (rule_name r)
+rule_name_sound (expression_node (named_component base component) span) s = mapped_sound component (bare_name base) s.2 (bare_name_sound base s.1)
+rule_name_sound (expression_node (type_or_identifier (type_expression text no_template)) span) s = one_name_rule text s.0
+rule_name_sound (expression_node e span) s = tt
+
+Every-behind : {A : Type 0} (P : A → Type 0) (xs : List A) (x : A) → Every P xs → P x → Every P (xs ++ (x ∷ []))
+Every-behind P [] x h k = (k, tt)
+Every-behind P (y ∷ xs) x h k = (h.0, Every-behind P xs x h.1 k)
+
+more_variants : (o : Option (List TypeExpression)) (ty : TypeExpression) → IfSome (Every IsSoundType) o → IsSoundType ty → IfSome (Every IsSoundType) (option_map (λ types. types ++ (ty ∷ [])) o)
+more_variants None ty s t = tt
+more_variants (Some types) ty s t = Every-behind IsSoundType types ty s t
+
+variants_in_sound : (e : Expression) → IsSoundExpression e → IfSome (Every IsSoundType) (variants_in e)
+variants_in_sound (type_or_identifier ty) s = (s, tt)
+variants_in_sound (binary bitwise_or (expression_node left x) (expression_node (type_or_identifier ty) u)) s = more_variants (variants_in left) ty (variants_in_sound left s.0) s.1
+variants_in_sound e s = tt
+
+variants_sound : (e : ExpressionNode) → IsSoundNode e → IfSome (Every IsSoundType) (variants e)
+variants_sound (expression_node e span) s = variants_in_sound e s
+
+-- ---- what names make of their arguments
+
+-- what is right is sound
+abbrev IsSoundChecked : Checked Attribute → Type 0
+IsSoundChecked (right a) = IsSoundAttribute a
+IsSoundChecked (wrong text) = Unit {0}
+
+abbrev pub AreSoundArguments : Arguments → Type 0
+AreSoundArguments = IfSome (λ (es : List ExpressionNode). Every IsSoundNode es)
+
+abbrev Makes : (Arguments → Checked Attribute) → Type 0
+Makes f = (a : Arguments) → AreSoundArguments a → IsSoundChecked (f a)
+
+one_makes : (f : ExpressionNode → Attribute) → ((e : ExpressionNode) → IsSoundNode e → IsSoundAttribute (f e)) → Makes (with_one f)
+one_makes f h None s = tt
+one_makes f h (Some []) s = tt
+one_makes f h (Some (e ∷ [])) s = h e s.0
+one_makes f h (Some (e ∷ (d ∷ es))) s = tt
+
+none_makes : (a : Attribute) → IsSoundAttribute a → Makes (with_none a)
+none_makes a h None s = h
+none_makes a h (Some es) s = tt
+
+right_or_sound : {A : Type 0} (o : Option A) (f : A → Attribute) (text : List ℕ) → ((x : A) → IsSoundAttribute (f x)) → IsSoundChecked (right_or o f text)
+right_or_sound None f text h = tt
+right_or_sound (Some x) f text h = h x
+
+builtin_makes : Makes builtin_attribute
+builtin_makes None s = tt
+builtin_makes (Some []) s = tt
+builtin_makes (Some (e ∷ [])) s = right_or_sound (bare_word builtin_values e) builtin _ (λ x. tt)
+builtin_makes (Some (e ∷ (d ∷ es))) s = tt
+
+severity_and_rule_sound : (x : Option DiagnosticSeverity) (rule : Option (List ℕ)) → IfSome (IsSoundRule []) rule → IsSoundChecked (severity_and_rule x rule)
+severity_and_rule_sound None rule s = tt
+severity_and_rule_sound (Some x) None s = tt
+severity_and_rule_sound (Some x) (Some rule) s = s
+
+diagnostic_makes : Makes diagnostic_attribute
+diagnostic_makes None s = tt
+diagnostic_makes (Some []) s = tt
+diagnostic_makes (Some (e ∷ [])) s = tt
+diagnostic_makes (Some (e ∷ (r ∷ []))) s = severity_and_rule_sound (bare_word severities e) (rule_name r) (rule_name_sound r s.1.0)
+diagnostic_makes (Some (e ∷ (r ∷ (d ∷ es)))) s = tt
+
+type_and_sampling_sound : (x : Option InterpolationType) (y : Option InterpolationSampling) → IsSoundChecked (type_and_sampling x y)
+type_and_sampling_sound None y = tt
+type_and_sampling_sound (Some x) None = tt
+type_and_sampling_sound (Some x) (Some y) = tt
+
+interpolate_makes : Makes interpolate_attribute
+interpolate_makes None s = tt
+interpolate_makes (Some []) s = tt
+interpolate_makes (Some (e ∷ [])) s = right_or_sound (bare_word interpolation_types e) (λ ty. interpolate (record { ty = ty; sampling = None })) _ (λ x. tt)
+interpolate_makes (Some (e ∷ (r ∷ []))) s = type_and_sampling_sound (bare_word interpolation_types e) (bare_word interpolation_samplings r)
+interpolate_makes (Some (e ∷ (r ∷ (d ∷ es)))) s = tt
+
+workgroup_size_makes : Makes workgroup_size_attribute
+workgroup_size_makes None s = tt
+workgroup_size_makes (Some []) s = tt
+workgroup_size_makes (Some (x ∷ [])) s = (s.0, tt, tt)
+workgroup_size_makes (Some (x ∷ (y ∷ []))) s = (s.0, s.1.0, tt)
+workgroup_size_makes (Some (x ∷ (y ∷ (z ∷ [])))) s = (s.0, s.1.0, s.1.1.0)
+workgroup_size_makes (Some (x ∷ (y ∷ (z ∷ (d ∷ es))))) s = tt
+
+name_and_variants_sound : (x : Option (List ℕ)) (y : Option (List TypeExpression)) → IfSome IsNameText x → IfSome (Every IsSoundType) y → IsSoundChecked (name_and_variants x y)
+name_and_variants_sound None y s t = tt
+name_and_variants_sound (Some x) None s t = tt
+name_and_variants_sound (Some x) (Some y) s t = (s, t)
+
+type_makes : Makes type_attribute
+type_makes None s = tt
+type_makes (Some []) s = tt
+type_makes (Some (e ∷ [])) s = tt
+type_makes (Some (e ∷ (r ∷ []))) s = name_and_variants_sound (bare_name e) (variants r) (bare_name_sound e s.0) (variants_sound r s.1.0)
+type_makes (Some (e ∷ (r ∷ (d ∷ es)))) s = tt
+
+-- what every name of a table makes is sound
+abbrev AllMake : WordTable (Arguments → Checked Attribute) → Type 0
+AllMake [] = Unit {0}
+AllMake (e ∷ es) = Makes e.1 × AllMake es
+
+names_make : AllMake attribute_names
+names_make = (
+  one_makes align (λ e s. s),
+  (
+    one_makes binding (λ e s. s),
+    (
+      one_makes blend_src (λ e s. s),
+      (
+        one_makes group (λ e s. s),
+        (
+          one_makes id (λ e s. s),
+          (
+            one_makes location (λ e s. s),
+            (
+              one_makes size (λ e s. s),
+              (
+                one_makes if_attribute (λ e s. s),
+                (
+                  one_makes elif_attribute (λ e s. s),
+                  (
+                    none_makes const_attribute tt,
+                    (
+                      none_makes invariant tt,
+                      (
+                        none_makes must_use tt,
+                        (
+                          none_makes vertex tt,
+                          (
+                            none_makes fragment tt,
+                            (
+                              none_makes compute tt,
+                              (
+                                none_makes else_attribute tt,
+                                (builtin_makes, (diagnostic_makes, (interpolate_makes, (workgroup_size_makes, (type_makes, tt))))),
+                              ),
+                            ),
+                          ),
+                        ),
+                      ),
+                    ),
+                  ),
+                ),
+              ),
+            ),
+          ),
+        ),
+      ),
+    ),
+  ),
+)
+
+found_makes : (es : WordTable (Arguments → Checked Attribute)) → AllMake es → (text : List ℕ) (a : Arguments) → IsNameText text → AreSoundArguments a → IsSoundChecked (named_attribute (look_up es text) text a)
+found_makes [] m text a n s = (n, s)
+found_makes (e ∷ es) m text a n s = go (found_makes es m.1 text a n s) (bytes_eq e.0 text)
+  where
+    go : IsSoundChecked (named_attribute (look_up es text) text a) → (b : Bool) → IsSoundChecked (named_attribute (cond b (Some e.1) (look_up es text)) text a)
+    go more true = m.0 a s
+    go more false = more
+
+-- an attribute, or a name with its arguments
+given_sound : (c : Checked Attribute) (x : Attribute) → IsSoundChecked c → IsSoundAttribute x → IsSoundAttribute (given_or x (right_in c))
+given_sound (right a) x s t = s
+given_sound (wrong text) x s t = t
+
+pub attribute_sound : (p : Spanned AttributeParts) → IsNameText p.node.name → AreSoundArguments p.node.arguments → IsSoundAttribute (attribute_node p).node
+attribute_sound p n s = given_sound (attribute_of p.node) (custom (record { name = p.node.name; arguments = p.node.arguments })) (found_makes attribute_names names_make p.node.name p.node.arguments n s) (n, s)
