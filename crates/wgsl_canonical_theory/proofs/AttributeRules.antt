@@ -33,7 +33,7 @@ use Rattle.wgsl_canonical_theory.proofs.AttributeTokens.{space_tokens, attribute
 use Rattle.wgsl_canonical_theory.proofs.AttributeLikeness.{space_alike, attribute_alike}
 
 -- ---- what passes its check
-no_fault : {A : Type 0} (c : Checked A) (fault : List ℕ → Fault) → fault_in c fault ≡ None → (a : A) × (c ≡ right a)
+pub no_fault : {A : Type 0} (c : Checked A) (fault : List ℕ → Fault) → fault_in c fault ≡ None → (a : A) × (c ≡ right a)
 no_fault (right a) fault h = (a, refl)
 no_fault (wrong text) fault h = absurd (cc)
 
@@ -112,7 +112,7 @@ anywhere : (v : Option (List ExpressionNode)) (s r : Span) → var_fault v s ≡
 anywhere None s r h = refl
 anywhere (Some es) s r h = let known = no_fault (space_in_template es) _ h in rw known.1 refl
 
-template_written : (v : Option (List ExpressionNode)) (span : Span) → var_fault v span ≡ None → (rest : List Kind) → write var_template v rest ≡ plain KwVar ∷ optional_tokens template_list_tokens v rest
+pub template_written : (v : Option (List ExpressionNode)) (span : Span) → var_fault v span ≡ None → (rest : List Kind) → write var_template v rest ≡ plain KwVar ∷ optional_tokens template_list_tokens v rest
 template_written None span h rest = refl
 template_written (Some es) span h rest =
     let known = no_fault (space_in_template es) _ h in

@@ -25,7 +25,7 @@ use Rattle.wgsl_canonical_theory.proofs.Rules.{additive_expression_reads, argume
 
 -- ---- names
 -- a class that is one of two is one of more
-one_of_more : (a b c : Bool) → cond a true (cond b true false) ≡ true → cond a true (cond b true c) ≡ true
+pub one_of_more : (a b c : Bool) → cond a true (cond b true false) ≡ true → cond a true (cond b true c) ≡ true
 one_of_more true b c h = refl
 one_of_more false true c h = refl
 one_of_more false false c h = cc
@@ -119,7 +119,7 @@ pub arguments_rule : (v : Value arguments) (xs ys : List Token) → Means full A
 arguments_rule = by_reads {n = arguments} arguments_right
 
 -- ---- literals
-abbrev literal_classes : List ℕ
+abbrev pub literal_classes : List ℕ
 literal_classes = KwTrue ∷ KwFalse ∷ AbstractInt ∷ I32 ∷ U32 ∷ AbstractFloat ∷ F32 ∷ F16 ∷ []
 
 -- the token that is written from a literal is that literal
@@ -249,7 +249,7 @@ pub singular_expression_rule : (v : Value singular_expression) (xs ys : List Tok
 singular_expression_rule = by_reads {n = singular_expression} singular_expression_right
 
 -- ---- an operator before an operand
-abbrev unary_operator_tokens : Writes UnaryOperator
+abbrev pub unary_operator_tokens : Writes UnaryOperator
 unary_operator_tokens o rest = plain (unary_operator_class o) ∷ rest
 
 abbrev same_unary_operator : UnaryOperator → UnaryOperator → Type 0
@@ -273,7 +273,7 @@ pub unary_expression_rule : (v : Value unary_expression) (xs ys : List Token) �
 unary_expression_rule = by_reads {n = unary_expression} unary_expression_right
 
 -- ---- an operator between operands
-abbrev operator_tokens : Writes BinaryOperator
+abbrev pub operator_tokens : Writes BinaryOperator
 operator_tokens o rest = plain (binary_operator_class o) ∷ rest
 
 abbrev same_operator : BinaryOperator → BinaryOperator → Type 0
@@ -293,10 +293,10 @@ relational_operator_reads = or_reads (sign_reads less_than refl) (or_reads (sign
     (or_reads (sign_reads greater_than_equal refl) (or_reads (sign_reads equality refl) (sign_reads inequality refl)))))
 
 -- an operator and an operand behind an operand
-abbrev Operand : Type 0
+abbrev pub Operand : Type 0
 Operand = BinaryOperator × ExpressionNode
 
-abbrev operand_tokens : Writes Operand
+abbrev pub operand_tokens : Writes Operand
 operand_tokens p rest = plain (binary_operator_class p.0) ∷ expression_node_tokens p.1 rest
 
 abbrev same_operand : Operand → Operand → Type 0

@@ -50,7 +50,7 @@ pub maybe_continuing_reads : Reads (optional (symbol continuing_statement)) (λ 
 maybe_continuing_reads = or_reads (gives_reads continuing_statement_reads (λ a rest. refl) (λ w a h. λ i. tree.one_continuing (h i))) (none_reads (λ rest. refl) refl)
 
 -- a part of the header of a `for`
-part_written : (s : StatementNode) (rest : List Kind) → part_tokens (tree.one_statement s) rest ≡ header_tokens s rest
+pub part_written : (s : StatementNode) (rest : List Kind) → part_tokens (tree.one_statement s) rest ≡ header_tokens s rest
 part_written (statement_node s span) rest = refl
 
 part_seen : (s : StatementNode) → tree.one_statement (seen_statement s) ≡ bare_part (full_part (tree.one_statement s))
@@ -61,7 +61,7 @@ pub part_reads : {g : Rule StatementNode} → Reads g header_tokens (λ w v. bar
 part_reads G = or_reads (gives_reads G part_written (λ w a h. ap tree.one_statement h ∙ part_seen a)) (none_reads (λ rest. refl) refl)
 
 -- ---- lists, as they stand in a tree
-else_ifs_written : (cs : List ElseIfClause) (rest : List Kind) → else_ifs_tokens (else_ifs_of cs) rest ≡ all_tokens else_if_clause_tokens cs rest
+pub else_ifs_written : (cs : List ElseIfClause) (rest : List Kind) → else_ifs_tokens (else_ifs_of cs) rest ≡ all_tokens else_if_clause_tokens cs rest
 else_ifs_written [] rest = refl
 else_ifs_written (c ∷ cs) rest = ap (else_if_clause_tokens c) (else_ifs_written cs rest)
 
@@ -76,7 +76,7 @@ else_ifs_seen (c ∷ cs) = ap (else_if_before (bare_else_if_clause (full_else_if
 pub else_ifs_read : Reads (many else_if) (λ v rest. else_ifs_tokens (else_ifs_of v) rest) (λ w v. bare_else_ifs (else_ifs_of w) ≡ bare_else_ifs (full_else_ifs (else_ifs_of v)))
 else_ifs_read = equal_reads (many_reads else_if_reads) else_ifs_written (λ w v h. else_ifs_bare w ∙ ap else_ifs_of h ∙ else_ifs_seen v)
 
-clauses_written : (cs : List SwitchClause) (rest : List Kind) → clauses_tokens (clauses_of cs) rest ≡ all_tokens switch_clause_tokens cs rest
+pub clauses_written : (cs : List SwitchClause) (rest : List Kind) → clauses_tokens (clauses_of cs) rest ≡ all_tokens switch_clause_tokens cs rest
 clauses_written [] rest = refl
 clauses_written (c ∷ cs) rest = ap (switch_clause_tokens c) (clauses_written cs rest)
 
@@ -96,7 +96,7 @@ clauses_read = equal_reads (several_reads switch_clause_reads) clauses_written (
 abbrev kept_tokens : Writes StatementNode
 kept_tokens (statement_node s span) rest = if is_void s then rest else unended_tokens s (end_token s rest)
 
-abbrev list_written : Writes (List StatementNode)
+abbrev pub list_written : Writes (List StatementNode)
 list_written ss rest = statements_tokens (statements_of ss) rest
 
 -- the statements that are not empty, without spans

@@ -171,7 +171,7 @@ phony_assignment_rule v xs ys d words = with_known (found_by phony_assignment wr
 
 -- ---- clauses: the optional colon is left out, and `default` alone is written `case default`
 -- a block behind the optional colon
-abbrev clause_body : Rule (Option Token × CompoundStatement)
+abbrev pub clause_body : Rule (Option Token × CompoundStatement)
 clause_body = optional (one_token SymColon) then symbol compound_statement
 
 abbrev case_clause : Rule SwitchClause

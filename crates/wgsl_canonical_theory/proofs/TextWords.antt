@@ -125,7 +125,7 @@ value_own (c ∷ cs) k h =
 abbrev IsWordKind : Kind → Type 0
 IsWordKind k = IsNamed k → (k ≡ word_of (text_in k)) × NoPeriod (text_in k)
 
-valued_kind : (o : Option Kind) (text rest from after : List ℕ) (k : Kind) → valued text rest o ≡ token k from after → o ≡ Some k
+pub valued_kind : (o : Option Kind) (text rest from after : List ℕ) (k : Kind) → valued text rest o ≡ token k from after → o ≡ Some k
 valued_kind None text rest from after k e = absurd (cc)
 valued_kind (Some m) text rest from after k e = cc
 

@@ -51,7 +51,7 @@ names_read = equal_reads (list_reads ident_reads) names_written (λ w v h. texts
 
 -- ---- functions
 -- what a function returns, behind its arrow
-abbrev returned_tokens : Writes (Attributes × TypeExpression)
+abbrev pub returned_tokens : Writes (Attributes × TypeExpression)
 returned_tokens r rest = plain SymArrow ∷ attributes_tokens r.0 (type_tokens r.1 rest)
 
 abbrev bare_returned : Attributes × TypeExpression → Attributes × TypeExpression

@@ -145,13 +145,13 @@ known_reads {A} {B} {g} {f} {writes} {made} {like} {same} G known s t = record {
 }
 
 -- a severity and the names of a rule, with a comma behind them or none
-abbrev DiagnosticParts : Type 0
+abbrev pub DiagnosticParts : Type 0
 DiagnosticParts = Token × (Token × (Option Token × Option Token))
 
-abbrev diagnostic_parts : Rule DiagnosticParts
+abbrev pub diagnostic_parts : Rule DiagnosticParts
 diagnostic_parts = symbol diagnostic_severity ◃ SymComma then symbol ident then optional (SymPeriod ▹ symbol ident) then optional (one_token SymComma) ◃ SymParenRight ◃ SymSemicolon
 
-abbrev diagnostic_parts_tokens : Writes DiagnosticParts
+abbrev pub diagnostic_parts_tokens : Writes DiagnosticParts
 diagnostic_parts_tokens p rest =
     plain KwDiagnostic ∷ (plain SymParenLeft ∷ (word_of (text_of p.0) ∷ (plain SymComma ∷ (word_of (text_of p.1.0) ∷ optional_tokens period_tokens p.1.1.0 (plain SymParenRight ∷ (plain SymSemicolon ∷ rest))))))
 
@@ -168,7 +168,7 @@ known_parts p xs ys d words =
     let name = d.2.1 (words_behind d.1.0.1 d.1.2.0 d.0 d.1.2.2.1 severity.0) in
     (subst (λ (z : Token). Known diagnostic_severity z) d.1.1 severity.1, name.1)
 
-severity_written : (t : Token) → Known diagnostic_severity t → severity_text (severity_of t) ≡ text_of t
+pub severity_written : (t : Token) → Known diagnostic_severity t → severity_text (severity_of t) ≡ text_of t
 severity_written t known = ap (λ z. severity_text (given_or error z)) known.1 ∙ severity_word (text_of t) known.0 known.1
 
 diagnostic_tokens : (p : DiagnosticParts) → KnownParts p → (rest : List Kind) → directive_tokens (diagnostic_of p.0 p.1.0 p.1.1.0) rest ≡ diagnostic_parts_tokens p rest

@@ -230,19 +230,19 @@ pub symbol_reads : {n : Symbol} → ((v : Value n) (xs ys : List Token) → Agai
 symbol_reads f = record { again = f }
 
 -- ---- with a comma between each two
-abbrev Filled : {A : Type 0} → List A → Type 0
-Filled [] = ⊥
-Filled (x ∷ xs) = Unit {0}
+abbrev pub HasItem : {A : Type 0} → List A → Type 0
+HasItem [] = ⊥
+HasItem (x ∷ xs) = Unit {0}
 
-filled_behind : {A : Type 0} (xs : List A) (x : A) → Filled (xs ++ (x ∷ []))
-filled_behind [] x = tt
-filled_behind (y ∷ xs) x = tt
+pub item_behind : {A : Type 0} (xs : List A) (x : A) → HasItem (xs ++ (x ∷ []))
+item_behind [] x = tt
+item_behind (y ∷ xs) x = tt
 
-further_behind : {A : Type 0} (writes : Writes A) (xs : List A) (x : A) (rest : List Kind) → further_tokens writes (xs ++ (x ∷ [])) rest ≡ further_tokens writes xs (plain SymComma ∷ writes x rest)
+pub further_behind : {A : Type 0} (writes : Writes A) (xs : List A) (x : A) (rest : List Kind) → further_tokens writes (xs ++ (x ∷ [])) rest ≡ further_tokens writes xs (plain SymComma ∷ writes x rest)
 further_behind writes [] x rest = refl
 further_behind writes (y ∷ xs) x rest = ap (λ z. plain SymComma ∷ writes y z) (further_behind writes xs x rest)
 
-list_behind : {A : Type 0} (writes : Writes A) (xs : List A) (x : A) (rest : List Kind) → Filled xs → list_tokens writes (xs ++ (x ∷ [])) rest ≡ list_tokens writes xs (plain SymComma ∷ writes x rest)
+pub list_behind : {A : Type 0} (writes : Writes A) (xs : List A) (x : A) (rest : List Kind) → HasItem xs → list_tokens writes (xs ++ (x ∷ [])) rest ≡ list_tokens writes xs (plain SymComma ∷ writes x rest)
 list_behind writes [] x rest h = absurd h
 list_behind writes (y ∷ xs) x rest h = ap (writes y) (further_behind writes xs x rest)
 
@@ -263,16 +263,16 @@ separated_reads {A} {B} {g} {writes} {bare} {kept} G = record { again = λ v xs 
   N : Reads (SymComma ▹ g) (λ v rest. plain SymComma ∷ writes v rest) (λ w v. bare w ≡ kept v)
   N = before_reads SymComma refl G
 
-  go : (xs : List Token) (v : List A) (ys : List Token) → Chain push (Means full Again first) (Means full Again (SymComma ▹ g)) xs v ys → AllWords xs → Filled v × Outcome (separated SymComma g) (list_tokens writes) like v ys
+  go : (xs : List Token) (v : List A) (ys : List Token) → Chain push (Means full Again first) (Means full Again (SymComma ▹ g)) xs v ys → AllWords xs → HasItem v × Outcome (separated SymComma g) (list_tokens writes) like v ys
   go xs _ _ (base a ys d) words =
       let found = F.again a xs ys d words in (
-        subst Filled d.1 tt,
+        subst HasItem d.1 tt,
         (found.0, λ us ks e. let x = found.1 us ks e in record { value = x.value; rest = x.rest; kinds = x.kinds; like = x.like; derived = base x.value x.rest x.derived }),
       )
   go xs _ _ (more a b ys zs c d) words =
       let before = go xs a ys c words in
       let last = N.again b ys zs d before.1.0 in (
-        filled_behind a b,
+        item_behind a b,
         (
           last.0,
           λ us ks e.

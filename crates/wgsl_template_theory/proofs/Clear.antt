@@ -31,7 +31,7 @@ pub data AllClear : Place → List Token → List Token → Type 0 where
   template : (p : Place) (start end : Token) (mid rest ys : List Token) (v : List ExpressionNode) → is_among start.class (TemplateArgsStart ∷ []) ≡ true → is_among end.class (TemplateArgsEnd ∷ []) ≡ true
       → Derives full written expressions v mid → AllClear inside mid [] → AllClear p rest ys → AllClear p (start ∷ (mid ++ (end ∷ rest))) ys
 
-pub both_clear : {p : Place} {xs ys zs : List Token} → AllClear p xs ys → AllClear p ys zs → AllClear p xs zs
+both_clear : {p : Place} {xs ys zs : List Token} → AllClear p xs ys → AllClear p ys zs → AllClear p xs zs
 both_clear (done p ys) b = b
 both_clear {zs = zs} (other_token p t rest ys none less a) b = other_token p t rest zs none less (both_clear a b)
 both_clear {zs = zs} (template p start end mid rest ys v h i d c a) b = template p start end mid rest zs v h i d c (both_clear a b)

@@ -19,7 +19,7 @@ pub attributes_clears : AlwaysClear attributes
 attributes_clears = many_clears (gives_clears (symbol_clears attribute refl))
 
 -- ---- blocks
-pub compound_ends : Ends (symbol compound_statement)
+compound_ends : Ends (symbol compound_statement)
 compound_ends = record { before = compound_ended }
 
 -- attributes and a brace

@@ -135,7 +135,7 @@ cleared : (n : Symbol) (v : Value n) (xs ys : List Token) → D n v xs ys → Cl
 cleared = by_derivation Cleared (λ n v xs ys d m. (d, (clears n).cut v xs ys m))
 
 -- the tokens that a symbol derives are clear before what meets its need
-pub all_clear : (n : Symbol) (v : Value n) (xs ys : List Token) → D n v xs ys → (p : Place) → Meets (need n) p ys → AllClear p xs ys
+all_clear : (n : Symbol) (v : Value n) (xs ys : List Token) → D n v xs ys → (p : Place) → Meets (need n) p ys → AllClear p xs ys
 all_clear n v xs ys d p m = let a = (cleared n v xs ys d).1 in subst (λ (z : List Token). AllClear p z ys) (sym a.whole) (a.clear p ys m)
 
 -- the tokens of a unit, and of a list of expressions inside a template list

@@ -85,7 +85,7 @@ edit_rules diagnostic_directive v xs ys here d words = finished (again diagnosti
 edit_rules unit v xs ys here d words = finished (again unit v xs ys here words) tt (unit_right.edit v xs ys d words)
 
 -- what is written from a symbol's value in place of its tokens
-pub edited : (n : Symbol) (v : Value n) (xs ys : List Token) → D n v xs ys → Edited n v xs ys
+edited : (n : Symbol) (v : Value n) (xs ys : List Token) → D n v xs ys → Edited n v xs ys
 edited = by_derivation Edited edit_rules
 
 -- what is written from a derived module in place of its tokens

@@ -1,23 +1,22 @@
 -- What is written from attributes, the templates of `var` and the severities of diagnostics.
-use Rattle.std.proofs.Common.{◌≡◌, ℕ, Bool, false, List, ◌∷◌, Option, Some, None, refl, sym, ap, subst, ◌∙◌}
-use Rattle.grammar.specs.Tokens.{Span, Fault, span_between}
+use Rattle.std.proofs.Common.{◌≡◌, Bool, false, List, ◌∷◌, refl, sym, ap, subst, ◌∙◌}
+use Rattle.grammar.specs.Tokens.{span_between}
 use Rattle.grammar.specs.Grammar.{Grammar.token, Grammar.symbol}
 use Rattle.grammar.specs.Notation.{◌then◌, ◌gives◌, ◌makes◌, ◌▹◌, optional}
 use Rattle.wgsl_model.specs.Classes.{SymAttr, SymParenLeft, KwVar, KwDiagnostic, Ident, ReservedWord}
 use Rattle.wgsl_model.specs.Kind.{Kind, plain}
 use Rattle.wgsl_model.specs.Raw.{word_of}
 use Rattle.wgsl_model.specs.Spanned.{Spanned}
-use Rattle.wgsl_model.specs.Expressions.{ExpressionNode}
 use Rattle.wgsl_model.specs.Attributes.{Attribute}
 use Rattle.wgsl_model.specs.TokenValues.{text_of}
 use Rattle.wgsl_model.specs.StatementParts.{attributes}
-use Rattle.wgsl_model.specs.Checks.{Checked, right, wrong, fault_in, var_fault, space_in_template, attribute_of, attribute_parts, attribute_node}
+use Rattle.wgsl_model.specs.Checks.{right, attribute_of, attribute_parts, attribute_node}
 use Rattle.wgsl_model.specs.Symbols.{ident, arguments, template_list, attribute, var_template, diagnostic_severity, Value}
 use Rattle.wgsl_model.specs.Written.{written, keyword_classes}
 use Rattle.wgsl_canonical_theory.specs.CanonicalExpressions.{optional_tokens}
 use Rattle.wgsl_canonical_theory.specs.CanonicalAttributes.{named_attribute_tokens, attribute_tokens, attributes_tokens}
 use Rattle.wgsl_canonical_theory.proofs.Again.{write, template_list_tokens}
-use Rattle.wgsl_canonical_theory.proofs.AttributeTokens.{space_tokens}
+use Rattle.wgsl_canonical_theory.proofs.AttributeRules.{template_written}
 use Rattle.wgsl_template_theory.proofs.Moves.{kinds}
 use Rattle.wgsl_template_theory.proofs.Edits.{Edits, widen}
 use Rattle.wgsl_template_theory.proofs.EditWays.{Changed, Changes, then_edits, makes_edits, before_edits, optional_edits, many_edits}
@@ -38,7 +37,7 @@ attribute_right {b} = record { edit = λ v xs ys d words. (parts_edits {b = b}).
 node_of : (v : Value attribute) (a : Attribute) → attribute_of v.node ≡ right a → (attribute_node v).node ≡ a
 node_of v a h = rw h refl
 
-pub attribute_node_edits : {b : Bool} → Changes false b (symbol attribute gives attribute_node) attribute_tokens
+attribute_node_edits : {b : Bool} → Changes false b (symbol attribute gives attribute_node) attribute_tokens
 attribute_node_edits {b} = record {
   edit = λ v xs ys d words.
       subst (λ (z : Spanned Attribute). Changed false b attribute_tokens z xs ys) d.1 (
@@ -56,15 +55,6 @@ pub attributes_edits : {b : Bool} → Changes false b attributes attributes_toke
 attributes_edits = many_edits {e = false} tt attribute_node_edits
 
 -- ---- `var` templates
-no_fault : {A : Type 0} (c : Checked A) (fault : List ℕ → Fault) → fault_in c fault ≡ None → (a : A) × (c ≡ right a)
-no_fault (right a) fault h = (a, refl)
-no_fault (wrong text) fault h = absurd (cc)
-
-template_written : (v : Option (List ExpressionNode)) (span : Span) → var_fault v span ≡ None → (rest : List Kind) → write var_template v rest ≡ plain KwVar ∷ optional_tokens template_list_tokens v rest
-template_written None span h rest = refl
-template_written (Some es) span h rest =
-    let known = no_fault (space_in_template es) _ h in
-    rw known.1 (ap (λ (z : List Kind). plain KwVar ∷ z) (space_tokens es known.0 known.1 rest))
 
 pub var_template_right : {b : Bool} → Changes false b (written var_template) (write var_template)
 var_template_right {b} = record {

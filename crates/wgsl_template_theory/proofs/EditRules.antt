@@ -1,5 +1,5 @@
 -- What is written from the rules of expressions.
-use Rattle.std.proofs.Common.{◌≡◌, ℕ, Bool, true, false, cond, eqb, List, [], ◌∷◌, refl, sym, ap, subst, inl, inr, eqb-true}
+use Rattle.std.proofs.Common.{◌≡◌, ℕ, Bool, true, false, cond, eqb, List, ◌∷◌, refl, sym, ap, subst, inl, inr, eqb-true}
 use Rattle.grammar.specs.Tokens.{Token}
 use Rattle.grammar.specs.Grammar.{Grammar.symbol, Grammar.left_chain, Mode.full, Chain, Chain.base, Chain.more, Means, is_among}
 use Rattle.grammar.specs.Notation.{◌then◌, ◌makes◌, ◌▹◌, ◌◃◌, ◌means◌}
@@ -12,26 +12,21 @@ use Rattle.wgsl_model.specs.TokenValues.{text_of, literal_of}
 use Rattle.wgsl_model.specs.ExpressionParts.{placed_expression, operation_of, with_component, negation_of, unary_of, binary_of, unary_operator, multiplicative_operator, additive_operator, relational_operator, two_or_more}
 use Rattle.wgsl_model.specs.Symbols.{ident, type_specifier, template_list, call, arguments, literal, primary_expression, singular_expression, component, unary_expression, multiplicative_expression, negated_expression, additive_expression, shift_expression, relational_expression, expression, lhs_expression, Value, Rule}
 use Rattle.wgsl_model.specs.Written.{written, keyword_classes}
-use Rattle.wgsl_canonical_theory.specs.CanonicalExpressions.{Writes, unary_operator_class, binary_operator_class, literal_token, expression_tokens, expression_node_tokens, type_tokens}
+use Rattle.wgsl_canonical_theory.specs.CanonicalExpressions.{binary_operator_class, literal_token, expression_tokens, expression_node_tokens, type_tokens}
 use Rattle.wgsl_canonical_theory.specs.CanonicalUnits.{without_place}
 use Rattle.wgsl_canonical_theory.proofs.Words.{AllWords}
 use Rattle.wgsl_canonical_theory.proofs.Again.{write}
 use Rattle.wgsl_canonical_theory.proofs.Ways.{words_behind}
 use Rattle.wgsl_template_theory.proofs.Moves.{kinds, class_is}
-use Rattle.wgsl_canonical_theory.proofs.ExpressionRules.{expressions_written, template_written}
+use Rattle.wgsl_canonical_theory.proofs.ExpressionRules.{expressions_written, template_written, Operand, one_of_more, literal_classes, unary_operator_tokens, operator_tokens, operand_tokens}
 use Rattle.wgsl_template_theory.proofs.Edits.{is_stop, Edits, kept, two_minuses, widen}
 use Rattle.wgsl_template_theory.proofs.EditWays.{edit_write, Edited, TurnsComponent, Changed, Changes, then_edits, or_edits, gives_edits, makes_edits, before_edits, behind_edits, means_edits, optional_edits, chain_edits, list_edits, list_or_none_edits, ended_list_edits}
 use Rattle.wgsl_template_theory.proofs.EditSymbols.{ident_edits, type_specifier_edits, template_list_edits, call_edits, arguments_edits, literal_edits, primary_expression_edits, singular_expression_edits, unary_expression_edits, multiplicative_expression_edits, negated_expression_edits, additive_expression_edits, shift_expression_edits, relational_expression_edits, expression_edits, lhs_expression_edits}
 
 -- ---- names
 -- a token in place of one of the same class, whatever that is
-pub token_kept : {b : Bool} (t : Token) (j : Kind) (xs ys : List Token) (ks : List Kind) → t.class ≡ j.class → xs ≡ t ∷ ys → Edits false (kinds ys) ks → Edits b (kinds xs) (j ∷ ks)
+token_kept : {b : Bool} (t : Token) (j : Kind) (xs ys : List Token) (ks : List Kind) → t.class ≡ j.class → xs ≡ t ∷ ys → Edits false (kinds ys) ks → Edits b (kinds xs) (j ∷ ks)
 token_kept {b} t j xs ys ks q w h = subst (λ (z : List Token). Edits b (kinds z) (j ∷ ks)) (sym w) (kept b (without_place t) j (kinds ys) ks q (widen {e = false} {b = is_stop t.class} tt h))
-
-one_of_more : (a b c : Bool) → cond a true (cond b true false) ≡ true → cond a true (cond b true c) ≡ true
-one_of_more true b c h = refl
-one_of_more false true c h = refl
-one_of_more false false c h = cc
 
 -- a name is the token that its word is
 pub word_kept : {b : Bool} (t : Token) (xs ys : List Token) → is_among t.class (Ident ∷ ReservedWord ∷ keyword_classes) ≡ true → xs ≡ t ∷ ys → AllWords xs → Changed false b (λ (t : Token) rest. word_of (text_of t) ∷ rest) t xs ys
@@ -56,8 +51,6 @@ pub arguments_right : {b : Bool} → Changes false b (written arguments) (write 
 arguments_right = before_edits SymParenLeft (ended_list_edits SymParenRight refl (list_or_none_edits expression_edits expression_edits))
 
 -- ---- literals
-abbrev literal_classes : List ℕ
-literal_classes = KwTrue ∷ KwFalse ∷ AbstractInt ∷ I32 ∷ U32 ∷ AbstractFloat ∷ F32 ∷ F16 ∷ []
 
 -- a literal has the class of its token
 literal_class : (t : Token) → is_among t.class literal_classes ≡ true → t.class ≡ (literal_token (literal_of t)).class
@@ -124,8 +117,6 @@ pub singular_expression_right : {b : Bool} → Changes false b (written singular
 singular_expression_right = components_edits primary_expression_edits
 
 -- ---- an operator before an operand
-abbrev unary_operator_tokens : Writes UnaryOperator
-unary_operator_tokens o rest = plain (unary_operator_class o) ∷ rest
 
 unary_operator_edits : {b : Bool} → Changes false b unary_operator unary_operator_tokens
 unary_operator_edits = or_edits (means_edits SymMinus (λ rest. refl)) (or_edits (means_edits SymBang (λ rest. refl)) (or_edits (means_edits SymTilde (λ rest. refl)) (or_edits (means_edits SymStar (λ rest. refl)) (means_edits SymAnd (λ rest. refl)))))
@@ -137,8 +128,6 @@ pub unary_expression_right : {b : Bool} → Changes false b (written unary_expre
 unary_expression_right = or_edits singular_expression_edits (operation_edits unary_operator_edits unary_expression_edits)
 
 -- ---- an operator between operands
-abbrev operator_tokens : Writes BinaryOperator
-operator_tokens o rest = plain (binary_operator_class o) ∷ rest
 
 multiplicative_operator_edits : {b : Bool} → Changes false b multiplicative_operator operator_tokens
 multiplicative_operator_edits = or_edits (means_edits SymStar (λ rest. refl)) (or_edits (means_edits SymForwardSlash (λ rest. refl)) (means_edits SymModulo (λ rest. refl)))
@@ -149,12 +138,6 @@ additive_operator_edits = or_edits (means_edits SymPlus (λ rest. refl)) (means_
 relational_operator_edits : {b : Bool} → Changes false b relational_operator operator_tokens
 relational_operator_edits = or_edits (means_edits SymLessThan (λ rest. refl)) (or_edits (means_edits SymGreaterThan (λ rest. refl)) (or_edits (means_edits SymLessThanEqual (λ rest. refl))
     (or_edits (means_edits SymGreaterThanEqual (λ rest. refl)) (or_edits (means_edits SymEqualEqual (λ rest. refl)) (means_edits SymNotEqual (λ rest. refl))))))
-
-abbrev Operand : Type 0
-Operand = BinaryOperator × ExpressionNode
-
-abbrev operand_tokens : Writes Operand
-operand_tokens p rest = plain (binary_operator_class p.0) ∷ expression_node_tokens p.1 rest
 
 operand_edits : {b : Bool} {g : Rule BinaryOperator} {h : Rule ExpressionNode} → Changes false b g operator_tokens → Changes false false h expression_node_tokens → Changes false b (g then h) operand_tokens
 operand_edits G H = then_edits G H

@@ -12,12 +12,14 @@ use Rattle.wgsl_model.specs.Statements.{CompoundStatement, ElseIfClause, Stateme
 use Rattle.wgsl_model.specs.PrintedStatements.{is_void}
 use Rattle.wgsl_model.specs.StatementParts.{statements, initializer, var_kind, assignment_operator, else_if, else_block, break_if}
 use Rattle.wgsl_model.specs.Symbols.{compound_statement, switch_clause, continuing_statement, Rule}
-use Rattle.wgsl_canonical_theory.specs.CanonicalExpressions.{Writes, all_tokens}
-use Rattle.wgsl_canonical_theory.specs.CanonicalStatements.{kind_tokens, initializer_tokens, assignment_operator_class, break_if_tokens, end_token, unended_tokens, statements_tokens, compound_tokens, else_ifs_tokens, else_if_clause_tokens, else_tokens, else_clause_tokens, clauses_tokens, switch_clause_tokens, maybe_continuing_tokens, part_tokens}
+use Rattle.wgsl_canonical_theory.specs.CanonicalExpressions.{Writes}
+use Rattle.wgsl_canonical_theory.specs.CanonicalStatements.{kind_tokens, initializer_tokens, assignment_operator_class, break_if_tokens, end_token, unended_tokens, statements_tokens, compound_tokens, else_ifs_tokens, else_if_clause_tokens, else_tokens, else_clause_tokens, clauses_tokens, maybe_continuing_tokens, part_tokens}
 use Rattle.wgsl_canonical_theory.specs.CanonicalUnits.{without_place}
 use Rattle.wgsl_canonical_theory.proofs.Words.{AllWords}
 use Rattle.wgsl_canonical_theory.proofs.Again.{header_tokens}
 use Rattle.wgsl_canonical_theory.proofs.Ways.{words_behind}
+use Rattle.wgsl_canonical_theory.proofs.StatementParts.{part_written, else_ifs_written, clauses_written, list_written}
+use Rattle.wgsl_canonical_theory.proofs.StatementRules.{clause_body}
 use Rattle.wgsl_template_theory.proofs.Moves.{kinds, class_is}
 use Rattle.wgsl_template_theory.proofs.Edits.{is_stop, ends_list, first_among, block_begins, Edits, no_colon, no_semicolon, widen}
 use Rattle.wgsl_template_theory.proofs.EditWays.{Edited, Changed, Changes, ListChanges, kept_statement_tokens, token_turns, then_edits, or_edits, gives_edits, equal_edits, before_edits, behind_edits, means_edits, none_edits, chain_edits, many_edits, several_edits}
@@ -85,30 +87,18 @@ else_edits = or_edits (gives_edits else_block_edits (λ a rest. refl)) (none_edi
 pub maybe_continuing_edits : Changes true true (optional (symbol continuing_statement)) (λ v rest. maybe_continuing_tokens (continuing_of v) rest)
 maybe_continuing_edits = or_edits (gives_edits continuing_statement_edits (λ a rest. refl)) (none_edits {e = true} tt (λ rest. refl))
 
-part_written : (s : StatementNode) (rest : List Kind) → part_tokens (tree.one_statement s) rest ≡ header_tokens s rest
-part_written (statement_node s span) rest = refl
-
 pub part_edits : {b : Bool} {g : Rule StatementNode} → Changes false b g header_tokens → Changes false b (optional g) (λ v rest. part_tokens (maybe_statement v) rest)
 part_edits G = or_edits (gives_edits G part_written) (none_edits {e = false} tt (λ rest. refl))
 
 -- ---- lists, as they stand in a tree
-else_ifs_written : (cs : List ElseIfClause) (rest : List Kind) → else_ifs_tokens (else_ifs_of cs) rest ≡ all_tokens else_if_clause_tokens cs rest
-else_ifs_written [] rest = refl
-else_ifs_written (c ∷ cs) rest = ap (else_if_clause_tokens c) (else_ifs_written cs rest)
 
 pub else_ifs_edits : Changes true true (many else_if) (λ v rest. else_ifs_tokens (else_ifs_of v) rest)
 else_ifs_edits = equal_edits (many_edits {e = true} {b = true} tt else_if_edits) else_ifs_written
-
-clauses_written : (cs : List SwitchClause) (rest : List Kind) → clauses_tokens (clauses_of cs) rest ≡ all_tokens switch_clause_tokens cs rest
-clauses_written [] rest = refl
-clauses_written (c ∷ cs) rest = ap (switch_clause_tokens c) (clauses_written cs rest)
 
 pub clauses_edits : {b : Bool} → Changes true b (several (symbol switch_clause)) (λ v rest. clauses_tokens (clauses_of v) rest)
 clauses_edits = equal_edits (several_edits switch_clause_edits switch_clause_edits) clauses_written
 
 -- ---- statements, where empty ones are left out
-abbrev list_written : Writes (List StatementNode)
-list_written ss rest = statements_tokens (statements_of ss) rest
 
 written_behind : (ss : List StatementNode) (x : StatementNode) (rest : List Kind) → list_written (ss ++ (x ∷ [])) rest ≡ list_written ss (kept_statement_tokens x rest)
 written_behind [] (statement_node s span) rest = refl
@@ -118,16 +108,13 @@ pub statements_edits : Changes true true statements (λ ss rest. statements_toke
 statements_edits = chain_edits (none_edits {e = true} tt (λ rest. refl)) statement_edits (λ a x span rest. written_behind a x rest)
 
 -- ---- a block behind a colon that may stand there
-pub block_first : (v : CompoundStatement) (rest : List Kind) → first_among block_begins (compound_tokens v rest) ≡ true
+block_first : (v : CompoundStatement) (rest : List Kind) → first_among block_begins (compound_tokens v rest) ≡ true
 block_first (tree.compound_statement [] ss) rest = refl
 block_first (tree.compound_statement (a ∷ more) ss) rest = refl
 
 pub block_ends_list : (v : CompoundStatement) (rest : List Kind) → ends_list (compound_tokens v rest) ≡ true
 block_ends_list (tree.compound_statement [] ss) rest = refl
 block_ends_list (tree.compound_statement (a ∷ more) ss) rest = refl
-
-abbrev pub clause_body : Rule (Option Token × CompoundStatement)
-clause_body = optional (one_token SymColon) then symbol compound_statement
 
 pub clause_body_edits : {b : Bool} → Changes true b clause_body (λ p rest. compound_tokens p.1 rest)
 clause_body_edits {b} = record { edit = λ v xs ys d words. go v xs ys d.0 d.1 d.2 words } where

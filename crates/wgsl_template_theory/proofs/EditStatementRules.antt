@@ -17,12 +17,13 @@ use Rattle.wgsl_canonical_theory.specs.CanonicalUnits.{without_place}
 use Rattle.wgsl_canonical_theory.proofs.Words.{AllWords}
 use Rattle.wgsl_canonical_theory.proofs.Again.{write, Ended, Unended}
 use Rattle.wgsl_canonical_theory.proofs.Ways.{words_behind}
+use Rattle.wgsl_canonical_theory.proofs.StatementRules.{clause_body}
 use Rattle.wgsl_template_theory.proofs.Moves.{kinds, class_is}
 use Rattle.wgsl_template_theory.proofs.Edits.{Edits, with_case}
 use Rattle.wgsl_template_theory.proofs.EditWays.{Edited, Turns, Changed, Changes, kept_statement_tokens, token_turns, then_edits, or_edits, gives_edits, makes_edits, before_edits, behind_edits, means_edits, optional_edits, list_edits, wider_edits}
 use Rattle.wgsl_template_theory.proofs.EditSymbols.{ident_edits, type_specifier_edits, call_edits, expression_edits, lhs_expression_edits, compound_statement_edits, var_statement_edits, value_statement_edits, assignment_edits, phony_assignment_edits, increment_edits, decrement_edits, call_statement_edits, const_assert_edits, case_selector_edits, for_init_edits, for_update_edits, typed_ident_edits}
 use Rattle.wgsl_template_theory.proofs.EditAttributeRules.{attributes_edits}
-use Rattle.wgsl_template_theory.proofs.EditStatementParts.{narrow_edits, sign_edits, empty_edits, list_then_edits, var_kind_edits, initializer_edits, break_if_edits, assignment_operator_edits, else_edits, maybe_continuing_edits, part_edits, else_ifs_edits, clauses_edits, statements_edits, block_ends_list, clause_body, clause_body_edits}
+use Rattle.wgsl_template_theory.proofs.EditStatementParts.{narrow_edits, sign_edits, empty_edits, list_then_edits, var_kind_edits, initializer_edits, break_if_edits, assignment_operator_edits, else_edits, maybe_continuing_edits, part_edits, else_ifs_edits, clauses_edits, statements_edits, block_ends_list, clause_body_edits}
 
 -- ---- blocks and their parts
 pub compound_statement_right : {b : Bool} → Changes true b (written compound_statement) (write compound_statement)

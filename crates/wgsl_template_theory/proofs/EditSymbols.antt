@@ -2,7 +2,7 @@
 use Rattle.std.proofs.Common.{Bool, true, false, List}
 use Rattle.grammar.specs.Tokens.{Token}
 use Rattle.grammar.specs.Grammar.{Grammar.symbol}
-use Rattle.wgsl_model.specs.Symbols.{Symbol, ident, type_specifier, template_list, call, arguments, literal, primary_expression, singular_expression, unary_expression, multiplicative_expression, additive_expression, shift_expression, relational_expression, expression, lhs_expression, attribute, return_statement, call_statement, var_statement, value_statement, break_statement, continue_statement, discard_statement, assignment, phony_assignment, increment, decrement, const_assert, case_selector, for_init, for_update, var_template, typed_ident, struct_member, formal_parameter, diagnostic_severity, negated_expression, compound_statement, if_statement, switch_statement, loop_statement, for_statement, while_statement, switch_clause, continuing_statement, var_declaration, const_declaration, override_declaration, alias_declaration, struct_declaration, function_declaration, global_directive, enable_directive, requires_directive, diagnostic_directive, statement, global_declaration, Value}
+use Rattle.wgsl_model.specs.Symbols.{Symbol, ident, type_specifier, template_list, call, arguments, literal, primary_expression, singular_expression, unary_expression, multiplicative_expression, additive_expression, shift_expression, relational_expression, expression, lhs_expression, call_statement, var_statement, value_statement, assignment, phony_assignment, increment, decrement, const_assert, case_selector, for_init, for_update, var_template, typed_ident, struct_member, formal_parameter, diagnostic_severity, negated_expression, compound_statement, switch_clause, continuing_statement, global_directive, enable_directive, requires_directive, diagnostic_directive, statement, global_declaration, Value}
 use Rattle.wgsl_canonical_theory.specs.CanonicalExpressions.{Writes}
 use Rattle.wgsl_canonical_theory.specs.CanonicalUnits.{kept_declaration_tokens}
 use Rattle.wgsl_canonical_theory.proofs.Words.{AllWords}
@@ -11,7 +11,7 @@ use Rattle.wgsl_template_theory.proofs.Edits.{Widens, widen}
 use Rattle.wgsl_template_theory.proofs.EditWays.{Edited, Changed, Changes, edit_write, kept_statement_tokens}
 
 -- a symbol, with more before it
-pub symbol_edits : {n : Symbol} {e m b : Bool} {writes : Writes (Value n)} → Widens m b → ((v : Value n) (xs ys : List Token) → Edited n v xs ys → AllWords xs → Changed e m writes v xs ys) → Changes e b (symbol n) writes
+symbol_edits : {n : Symbol} {e m b : Bool} {writes : Writes (Value n)} → Widens m b → ((v : Value n) (xs ys : List Token) → Edited n v xs ys → AllWords xs → Changed e m writes v xs ys) → Changes e b (symbol n) writes
 symbol_edits w f = record { edit = λ v xs ys d words. let found = f v xs ys d words in (found.0, λ ks r. widen w (found.1 ks r)) }
 
 -- what is written, with what else is known and without
@@ -67,12 +67,6 @@ expression_edits = symbol_edits {n = expression} {m = false} tt (λ v xs ys h wo
 pub lhs_expression_edits : {b : Bool} → Changes false b (symbol lhs_expression) (write lhs_expression)
 lhs_expression_edits = symbol_edits {n = lhs_expression} {m = false} tt (λ v xs ys h words. turned (h words))
 
-pub attribute_edits : {b : Bool} → Changes false b (symbol attribute) (write attribute)
-attribute_edits = symbol_edits {n = attribute} {m = false} tt (λ v xs ys h words. turned (h words))
-
-pub return_statement_edits : {b : Bool} → Changes false b (symbol return_statement) (write return_statement)
-return_statement_edits = symbol_edits {n = return_statement} {m = false} tt (λ v xs ys h words. turned (h words))
-
 pub call_statement_edits : {b : Bool} → Changes false b (symbol call_statement) (write call_statement)
 call_statement_edits = symbol_edits {n = call_statement} {m = false} tt (λ v xs ys h words. turned (h words))
 
@@ -81,15 +75,6 @@ var_statement_edits = symbol_edits {n = var_statement} {m = false} tt (λ v xs y
 
 pub value_statement_edits : {b : Bool} → Changes false b (symbol value_statement) (write value_statement)
 value_statement_edits = symbol_edits {n = value_statement} {m = false} tt (λ v xs ys h words. turned (h words))
-
-pub break_statement_edits : {b : Bool} → Changes false b (symbol break_statement) (write break_statement)
-break_statement_edits = symbol_edits {n = break_statement} {m = false} tt (λ v xs ys h words. turned (h words))
-
-pub continue_statement_edits : {b : Bool} → Changes false b (symbol continue_statement) (write continue_statement)
-continue_statement_edits = symbol_edits {n = continue_statement} {m = false} tt (λ v xs ys h words. turned (h words))
-
-pub discard_statement_edits : {b : Bool} → Changes false b (symbol discard_statement) (write discard_statement)
-discard_statement_edits = symbol_edits {n = discard_statement} {m = false} tt (λ v xs ys h words. turned (h words))
 
 pub assignment_edits : {b : Bool} → Changes false b (symbol assignment) (write assignment)
 assignment_edits = symbol_edits {n = assignment} {m = false} tt (λ v xs ys h words. turned (h words))
@@ -137,44 +122,11 @@ negated_expression_edits = symbol_edits {n = negated_expression} {m = false} tt 
 pub compound_statement_edits : {b : Bool} → Changes true b (symbol compound_statement) (write compound_statement)
 compound_statement_edits = symbol_edits {n = compound_statement} {m = false} tt (λ v xs ys h words. turned (h words))
 
-pub if_statement_edits : {b : Bool} → Changes true b (symbol if_statement) (write if_statement)
-if_statement_edits = symbol_edits {n = if_statement} {m = false} tt (λ v xs ys h words. turned (h words))
-
-pub switch_statement_edits : {b : Bool} → Changes true b (symbol switch_statement) (write switch_statement)
-switch_statement_edits = symbol_edits {n = switch_statement} {m = false} tt (λ v xs ys h words. turned (h words))
-
-pub loop_statement_edits : {b : Bool} → Changes true b (symbol loop_statement) (write loop_statement)
-loop_statement_edits = symbol_edits {n = loop_statement} {m = false} tt (λ v xs ys h words. turned (h words))
-
-pub for_statement_edits : {b : Bool} → Changes true b (symbol for_statement) (write for_statement)
-for_statement_edits = symbol_edits {n = for_statement} {m = false} tt (λ v xs ys h words. turned (h words))
-
-pub while_statement_edits : {b : Bool} → Changes true b (symbol while_statement) (write while_statement)
-while_statement_edits = symbol_edits {n = while_statement} {m = false} tt (λ v xs ys h words. turned (h words))
-
 pub switch_clause_edits : {b : Bool} → Changes true b (symbol switch_clause) (write switch_clause)
 switch_clause_edits = symbol_edits {n = switch_clause} {m = false} tt (λ v xs ys h words. turned (h words))
 
 pub continuing_statement_edits : {b : Bool} → Changes true b (symbol continuing_statement) (write continuing_statement)
 continuing_statement_edits = symbol_edits {n = continuing_statement} {m = false} tt (λ v xs ys h words. turned (h words))
-
-pub var_declaration_edits : {b : Bool} → Changes true b (symbol var_declaration) (write var_declaration)
-var_declaration_edits = symbol_edits {n = var_declaration} {m = false} tt (λ v xs ys h words. turned (h words))
-
-pub const_declaration_edits : {b : Bool} → Changes true b (symbol const_declaration) (write const_declaration)
-const_declaration_edits = symbol_edits {n = const_declaration} {m = false} tt (λ v xs ys h words. turned (h words))
-
-pub override_declaration_edits : {b : Bool} → Changes true b (symbol override_declaration) (write override_declaration)
-override_declaration_edits = symbol_edits {n = override_declaration} {m = false} tt (λ v xs ys h words. turned (h words))
-
-pub alias_declaration_edits : {b : Bool} → Changes true b (symbol alias_declaration) (write alias_declaration)
-alias_declaration_edits = symbol_edits {n = alias_declaration} {m = false} tt (λ v xs ys h words. turned (h words))
-
-pub struct_declaration_edits : {b : Bool} → Changes true b (symbol struct_declaration) (write struct_declaration)
-struct_declaration_edits = symbol_edits {n = struct_declaration} {m = false} tt (λ v xs ys h words. turned (h words))
-
-pub function_declaration_edits : {b : Bool} → Changes true b (symbol function_declaration) (write function_declaration)
-function_declaration_edits = symbol_edits {n = function_declaration} {m = false} tt (λ v xs ys h words. turned (h words))
 
 pub global_directive_edits : {b : Bool} → Changes true b (symbol global_directive) (write global_directive)
 global_directive_edits = symbol_edits {n = global_directive} {m = false} tt (λ v xs ys h words. turned (h words))

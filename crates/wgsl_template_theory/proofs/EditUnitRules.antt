@@ -3,29 +3,23 @@ use Rattle.std.proofs.Common.{◌≡◌, ℕ, Bool, true, false, List, ◌∷◌
 use Rattle.std.specs.Prelude.{if◌then◌else◌}
 use Rattle.grammar.specs.Tokens.{Token}
 use Rattle.grammar.specs.Grammar.{Grammar.symbol, Mode.full, Means}
-use Rattle.grammar.specs.Notation.{one_token, ◌then◌, ◌▹◌, ◌◃◌, optional, list}
+use Rattle.grammar.specs.Notation.{one_token, ◌then◌, optional, list}
 use Rattle.wgsl_model.specs.Classes.{SymArrow, SymBraceLeft, SymBraceRight, SymColon, SymComma, SymEqual, SymParenLeft, SymParenRight, SymPeriod, SymSemicolon, KwAlias, KwConst, KwDiagnostic, KwEnable, KwFn, KwOverride, KwRequires, KwStruct}
 use Rattle.wgsl_model.specs.Kind.{Kind, plain}
 use Rattle.wgsl_model.specs.Raw.{word_of}
-use Rattle.wgsl_model.specs.NamedValues.{DiagnosticSeverity.error}
-use Rattle.wgsl_model.specs.NamedValueTexts.{severity_text}
-use Rattle.wgsl_model.specs.Expressions.{TypeExpression}
-use Rattle.wgsl_model.specs.Attributes.{Attributes}
 use Rattle.wgsl_model.specs.Units.{GlobalDeclaration}
 use Rattle.wgsl_model.specs.PrintedUnits.{is_void}
-use Rattle.wgsl_model.specs.Checks.{given_or, severity_of}
 use Rattle.wgsl_model.specs.TokenValues.{text_of}
 use Rattle.wgsl_model.specs.UnitParts.{attributed_ident, return_part, texts_of, diagnostic_of}
 use Rattle.wgsl_model.specs.Symbols.{ident, struct_member, formal_parameter, global_declaration, var_declaration, const_declaration, override_declaration, alias_declaration, struct_declaration, function_declaration, diagnostic_severity, global_directive, enable_directive, requires_directive, diagnostic_directive, unit, Rule}
 use Rattle.wgsl_model.specs.Written.{written}
-use Rattle.wgsl_canonical_theory.specs.CanonicalExpressions.{Writes, optional_tokens, list_tokens, word_token, type_tokens}
-use Rattle.wgsl_canonical_theory.specs.CanonicalAttributes.{attributes_tokens}
+use Rattle.wgsl_canonical_theory.specs.CanonicalExpressions.{Writes, optional_tokens, list_tokens, word_token}
 use Rattle.wgsl_canonical_theory.specs.CanonicalUnits.{directive_tokens, attributed_tokens, global_declaration_tokens, kept_declaration_tokens, without_place}
 use Rattle.wgsl_canonical_theory.proofs.Words.{NoPeriod, AllWords}
 use Rattle.wgsl_canonical_theory.proofs.Again.{write, Known}
 use Rattle.wgsl_canonical_theory.proofs.Ways.{words_behind}
-use Rattle.wgsl_canonical_theory.proofs.NamedWords.{severity_word}
-use Rattle.wgsl_canonical_theory.proofs.UnitParts.{names_written, function_written, period_tokens, rule_written}
+use Rattle.wgsl_canonical_theory.proofs.UnitParts.{names_written, function_written, rule_written, returned_tokens}
+use Rattle.wgsl_canonical_theory.proofs.UnitRules.{DiagnosticParts, diagnostic_parts, diagnostic_parts_tokens, severity_written}
 use Rattle.wgsl_template_theory.proofs.Moves.{kinds, class_is}
 use Rattle.wgsl_template_theory.proofs.Edits.{ends_list, Edits, no_comma, widen}
 use Rattle.wgsl_template_theory.proofs.EditWays.{Edited, Turns, Changes, ListChanges, then_edits, or_edits, gives_edits, makes_edits, wider_edits, before_edits, behind_edits, optional_edits, many_edits, list_edits, list_or_none_edits, ended_list_edits}
@@ -59,10 +53,6 @@ alias_declaration_right = gives_edits (before_edits KwAlias (then_edits ident_ed
 
 pub struct_declaration_right : {b : Bool} → Changes true b (written struct_declaration) (write struct_declaration)
 struct_declaration_right = gives_edits (before_edits KwStruct (then_edits ident_edits (before_edits SymBraceLeft (ended_list_edits SymBraceRight refl (list_edits struct_member_edits struct_member_edits))))) (λ a rest. refl)
-
--- what a function returns, behind its arrow
-abbrev returned_tokens : Writes (Attributes × TypeExpression)
-returned_tokens r rest = plain SymArrow ∷ attributes_tokens r.0 (type_tokens r.1 rest)
 
 returned_edits : {b : Bool} → Changes false b (optional return_part) (optional_tokens returned_tokens)
 returned_edits = optional_edits {e = false} tt (before_edits SymArrow (then_edits attributes_edits type_specifier_edits))
@@ -122,22 +112,9 @@ comma_edits {b} = record { edit = go } where
       (words_behind d.0 xs ys d.2.1 words, λ ks f r. subst (λ (z : List Token). Edits b (kinds z) ks) (sym d.2.1) (no_comma b (without_place d.0) (kinds ys) ks (class_is d.0.class SymComma d.2.0) f r))
   go v xs ys (inr d) words = (subst AllWords d.1 words, λ ks f r. subst (λ (z : List Token). Edits b (kinds z) ks) (sym d.1) (widen {e = false} {b = b} tt r))
 
-abbrev DiagnosticParts : Type 0
-DiagnosticParts = Token × (Token × (Option Token × Option Token))
-
-abbrev diagnostic_parts : Rule DiagnosticParts
-diagnostic_parts = symbol diagnostic_severity ◃ SymComma then symbol ident then optional (SymPeriod ▹ symbol ident) then optional (one_token SymComma) ◃ SymParenRight ◃ SymSemicolon
-
-abbrev diagnostic_parts_tokens : Writes DiagnosticParts
-diagnostic_parts_tokens p rest =
-    plain KwDiagnostic ∷ (plain SymParenLeft ∷ (word_of (text_of p.0) ∷ (plain SymComma ∷ (word_of (text_of p.1.0) ∷ optional_tokens period_tokens p.1.1.0 (plain SymParenRight ∷ (plain SymSemicolon ∷ rest))))))
-
 diagnostic_parts_edits : {b : Bool} → Changes true b diagnostic_parts diagnostic_parts_tokens
 diagnostic_parts_edits = then_edits (behind_edits {m = false} SymComma diagnostic_severity_edits) (then_edits ident_edits
     (then_edits (optional_edits {e = false} tt (before_edits SymPeriod ident_edits)) (behind_edits {m = false} SymSemicolon (ended_list_edits SymParenRight refl comma_edits))))
-
-severity_written : (t : Token) → Known diagnostic_severity t → severity_text (severity_of t) ≡ text_of t
-severity_written t known = ap (λ z. severity_text (given_or error z)) known.1 ∙ severity_word (text_of t) known.0 known.1
 
 diagnostic_tokens : (p : DiagnosticParts) → Known diagnostic_severity p.0 → NoPeriod (text_of p.1.0) → (rest : List Kind) → directive_tokens (diagnostic_of p.0 p.1.0 p.1.1.0) rest ≡ diagnostic_parts_tokens p rest
 diagnostic_tokens p severity name rest =

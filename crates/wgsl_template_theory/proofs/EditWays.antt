@@ -1,5 +1,5 @@
 -- How the kinds that are written from what a right side derives differ from its tokens, by the ways to write a right side.
-use Rattle.std.proofs.Common.{◌≡◌, ℕ, Bool, true, false, List, [], ◌∷◌, ◌++◌, refl, sym, ap, subst, inl, inr}
+use Rattle.std.proofs.Common.{◌≡◌, ℕ, Bool, true, false, List, [], ◌∷◌, ◌++◌, refl, sym, subst, inl, inr}
 use Rattle.std.specs.Prelude.{if◌then◌else◌}
 use Rattle.grammar.specs.Tokens.{Token, Span, span_between}
 use Rattle.grammar.specs.Grammar.{Grammar.empty, Grammar.left_chain, Mode.full, Chain, Chain.base, Chain.more, Means, is_among}
@@ -11,12 +11,12 @@ use Rattle.wgsl_model.specs.Statements.{StatementNode, statement_node}
 use Rattle.wgsl_model.specs.PrintedStatements as statements
 use Rattle.wgsl_model.specs.PrintedUnits as units
 use Rattle.wgsl_model.specs.Symbols.{Symbol, expressions, component, negated_expression, compound_statement, statement, return_statement, if_statement, switch_statement, loop_statement, for_statement, while_statement, call_statement, var_statement, value_statement, break_statement, continue_statement, discard_statement, assignment, phony_assignment, increment, decrement, switch_clause, continuing_statement, global_declaration, var_declaration, const_declaration, override_declaration, alias_declaration, struct_declaration, function_declaration, global_directive, enable_directive, requires_directive, diagnostic_directive, unit, Value, Rule}
-use Rattle.wgsl_canonical_theory.specs.CanonicalExpressions.{Writes, optional_tokens, all_tokens, further_tokens, list_tokens, expression_tokens, expression_node_tokens}
+use Rattle.wgsl_canonical_theory.specs.CanonicalExpressions.{Writes, optional_tokens, all_tokens, list_tokens, expression_tokens, expression_node_tokens}
 use Rattle.wgsl_canonical_theory.specs.CanonicalStatements.{end_token, unended_tokens}
 use Rattle.wgsl_canonical_theory.specs.CanonicalUnits.{kept_declaration_tokens, without_place}
 use Rattle.wgsl_canonical_theory.proofs.Words.{AllWords}
 use Rattle.wgsl_canonical_theory.proofs.Again.{write, Known}
-use Rattle.wgsl_canonical_theory.proofs.Ways.{words_behind, all_behind}
+use Rattle.wgsl_canonical_theory.proofs.Ways.{words_behind, all_behind, HasItem, item_behind, list_behind}
 use Rattle.wgsl_template_theory.proofs.Moves.{kinds, class_is}
 use Rattle.wgsl_template_theory.proofs.Edits.{is_stop, ends_list, list_ends, Edits, kept, no_comma, Widens, widen}
 
@@ -224,23 +224,8 @@ pub several_edits : {e b : Bool} {A : Type 0} {g : Rule A} {writes : Writes A} �
 several_edits {writes = writes} G H = chain_edits (gives_edits G (λ a rest. refl)) H (λ a x span rest. all_behind writes a x rest)
 
 -- ---- with a comma between each two
-abbrev HasItem : {A : Type 0} → List A → Type 0
-HasItem [] = ⊥
-HasItem (x ∷ xs) = Unit {0}
 
-item_behind : {A : Type 0} (xs : List A) (x : A) → HasItem (xs ++ (x ∷ []))
-item_behind [] x = tt
-item_behind (y ∷ xs) x = tt
-
-further_behind : {A : Type 0} (writes : Writes A) (xs : List A) (x : A) (rest : List Kind) → further_tokens writes (xs ++ (x ∷ [])) rest ≡ further_tokens writes xs (plain SymComma ∷ writes x rest)
-further_behind writes [] x rest = refl
-further_behind writes (y ∷ xs) x rest = ap (λ z. plain SymComma ∷ writes y z) (further_behind writes xs x rest)
-
-list_behind : {A : Type 0} (writes : Writes A) (xs : List A) (x : A) (rest : List Kind) → HasItem xs → list_tokens writes (xs ++ (x ∷ [])) rest ≡ list_tokens writes xs (plain SymComma ∷ writes x rest)
-list_behind writes [] x rest h = absurd h
-list_behind writes (y ∷ xs) x rest h = ap (writes y) (further_behind writes xs x rest)
-
-pub separated_edits : {b : Bool} {A : Type 0} {g : Rule A} {writes : Writes A} → Changes false b g writes → Changes false false g writes → Changes false b (separated SymComma g) (list_tokens writes)
+separated_edits : {b : Bool} {A : Type 0} {g : Rule A} {writes : Writes A} → Changes false b g writes → Changes false false g writes → Changes false b (separated SymComma g) (list_tokens writes)
 separated_edits {b} {A} {g} {writes} G H = record { edit = λ v xs ys d words. (go xs v ys d words).1 } where
   first : Rule (List A)
   first = g gives (λ (x : A). x ∷ [])

@@ -122,7 +122,7 @@ stop_first p d s (k ∷ c) t h = stopped (role k.class) d (λ j e. reach p j e c
 stop_passed : (r : Role) (k d : ℕ) (f : ℕ → ℕ → Bool) → r ≡ stop → reach_role r (suc k) d f ≡ f (suc k) d
 stop_passed r k d f q = ap (λ (x : Role). reach_role x (suc k) d f) q
 
-pub edits_reach : (b : Bool) (s c : List Kind) → Edits b s c → (p : Place) (k d : ℕ) → Counts b k → reach p k d s ≡ reach p k d c
+edits_reach : (b : Bool) (s c : List Kind) → Edits b s c → (p : Place) (k d : ℕ) → Counts b k → reach p k d s ≡ reach p k d c
 edits_reach _ _ _ (at_the_end b) p k d i = refl
 edits_reach _ _ _ (kept b t j s c q m) p k d i =
     reach_alike (role t.class) k d (λ n e. reach p n e s) (λ n e. reach p n e c) (λ n e h. edits_reach (is_stop t.class) s c m p n e h)

@@ -54,7 +54,7 @@ multiplicative_walks p k d = record { walk = λ v xs ys h. h p k d }
 negated_walks : WalksAll (symbol negated_expression)
 negated_walks p k d = record { walk = λ v xs ys h. h p k d }
 
-pub additive_walks : WalksAll (symbol additive_expression)
+additive_walks : WalksAll (symbol additive_expression)
 additive_walks p k d = record { walk = λ v xs ys h. h p k d }
 
 -- ---- symbols that are passed within template lists and brackets

@@ -16,7 +16,7 @@ use Rattle.wgsl_token_theory.proofs.Inside.{at, Behind, behind_list, behind_none
 use Rattle.wgsl_token_theory.proofs.Unique.{marked, template_unique}
 use Rattle.wgsl_canonical_theory.specs.CanonicalUnits.{without_place}
 use Rattle.wgsl_template_theory.proofs.Reach.{Role, Role.name, Role.keyword, Role.greater, Role.greater_stop, Role.stop, Role.other, Role.template_start, Role.template_end, role, Place, Place.outside, Place.inside, reach_role, reach}
-use Rattle.wgsl_template_theory.proofs.Shapes.{is_word_role, is_greater_role, is_plain_role, shape_end, shape_opening, shape_closing, shape_greater, shape_short_circuit, shape_plain, shape_word, shape_template, DerivesAnywhere, NeverReached, Out}
+use Rattle.wgsl_template_theory.proofs.Shapes.{is_word_role, is_greater_role, is_plain_role, shape_end, shape_opening, shape_closing, shape_greater, shape_short_circuit, shape_plain, shape_word, shape_template, DerivesAnywhere, NeverReached, IsWrittenShape}
 use Rattle.wgsl_template_theory.proofs.RoleClasses.{is_mark_role, word_class, greater_class, plain_class, opening_class, closing_class, short_circuit_class, plain_goes_on, greater_goes_on, short_circuit_goes_on, word_unmarked, greater_unmarked, plain_unmarked, greater_no_word, short_circuit_no_word}
 use Rattle.wgsl_template_theory.proofs.PassedOver.{balanced}
 use Rattle.wgsl_template_theory.proofs.NoStops.{is_stop_role, NoStop, no_stops}
@@ -44,7 +44,7 @@ greater_reach greater_stop e n d next = absurd cc
 greater_reach r e n d next = absurd cc
 
 -- a template list in the kinds is passed over
-template_reach : (p : Place) (d : ℕ) (start end : Kind) (us ts : List Kind) → role start.class ≡ template_start → role end.class ≡ template_end → Out inside 0 us → reach p 0 d (start ∷ (us ++ (end ∷ ts))) ≡ reach p 0 d ts
+template_reach : (p : Place) (d : ℕ) (start end : Kind) (us ts : List Kind) → role start.class ≡ template_start → role end.class ≡ template_end → IsWrittenShape inside 0 us → reach p 0 d (start ∷ (us ++ (end ∷ ts))) ≡ reach p 0 d ts
 template_reach p d start end us ts e f s =
     ap (λ (r : Role). reach_role r 0 d (λ i j. reach p i j (us ++ (end ∷ ts)))) e ∙ (balanced s).reached p 0 d (end ∷ ts) ∙ ap (λ (r : Role). reach_role r 1 d (λ i j. reach p i j ts)) f
 
@@ -141,7 +141,7 @@ module _ (total : ℕ) where
 
   mutual
     -- a run that finds a token that begins with `>` is seen by computation
-    run : {p : Place} {depth : ℕ} {ks : List Kind} → Out p depth ks → (Rest : List ℕ → Type 0) (d : ℕ) (text : List ℕ) (ts : List Token) (end : List ℕ) → AlongTo ks (EndOf p Rest) text → In d text ts end
+    run : {p : Place} {depth : ℕ} {ks : List Kind} → IsWrittenShape p depth ks → (Rest : List ℕ → Type 0) (d : ℕ) (text : List ℕ) (ts : List Token) (end : List ℕ) → AlongTo ks (EndOf p Rest) text → In d text ts end
         → NoStop (map without_place ts) → reach p 0 d ks ≡ true
     run (shape_end {p = outside}) Rest d text ts end h i n = absurd (step_at total (Template total) d text ts end none_left h i)
     run (shape_end {p = inside}) Rest d text ts end h i n = refl
@@ -202,7 +202,7 @@ module _ (total : ℕ) where
         ]
 
     -- what stands in a template list is found
-    pos : {depth : ℕ} {ks : List Kind} → Out inside depth ks → (Rest : List ℕ → Type 0) (text : List ℕ) → AlongTo ks (EndOf inside Rest) text → Found depth ks Rest text
+    pos : {depth : ℕ} {ks : List Kind} → IsWrittenShape inside depth ks → (Rest : List ℕ → Type 0) (text : List ℕ) → AlongTo ks (EndOf inside Rest) text → Found depth ks Rest text
     pos shape_end Rest text h = ([], h.1, at_greater text h.1 h.2 h.0 h.3 h.4, refl, h.5)
     pos (shape_opening {depth = depth} {t = t} {ts = ks} e s) Rest text h =
         let w = token_of (role t.class) t (λ x. AlongTo ks (EndOf inside Rest) x) text (ap is_mark_role e) h in
@@ -237,7 +237,7 @@ module _ (total : ℕ) where
         (at total t w.0 w.1 ∷ (x.tokens ++ y.0), y.1, at_template depth text w.0 w.1 x.rest y.1 t x.tokens y.0 w.2 (word_class t.class e) x.list y.2, join_kinds t first last us ks x.tokens y.0 x.kinds y.3, y.4)
 
     -- a `<` behind which no token is reached begins no template list
-    neg : {p : Place} {depth : ℕ} {ks : List Kind} → Out p depth ks → NeverReached p ks → (Rest : List ℕ → Type 0) (text : List ℕ) → AlongTo ks (EndOf p Rest) text → (us : List Token) (rest : List ℕ) → Template total text us rest → ⊥
+    neg : {p : Place} {depth : ℕ} {ks : List Kind} → IsWrittenShape p depth ks → NeverReached p ks → (Rest : List ℕ → Type 0) (text : List ℕ) → AlongTo ks (EndOf p Rest) text → (us : List Token) (rest : List ℕ) → Template total text us rest → ⊥
     neg (shape_end {p = p}) c Rest text h us rest q = no_end p Rest text h us rest q
     neg (shape_opening {p = p} {t = t} {ts = ks} e s) c Rest text h us rest q = refuse p t ks (EndOf p Rest) text (ap is_mark_role e) c h (λ after ts end a i n. run s Rest 0 after ts end a i n) us rest q
     neg (shape_closing {p = p} {t = t} {ts = ks} e f s) c Rest text h us rest q = refuse p t ks (EndOf p Rest) text (ap is_mark_role e) c h (λ after ts end a i n. run s Rest 0 after ts end a i n) us rest q
@@ -255,7 +255,7 @@ module _ (total : ℕ) where
   one_token : (k : Kind) (ks : List Kind) (text from after : List ℕ) → raw text ≡ token k from after → (is_word k.class ≡ true → NoTemplate (Template total) after) → Tokens ks after → Tokens (k ∷ ks) text
   one_token k ks text from after e n g = (at total k from after ∷ g.0, before_more text from after k g.0 finished e n g.1, ap (λ (x : List Kind). k ∷ x) g.2)
 
-  all : {depth : ℕ} {ks : List Kind} → Out outside depth ks → (text : List ℕ) → Along ks text → Tokens ks text
+  all : {depth : ℕ} {ks : List Kind} → IsWrittenShape outside depth ks → (text : List ℕ) → Along ks text → Tokens ks text
   all shape_end text h = ([], at_end text h, refl)
   all (shape_opening {t = t} {ts = ks} e s) text h =
       let w = token_of (role t.class) t (λ x. Along ks x) text (ap is_mark_role e) h in
@@ -282,5 +282,5 @@ module _ (total : ℕ) where
       (at total t w.0 w.1 ∷ (x.tokens ++ y.0), before_template text w.0 w.1 x.rest t x.tokens y.0 finished w.2 (word_class t.class e) x.list y.1, join_kinds t first last us ks x.tokens y.0 x.kinds y.2)
 
 -- a text that lexes along kinds of the shape has tokens of these kinds
-pub lexed : (ks : List Kind) → Out outside 0 ks → (total : ℕ) (s : List ℕ) → Along ks s → (ts : List Token) × TokensOf total s ts finished × (map without_place ts ≡ ks)
+pub lexed : (ks : List Kind) → IsWrittenShape outside 0 ks → (total : ℕ) (s : List ℕ) → Along ks s → (ts : List Token) × TokensOf total s ts finished × (map without_place ts ≡ ks)
 lexed ks o total s h = all total o s h

@@ -62,8 +62,8 @@ NotReached p [] = Unit {0}
 NotReached p (t ∷ zs) = t.class ≡ SymLessThan → reach p 0 0 (map without_place zs) ≡ true → (v : List ExpressionNode) → Derives full written expressions v (front (ahead 0 0 (map without_place zs)) zs) → ⊥
 
 -- the shape of the tokens of a source
-abbrev pub Src : Place → ℕ → List Token → Type 0
-Src p depth ts = Shape (λ (t : Token). t.class) DerivesList NotReached p depth ts
+abbrev pub IsSourceShape : Place → ℕ → List Token → Type 0
+IsSourceShape p depth ts = Shape (λ (t : Token). t.class) DerivesList NotReached p depth ts
 
 -- ---- the kinds that a printed text is to have
 -- kinds that derive list(Expression), wherever their tokens stand
@@ -76,5 +76,5 @@ NeverReached p [] = Unit {0}
 NeverReached p (k ∷ js) = k.class ≡ SymLessThan → reach p 0 0 js ≡ false
 
 -- the shape that lets a text have tokens of the kinds
-abbrev pub Out : Place → ℕ → List Kind → Type 0
-Out p depth ks = Shape (λ (k : Kind). k.class) DerivesAnywhere NeverReached p depth ks
+abbrev pub IsWrittenShape : Place → ℕ → List Kind → Type 0
+IsWrittenShape p depth ks = Shape (λ (k : Kind). k.class) DerivesAnywhere NeverReached p depth ks

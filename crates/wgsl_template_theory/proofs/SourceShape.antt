@@ -19,7 +19,7 @@ use Rattle.wgsl_token_theory.proofs.Inside.{at}
 use Rattle.wgsl_token_theory.proofs.Unique.{marked}
 use Rattle.wgsl_canonical_theory.specs.CanonicalUnits.{without_place}
 use Rattle.wgsl_template_theory.proofs.Reach.{Role, Role.name, Role.keyword, Role.greater, Role.greater_stop, Role.opening, Role.closing, Role.short_circuit, Role.stop, Role.other, Role.template_start, Role.template_end, role, Place, Place.outside, Place.inside, ahead}
-use Rattle.wgsl_template_theory.proofs.Shapes.{is_word_role, is_greater_role, is_plain_role, shape_end, shape_opening, shape_closing, shape_greater, shape_short_circuit, shape_plain, shape_word, shape_template, NotReached, Src}
+use Rattle.wgsl_template_theory.proofs.Shapes.{is_word_role, is_greater_role, is_plain_role, shape_end, shape_opening, shape_closing, shape_greater, shape_short_circuit, shape_plain, shape_word, shape_template, NotReached, IsSourceShape}
 use Rattle.wgsl_template_theory.proofs.RoleClasses.{Says, role_says, is_mark_role, word_class, opening_role, closing_role, word_role}
 use Rattle.wgsl_template_theory.proofs.RawClasses.{raw_unmarked}
 use Rattle.wgsl_template_theory.proofs.ReachedRuns.{Reached, template_closed, reached_inside, reached_outside}
@@ -77,7 +77,7 @@ module _ (total : ℕ) where
       would_stand text f.1 f.2 f.0 ts v f.3 f.4 (reached_outside total f.2 ts finished f.5 refl 0 re) d n
 
   -- ---- one token
-  outside_token : (t : Token) (ts : List Token) (r : Role) → role t.class ≡ r → is_mark_role r ≡ false → (is_word_role r ≡ true → NotReached outside ts) → Src outside 0 ts → Src outside 0 (t ∷ ts)
+  outside_token : (t : Token) (ts : List Token) (r : Role) → role t.class ≡ r → is_mark_role r ≡ false → (is_word_role r ≡ true → NotReached outside ts) → IsSourceShape outside 0 ts → IsSourceShape outside 0 (t ∷ ts)
   outside_token t ts name e m n s = shape_word (ap is_word_role e) (n refl) s
   outside_token t ts keyword e m n s = shape_word (ap is_word_role e) (n refl) s
   outside_token t ts greater e m n s = shape_greater (ap is_greater_role e) tt s
@@ -91,7 +91,7 @@ module _ (total : ℕ) where
   outside_token t ts template_end e m n s = absurd cc
 
   -- what goes on inside a template list
-  inside_token : (t : Token) (ts : List Token) (r : Role) (depth : ℕ) → role t.class ≡ r → Says t.class r → is_mark_role r ≡ false → goes_on depth t.class ≡ true → (is_word_role r ≡ true → NotReached inside ts) → Src inside depth ts → Src inside depth (t ∷ ts)
+  inside_token : (t : Token) (ts : List Token) (r : Role) (depth : ℕ) → role t.class ≡ r → Says t.class r → is_mark_role r ≡ false → goes_on depth t.class ≡ true → (is_word_role r ≡ true → NotReached inside ts) → IsSourceShape inside depth ts → IsSourceShape inside depth (t ∷ ts)
   inside_token t ts name depth e w m g n s = shape_word (ap is_word_role e) (n refl) s
   inside_token t ts keyword depth e w m g n s = shape_word (ap is_word_role e) (n refl) s
   inside_token t ts greater zero e w m g n s = clash _ w (no_end t.class g).0
@@ -110,18 +110,18 @@ module _ (total : ℕ) where
   -- ---- a template list
   -- what stands inside the template lists at the front of a text has the shape
   abbrev Known : List ℕ → Type 0
-  Known text = (depth : ℕ) (after : List ℕ) (us : List Token) (end : List ℕ) → length after < length text → In depth after us end → Src inside depth us
+  Known text = (depth : ℕ) (after : List ℕ) (us : List Token) (end : List ℕ) → length after < length text → In depth after us end → IsSourceShape inside depth us
 
-  list_shape : (p : Place) (depth : ℕ) (t : Token) (text : List ℕ) (us ts : List Token) (rest : List ℕ) → is_word_role (role t.class) ≡ true → Known text → Enclosed total (Template total) text us rest → Src p depth ts
-      → Src p depth (t ∷ (us ++ ts))
+  list_shape : (p : Place) (depth : ℕ) (t : Token) (text : List ℕ) (us ts : List Token) (rest : List ℕ) → is_word_role (role t.class) ≡ true → Known text → Enclosed total (Template total) text us rest → IsSourceShape p depth ts
+      → IsSourceShape p depth (t ∷ (us ++ ts))
   list_shape p depth t text us ts rest w known (enclosed s from after end k vs v r l h d) src =
       let start = at total (plain TemplateArgsStart) from after in
       let last = at total (plain TemplateArgsEnd) end (drop 1 end) in
-      subst (λ (x : List Token). Src p depth (t ∷ (start ∷ x))) (sym (append_assoc vs (last ∷ []) ts))
+      subst (λ (x : List Token). IsSourceShape p depth (t ∷ (start ∷ x))) (sym (append_assoc vs (last ∷ []) ts))
       (shape_template t start last vs ts w refl refl (known 0 after vs end (shorter text from after k r) h) (v, d) src)
 
   -- ---- what stands inside a template list
-  inside_step : (depth : ℕ) (text : List ℕ) (ts : List Token) (end : List ℕ) → Known text → In depth text ts end → Src inside depth ts
+  inside_step : (depth : ℕ) (text : List ℕ) (ts : List Token) (end : List ℕ) → Known text → In depth text ts end → IsSourceShape inside depth ts
   inside_step depth text ts end known (at_greater s e after k r g) = shape_end
   inside_step depth text ts end known (at_opening d s from after e k us r g h) = shape_opening (opening_role k.class g) (known (suc depth) after us end (shorter text from after k r) h)
   inside_step depth text ts end known (at_closing d s from after e k us r g h) = shape_closing (closing_role k.class g) refl (known d after us end (shorter text from after k r) h)
@@ -133,7 +133,7 @@ module _ (total : ℕ) where
       inside_token (at total k from after) us (role k.class) depth refl (role_says k.class) (raw_unmarked text from after k r) g
       (λ w. not_inside depth after us end h (n (word_class k.class w))) (known depth after us end (shorter text from after k r) h)
 
-  inside_below : (n depth : ℕ) (text : List ℕ) (ts : List Token) (end : List ℕ) → length text < n → In depth text ts end → Src inside depth ts
+  inside_below : (n depth : ℕ) (text : List ℕ) (ts : List Token) (end : List ℕ) → length text < n → In depth text ts end → IsSourceShape inside depth ts
   inside_below zero depth text ts end lt h = absurd (omega arith)
   inside_below (suc n) depth text ts end lt h = inside_step depth text ts end (λ d after us stop less i. inside_below n d after us stop (omega arith) i) h
 
@@ -141,7 +141,7 @@ module _ (total : ℕ) where
   known_of text depth after us end lt h = inside_below (suc (length after)) depth after us end (omega arith) h
 
   -- ---- a whole text
-  outside_shape : (text : List ℕ) (ts : List Token) (e : Ending) → TokensOf total text ts e → e ≡ finished → Src outside 0 ts
+  outside_shape : (text : List ℕ) (ts : List Token) (e : Ending) → TokensOf total text ts e → e ≡ finished → IsSourceShape outside 0 ts
   outside_shape text ts e (at_end s r) f = shape_end
   outside_shape text ts e (at_fault s from after r) f = absurd cc
   outside_shape text ts e (before_template s from after rest k us vs g r w q h) f =
@@ -151,5 +151,5 @@ module _ (total : ℕ) where
       (λ w. not_outside after us (subst (λ (x : Ending). TokensOf total after us x) f h) (n (word_class k.class w))) (outside_shape after us e h f)
 
 -- the tokens of a source have the shape
-pub source_shape : (source : List ℕ) (ts : List Token) → IsTokenList source ts finished → Src outside 0 ts
+pub source_shape : (source : List ℕ) (ts : List Token) → IsTokenList source ts finished → IsSourceShape outside 0 ts
 source_shape source ts h = outside_shape (width source) source ts finished h refl

@@ -15,7 +15,7 @@ use Rattle.wgsl_template_theory.proofs.Reach.{Role, role, Role.template_start, R
 use Rattle.wgsl_template_theory.proofs.Moves.{kinds, role_of}
 use Rattle.wgsl_template_theory.proofs.Clear.{AllClear}
 use Rattle.wgsl_template_theory.proofs.ClearUnits.{unit_clear, list_clear}
-use Rattle.wgsl_template_theory.proofs.Shapes.{is_word_role, is_greater_role, is_plain_role, shape_end, shape_opening, shape_closing, shape_greater, shape_short_circuit, shape_plain, shape_word, shape_template, DerivesList, NotReached, Src, NeverReached, Out}
+use Rattle.wgsl_template_theory.proofs.Shapes.{is_word_role, is_greater_role, is_plain_role, shape_end, shape_opening, shape_closing, shape_greater, shape_short_circuit, shape_plain, shape_word, shape_template, DerivesList, NotReached, IsSourceShape, NeverReached, IsWrittenShape}
 use Rattle.wgsl_template_theory.proofs.RoleClasses.{is_mark_role, word_unmarked, greater_unmarked, plain_unmarked}
 use Rattle.wgsl_template_theory.proofs.SourceShape.{source_shape}
 use Rattle.wgsl_template_theory.proofs.Edits.{is_stop_role, is_stop, first_among, ends_list, block_begins, Edits, at_the_end, kept, no_comma, no_colon, no_semicolon, two_minuses, with_case, edits_never}
@@ -150,14 +150,14 @@ split _ (_ ∷ us) e s _ r (with_case b k t c q m) =
 -- ---- tokens that have the shape of a source
 -- what is written from the tokens has the other shape
 abbrev Turned : Place → ℕ → List Token → Type 0
-Turned p depth ts = (b : Bool) (c : List Kind) → Edits b (kinds ts) c → ClearAnywhere p c → Out p depth c
+Turned p depth ts = (b : Bool) (c : List Kind) → Edits b (kinds ts) c → ClearAnywhere p c → IsWrittenShape p depth c
 
 -- behind a `<` in a source that is clear no token is reached
 never_reached : (p : Place) (ts : List Token) → NotReached p ts → AllClear p ts [] → NeverReached p (kinds ts)
 never_reached p [] n a = tt
 never_reached p (t ∷ ts) n a = λ l. (clear_behind p (t ∷ ts) [] a refl t ts refl (ap (λ (x : ℕ). is_mark_role (role x)) l)).0 l (n l)
 
-plain_turned : (p : Place) (depth : ℕ) (t : Token) (ts : List Token) → is_plain_role (role t.class) ≡ true → Turned p depth ts → (c : List Kind) → Written t.class (kinds ts) c → ClearAnywhere p c → Out p depth c
+plain_turned : (p : Place) (depth : ℕ) (t : Token) (ts : List Token) → is_plain_role (role t.class) ≡ true → Turned p depth ts → (c : List Kind) → Written t.class (kinds ts) c → ClearAnywhere p c → IsWrittenShape p depth c
 plain_turned p depth t ts e all _ (one j c q m) h =
     let known : is_plain_role (role j.class) ≡ true = by_class is_plain_role j.class t.class (sym q) e in
     shape_plain known (all (is_stop t.class) c m (behind_token p j c (plain_unmarked (role j.class) known) h))
@@ -169,7 +169,7 @@ plain_turned p depth t ts e all _ (case_before c w m) h = clash _ w (plain_is_no
 default_first : (p : Place) (c : List Kind) → NeverReached p (plain KwDefault ∷ c)
 default_first p c = λ l. clash _ (ap (λ (x : ℕ). is_among x (SymLessThan ∷ [])) l) refl
 
-word_turned : (p : Place) (depth : ℕ) (t : Token) (ts : List Token) → is_word_role (role t.class) ≡ true → NeverReached p (kinds ts) → Turned p depth ts → (c : List Kind) → Written t.class (kinds ts) c → ClearAnywhere p c → Out p depth c
+word_turned : (p : Place) (depth : ℕ) (t : Token) (ts : List Token) → is_word_role (role t.class) ≡ true → NeverReached p (kinds ts) → Turned p depth ts → (c : List Kind) → Written t.class (kinds ts) c → ClearAnywhere p c → IsWrittenShape p depth c
 word_turned p depth t ts e n all _ (one j c q m) h =
     let known : is_word_role (role j.class) ≡ true = by_class is_word_role j.class t.class (sym q) e in
     shape_word known (edits_never p (is_stop t.class) (kinds ts) c (word_is_no_stop (role t.class) e) m n) (all (is_stop t.class) c m (behind_token p j c (word_unmarked (role j.class) known) h))
@@ -181,7 +181,7 @@ word_turned p depth t ts e n all _ (case_before c w m) h =
 
 -- a word with a template list behind it
 module _ (p : Place) (depth : ℕ) (start end : Token) (us ts : List Token) (f : role start.class ≡ template_start) (g : role end.class ≡ template_end) (l : DerivesList us) (inner : Turned inside 0 us) (all : Turned p depth ts) where
-  list_turned : (j : Kind) → is_word_role (role j.class) ≡ true → (b : Bool) (c : List Kind) → Edits b (kinds (start ∷ (us ++ (end ∷ ts)))) c → ClearAnywhere p (j ∷ c) → Out p depth (j ∷ c)
+  list_turned : (j : Kind) → is_word_role (role j.class) ≡ true → (b : Bool) (c : List Kind) → Edits b (kinds (start ∷ (us ++ (end ∷ ts)))) c → ClearAnywhere p (j ∷ c) → IsWrittenShape p depth (j ∷ c)
   list_turned j e b c m h =
       let w = written_same start.class (kinds (us ++ (end ∷ ts))) c (ap is_plain_role f) (ap is_word_role f) (written_for b (without_place start) (kinds (us ++ (end ∷ ts))) c m) in
       let s = split (is_stop start.class) (kinds us) (without_place end) (kinds ts) w.1 g (subst (λ (x : List Kind). Edits (is_stop start.class) x w.1) (map-append without_place us (end ∷ ts)) w.4) in
@@ -189,13 +189,13 @@ module _ (p : Place) (depth : ℕ) (start end : Token) (us ts : List Token) (f :
       let whole : c ≡ w.0 ∷ (s.list ++ (s.end ∷ s.rest)) = w.2 ∙ ap (λ (x : List Kind). w.0 ∷ x) s.whole in
       let nested : Nested 0 s.list = edits_nested (is_stop start.class) (kinds us) s.list s.before 0 (clear_nested inside us [] (list_clear l.0 us l.1) refl) in
       let parts = template_parts p w.0 s.end s.list s.rest begun s.ended nested (subst (ClearAnywhere p) whole (behind_token p j c (word_unmarked (role j.class) e) h)) in
-      subst (λ (x : List Kind). Out p depth (j ∷ x)) (sym whole)
+      subst (λ (x : List Kind). IsWrittenShape p depth (j ∷ x)) (sym whole)
       (shape_template j w.0 s.end s.list s.rest e begun s.ended
       (inner (is_stop start.class) s.list s.before (λ qs r. (parts qs (somewhere s.rest) r (kinds_somewhere s.rest)).0))
       (λ qs r. (parts qs (somewhere s.rest) r (kinds_somewhere s.rest)).1)
       (all s.other s.rest s.behind (λ qs r. (parts (somewhere s.list) qs (kinds_somewhere s.list) r).2)))
 
-  template_turned : (t : Token) → is_word_role (role t.class) ≡ true → (c : List Kind) → Written t.class (kinds (start ∷ (us ++ (end ∷ ts)))) c → ClearAnywhere p c → Out p depth c
+  template_turned : (t : Token) → is_word_role (role t.class) ≡ true → (c : List Kind) → Written t.class (kinds (start ∷ (us ++ (end ∷ ts)))) c → ClearAnywhere p c → IsWrittenShape p depth c
   template_turned t e _ (one j c q m) h = list_turned j (by_class is_word_role j.class t.class (sym q) e) (is_stop t.class) c m h
   template_turned t e _ (none b c w m) h = clash _ w (word_is_not_plain (role t.class) e)
   template_turned t e _ (two c w m) h = clash _ w (word_is_not_plain (role t.class) e)
@@ -225,21 +225,21 @@ next p t ts b c e f g a m h =
       anywhere = behind_token p w.0 w.1 (ap is_mark_role same ∙ g) (subst (ClearAnywhere p) w.2 h);
     }
 
-turned : {p : Place} {depth : ℕ} {ts : List Token} → Src p depth ts → AllClear p ts [] → Turned p depth ts
-turned {p} shape_end a b c m h = subst (λ (x : List Kind). Out p 0 x) (sym (nothing_written b c m)) shape_end
+turned : {p : Place} {depth : ℕ} {ts : List Token} → IsSourceShape p depth ts → AllClear p ts [] → Turned p depth ts
+turned {p} shape_end a b c m h = subst (λ (x : List Kind). IsWrittenShape p 0 x) (sym (nothing_written b c m)) shape_end
 turned {p} {depth} (shape_opening {t = t} {ts = ts} e s) a b c m h =
     let n = next p t ts b c (ap is_plain_role e) (ap is_word_role e) (ap is_mark_role e) a m h in
-    subst (Out p depth) (sym n.whole) (shape_opening (n.same ∙ e) (turned s n.clear (is_stop t.class) n.rest n.edits n.anywhere))
+    subst (IsWrittenShape p depth) (sym n.whole) (shape_opening (n.same ∙ e) (turned s n.clear (is_stop t.class) n.rest n.edits n.anywhere))
 turned {p} {depth} (shape_closing {t = t} {ts = ts} e d s) a b c m h =
     let n = next p t ts b c (ap is_plain_role e) (ap is_word_role e) (ap is_mark_role e) a m h in
-    subst (Out p depth) (sym n.whole) (shape_closing (n.same ∙ e) d (turned s n.clear (is_stop t.class) n.rest n.edits n.anywhere))
+    subst (IsWrittenShape p depth) (sym n.whole) (shape_closing (n.same ∙ e) d (turned s n.clear (is_stop t.class) n.rest n.edits n.anywhere))
 turned {p} {depth} (shape_greater {t = t} {ts = ts} e d s) a b c m h =
     let known = greater_is_not_plain (role t.class) e in
     let n = next p t ts b c known.0 known.1 (greater_unmarked (role t.class) e) a m h in
-    subst (Out p depth) (sym n.whole) (shape_greater (ap is_greater_role n.same ∙ e) d (turned s n.clear (is_stop t.class) n.rest n.edits n.anywhere))
+    subst (IsWrittenShape p depth) (sym n.whole) (shape_greater (ap is_greater_role n.same ∙ e) d (turned s n.clear (is_stop t.class) n.rest n.edits n.anywhere))
 turned {p} {depth} (shape_short_circuit {t = t} {ts = ts} e d s) a b c m h =
     let n = next p t ts b c (ap is_plain_role e) (ap is_word_role e) (ap is_mark_role e) a m h in
-    subst (Out p depth) (sym n.whole) (shape_short_circuit (n.same ∙ e) d (turned s n.clear (is_stop t.class) n.rest n.edits n.anywhere))
+    subst (IsWrittenShape p depth) (sym n.whole) (shape_short_circuit (n.same ∙ e) d (turned s n.clear (is_stop t.class) n.rest n.edits n.anywhere))
 turned {p} {depth} (shape_plain {t = t} {ts = ts} e s) a b c m h =
     let clear = (clear_behind p (t ∷ ts) [] a refl t ts refl (plain_unmarked (role t.class) e)).1 in
     plain_turned p depth t ts e (turned s clear) c (written_for b (without_place t) (kinds ts) c m) h
@@ -254,7 +254,7 @@ turned {p} {depth} (shape_template t start end us ts e f g i l s) a b c m h =
 
 -- ---- modules
 -- the kinds that are written from a derived module have the shape that lets a text have tokens of these kinds
-pub written_shape : (source : List ℕ) (u : TranslationUnit) (h : IsUnit source u) → AllWords h.0 → Out outside 0 (canonical u)
+pub written_shape : (source : List ℕ) (u : TranslationUnit) (h : IsUnit source u) → AllWords h.0 → IsWrittenShape outside 0 (canonical u)
 written_shape source u h words =
     turned (source_shape source h.0 h.1) (unit_clear u h.0 h.2) true (canonical u) (unit_edited u h.0 words h.2)
     (λ qs e. let found = unit_again u h.0 words h.2 qs e in unit_clear found.0 qs found.1)

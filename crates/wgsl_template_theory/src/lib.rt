@@ -1,2 +1,2 @@
-//! Where the token list of a text may hold a template list, as lemmas.
+//! Template lists among tokens: where a text has them, and where the tokens that are written from its tree have them, as lemmas.
 #![tactic(auto)]

@@ -17,10 +17,11 @@ use Rattle.wgsl_model.specs.StatementParts.{placed_statement, variable_at, paren
 use Rattle.wgsl_model.specs.UnitParts.{rule_of, texts_of}
 use Rattle.wgsl_model.specs.Symbols.{Rule, ident, type_specifier, template_list, call, arguments, literal, primary_expression, singular_expression, component, unary_expression, multiplicative_expression, negated_expression, additive_expression, shift_expression, relational_expression, expression, lhs_expression, attribute, compound_statement, statement, return_statement, if_statement, switch_statement, loop_statement, for_statement, while_statement, call_statement, var_statement, value_statement, break_statement, continue_statement, discard_statement, assignment, phony_assignment, increment, decrement, const_assert, switch_clause, continuing_statement, for_init, for_update, var_template, typed_ident}
 use Rattle.wgsl_model.specs.Written.{written}
+use Rattle.wgsl_canonical_theory.proofs.ExpressionRules.{literal_classes}
 use Rattle.wgsl_theory.proofs.Ends.{IsNameText}
 use Rattle.wgsl_theory.proofs.SoundExpressions.{IsSoundLiteral, IsPrimary, IsPrimaryNode, IsOperand, IsOperandNode, IsSoundExpression, IsSoundNode, IsSoundCall, AreSoundNodes, IsSoundTemplate, IsSoundType}
 use Rattle.wgsl_theory.proofs.SoundUnits.{EndsWithNameNode, IfSome, Every, IsSoundRule, IsSoundAttribute, AreSoundAttributes, IsSoundStatement, AreSoundStatements, IsSoundCompound, AreSoundElseIfs, IsSoundElseIf, IsSoundElse, IsSoundElseClause, AreSoundClauses, IsSoundClause, IsSoundMaybeContinuing, IsSoundContinuing, IsSoundPart}
-use Rattle.wgsl_theory.proofs.Scanned.{word_classes, literal_classes}
+use Rattle.wgsl_theory.proofs.Scanned.{word_classes}
 use Rattle.wgsl_theory.proofs.SoundAttributes.{one_name_rule, two_names_rule, attribute_sound}
 use Rattle.wgsl_theory.proofs.SoundRules.{IsSoundStatementNode, Sound, Gives, token_sound, symbol_sound, then_sound, or_sound, gives_sound, makes_sound, check_sound, weaker_sound, sign_before, sign_behind, means_sound, optional_sound, chain_sound, many_sound, several_sound, list_sound, list_or_none_sound}
 
@@ -134,7 +135,7 @@ primary_operand_node (expression_node e span) p = primary_operand e p
 abbrev pub Anything : {A : Type 0} → A → Type 0
 Anything a = Unit {0}
 
-pub unary_operator_gives : Gives unary_operator Anything
+unary_operator_gives : Gives unary_operator Anything
 unary_operator_gives = or_sound (means_sound SymMinus negation Anything tt) (or_sound (means_sound SymBang logical_negation Anything tt) (or_sound (means_sound SymTilde bitwise_complement Anything tt)
     (or_sound (means_sound SymStar indirection Anything tt) (means_sound SymAnd address_of Anything tt))))
 
@@ -143,16 +144,16 @@ unary_expression_gives = or_sound (weaker_sound (symbol_sound singular_expressio
     (makes_sound (then_sound unary_operator_gives (symbol_sound unary_expression)) unary_of (Sound unary_expression) (λ p s h. (tt, h.1)))
 
 -- a sound operand
-pub operand_gives : Gives (symbol unary_expression) IsSoundNode
+operand_gives : Gives (symbol unary_expression) IsSoundNode
 operand_gives = weaker_sound (symbol_sound unary_expression) IsSoundNode (λ e h. h.1)
 
-pub multiplicative_operator_gives : Gives multiplicative_operator Anything
+multiplicative_operator_gives : Gives multiplicative_operator Anything
 multiplicative_operator_gives = or_sound (means_sound SymStar multiplication Anything tt) (or_sound (means_sound SymForwardSlash division Anything tt) (means_sound SymModulo remainder Anything tt))
 
-pub additive_operator_gives : Gives additive_operator Anything
+additive_operator_gives : Gives additive_operator Anything
 additive_operator_gives = or_sound (means_sound SymPlus addition Anything tt) (means_sound SymMinus subtraction Anything tt)
 
-pub relational_operator_gives : Gives relational_operator Anything
+relational_operator_gives : Gives relational_operator Anything
 relational_operator_gives = or_sound (means_sound SymLessThan less_than Anything tt) (or_sound (means_sound SymGreaterThan greater_than Anything tt) (or_sound (means_sound SymLessThanEqual less_than_equal Anything tt)
     (or_sound (means_sound SymGreaterThanEqual greater_than_equal Anything tt) (or_sound (means_sound SymEqualEqual equality Anything tt) (means_sound SymNotEqual inequality Anything tt)))))
 
@@ -170,10 +171,10 @@ pub additive_expression_gives : Gives (written additive_expression) (Sound addit
 additive_expression_gives = chain_sound (symbol_sound multiplicative_expression)
     (or_sound (then_sound additive_operator_gives (symbol_sound multiplicative_expression)) (gives_sound (symbol_sound negated_expression) (λ (e : ExpressionNode). (subtraction, e)) IsSoundBehind (λ e h. (tt, h)))) binary_of (λ a b s h k. (h, k.1))
 
-pub two_gives : (class : ℕ) (operator : BinaryOperator) {x : Rule ExpressionNode} → Gives x IsSoundNode → Gives (two class operator x) IsSoundNode
+two_gives : (class : ℕ) (operator : BinaryOperator) {x : Rule ExpressionNode} → Gives x IsSoundNode → Gives (two class operator x) IsSoundNode
 two_gives class operator G = makes_sound (then_sound G (then_sound (means_sound class operator Anything tt) G)) operation_of IsSoundNode (λ p s h. (h.0, h.1.1))
 
-pub two_or_more_gives : (class : ℕ) (operator : BinaryOperator) {x : Rule ExpressionNode} → Gives x IsSoundNode → Gives (two_or_more class operator x) IsSoundNode
+two_or_more_gives : (class : ℕ) (operator : BinaryOperator) {x : Rule ExpressionNode} → Gives x IsSoundNode → Gives (two_or_more class operator x) IsSoundNode
 two_or_more_gives class operator G = chain_sound (two_gives class operator G) (then_sound (means_sound class operator Anything tt) G) binary_of (λ a b s h k. (h, k.1))
 
 pub shift_expression_gives : Gives (written shift_expression) (Sound shift_expression)
@@ -192,7 +193,7 @@ expression_gives = or_sound (symbol_sound relational_expression)
 abbrev IsSoundLeft : ExpressionNode → Type 0
 IsSoundLeft e = IsPrimaryNode e × EndsWithNameNode e × IsSoundNode e
 
-pub left_chain_gives : {g : Rule ExpressionNode} → Gives g IsSoundLeft → Gives (left_chain with_component g (symbol component)) (Sound lhs_expression)
+left_chain_gives : {g : Rule ExpressionNode} → Gives g IsSoundLeft → Gives (left_chain with_component g (symbol component)) (Sound lhs_expression)
 left_chain_gives G = weaker_sound (chain_sound G (symbol_sound component) with_component (λ a b s h k. k a h.0 h.2)) (Sound lhs_expression) (λ e h. (primary_operand_node e h.0, h.1, h.2))
 
 pub lhs_expression_gives : Gives (written lhs_expression) (Sound lhs_expression)
@@ -250,10 +251,10 @@ statement_gives = makes_sound
 pub return_statement_gives : Gives (written return_statement) (Sound return_statement)
 return_statement_gives = gives_sound (sign_before KwReturn (optional_sound (symbol_sound expression))) return_of IsSoundStatement (λ o h. h)
 
-pub else_if_gives : Gives else_if IsSoundElseIf
+else_if_gives : Gives else_if IsSoundElseIf
 else_if_gives = gives_sound (sign_before KwElse (sign_before KwIf (then_sound (symbol_sound expression) (symbol_sound compound_statement)))) (λ p. tree.else_if_clause p.0 p.1) IsSoundElseIf (λ p h. h)
 
-pub else_block_gives : Gives else_block IsSoundElseClause
+else_block_gives : Gives else_block IsSoundElseClause
 else_block_gives = gives_sound (sign_before KwElse (symbol_sound compound_statement)) tree.else_clause IsSoundElseClause (λ b h. h)
 
 pub if_statement_gives : Gives (written if_statement) (Sound if_statement)
@@ -291,7 +292,7 @@ pub value_statement_gives : Gives (written value_statement) (Sound value_stateme
 value_statement_gives = gives_sound (then_sound (or_sound (means_sound KwLet DeclarationKind.let_kind Anything tt) (means_sound KwConst DeclarationKind.const_kind Anything tt)) (then_sound (symbol_sound typed_ident) initializer_gives))
     (λ p. Statement.declaration (declaration_of [] p.0 p.1.0 (Some p.1.1))) IsSoundStatement (λ p h. (tt, h.1.0.0, h.1.0.1, h.1.1))
 
-pub assignment_operator_gives : Gives assignment_operator Anything
+assignment_operator_gives : Gives assignment_operator Anything
 assignment_operator_gives = or_sound (means_sound SymEqual equal Anything tt) (or_sound (means_sound SymPlusEqual plus_equal Anything tt) (or_sound (means_sound SymMinusEqual minus_equal Anything tt)
     (or_sound (means_sound SymTimesEqual times_equal Anything tt) (or_sound (means_sound SymDivisionEqual division_equal Anything tt) (or_sound (means_sound SymModuloEqual modulo_equal Anything tt)
     (or_sound (means_sound SymAndEqual and_equal Anything tt) (or_sound (means_sound SymOrEqual or_equal Anything tt) (or_sound (means_sound SymXorEqual xor_equal Anything tt)

@@ -235,7 +235,7 @@ derived_sound : (n : Symbol) (v : Value n) (xs ys : List Token) → Part full wr
 derived_sound n v xs ys d = least full written FromScanned (λ m w us vs e. (rules m).sound w us vs e) n v xs ys d
 
 -- a module that a text derives
-pub unit_sound : (source : List ℕ) (u : TranslationUnit) → IsUnit source u → IsSoundUnit u
+unit_sound : (source : List ℕ) (u : TranslationUnit) → IsUnit source u → IsSoundUnit u
 unit_sound source u (ts, tokens, d) = (derived_sound unit u ts [] d (tokens_scanned (width source) source ts finished tokens)).1
 
 -- its printed text

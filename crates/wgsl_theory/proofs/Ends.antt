@@ -3,7 +3,7 @@ use Rattle.std.proofs.Common.{◌≡◌, ℕ, ◌<◌, ◌==◌, ◌&&◌, ◌||
 use Rattle.std.specs.Prelude.{nat_lt}
 use Rattle.std.specs.Char.{is_ascii_digit, is_ascii_alphabetic, is_ascii_alphanumeric}
 use Rattle.std.specs.Str.{IsUtf8, chars, encode_utf8_all}
-use Rattle.std.proofs.lemmas.Bool.{and_parts, ltb-true, eq-eqb, eqb-true, false_from_ne_true, true≢false}
+use Rattle.std.proofs.lemmas.Bool.{and_parts, ltb-true, eq-eqb, eqb-true, false_from_ne_true, true≢false, not-true}
 use Rattle.std.proofs.lemmas.Bool.Decides.{nat_tests}
 use Rattle.std.proofs.lemmas.Str.{encodes-chars}
 use Rattle.unicode_ident.specs.Ident.{is_xid_start, is_xid_continue}
@@ -30,14 +30,10 @@ no_such d xs z each = true≢false (sym (Each-last (differs d) xs (d ∷ z) each
 abbrev pub ends_name : ℕ → Bool
 ends_name c = nat_lt c 128 && not (is_ascii_alphanumeric c || c == 95)
 
-not_true : (b : Bool) → not b ≡ true → b ≡ false
-not_true true h = absurd (true≢false (sym h))
-not_true false h = refl
-
 ends_continued : (c : ℕ) → ends_name c ≡ true → is_xid_continue c ≡ false
 ends_continued c h =
     let parts = and_parts (nat_lt c 128) (not (is_ascii_alphanumeric c || c == 95)) h in
-    is_xid_continue-ascii c (ltb-true c 128 parts.0) ∙ not_true _ parts.1
+    is_xid_continue-ascii c (ltb-true c 128 parts.0) ∙ not-true _ parts.1
 
 ends_started : (c : ℕ) → ends_name c ≡ true → is_xid_start c ≡ false
 ends_started c h = false_from_ne_true (is_xid_start c) (λ s. true≢false (sym (is_xid_start-is_xid_continue c s) ∙ ends_continued c h))
@@ -101,7 +97,7 @@ begins_word c h = go (is_xid_start c) refl h
     go true e f = (xid_start-not_blank c e, other_than is_xid_start c e 47 (is_xid_start-ascii 47 (lit< tt)))
     go false e f = subst (λ d. (is_blank d ≡ false) × ((d == 47) ≡ false)) (sym (eqb-true c 95 f)) (refl, refl)
 
-pub name_spelling : (bytes : List ℕ) → (n : IsNameText bytes) → IsSpelling (word_of bytes) (n.first ∷ n.others)
+name_spelling : (bytes : List ℕ) → (n : IsNameText bytes) → IsSpelling (word_of bytes) (n.first ∷ n.others)
 name_spelling bytes n =
     let same : encode_utf8_all (n.first ∷ n.others) ≡ bytes = ap encode_utf8_all (sym n.characters) ∙ encodes-chars bytes n.utf8 in
     record { spelled = n.spelled; valued = rw n.begins (ap (λ (b : List ℕ). Some (word_of b)) same); begins = begins_word n.first n.begins }

@@ -60,7 +60,7 @@ component_follows_node (expression_node e span) rest p = component_follows e res
 
 -- ---- what expressions begin with
 
-pub name_free : (bytes rest : List ℕ) → IsNameText bytes → BeginsFree (chars bytes ++ rest)
+name_free : (bytes rest : List ℕ) → IsNameText bytes → BeginsFree (chars bytes ++ rest)
 name_free bytes rest n = before_name BeginsFree bytes rest n (λ c cs b. name_no_operator c b)
 
 number_free : (l : LiteralExpression) (rest : List ℕ) → IsNumberText (literal_token l) (print_literal l) → BeginsFree (chars (print_literal l) ++ rest)

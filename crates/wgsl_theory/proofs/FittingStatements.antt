@@ -201,7 +201,7 @@ closed_statements : (n : ℕ) (ss : StatementNodes) (rest : List Piece) → Clos
 closed_statements n no_statements rest c = c
 closed_statements n (statement_before (statement_node s span) ss) rest c = one_closed n (is_void s) (statements_pieces n (line n) ss rest) _ (closed_statements n ss rest c)
 
-one_fits : (b : Bool) (rest last : List Piece) → Fits rest → Fits last → Fits (cond b rest last)
+pub one_fits : (b : Bool) (rest last : List Piece) → Fits rest → Fits last → Fits (cond b rest last)
 one_fits true rest last f g = f
 one_fits false rest last f g = g
 

@@ -1,5 +1,5 @@
 -- The pieces of a sound module fit: its printed text is read along the tokens that are written from its tree.
-use Rattle.std.proofs.Common.{ℕ, Bool, true, false, cond, refl, List, [], ◌∷◌, Option, Some, None}
+use Rattle.std.proofs.Common.{ℕ, refl, List, [], ◌∷◌, Option, Some, None}
 use Rattle.std.specs.Prelude.{codes}
 use Rattle.std.specs.Str.{IsUtf8, chars}
 use Rattle.wgsl_model.specs.Classes.{SymArrow, SymBraceRight, SymColon, SymParenRight, SymSemicolon}
@@ -21,7 +21,7 @@ use Rattle.wgsl_theory.proofs.FittingExpressions.{closed_by_paren, closed_by_com
 use Rattle.wgsl_theory.proofs.SoundUnits.{IfSome, Every, AreSoundAttributes, IsSoundDirective, IsSoundMember, IsSoundParameter, IsSoundFunction, IsSoundGlobal, IsSoundUnit}
 use Rattle.wgsl_theory.proofs.WrittenWords.{severity_name, alias_fits, diagnostic_fits, enable_fits, fn_fits, requires_fits, struct_fits}
 use Rattle.wgsl_theory.proofs.FittingAttributes.{list_fits, closed_type_fits, plain_name_fits, rule_fits, attributes_fit}
-use Rattle.wgsl_theory.proofs.FittingStatements.{line_fits, closed_line, attribute_lines_fit, left_brace_fits, right_brace_fits, semicolon_fits, colon_fits, equal_fits, closed_by_semicolon, declaration_fits, assert_fits, compound_fits}
+use Rattle.wgsl_theory.proofs.FittingStatements.{line_fits, closed_line, attribute_lines_fit, left_brace_fits, right_brace_fits, semicolon_fits, colon_fits, equal_fits, closed_by_semicolon, declaration_fits, assert_fits, compound_fits, one_fits}
 use Rattle.wgsl_theory.proofs.PiecesOfExpressions.{sign, name, comma, type_pieces}
 use Rattle.wgsl_theory.proofs.PiecesOfAttributes.{list_pieces, rule_pieces}
 use Rattle.wgsl_theory.proofs.PiecesOfStatements.{compound_pieces}
@@ -98,10 +98,6 @@ global_fits (structure x) rest s f =
 global_fits (function x) rest s f = function_fits x rest s f
 global_fits (const_assert x) rest s f = assert_fits x (sign (codes ";") SymSemicolon rest) s (closed_by_semicolon rest) (semicolon_fits _, f)
 
-one_fits : (b : Bool) (rest last : List Piece) → Fits rest → Fits last → Fits (cond b rest last)
-one_fits true rest last f g = f
-one_fits false rest last f g = g
-
 declarations_fit : (start : Puts) → ((rest : List Piece) → Fits rest → Fits (start rest)) → (ds : List (Spanned GlobalDeclaration)) (rest : List Piece) → Every (λ (d : Spanned GlobalDeclaration). IsSoundGlobal d.node) ds → Fits rest
     → Fits (declarations_pieces start ds rest)
 declarations_fit start p [] rest s f = f
@@ -118,7 +114,7 @@ directives_fit : (ds : List GlobalDirective) (rest : List Piece) → Every IsSou
 directives_fit [] rest s f = f
 directives_fit (d ∷ ds) rest s f = directive_fits d (further_directives_pieces ds (two_lines rest)) s.0 (further_directives_fit ds (two_lines rest) s.1 f)
 
-pub unit_fits : (u : TranslationUnit) → IsSoundUnit u → Fits (unit_pieces u)
+unit_fits : (u : TranslationUnit) → IsSoundUnit u → Fits (unit_pieces u)
 unit_fits u s = directives_fit u.global_directives _ s.0 (declarations_fit nothing_before (λ r g. g) u.global_declarations (line 0 []) s.1 tt)
 
 -- the printed text of a sound module

@@ -2,8 +2,8 @@
 use Rattle.std.proofs.Common.{◌≡◌, ℕ, zero, suc, ◌<◌, ◌==◌, ◌&&◌, ◌||◌, Bool, true, false, cond, not, refl, sym, ap, subst, List, [], ◌∷◌, length, get_or, Option, Some, None, ◌∙◌, lit<, arith}
 use Rattle.std.specs.Prelude.{nat_lt, codes, bytes_eq}
 use Rattle.std.specs.Char.{is_ascii_digit, is_ascii_alphabetic, is_ascii_alphanumeric}
-use Rattle.std.specs.Str.{IsAscii, IsUtf8, NonePass, NoCharPasses, chars, encode_utf8_all}
-use Rattle.std.proofs.lemmas.Bool.{and_parts, ltb-true, eqb-true, false_from_ne_true, true≢false}
+use Rattle.std.specs.Str.{IsAscii, IsUtf8, NoCharPasses, chars, encode_utf8_all}
+use Rattle.std.proofs.lemmas.Bool.{and_parts, ltb-true, eqb-true, false_from_ne_true, true≢false, not-true}
 use Rattle.std.proofs.lemmas.Str.{IsUtf8-from_ascii, NoCharPasses-byte, chars-IsAscii, encodes-chars}
 use Rattle.unicode_ident.specs.Ident.{is_xid_start, is_xid_continue}
 use Rattle.unicode_ident.proofs.IdentLemmas.{is_xid_start-ascii, is_xid_continue-ascii}
@@ -19,7 +19,7 @@ use Rattle.wgsl_model.specs.Templates.{is_word, is_opening, is_closing, begins_w
 use Rattle.wgsl_model.specs.Trivia.{after_trivia}
 use Rattle.wgsl_template_theory.proofs.Reach.{name, keyword, greater, greater_stop, opening, closing, short_circuit, stop, other, role}
 use Rattle.wgsl_template_theory.proofs.Roles.{is_of_expressions}
-use Rattle.wgsl_theory.proofs.Split.{Each, spelled_each, takes, differs, lets_differs}
+use Rattle.wgsl_theory.proofs.Split.{spelled_each, takes, differs, lets_differs, none_pass}
 use Rattle.wgsl_theory.proofs.Fronts.{spelled_first}
 use Rattle.wgsl_theory.proofs.Pieces.{IsOrdinaryRole, IsOrdinary, Stands, OnOneLine, FitsBefore}
 use Rattle.wgsl_theory.proofs.Spellings.{EndsBefore, spelling_at}
@@ -32,21 +32,13 @@ on_one_line : (text : List ℕ) → ((i : ℕ) → i < length text → (get_or t
 on_one_line [] h = tt
 on_one_line (b ∷ bs) h = (h 0 (omega arith), on_one_line bs (λ i l. h (suc i) (omega (arith, l))))
 
-not_so : (b : Bool) → not b ≡ true → b ≡ false
-not_so true h = absurd (true≢false (sym h))
-not_so false h = refl
-
-none_pass : (cs : List ℕ) → Each (differs 10) cs → NonePass (λ c. c == 10) cs
-none_pass [] h = tt
-none_pass (c ∷ cs) h = (not_so (c == 10) h.0, none_pass cs h.1)
-
 line_taken : takes 10 spelling ≡ false
 line_taken = rw (is_xid_start-ascii 10 (lit< tt), is_xid_continue-ascii 10 (lit< tt)) refl
 
 -- the bytes of a spelling are on one line
 pub spelled_on_one_line : (text cs : List ℕ) → IsUtf8 text → chars text ≡ cs → spells spelling cs ≡ true → OnOneLine text
 spelled_on_one_line text cs u e h =
-    let none : NoCharPasses (λ c. c == 10) text = (cs, ap encode_utf8_all (sym e) ∙ encodes-chars text u, none_pass cs (spelled_each (differs 10) spelling (lets_differs 10 spelling line_taken) cs h)) in
+    let none : NoCharPasses (λ c. c == 10) text = (cs, ap encode_utf8_all (sym e) ∙ encodes-chars text u, none_pass 10 cs (spelled_each (differs 10) spelling (lets_differs 10 spelling line_taken) cs h)) in
     on_one_line text (λ i l. false_from_ne_true (get_or text i 0 == 10) (λ t.
     (let ten : get_or text i 0 ≡ 10 = eqb-true (get_or text i 0) 10 t in true≢false (sym t ∙ NoCharPasses-byte (λ c. c == 10) text i none l (omega (arith, ten))))))
 
@@ -178,7 +170,7 @@ plain_line : (w : List ℕ) → plain_text w ≡ true → OnOneLine w
 plain_line [] h = tt
 plain_line (c ∷ cs) h =
     let parts = and_parts (nat_lt c 128 && not (c == 10)) (plain_text cs) h in
-    (not_so (c == 10) (and_parts (nat_lt c 128) _ parts.0).1, plain_line cs parts.1)
+    (not-true (c == 10) (and_parts (nat_lt c 128) _ parts.0).1, plain_line cs parts.1)
 
 -- what stands fits
 text_fits : (w : List ℕ) (class : ℕ) (rest : List ℕ) → plain_text w ≡ true → IsOrdinary (plain class) → Stands w (plain class) rest → FitsBefore w (plain class) rest

@@ -11,11 +11,12 @@ pub mod Numerals
 pub mod Signs
 pub mod Along
 pub mod Ends
+pub mod NoPeriods
 pub mod Printing
 pub mod PiecesOfExpressions
 pub mod PiecesOfAttributes
 pub mod PiecesOfStatements
-pub mod StatementsPrint
+pub mod PrintingStatements
 pub mod PiecesOfUnits
 pub mod PrintedAlong
 pub mod FittingWords

@@ -1,10 +1,10 @@
 -- The words of whole numbers in decimal, with and without a suffix.
-use Rattle.std.proofs.Common.{◌≡◌, ℕ, zero, suc, ◌^◌, ◌<◌, ◌==◌, ◌||◌, Bool, true, false, refl, sym, ap, subst, List, [], ◌∷◌, ◌++◌, Some, ◌∙◌, inl, inr, arith, append-nil}
+use Rattle.std.proofs.Common.{◌≡◌, ℕ, zero, suc, ◌^◌, ◌<◌, ◌==◌, Bool, true, false, refl, sym, ap, subst, List, [], ◌∷◌, ◌++◌, Some, ◌∙◌, inl, inr, arith, append-nil}
 use Rattle.std.specs.Prelude.{pos, codes, not, ◌&&◌}
 use Rattle.std.specs.Char.{is_ascii_digit, is_ascii_alphabetic}
 use Rattle.std.specs.Str.{IsAscii}
 use Rattle.std.specs.Fmt.{decimal}
-use Rattle.std.proofs.lemmas.Bool.{lt-ltb, eq-eqb, and_parts, false_from_ne_true, true≢false}
+use Rattle.std.proofs.lemmas.Bool.{lt-ltb, eq-eqb, and_parts, false_from_ne_true, true≢false, or_right}
 use Rattle.std.proofs.lemmas.Bool.Decides.{nat_tests}
 use Rattle.std.proofs.lemmas.Fmt.{IsAscii-decimal}
 use Rattle.std.proofs.lemmas.Str.{IsAscii-append, IsUtf8-from_ascii, chars-IsAscii}
@@ -22,10 +22,6 @@ use Rattle.wgsl_theory.proofs.Decimal.{IsDecimal, Numeral, decimal-Numeral}
 use Rattle.wgsl_theory.proofs.Spellings.{IsSpelling, IsSpelled}
 
 -- ---- their spelling
-
-or_right : (x y : Bool) → y ≡ true → (x || y) ≡ true
-or_right true y h = refl
-or_right false y h = h
 
 -- digits before what passes
 digits_before : (k : List ℕ → Bool) (cs more : List ℕ) → Each is_ascii_digit cs → k more ≡ true → begins_any is_ascii_digit k (cs ++ more) ≡ true

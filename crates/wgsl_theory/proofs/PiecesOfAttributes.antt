@@ -166,7 +166,7 @@ at_prints text = word_prints before name_prints text
 one_argument_prints : {n : ℕ} (text : List ℕ) (e : ExpressionNode) → Prints n (print_one_argument (codes "@" ++ text) e) (λ rest. sign (codes "@") SymAttr (one_argument_pieces text e rest)) (λ rest. plain SymAttr ∷ one_argument_tokens text e rest)
 one_argument_prints text e = at_prints text before word_prints before expression_node_prints e before word_prints
 
-pub attribute_prints : {n : ℕ} (a : Attribute) → Prints n (print_attribute a) (λ rest. sign (codes "@") SymAttr (named_attribute_pieces a rest)) (λ rest. plain SymAttr ∷ named_attribute_tokens a rest)
+attribute_prints : {n : ℕ} (a : Attribute) → Prints n (print_attribute a) (λ rest. sign (codes "@") SymAttr (named_attribute_pieces a rest)) (λ rest. plain SymAttr ∷ named_attribute_tokens a rest)
 attribute_prints (align e) = one_argument_prints (codes "align") e
 attribute_prints (binding e) = one_argument_prints (codes "binding") e
 attribute_prints (blend_src e) = one_argument_prints (codes "blend_src") e

@@ -20,7 +20,7 @@ use Rattle.wgsl_theory.proofs.Printing.{Puts, Prints, none_prints, ◌before◌,
 use Rattle.wgsl_theory.proofs.PiecesOfExpressions.{sign, name, comma, type_pieces, name_prints, comma_prints, type_prints}
 use Rattle.wgsl_theory.proofs.PiecesOfAttributes.{further_pieces, list_pieces, list_prints, rule_pieces, rule_prints, attributes_pieces, attributes_print}
 use Rattle.wgsl_theory.proofs.PiecesOfStatements.{declaration_pieces, declaration_prints, assert_pieces, assert_prints, compound_pieces}
-use Rattle.wgsl_theory.proofs.StatementsPrint.{compound_prints}
+use Rattle.wgsl_theory.proofs.PrintingStatements.{compound_prints}
 
 -- ---- the pieces
 

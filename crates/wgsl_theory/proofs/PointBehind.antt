@@ -1,8 +1,8 @@
 -- No number but a whole one without suffix goes on with a point.
-use Rattle.std.proofs.Common.{◌≡◌, ℕ, ◌^◌, ◌==◌, ◌&&◌, ◌||◌, Bool, true, false, cond, not, refl, sym, ap, subst, List, [], ◌∷◌, ◌++◌, Some, None, ◌∙◌, ◌⊎◌, inl, inr, arith, append_assoc}
+use Rattle.std.proofs.Common.{◌≡◌, ℕ, ◌^◌, ◌==◌, ◌&&◌, Bool, true, false, cond, not, refl, sym, ap, subst, List, [], ◌∷◌, ◌++◌, Some, None, ◌∙◌, ◌⊎◌, inl, inr, arith, append_assoc}
 use Rattle.std.specs.Prelude.{nat_lt, pos}
 use Rattle.std.specs.Char.{is_ascii_digit, is_ascii_hexdigit}
-use Rattle.std.proofs.lemmas.Bool.{and_parts, and_from, eq-eqb, eqb-true, true≢false}
+use Rattle.std.proofs.lemmas.Bool.{and_parts, and_from, eq-eqb, eqb-true, true≢false, or_left, or_right}
 use Rattle.std.proofs.lemmas.Bool.Decides.{nat_tests}
 use Rattle.grammar.specs.Tokens.{Payload.number}
 use Rattle.wgsl_model.specs.Classes.{AbstractInt, I32, U32, AbstractFloat, F32, F16}
@@ -15,13 +15,6 @@ use Rattle.wgsl_theory.proofs.Ends.{no_such}
 
 -- ---- spellings taken apart
 
-left : (a b : Bool) → a ≡ true → (a || b) ≡ true
-left a b h = rw h refl
-
-right : (a b : Bool) → b ≡ true → (a || b) ≡ true
-right true b h = refl
-right false b h = h
-
 -- what passes at the end of a spelling passes before more
 any_on : (p : ℕ → Bool) (k l : List ℕ → Bool) (more : List ℕ) → ((s : List ℕ) → k s ≡ true → l (s ++ more) ≡ true) → (text : List ℕ) → begins_any p k text ≡ true → begins_any p l (text ++ more) ≡ true
 unfolding begins_any
@@ -29,10 +22,10 @@ any_on p k l more h [] e = here (l more) more refl (h [] e)
   where
     here : (b : Bool) (rest : List ℕ) → l rest ≡ b → b ≡ true → begins_any p l rest ≡ true
     here b [] q f = q ∙ f
-    here b (c ∷ cs) q f = left (l (c ∷ cs)) _ (q ∙ f)
+    here b (c ∷ cs) q f = or_left (l (c ∷ cs)) _ (q ∙ f)
 any_on p k l more h (c ∷ cs) e =
-    by_either (k (c ∷ cs)) (p c && begins_any p k cs) e (λ f. left (l (c ∷ (cs ++ more))) _ (h (c ∷ cs) f))
-    (λ f. (let parts = and_parts (p c) (begins_any p k cs) f in right (l (c ∷ (cs ++ more))) _ (rw parts.0 (any_on p k l more h cs parts.1))))
+    by_either (k (c ∷ cs)) (p c && begins_any p k cs) e (λ f. or_left (l (c ∷ (cs ++ more))) _ (h (c ∷ cs) f))
+    (λ f. (let parts = and_parts (p c) (begins_any p k cs) f in or_right (l (c ∷ (cs ++ more))) _ (rw parts.0 (any_on p k l more h cs parts.1))))
 
 begins_on : (p : Pattern) (k l : List ℕ → Bool) (more : List ℕ) → ((s : List ℕ) → k s ≡ true → l (s ++ more) ≡ true) → (text : List ℕ) → begins p k text ≡ true → begins p l (text ++ more) ≡ true
 unfolding begins
@@ -43,7 +36,7 @@ begins_on (one p) k l more h (c ∷ cs) e = let parts = and_parts (p c) (k cs) e
 begins_on (any p) k l more h text e = any_on p k l more h text e
 begins_on (both a b) k l more h text e = begins_on a (begins b k) (begins b l) more (λ s f. begins_on b k l more h s f) text e
 begins_on (either a b) k l more h text e =
-    by_either (begins a k text) (begins b k text) e (λ f. left (begins a l (text ++ more)) _ (begins_on a k l more h text f)) (λ f. right (begins a l (text ++ more)) _ (begins_on b k l more h text f))
+    by_either (begins a k text) (begins b k text) e (λ f. or_left (begins a l (text ++ more)) _ (begins_on a k l more h text f)) (λ f. or_right (begins a l (text ++ more)) _ (begins_on b k l more h text f))
 
 -- a spelling at the front, and what passes behind it
 record Front (p : Pattern) (k : List ℕ → Bool) (text : List ℕ) : Type 0 where
@@ -83,8 +76,8 @@ front (both a b) k text e =
       passes = g.passes;
     }
 front (either a b) k text e = by_either (begins a k text) (begins b k text) e
-    (λ h. (let f = front a k text h in record { front = f.front; rest = f.rest; whole = f.whole; spelled = left (spells a f.front) _ f.spelled; passes = f.passes }))
-    (λ h. (let f = front b k text h in record { front = f.front; rest = f.rest; whole = f.whole; spelled = right (spells a f.front) _ f.spelled; passes = f.passes }))
+    (λ h. (let f = front a k text h in record { front = f.front; rest = f.rest; whole = f.whole; spelled = or_left (spells a f.front) _ f.spelled; passes = f.passes }))
+    (λ h. (let f = front b k text h in record { front = f.front; rest = f.rest; whole = f.whole; spelled = or_right (spells a f.front) _ f.spelled; passes = f.passes }))
 
 one_of_two : {X : Type 0} (a b : Pattern) (text : List ℕ) → spells (either a b) text ≡ true → (spells a text ≡ true → X) → (spells b text ≡ true → X) → X
 unfolding begins

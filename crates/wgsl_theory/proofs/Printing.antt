@@ -33,7 +33,7 @@ pushed-one_line : (w : List ℕ) → OnOneLine w → pushed w ≡ w
 pushed-one_line [] h = refl
 pushed-one_line (c ∷ w) h = rw (h.0) (ap (λ x. c ∷ x) (pushed-one_line w h.1))
 
-pub deep-one_line : (n : ℕ) (w : List ℕ) → OnOneLine w → deep n w ≡ w
+deep-one_line : (n : ℕ) (w : List ℕ) → OnOneLine w → deep n w ≡ w
 deep-one_line zero w h = refl
 deep-one_line (suc n) w h = ap (deep n) (pushed-one_line w h) ∙ deep-one_line n w h
 

@@ -4,7 +4,7 @@ use Rattle.std.specs.Prelude.{pos, nat_lt, codes, bytes_eq, option_map, ◌&&◌
 use Rattle.std.specs.Char.{is_ascii_digit}
 use Rattle.std.specs.Str.{chars, encode_utf8_all}
 use lib.Utf8.{encode}
-use Rattle.std.proofs.lemmas.Bool.{ltb-true, eqb-true, and_parts, true≢false}
+use Rattle.std.proofs.lemmas.Bool.{ltb-true, eqb-true, and_parts, true≢false, not-true}
 use Rattle.std.proofs.lemmas.Bool.Decides.{nat_tests}
 use Rattle.std.proofs.lemmas.Str.{chars-encodes, encodes-append}
 use Rattle.grammar.specs.Tokens.{Token, Payload.number}
@@ -19,7 +19,7 @@ use Rattle.wgsl_model.specs.Texts.{word_in}
 use Rattle.wgsl_model.specs.Numbers.{whole_number, i_suffix, u_suffix, f_suffix, h_suffix, abstract_float, float, float_of, number_value, number_of, without_last, below}
 use Rattle.wgsl_model.specs.Pattern.{empty, is_empty, spells, after_spelling}
 use Rattle.wgsl_model.specs.Spelling.{spelling}
-use Rattle.wgsl_model.specs.Raw.{Raw.token, raw, raw_at, value, valued, spelled, front, word_of, keyword_or_name}
+use Rattle.wgsl_model.specs.Raw.{Raw.token, raw, raw_at, value, spelled, front, word_of, keyword_or_name}
 use Rattle.wgsl_model.specs.TokenList.{TokensOf, at_end, at_fault, before_template, before_more}
 use Rattle.wgsl_model.specs.Templates.{TemplateRelation, Inside, at_greater, at_opening, at_closing, at_template, at_other, enclosed, TemplateUpTo}
 use Rattle.wgsl_model.specs.TokenValues as values
@@ -27,6 +27,8 @@ use Rattle.wgsl_model.specs.TokenValues.{literal_of}
 use Rattle.wgsl_model.specs.Trivia.{after_trivia, outside}
 use Rattle.wgsl_model.specs.Written.{keyword_classes}
 use Rattle.wgsl_canonical_theory.specs.CanonicalUnits.{without_place}
+use Rattle.wgsl_canonical_theory.proofs.ExpressionRules.{literal_classes}
+use Rattle.wgsl_canonical_theory.proofs.TextWords.{valued_kind}
 use Rattle.wgsl_theory.proofs.Cut.{front-of, longest_spelling}
 use Rattle.wgsl_theory.proofs.Numerals.{integer_spelled, signed_spelled, unsigned_spelled, without_last-append}
 use Rattle.wgsl_theory.proofs.Scalars.{spelled_scalars}
@@ -41,9 +43,6 @@ use Rattle.wgsl_canonical_theory.proofs.NamedWords.{named_word}
 -- the classes of words and of literals
 abbrev pub word_classes : List ℕ
 word_classes = Ident ∷ ReservedWord ∷ keyword_classes
-
-abbrev pub literal_classes : List ℕ
-literal_classes = KwTrue ∷ KwFalse ∷ AbstractInt ∷ I32 ∷ U32 ∷ AbstractFloat ∷ F32 ∷ F16 ∷ []
 
 -- what a token of a text holds
 pub record IsScanned (k : Kind) : Type 0 where
@@ -199,12 +198,8 @@ symbol_no_word (e ∷ es) w c s h = go (symbol_no_word es w c parts.1) (bytes_eq
     parts : (not (is_among e.1 word_classes) ≡ true) × (no_words es ≡ true)
     parts = and_parts (not (is_among e.1 word_classes)) (no_words es) s
 
-    not_so : (b : Bool) → not b ≡ true → b ≡ false
-    not_so true p = sym p
-    not_so false p = refl
-
     go : (look_up es w ≡ Some c → is_among c word_classes ≡ false) → (b : Bool) → cond b (Some e.1) (look_up es w) ≡ Some c → is_among c word_classes ≡ false
-    go more true k = let same : e.1 ≡ c = cc in subst (λ d. is_among d word_classes ≡ false) same (not_so (is_among e.1 word_classes) parts.0)
+    go more true k = let same : e.1 ≡ c = cc in subst (λ d. is_among d word_classes ≡ false) same (not-true (is_among e.1 word_classes) parts.0)
     go more false k = more k
 
 sign_scanned : (o : Option ℕ) (word : List ℕ) (kind : Kind) → look_up symbols word ≡ o → option_map plain o ≡ Some kind → IsScanned kind
@@ -231,16 +226,12 @@ value_scanned (c ∷ cs) kind s h = go (begins_name c) (is_ascii_digit c || (c =
     go false true e d f = number_scanned (c ∷ cs) kind (record { spelled = s; valued = h; begins = number_begins c (not (is_empty cs)) d }) f
     go false false e d f = sign_scanned (look_up symbols (c ∷ cs)) (c ∷ cs) kind refl f
 
-valued_scanned : (o : Option Kind) (text rest from after : List ℕ) (kind : Kind) → valued text rest o ≡ token kind from after → o ≡ Some kind
-valued_scanned None text rest from after kind e = absurd (cc)
-valued_scanned (Some k) text rest from after kind e = cc
-
 spelled_scanned : (o : Option (List ℕ)) (c : ℕ) (cs from after : List ℕ) (kind : Kind) → after_spelling spelling (c ∷ cs) ≡ o → spelled (c ∷ cs) cs o ≡ token kind from after → IsScanned kind
 spelled_scanned None c cs from after kind e h = absurd (cc)
 spelled_scanned (Some rest) c cs from after kind e h =
     let f = longest_spelling spelling (c ∷ cs) rest e in
     let word : front (c ∷ cs) rest ≡ f.0 = ap (λ text. front text rest) f.1.whole ∙ front-of f.0 rest in
-    value_scanned f.0 kind f.1.passes (ap value (sym word) ∙ valued_scanned (value (front (c ∷ cs) rest)) (c ∷ cs) rest from after kind h)
+    value_scanned f.0 kind f.1.passes (ap value (sym word) ∙ valued_kind (value (front (c ∷ cs) rest)) (c ∷ cs) rest from after kind h)
 
 raw_at_scanned : (text from after : List ℕ) (kind : Kind) → raw_at text ≡ token kind from after → IsScanned kind
 raw_at_scanned [] from after kind h = absurd (cc)

@@ -2,7 +2,7 @@
 use Rattle.std.proofs.Common.{◌≡◌, ℕ, ◌==◌, ◌&&◌, ◌||◌, Bool, true, false, cond, not, refl, sym, ap, subst, List, [], ◌∷◌, ◌++◌, Some, ◌∙◌, map, arith, append_assoc}
 use Rattle.std.specs.Prelude.{drop, nat_lt, bytes_eq, option_map}
 use Rattle.std.specs.Char.{is_ascii_digit, is_ascii_alphabetic, is_ascii_alphanumeric}
-use Rattle.std.proofs.lemmas.Bool.{and_parts, ltb-true, eq-eqb, eqb-true, false_from_ne_true, true≢false}
+use Rattle.std.proofs.lemmas.Bool.{and_parts, ltb-true, eq-eqb, eqb-true, false_from_ne_true, true≢false, not-true, or_left, or_right}
 use Rattle.std.proofs.lemmas.Bool.Decides.{nat_tests}
 use Rattle.std.proofs.lemmas.Slice.Eq.{bytes_eq-Decides}
 use Rattle.unicode_ident.specs.Ident.{is_xid_start}
@@ -30,27 +30,20 @@ begins_name c = is_xid_start c || c == 95
 abbrev pub begins_number : ℕ → Bool
 begins_number c = is_ascii_digit c || c == 46
 
-left : (a b : Bool) → a ≡ true → (a || b) ≡ true
-left a b h = rw h refl
-
-right : (a b : Bool) → b ≡ true → (a || b) ≡ true
-right true b h = refl
-right false b h = h
-
 pub identifier_begins : BeginsWith begins_name identifier
-identifier_begins = ((λ c h. left (is_xid_start c) (c == 95) h), (λ c h. right (is_xid_start c) (c == 95) h))
+identifier_begins = ((λ c h. or_left (is_xid_start c) (c == 95) h), (λ c h. or_right (is_xid_start c) (c == 95) h))
 
 zero_begins : Stricter (λ c. c == 48) begins_number
 zero_begins c h = let same : c ≡ 48 = eqb-true c 48 h in rw same refl
 
 nonzero_begins : Stricter is_nonzero_digit begins_number
-nonzero_begins c h = left (is_ascii_digit c) (c == 46) (and_parts (is_ascii_digit c) _ h).0
+nonzero_begins c h = or_left (is_ascii_digit c) (c == 46) (and_parts (is_ascii_digit c) _ h).0
 
 digit_begins : Stricter is_ascii_digit begins_number
-digit_begins c h = left (is_ascii_digit c) (c == 46) h
+digit_begins c h = or_left (is_ascii_digit c) (c == 46) h
 
 point_begins : Stricter (λ c. c == 46) begins_number
-point_begins c h = right (is_ascii_digit c) (c == 46) h
+point_begins c h = or_right (is_ascii_digit c) (c == 46) h
 
 whole_begins : (suffix : Pattern) → BeginsWith begins_number (whole_number suffix)
 whole_begins suffix = ((zero_begins, nonzero_begins), zero_begins)
@@ -65,7 +58,7 @@ pub symbol_begins : BeginsWith is_sign symbol
 symbol_begins = words_begin is_sign (map (λ (entry : List ℕ × ℕ). entry.0) symbols) refl
 
 -- a sign begins no name, but for `_`, and no number, but for `.`
-pub sign_no_name : (c : ℕ) → is_sign c ≡ true → (c == 95) ≡ false → begins_name c ≡ false
+sign_no_name : (c : ℕ) → is_sign c ≡ true → (c == 95) ≡ false → begins_name c ≡ false
 sign_no_name c h n =
     let parts = and_parts (nat_lt c 128) (not (is_ascii_alphanumeric c)) h in
     let letter : is_ascii_alphabetic c ≡ false = grind (arith, nat_tests) in
@@ -112,8 +105,8 @@ some_front : (w z : List ℕ) (es : List (List ℕ × ℕ)) → spells (any_of (
 unfolding begins
 some_front w z [] h = absurd (true≢false (sym h))
 some_front w z (e ∷ es) h = by_either (spells (literal e.0) (w ++ z)) _ h
-    (λ a. (let same : w ++ z ≡ e.0 = literal_is e.0 (w ++ z) a in left (is_front w e.0) _ (subst (λ x. is_front w x ≡ true) same (is_front-append w z))))
-    (λ b. right (is_front w e.0) (is_some_front w es) (some_front w z es b))
+    (λ a. (let same : w ++ z ≡ e.0 = literal_is e.0 (w ++ z) a in or_left (is_front w e.0) _ (subst (λ x. is_front w x ≡ true) same (is_front-append w z))))
+    (λ b. or_right (is_front w e.0) (is_some_front w es) (some_front w z es b))
 
 -- where no symbol goes on, none is longer
 pub no_longer_symbol : (w : List ℕ) (c : ℕ) → goes_on w c ≡ false → (z : List ℕ) → spells symbol (w ++ (c ∷ z)) ≡ true → ⊥
@@ -124,11 +117,6 @@ no_longer_symbol w c n z h =
 
 abbrev pub begins_sign : ℕ → Bool
 begins_sign c = is_sign c && (not (c == 95) && (not (c == 46) && (not (c == 47) && not (is_blank c))))
-
--- the parts of a conjunction with what is not so
-not_true : (b : Bool) → not b ≡ true → b ≡ false
-not_true true h = absurd (true≢false (sym h))
-not_true false h = refl
 
 record BeginsSign (c : ℕ) : Type 0 where
   no_name : begins_name c ≡ false
@@ -144,15 +132,15 @@ sign_parts c h =
     let b = and_parts (not (c == 95)) _ a.1 in
     let d = and_parts (not (c == 46)) _ b.1 in
     let e = and_parts (not (c == 47)) _ d.1 in
-    let point : (c == 46) ≡ false = not_true (c == 46) d.0 in
+    let point : (c == 46) ≡ false = not-true (c == 46) d.0 in
     let sign : is_sign c ≡ true = a.0 in
     record {
-      no_name = sign_no_name c sign (not_true (c == 95) b.0);
+      no_name = sign_no_name c sign (not-true (c == 95) b.0);
       no_digit = grind (arith, nat_tests);
       no_number = sign_no_number c sign point;
       no_point = point;
-      no_comment = not_true (c == 47) e.0;
-      no_blank = not_true (is_blank c) e.1;
+      no_comment = not-true (c == 47) e.0;
+      no_blank = not-true (is_blank c) e.1;
     }
 
 spelled_literal : (w : List ℕ) → spells (literal w) w ≡ true
@@ -168,15 +156,15 @@ looked_up [] w class h = absurd (cc)
 looked_up (e ∷ es) w class h = go (looked_up es w class) (bytes_eq e.0 w) refl h
   where
     go : (look_up es w ≡ Some class → spells (any_of (map (λ (entry : List ℕ × ℕ). entry.0) es)) w ≡ true) → (b : Bool) → bytes_eq e.0 w ≡ b → cond b (Some e.1) (look_up es w) ≡ Some class → (spells (literal e.0) w || spells (any_of (map (λ (entry : List ℕ × ℕ). entry.0) es)) w) ≡ true
-    go more true s k = let same : e.0 ≡ w = (bytes_eq-Decides e.0 w).0 s in left _ _ (subst (λ x. spells (literal x) w ≡ true) (sym same) (spelled_literal w))
-    go more false s k = right _ _ (more k)
+    go more true s k = let same : e.0 ≡ w = (bytes_eq-Decides e.0 w).0 s in or_left _ _ (subst (λ x. spells (literal x) w ≡ true) (sym same) (spelled_literal w))
+    go more false s k = or_right _ _ (more k)
 
 pub spelled_symbol : (w : List ℕ) → spells symbol w ≡ true → spells spelling w ≡ true
 unfolding begins
-spelled_symbol w h = right (spells identifier w) _ (right (spells number_spelling w) _ h)
+spelled_symbol w h = or_right (spells identifier w) _ (or_right (spells number_spelling w) _ h)
 
 -- the spelling of a symbol
-pub sign_spelling : (c : ℕ) (cs : List ℕ) (class : ℕ) → begins_sign c ≡ true → look_up symbols (c ∷ cs) ≡ Some class → IsSpelling (plain class) (c ∷ cs)
+sign_spelling : (c : ℕ) (cs : List ℕ) (class : ℕ) → begins_sign c ≡ true → look_up symbols (c ∷ cs) ≡ Some class → IsSpelling (plain class) (c ∷ cs)
 sign_spelling c cs class b l =
     let parts = sign_parts c b in
     record {

@@ -1,13 +1,6 @@
 -- An attribute whose name and arguments are sound is sound.
-use Rattle.std.proofs.Common.{◌≡◌, ℕ, suc, ◌<◌, ◌==◌, Bool, true, false, cond, not, refl, sym, ap, subst, List, [], ◌∷◌, ◌++◌, length, get_or, Option, Some, None, ◌∙◌, lit<, arith, append_assoc, append-nil}
+use Rattle.std.proofs.Common.{ℕ, Bool, true, false, cond, sym, subst, List, [], ◌∷◌, ◌++◌, Option, Some, None, append_assoc, append-nil}
 use Rattle.std.specs.Prelude.{codes, bytes_eq, option_map}
-use Rattle.std.specs.Str.{NonePass, NoCharPasses, encode_utf8_all}
-use Rattle.std.proofs.lemmas.Bool.{eqb-true, false_from_ne_true, true≢false}
-use Rattle.std.proofs.lemmas.Str.{NoCharPasses-byte, encodes-chars}
-use Rattle.unicode_ident.proofs.IdentLemmas.{is_xid_start-ascii, is_xid_continue-ascii}
-use Rattle.wgsl_model.specs.Numbers.{number_spelling}
-use Rattle.wgsl_model.specs.Pattern.{spells}
-use Rattle.wgsl_model.specs.Spelling.{identifier, symbol, spelling}
 use Rattle.wgsl_model.specs.Words.{look_up}
 use Rattle.wgsl_model.specs.NamedValues.{WordTable, DiagnosticSeverity, severities, InterpolationType, interpolation_types, InterpolationSampling, interpolation_samplings, builtin_values}
 use Rattle.wgsl_model.specs.Operators.{bitwise_or}
@@ -15,72 +8,29 @@ use Rattle.wgsl_model.specs.Expressions.{ExpressionNode, expression_node, Expres
 use Rattle.wgsl_model.specs.Attributes.{Attribute, align, binding, blend_src, group, id, location, size, if_attribute, elif_attribute, builtin, const_attribute, invariant, must_use, vertex, fragment, compute, else_attribute, interpolate, custom}
 use Rattle.wgsl_model.specs.Spanned.{Spanned}
 use Rattle.wgsl_model.specs.Checks.{Checked, right, wrong, right_in, right_or, given_or, bare_name_in, bare_name, bare_word, rule_name, variants_in, variants, Arguments, with_one, with_none, builtin_attribute, severity_and_rule, diagnostic_attribute, type_and_sampling, interpolate_attribute, workgroup_size_attribute, name_and_variants, type_attribute, attribute_names, named_attribute, AttributeParts, attribute_of, attribute_node}
-use Rattle.wgsl_theory.proofs.Split.{Each, spelled_each, differs, lets_differs, takes}
-use Rattle.wgsl_theory.proofs.Fronts.{spelled_first}
-use Rattle.wgsl_theory.proofs.Signs.{begins_name, begins_number, number_begins, one_of_three}
-use Rattle.wgsl_theory.proofs.Ends.{IsNameText, name_no_number, name_no_symbol}
+use Rattle.wgsl_canonical_theory.proofs.Words.{NoPeriod}
+use Rattle.wgsl_theory.proofs.NoPeriods.{name_has_no_period}
+use Rattle.wgsl_theory.proofs.Ends.{IsNameText}
 use Rattle.wgsl_theory.proofs.SoundExpressions.{IsSoundNode, IsSoundExpression, IsSoundType}
-use Rattle.wgsl_theory.proofs.SoundUnits.{IfSome, Every, IsSoundRule, IsSoundAttribute}
-
--- ---- no name has a point
-
-abbrev HasNoPoint : List ℕ → Type 0
-HasNoPoint [] = Unit {0}
-HasNoPoint (b ∷ bs) = ((b == 46) ≡ false) × HasNoPoint bs
-
-no_point : (text : List ℕ) → ((i : ℕ) → i < length text → (get_or text i 0 == 46) ≡ false) → HasNoPoint text
-no_point [] h = tt
-no_point (b ∷ bs) h = (h 0 (omega arith), no_point bs (λ i l. h (suc i) (omega (arith, l))))
-
-none_pass : (cs : List ℕ) → Each (differs 46) cs → NonePass (λ c. c == 46) cs
-none_pass [] h = tt
-none_pass (c ∷ cs) h = (not_so (c == 46) h.0, none_pass cs h.1)
-  where
-    not_so : (b : Bool) → not b ≡ true → b ≡ false
-    not_so true p = sym p
-    not_so false p = refl
-
-point_taken : takes 46 identifier ≡ false
-point_taken = rw (is_xid_start-ascii 46 (lit< tt), is_xid_continue-ascii 46 (lit< tt)) refl
-
-point_no_name : begins_name 46 ≡ false
-point_no_name = rw (is_xid_start-ascii 46 (lit< tt)) refl
-
--- no character of a name is one
-symbol_without : (x : ℕ) (xs : List ℕ) → begins_name x ≡ true → spells symbol (x ∷ xs) ≡ true → Each (differs 46) (x ∷ xs)
-symbol_without x [] b h = (ap not (false_from_ne_true (x == 46) (λ e. (let same : x ≡ 46 = eqb-true x 46 e in true≢false (sym b ∙ ap begins_name same ∙ point_no_name)))), tt)
-symbol_without x (d ∷ z) b h = absurd (name_no_symbol x [] d z b h)
-
-characters_without : (x : ℕ) (xs : List ℕ) → begins_name x ≡ true → spells spelling (x ∷ xs) ≡ true → Each (differs 46) (x ∷ xs)
-characters_without x xs b h =
-    one_of_three (x ∷ xs) h
-    (λ e. spelled_each (differs 46) identifier (lets_differs 46 identifier point_taken) (x ∷ xs) e)
-    (λ e. absurd (name_no_number x b (spelled_first begins_number number_spelling number_begins x xs e)))
-    (λ e. symbol_without x xs b e)
-
-name_without : (bytes : List ℕ) → IsNameText bytes → HasNoPoint bytes
-name_without bytes n =
-    let none : NoCharPasses (λ c. c == 46) bytes = (n.first ∷ n.others, ap encode_utf8_all (sym n.characters) ∙ encodes-chars bytes n.utf8, none_pass (n.first ∷ n.others) (characters_without n.first n.others n.begins n.spelled)) in
-    no_point bytes (λ i l. false_from_ne_true (get_or bytes i 0 == 46) (λ t.
-    (let point : get_or bytes i 0 ≡ 46 = eqb-true (get_or bytes i 0) 46 t in true≢false (sym t ∙ NoCharPasses-byte (λ c. c == 46) bytes i none l (omega (arith, point))))))
+use Rattle.wgsl_theory.proofs.SoundUnits.{IfSome, Every, IsSoundRule, IsSoundAttribute, Every-behind}
 
 -- ---- names of rules
 
-one_name_from : (start left : List ℕ) → HasNoPoint left → IsNameText (start ++ left) → IsSoundRule start left
+one_name_from : (start left : List ℕ) → NoPeriod left → IsNameText (start ++ left) → IsSoundRule start left
 one_name_from start [] p n = subst IsNameText (append-nil start) n
 one_name_from start (c ∷ cs) p n = rw p.0 (one_name_from (start ++ (c ∷ [])) cs p.1 (subst IsNameText (sym (append_assoc start (c ∷ []) cs)) n))
 
 -- one name
 pub one_name_rule : (text : List ℕ) → IsNameText text → IsSoundRule [] text
-one_name_rule text n = one_name_from [] text (name_without text n) n
+one_name_rule text n = one_name_from [] text (name_has_no_period text n) n
 
-two_names_from : (start left second : List ℕ) → HasNoPoint left → IsNameText (start ++ left) → IsNameText second → IsSoundRule start (left ++ (46 ∷ second))
+two_names_from : (start left second : List ℕ) → NoPeriod left → IsNameText (start ++ left) → IsNameText second → IsSoundRule start (left ++ (46 ∷ second))
 two_names_from start [] second p n m = (subst IsNameText (append-nil start) n, m)
 two_names_from start (c ∷ cs) second p n m = rw p.0 (two_names_from (start ++ (c ∷ [])) cs second p.1 (subst IsNameText (sym (append_assoc start (c ∷ []) cs)) n) m)
 
 -- two names with `.` between
 pub two_names_rule : (first second : List ℕ) → IsNameText first → IsNameText second → IsSoundRule [] (first ++ (codes "." ++ second))
-two_names_rule first second n m = two_names_from [] first second (name_without first n) n m
+two_names_rule first second n m = two_names_from [] first second (name_has_no_period first n) n m
 
 -- ---- arguments
 
@@ -101,10 +51,6 @@ rule_name_sound : (r : ExpressionNode) → IsSoundNode r → IfSome (IsSoundRule
 rule_name_sound (expression_node (named_component base component) span) s = mapped_sound component (bare_name base) s.2 (bare_name_sound base s.1)
 rule_name_sound (expression_node (type_or_identifier (type_expression text no_template)) span) s = one_name_rule text s.0
 rule_name_sound (expression_node e span) s = tt
-
-Every-behind : {A : Type 0} (P : A → Type 0) (xs : List A) (x : A) → Every P xs → P x → Every P (xs ++ (x ∷ []))
-Every-behind P [] x h k = (k, tt)
-Every-behind P (y ∷ xs) x h k = (h.0, Every-behind P xs x h.1 k)
 
 more_variants : (o : Option (List TypeExpression)) (ty : TypeExpression) → IfSome (Every IsSoundType) o → IsSoundType ty → IfSome (Every IsSoundType) (option_map (λ types. types ++ (ty ∷ [])) o)
 more_variants None ty s t = tt

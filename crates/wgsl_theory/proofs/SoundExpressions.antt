@@ -1,8 +1,8 @@
 -- Expressions whose names and literals are spelled as they are printed, and what may follow them.
-use Rattle.std.proofs.Common.{◌≡◌, ℕ, ◌==◌, ◌&&◌, Bool, true, false, not, refl, sym, subst, List, [], ◌∷◌, ◌++◌, Some, ◌⊎◌, inl, inr}
+use Rattle.std.proofs.Common.{◌≡◌, ℕ, ◌==◌, ◌&&◌, true, false, not, refl, sym, subst, List, [], ◌∷◌, ◌++◌, Some, ◌⊎◌, inl, inr}
 use Rattle.std.specs.Prelude.{codes}
 use Rattle.std.specs.Str.{IsUtf8, chars}
-use Rattle.std.proofs.lemmas.Bool.{and_parts}
+use Rattle.std.proofs.lemmas.Bool.{and_parts, not-true}
 use Rattle.wgsl_model.specs.Classes.{AbstractInt}
 use Rattle.wgsl_model.specs.Kind.{Kind}
 use Rattle.wgsl_model.specs.Numbers.{number_spelling, number_of}
@@ -150,17 +150,13 @@ abbrev pub Closed : List ℕ → Type 0
 Closed [] = Unit {0}
 Closed (c ∷ cs) = (ends_name c && not (takes c number_spelling)) ≡ true
 
-not_so : (b : Bool) → not b ≡ true → b ≡ false
-not_so true h = sym h
-not_so false h = refl
-
 pub closed_name : (rest : List ℕ) → Closed rest → EndsName rest
 closed_name [] h = tt
 closed_name (c ∷ cs) h = (and_parts (ends_name c) _ h).0
 
 closed_number : (rest : List ℕ) → Closed rest → EndsNumber rest
 closed_number [] h = tt
-closed_number (c ∷ cs) h = not_so (takes c number_spelling) (and_parts (ends_name c) _ h).1
+closed_number (c ∷ cs) h = not-true (takes c number_spelling) (and_parts (ends_name c) _ h).1
 
 closed_point : (rest : List ℕ) → Closed rest → EndsAtPoint rest
 closed_point [] h = tt

@@ -11,7 +11,7 @@ use Rattle.wgsl_model.specs.Symbols.{Symbol, Rule, ident, type_specifier, templa
 use Rattle.wgsl_canonical_theory.specs.CanonicalUnits.{without_place}
 use Rattle.wgsl_theory.proofs.Ends.{IsNameText}
 use Rattle.wgsl_theory.proofs.SoundExpressions.{IsSoundLiteral, IsPrimary, IsPrimaryNode, IsOperandNode, IsSoundExpression, IsSoundNode, IsSoundCall, IsSoundType}
-use Rattle.wgsl_theory.proofs.SoundUnits.{IfSome, Every, IsSoundAttribute, EndsWithName, EndsWithNameNode, IsSoundSelector, IsSoundStatement, IsSoundCompound, IsSoundClause, IsSoundContinuing, IsSoundDirective, IsSoundMember, IsSoundParameter, IsSoundGlobal, IsSoundUnit}
+use Rattle.wgsl_theory.proofs.SoundUnits.{IfSome, Every, IsSoundAttribute, EndsWithName, EndsWithNameNode, IsSoundSelector, IsSoundStatement, IsSoundCompound, IsSoundClause, IsSoundContinuing, IsSoundDirective, IsSoundMember, IsSoundParameter, IsSoundGlobal, IsSoundUnit, Every-behind}
 use Rattle.wgsl_theory.proofs.Scanned.{IsScanned, AllScanned}
 
 abbrev pub IsSoundStatementNode : StatementNode → Type 0
@@ -128,7 +128,7 @@ sign_behind c {P = P} G = record { sound = λ v xs ys d h. (let a = G.sound d.0.
 pub means_sound : {A : Type 0} (c : ℕ) (a : A) (P : A → Type 0) → P a → Gives (c means a) P
 means_sound c a P p = record { sound = λ v xs ys d h. ((behind d.0 xs ys d.2.1 h).1, subst P d.1 p) }
 
-pub none_sound : {A : Type 0} (a : A) (P : A → Type 0) → P a → Gives (empty a) P
+none_sound : {A : Type 0} (a : A) (P : A → Type 0) → P a → Gives (empty a) P
 none_sound a P p = record { sound = λ v xs ys d h. (subst AllScanned d.1 h, subst P d.0 p) }
 
 pub optional_sound : {A : Type 0} {g : Rule A} {P : A → Type 0} → Gives g P → Gives (optional g) (IfSome P)
@@ -139,10 +139,6 @@ chain_sound {A} {B} {g} {k} {P} {Q} G K f t = record { sound = λ v xs ys d h. g
   go : (xs : List Token) (v : A) (ys : List Token) → Chain f (Means full FromScanned g) (Means full FromScanned k) xs v ys → AllScanned xs → AllScanned ys × P v
   go xs _ _ (base a ys d) h = G.sound a xs ys d h
   go xs _ _ (more a b ys zs c d) h = let x = go xs a ys c h in let y = K.sound b ys zs d x.0 in (y.0, t a b (span_between xs zs) x.1 y.1)
-
-Every-behind : {A : Type 0} (P : A → Type 0) (xs : List A) (x : A) → Every P xs → P x → Every P (xs ++ (x ∷ []))
-Every-behind P [] x h k = (k, tt)
-Every-behind P (y ∷ xs) x h k = (h.0, Every-behind P xs x h.1 k)
 
 pub many_sound : {A : Type 0} {g : Rule A} {P : A → Type 0} → Gives g P → Gives (many g) (Every P)
 many_sound {A = A} {P = P} G = chain_sound (none_sound [] (Every P) tt) G (λ (xs : List A) (x : A) s. xs ++ (x ∷ [])) (λ xs x s h k. Every-behind P xs x h k)

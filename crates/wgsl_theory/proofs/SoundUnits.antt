@@ -19,6 +19,10 @@ abbrev pub Every : {A : Type 0} → (A → Type 0) → List A → Type 0
 Every P [] = Unit {0}
 Every P (a ∷ more) = P a × Every P more
 
+pub Every-behind : {A : Type 0} (P : A → Type 0) (xs : List A) (x : A) → Every P xs → P x → Every P (xs ++ (x ∷ []))
+Every-behind P [] x h k = (k, tt)
+Every-behind P (y ∷ xs) x h k = (h.0, Every-behind P xs x h.1 k)
+
 -- ---- attributes
 
 -- one of two

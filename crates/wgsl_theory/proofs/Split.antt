@@ -1,7 +1,8 @@
 -- The spellings of a pattern, taken apart: which characters its tests let through, and with which one they end.
 use Rattle.std.proofs.Common.{◌≡◌, ℕ, Bool, true, false, ◌&&◌, ◌||◌, ◌==◌, not, refl, sym, ap, List, [], ◌∷◌, ◌++◌, ◌∙◌, append_assoc}
-use Rattle.std.proofs.lemmas.Bool.{and_parts, eqb-true, false_from_ne_true, true≢false}
+use Rattle.std.proofs.lemmas.Bool.{and_parts, eqb-true, false_from_ne_true, true≢false, not-true}
 use Rattle.wgsl_model.specs.Pattern.{Pattern, nothing, empty, one, any, both, either, is_empty, begins, begins_any, spells}
+use Rattle.std.specs.Str.{NonePass}
 
 -- a character that passes is no character that does not
 pub other_than : (f : ℕ → Bool) (c : ℕ) → f c ≡ true → (k : ℕ) → f k ≡ false → (c == k) ≡ false
@@ -162,15 +163,7 @@ lets_differs c (any p) n = stricter_differs p c n
 lets_differs c (both a b) n = let parts = or_none (takes c a) (takes c b) n in (lets_differs c a parts.0, lets_differs c b parts.1)
 lets_differs c (either a b) n = let parts = or_none (takes c a) (takes c b) n in (lets_differs c a parts.0, lets_differs c b parts.1)
 
--- no spelling has it behind its first character
-pub never_goes_on : (c : ℕ) (p : Pattern) → goes_on_with c p ≡ false → (x : ℕ) (xs : List ℕ) → spells p (x ∷ xs) ≡ true → Each (differs c) xs
-unfolding begins
-never_goes_on c nothing n x xs h = (spelled_each (differs c) nothing (lets_differs c nothing n) (x ∷ xs) h).1
-never_goes_on c empty n x xs h = (spelled_each (differs c) empty (lets_differs c empty n) (x ∷ xs) h).1
-never_goes_on c (any p) n x xs h = (spelled_each (differs c) (any p) (lets_differs c (any p) n) (x ∷ xs) h).1
-never_goes_on c (both a b) n x xs h = (spelled_each (differs c) (both a b) (lets_differs c (both a b) n) (x ∷ xs) h).1
-never_goes_on c (one p) n x [] h = tt
-never_goes_on c (one p) n x (y ∷ ys) h = absurd (true≢false (sym (and_parts (p x) false h).1))
-never_goes_on c (either a b) n x xs h =
-    let none = or_none (goes_on_with c a) (goes_on_with c b) n in
-    by_either (begins a is_empty (x ∷ xs)) (begins b is_empty (x ∷ xs)) h (λ e. never_goes_on c a none.0 x xs e) (λ e. never_goes_on c b none.1 x xs e)
+-- where no character is one, none passes the test for it
+pub none_pass : (c : ℕ) (cs : List ℕ) → Each (differs c) cs → NonePass (λ x. x == c) cs
+none_pass c [] h = tt
+none_pass c (x ∷ xs) h = (not-true (x == c) h.0, none_pass c xs h.1)
