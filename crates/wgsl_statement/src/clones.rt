@@ -1,9 +1,8 @@
 //! Copies of statements.
 
-ghost use Rattle.std.specs.Prelude.{◌≡◌, IfOk, map};
+ghost use Rattle.std.specs.Prelude.{◌≡◌, IfOk};
 ghost use Rattle.std.specs.Option.{option_map};
-ghost use Rattle.wgsl_model.specs.Statements.{maybe_statement};
-ghost use Rattle.wgsl_statement.specs.View.{statement_view, statement_node_view, statement_nodes_view, compound_statement_view, if_statement_view, if_clause_view, else_if_clause_view, else_clause_view, switch_statement_view, switch_clause_view, loop_statement_view, continuing_statement_view, for_statement_view, while_statement_view};
+ghost use Rattle.wgsl_statement.specs.View.{statement_view, statement_node_view, compound_statement_view, if_statement_view, if_clause_view, else_if_clause_view, else_clause_view, switch_statement_view, switch_clause_view, loop_statement_view, continuing_statement_view, for_statement_view, while_statement_view};
 
 use crate::statement::{
     CompoundStatement, ContinuingStatement, ElseClause, ElseIfClause, ForStatement, IfClause,
@@ -12,18 +11,6 @@ use crate::statement::{
 };
 use std::alloc::{AllocError, Global};
 use wgsl_span::{CloneWith, Spanned};
-
-#[cycle(clone)]
-fn clone_nodes(nodes: &[StatementNode], alloc: Global) -> Result<Vec<StatementNode>, AllocError>
-    ensures { IfOk result (λ copies. statement_nodes_view copies.items ≡ statement_nodes_view nodes.now) }
-{
-    let mut copies = Vec::new(alloc);
-    'nodes: for node in nodes {
-        let copy = node.node().clone_with(alloc)?;
-        copies.push(Spanned::new(alloc, copy, node.span())?)?;
-    }
-    Ok(copies)
-}
 
 #[cycle(clone)]
 fn clone_part(
@@ -42,17 +29,6 @@ fn clone_part(
 }
 
 #[cycle(clone)]
-fn clone_else_ifs(clauses: &[ElseIfClause], alloc: Global) -> Result<Vec<ElseIfClause>, AllocError>
-    ensures { IfOk result (λ copies. map else_if_clause_view copies.items ≡ map else_if_clause_view clauses.now) }
-{
-    let mut copies = Vec::new(alloc);
-    'clauses: for clause in clauses {
-        copies.push(clause.clone_with(alloc)?)?;
-    }
-    Ok(copies)
-}
-
-#[cycle(clone)]
 fn clone_else(clause: &Option<ElseClause>, alloc: Global) -> Result<Option<ElseClause>, AllocError>
     ensures { IfOk result (λ copy. option_map else_clause_view copy ≡ option_map else_clause_view clause.now) }
 {
@@ -60,17 +36,6 @@ fn clone_else(clause: &Option<ElseClause>, alloc: Global) -> Result<Option<ElseC
         None => Ok(None),
         Some(clause) => Ok(Some(clause.clone_with(alloc)?)),
     }
-}
-
-#[cycle(clone)]
-fn clone_clauses(clauses: &[SwitchClause], alloc: Global) -> Result<Vec<SwitchClause>, AllocError>
-    ensures { IfOk result (λ copies. map switch_clause_view copies.items ≡ map switch_clause_view clauses.now) }
-{
-    let mut copies = Vec::new(alloc);
-    'clauses: for clause in clauses {
-        copies.push(clause.clone_with(alloc)?)?;
-    }
-    Ok(copies)
 }
 
 #[cycle(clone)]
@@ -118,9 +83,15 @@ impl CloneWith for CompoundStatement {
 
     #[cycle(clone)]
     fn clone_with(&self, alloc: Global) -> Result<Self, AllocError> {
+        let attributes = self.attributes.clone_with(alloc)?;
+        let mut statements = Vec::new(alloc);
+        'nodes: for node in &self.statements {
+            let copy = node.node().clone_with(alloc)?;
+            statements.push(Spanned::new(alloc, copy, node.span())?)?;
+        }
         Ok(CompoundStatement {
-            attributes: self.attributes.clone_with(alloc)?,
-            statements: clone_nodes(&self.statements, alloc)?,
+            attributes,
+            statements,
         })
     }
 }
@@ -130,10 +101,16 @@ impl CloneWith for IfStatement {
 
     #[cycle(clone)]
     fn clone_with(&self, alloc: Global) -> Result<Self, AllocError> {
+        let attributes = self.attributes.clone_with(alloc)?;
+        let if_clause = self.if_clause.clone_with(alloc)?;
+        let mut else_if_clauses = Vec::new(alloc);
+        'clauses: for clause in &self.else_if_clauses {
+            else_if_clauses.push(clause.clone_with(alloc)?)?;
+        }
         Ok(IfStatement {
-            attributes: self.attributes.clone_with(alloc)?,
-            if_clause: self.if_clause.clone_with(alloc)?,
-            else_if_clauses: clone_else_ifs(&self.else_if_clauses, alloc)?,
+            attributes,
+            if_clause,
+            else_if_clauses,
             else_clause: clone_else(&self.else_clause, alloc)?,
         })
     }
@@ -179,11 +156,18 @@ impl CloneWith for SwitchStatement {
 
     #[cycle(clone)]
     fn clone_with(&self, alloc: Global) -> Result<Self, AllocError> {
+        let attributes = self.attributes.clone_with(alloc)?;
+        let expression = self.expression.clone_with(alloc)?;
+        let body_attributes = self.body_attributes.clone_with(alloc)?;
+        let mut clauses = Vec::new(alloc);
+        'clauses: for clause in &self.clauses {
+            clauses.push(clause.clone_with(alloc)?)?;
+        }
         Ok(SwitchStatement {
-            attributes: self.attributes.clone_with(alloc)?,
-            expression: self.expression.clone_with(alloc)?,
-            body_attributes: self.body_attributes.clone_with(alloc)?,
-            clauses: clone_clauses(&self.clauses, alloc)?,
+            attributes,
+            expression,
+            body_attributes,
+            clauses,
         })
     }
 }

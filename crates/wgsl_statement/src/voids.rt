@@ -3,14 +3,14 @@
 ghost use Rattle.std.specs.Prelude.{◌≡◌, filter, map, not};
 ghost use Rattle.std.specs.Option.{option_map};
 ghost use Rattle.wgsl_model.specs.PrintedStatements as printed;
-ghost use Rattle.wgsl_model.specs.Statements.{else_ifs_of, clauses_of, maybe_statement};
-ghost use Rattle.wgsl_model.specs.EmptyItems.{full_statement, full_statements, full_compound, full_if, full_else_if_clause, full_else_ifs, full_switch, full_switch_clause, full_clauses, full_loop, full_for, full_part, full_while};
+ghost use Rattle.wgsl_model.specs.Statements.{else_ifs_of, maybe_statement};
+ghost use Rattle.wgsl_model.specs.EmptyItems.{full_statement, full_compound, full_if, full_else_ifs, full_switch, full_for, full_part, full_while};
 ghost use Rattle.wgsl_span.specs.Spanned.{spanned_node};
-ghost use Rattle.wgsl_statement.specs.View.{statement_view, statement_node_view, statement_nodes_view, compound_statement_view, if_statement_view, else_if_clause_view, switch_statement_view, switch_clause_view, loop_statement_view, for_statement_view, while_statement_view};
+ghost use Rattle.wgsl_statement.specs.View.{statement_view, statement_node_view, compound_statement_view, if_statement_view, else_if_clause_view, switch_statement_view, for_statement_view, while_statement_view};
 
 use crate::statement::{
-    CompoundStatement, ElseIfClause, ForStatement, IfStatement, LoopStatement, Statement,
-    StatementNode, SwitchClause, SwitchStatement, WhileStatement,
+    CompoundStatement, ElseIfClause, ForStatement, IfStatement, Statement, StatementNode,
+    SwitchStatement, WhileStatement,
 };
 
 impl Statement {
@@ -23,7 +23,12 @@ impl Statement {
             Statement::Compound(block) => block.remove_voids(),
             Statement::If(statement) => statement.remove_voids(),
             Statement::Switch(statement) => statement.remove_voids(),
-            Statement::Loop(statement) => statement.remove_voids(),
+            Statement::Loop(statement) => {
+                statement.body.remove_voids();
+                if let Some(continuing) = &mut statement.continuing {
+                    continuing.body.remove_voids();
+                }
+            }
             Statement::For(statement) => statement.remove_voids(),
             Statement::While(statement) => statement.remove_voids(),
             Statement::Void
@@ -47,18 +52,12 @@ impl CompoundStatement {
     pub fn remove_voids(&mut self)
         ensures { compound_statement_view self.new ≡ full_compound (compound_statement_view self.old) }
     {
-        remove_from_list(&mut self.statements);
+        let statements = &mut self.statements;
+        'statements: for i in 0..statements.len() {
+            statements[i].node_mut().remove_voids();
+        }
+        remove_empty(statements);
     }
-}
-
-#[cycle(remove)]
-fn remove_from_list(statements: &mut Vec<StatementNode>)
-    ensures { statement_nodes_view statements.new.items ≡ full_statements (statement_nodes_view statements.old.items) }
-{
-    'statements: for i in 0..statements.len() {
-        statements[i].node_mut().remove_voids();
-    }
-    remove_empty(statements);
 }
 
 impl IfStatement {
@@ -79,16 +78,7 @@ fn remove_from_else_ifs(clauses: &mut [ElseIfClause])
     ensures { else_ifs_of (map else_if_clause_view clauses.new) ≡ full_else_ifs (else_ifs_of (map else_if_clause_view clauses.old)) }
 {
     'clauses: for i in 0..clauses.len() {
-        clauses[i].remove_voids();
-    }
-}
-
-impl ElseIfClause {
-    #[cycle(remove)]
-    fn remove_voids(&mut self)
-        ensures { else_if_clause_view self.new ≡ full_else_if_clause (else_if_clause_view self.old) }
-    {
-        self.body.remove_voids();
+        clauses[i].body.remove_voids();
     }
 }
 
@@ -97,36 +87,9 @@ impl SwitchStatement {
     fn remove_voids(&mut self)
         ensures { switch_statement_view self.new ≡ full_switch (switch_statement_view self.old) }
     {
-        remove_from_clauses(&mut self.clauses);
-    }
-}
-
-#[cycle(remove)]
-fn remove_from_clauses(clauses: &mut [SwitchClause])
-    ensures { clauses_of (map switch_clause_view clauses.new) ≡ full_clauses (clauses_of (map switch_clause_view clauses.old)) }
-{
-    'clauses: for i in 0..clauses.len() {
-        clauses[i].remove_voids();
-    }
-}
-
-impl SwitchClause {
-    #[cycle(remove)]
-    fn remove_voids(&mut self)
-        ensures { switch_clause_view self.new ≡ full_switch_clause (switch_clause_view self.old) }
-    {
-        self.body.remove_voids();
-    }
-}
-
-impl LoopStatement {
-    #[cycle(remove)]
-    fn remove_voids(&mut self)
-        ensures { loop_statement_view self.new ≡ full_loop (loop_statement_view self.old) }
-    {
-        self.body.remove_voids();
-        if let Some(continuing) = &mut self.continuing {
-            continuing.body.remove_voids();
+        let clauses = &mut self.clauses;
+        'clauses: for i in 0..clauses.len() {
+            clauses[i].body.remove_voids();
         }
     }
 }

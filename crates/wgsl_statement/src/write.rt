@@ -1,14 +1,13 @@
 //! Statements and blocks, written at a depth: nothing is formatted twice to be indented.
 
-ghost use Rattle.std.specs.Prelude.{◌≡◌, Some, codes};
+ghost use Rattle.std.specs.Prelude.{◌≡◌, Some};
 ghost use Rattle.std.specs.Fmt.{DisplaysOnOk};
-ghost use Rattle.wgsl_model.specs.Joining.{joined};
-ghost use Rattle.wgsl_model.specs.Indentation.{after_line_ends, indented};
-ghost use Rattle.wgsl_model.specs.PrintedStatements.{end_of, unended, print_statement, print_opened, print_compound, statement_texts};
+ghost use Rattle.wgsl_model.specs.Indentation.{after_line_ends};
+ghost use Rattle.wgsl_model.specs.PrintedStatements.{end_of, unended, print_statement, print_opened, print_compound};
 ghost use Rattle.wgsl_writer.specs.Depth.{spaces};
-ghost use Rattle.wgsl_statement.specs.View.{statement_view, statement_nodes_view, compound_statement_view};
+ghost use Rattle.wgsl_statement.specs.View.{statement_view, compound_statement_view};
 
-use crate::statement::{CompoundStatement, Statement, StatementNode};
+use crate::statement::{CompoundStatement, Statement};
 use crate::write_if::write_if;
 use crate::write_loops::{write_for, write_loop, write_while};
 use crate::write_switch::write_switch;
@@ -98,7 +97,7 @@ pub fn write_compound<W: fmt::Write>(
     f.write_str("}")
 }
 
-/// Writes a block up to its closing brace.
+/// Writes a block up to its closing brace: each statement that is not empty on a line of its own.
 #[cycle(printing)]
 pub fn write_opened<W: fmt::Write>(
     block: &CompoundStatement,
@@ -108,22 +107,9 @@ pub fn write_opened<W: fmt::Write>(
     ensures { DisplaysOnOk W.write_str_gives f.old result (Some (after_line_ends (spaces depth.now) (print_opened (compound_statement_view block.now)))) f.new }
 {
     write_open(&block.attributes, depth, f)?;
-    write_lines(&block.statements, depth, f)?;
-    write_line_end(depth, f)
-}
-
-/// Writes the statements that are not empty, each on a line of its own.
-#[cycle(printing)]
-fn write_lines<W: fmt::Write>(
-    statements: &[StatementNode],
-    depth: &Depth<'_>,
-    f: &mut fmt::Formatter<W>,
-) -> fmt::Result
-    ensures { DisplaysOnOk W.write_str_gives f.old result (Some (after_line_ends (spaces depth.now) (indented (joined (codes "\n") (statement_texts (statement_nodes_view statements.now)))))) f.new }
-{
     let inner = Depth::Below(&*depth);
     let mut first = true;
-    'statements: for statement in statements {
+    'statements: for statement in &block.statements {
         if statement.node().is_void() {
             continue;
         }
@@ -131,5 +117,5 @@ fn write_lines<W: fmt::Write>(
         write_statement(statement.node(), &inner, f)?;
         first = false;
     }
-    Ok(())
+    write_line_end(depth, f)
 }

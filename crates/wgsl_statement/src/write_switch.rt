@@ -1,11 +1,9 @@
 //! `switch` statements, written at a depth.
 
-ghost use Rattle.std.specs.Prelude.{Some, map, codes};
+ghost use Rattle.std.specs.Prelude.{Some};
 ghost use Rattle.std.specs.Fmt.{DisplaysOnOk};
-ghost use Rattle.wgsl_model.specs.Joining.{joined};
-ghost use Rattle.wgsl_model.specs.Statements.{clauses_of};
-ghost use Rattle.wgsl_model.specs.Indentation.{after_line_ends, indented};
-ghost use Rattle.wgsl_model.specs.PrintedStatements.{print_switch, print_switch_clause, clause_texts};
+ghost use Rattle.wgsl_model.specs.Indentation.{after_line_ends};
+ghost use Rattle.wgsl_model.specs.PrintedStatements.{print_switch, print_switch_clause};
 ghost use Rattle.wgsl_writer.specs.Depth.{spaces};
 ghost use Rattle.wgsl_statement.specs.View.{switch_statement_view, switch_clause_view};
 
@@ -29,28 +27,15 @@ pub fn write_switch<W: fmt::Write>(
     write_attribute_line(&statement.attributes, depth, f)?;
     write_head("switch ", &statement.expression, depth, f)?;
     write_open(&statement.body_attributes, depth, f)?;
-    write_clauses(&statement.clauses, depth, f)?;
-    write_line_end(depth, f)?;
-    f.write_str("}")
-}
-
-/// Writes each clause on a line of its own.
-#[cycle(printing)]
-fn write_clauses<W: fmt::Write>(
-    clauses: &[SwitchClause],
-    depth: &Depth<'_>,
-    f: &mut fmt::Formatter<W>,
-) -> fmt::Result
-    ensures { DisplaysOnOk W.write_str_gives f.old result (Some (after_line_ends (spaces depth.now) (indented (joined (codes "\n") (clause_texts (clauses_of (map switch_clause_view clauses.now))))))) f.new }
-{
     let inner = Depth::Below(&*depth);
     let mut first = true;
-    'clauses: for clause in clauses {
+    'clauses: for clause in &statement.clauses {
         write_gap(first, &inner, f)?;
         write_switch_clause(clause, &inner, f)?;
         first = false;
     }
-    Ok(())
+    write_line_end(depth, f)?;
+    f.write_str("}")
 }
 
 #[cycle(printing)]

@@ -3,21 +3,18 @@ use Rattle.std.proofs.lemmas.List.{take_all}
 use Rattle.std.proofs.Output.{has_written_append, has_written_of_eq}
 use Rattle.std.specs.Option.{option_map}
 use Rattle.wgsl_model.specs.Joining.{joined}
-use Rattle.wgsl_model.specs.Statements.{else_ifs_of, else_of, clauses_of, continuing_of}
-use Rattle.wgsl_model.specs.Indentation.{after_line_ends, indented}
-use Rattle.wgsl_model.specs.PrintedStatements.{is_void, print_statement, statement_texts, clause_texts, print_switch_clause, print_else_ifs, print_else, continuing_line}
+use Rattle.wgsl_model.specs.Statements.{else_of, clauses_of, continuing_of}
+use Rattle.wgsl_model.specs.Indentation.{after_line_ends}
+use Rattle.wgsl_model.specs.PrintedStatements.{is_void, print_statement, statement_texts, clause_texts, print_switch_clause, print_else, continuing_line}
 use Rattle.wgsl_writer.specs.Depth.{spaces}
-use Rattle.wgsl_span.specs.declared.Spanned.{Spanned}
 use Rattle.wgsl_span.specs.Spanned.{spanned_node}
 use Rattle.wgsl_model.specs.PrintedDeclarations.{print_selector}
 use Rattle.wgsl_simple_statement.specs.declared.simple.CaseSelector.{CaseSelector}
 use Rattle.wgsl_statement.specs.declared.statement.Statement.{Statement}
 use Rattle.wgsl_statement.specs.declared.statement.ElseClause.{ElseClause}
-use Rattle.wgsl_statement.specs.declared.statement.ElseIfClause.{ElseIfClause}
-use Rattle.wgsl_statement.specs.declared.statement.SwitchClause.{SwitchClause}
 use Rattle.wgsl_statement.specs.declared.statement.ContinuingStatement.{ContinuingStatement}
 use Rattle.wgsl_simple_statement.specs.View.{selector_view}
-use Rattle.wgsl_statement.specs.View.{statement_view, statement_nodes_view, compound_statement_view, else_if_clause_view, else_clause_view, switch_clause_view, continuing_statement_view}
+use Rattle.wgsl_statement.specs.View.{statement_view, statement_nodes_view, compound_statement_view, else_clause_view, switch_clause_view, continuing_statement_view}
 use Rattle.wgsl_statement.proofs.StatementViews.{is_compound, is_assignment, is_increment, is_decrement, is_if, is_switch, is_loop, is_for, is_while, is_break, is_continue, is_return, is_discard, is_function_call, is_const_assert, is_declaration}
 use Rattle.wgsl_statement.proofs.Views.{compound_statement_out, if_statement_out, switch_statement_out, switch_clause_out, loop_statement_out, for_statement_out, while_statement_out}
 use Rattle.wgsl_statement.proofs.ClauseViews.{if_clause_out, else_if_clause_out, else_clause_out, continuing_statement_out}
@@ -25,6 +22,7 @@ use Rattle.wgsl_simple_statement.proofs.Blocks.{lines_at, lines_within, statemen
 use Rattle.wgsl_simple_statement.proofs.AtDepth.{compound_is, continuing_is, continuing_line_is, else_clause_is, else_if_clause_is, for_is, if_clause_is, if_is, loop_is, opened_is, statement_is, switch_clause_is, switch_is, while_is}
 use Rattle.wgsl_simple_statement.proofs.Writes.{◌▸◌, nothing_written}
 use Rattle.wgsl_statement.proofs.Lines.{is_nil, not_nil, before_line, lines_more, statement_lines, empty_more, statement_more, clause_lines, clause_more, else_if_lines, else_if_more}
+use Rattle.wgsl_statement.specs.declared.statement.Statement.TheViews as layers
 use Rattle.wgsl_statement.proofs.+printing.Goals as goal
 
 -- the statements, one by one
@@ -91,21 +89,6 @@ write::write_compound-returns g t c = λ plain ok.
     (c.in_ok-write_opened.ensures plain refl
     ▸ (λ p. c.write_str.ensures.writes p ok))
 
-pub write::write_opened-returns : goal.write::write_opened-returns
-write::write_opened-returns g t c = λ plain ok.
-    has_written_of_eq _ _ _ _ _ (opened_is (spaces c.args.depth.now) _ _ _ (compound_statement_out c.args.block.now))
-    (c.in_ok-write_open.ensures plain refl
-    ▸ (λ p. has_written_of_eq _ _ _ _ _ (ap (λ (xs : List (Spanned Statement)). after_line_ends (spaces c.args.depth.now) (indented (joined (codes "\n") (statement_texts (statement_nodes_view xs))))) c.deref.ensures.value) (c.in_ok-write_lines.ensures p refl))
-    ▸ (λ p. c.write_line_end.ensures p ok))
-
-pub write_if::write_if-returns : goal.write_if::write_if-returns
-write_if::write_if-returns g t c = λ plain ok.
-    has_written_of_eq _ _ _ _ _ (if_is (spaces c.args.depth.now) _ _ _ _ _ (if_statement_out c.args.statement.now))
-    (c.in_ok-write_attribute_line.ensures plain refl
-    ▸ (λ p. c.in_ok-write_if_clause.ensures p refl)
-    ▸ (λ p. has_written_of_eq _ _ _ _ _ (ap (λ (xs : List ElseIfClause). after_line_ends (spaces c.args.depth.now) (print_else_ifs (else_ifs_of (map else_if_clause_view xs)))) c.deref.ensures.value) (c.in_ok-write_else_ifs.ensures p refl))
-    ▸ (λ p. c.write_else.ensures p ok))
-
 pub write_if::write_if_clause-returns : goal.write_if::write_if_clause-returns
 write_if::write_if_clause-returns g t c = λ plain ok.
     has_written_of_eq _ _ _ _ _ (if_clause_is (spaces c.args.depth.now) _ _ _ (if_clause_out c.args.clause.now))
@@ -123,16 +106,6 @@ write_if::write_else_clause-returns g t c = λ plain ok.
     has_written_of_eq _ _ _ _ _ (else_clause_is (spaces c.args.depth.now) _ _ (else_clause_out c.args.clause.now))
     (c.in_ok-write_str.ensures.writes plain refl
     ▸ (λ p. c.write_compound.ensures p ok))
-
-pub write_switch::write_switch-returns : goal.write_switch::write_switch-returns
-write_switch::write_switch-returns g t c = λ plain ok.
-    has_written_of_eq _ _ _ _ _ (switch_is (spaces c.args.depth.now) _ _ _ _ _ (switch_statement_out c.args.statement.now))
-    (c.in_ok-write_attribute_line.ensures plain refl
-    ▸ (λ p. c.in_ok-write_head.ensures p refl)
-    ▸ (λ p. c.in_ok-write_open.ensures p refl)
-    ▸ (λ p. has_written_of_eq _ _ _ _ _ (ap (λ (xs : List SwitchClause). after_line_ends (spaces c.args.depth.now) (indented (joined (codes "\n") (clause_texts (clauses_of (map switch_clause_view xs)))))) c.deref.ensures.value) (c.in_ok-write_clauses.ensures p refl))
-    ▸ (λ p. c.in_ok-write_line_end.ensures p refl)
-    ▸ (λ p. c.write_str.ensures.writes p ok))
 
 pub write_switch::write_switch_clause-returns : goal.write_switch::write_switch_clause-returns
 write_switch::write_switch_clause-returns g t c = λ plain ok.
@@ -174,18 +147,6 @@ write_loops::write_while-returns g t c = λ plain ok.
     ▸ (λ p. c.write_compound.ensures p ok))
 
 -- parts that may be left out
-pub write_if::write_else-returns-in-None : goal.write_if::write_else-returns-in-None
-write_if::write_else-returns-in-None g t c = λ plain ok.
-    let text = λ (o : Option ElseClause). after_line_ends (spaces c.args.depth.now) (print_else (else_of (option_map else_clause_view o))) in
-    has_written_of_eq _ _ _ _ _ (sym (ap text c.in-None.is)) (nothing_written g.W.Write.write_str_gives _ plain)
-
-pub write_if::write_else-returns-in_ok-write_line_end-in-Some : goal.write_if::write_else-returns-in_ok-write_line_end-in-Some
-write_if::write_else-returns-in_ok-write_line_end-in-Some g t c = λ plain ok.
-    let text = λ (o : Option ElseClause). after_line_ends (spaces c.args.depth.now) (print_else (else_of (option_map else_clause_view o))) in
-    has_written_of_eq _ _ _ _ _ (sym (ap text c.in-Some.is))
-    (c.in_ok-write_line_end-in-Some.ensures plain refl
-    ▸ (λ p. c.write_else_clause.ensures p ok))
-
 pub write_loops::write_continuing_line-returns-in-None : goal.write_loops::write_continuing_line-returns-in-None
 write_loops::write_continuing_line-returns-in-None g t c = λ plain ok.
     let text = λ (o : Option ContinuingStatement). after_line_ends (spaces c.args.depth.now) (continuing_line (continuing_of (option_map continuing_statement_view o))) in
@@ -201,23 +162,19 @@ write_loops::write_continuing_line-returns-in_ok-write_continuing-in-Some g t c 
     ▸ (λ p. c.write_line_end.ensures p ok))
 
 -- loops over statements and clauses
-pub write_if::write_else_ifs-clauses-preserved : goal.write_if::write_else_ifs-clauses-preserved
-write_if::write_else_ifs-clauses-preserved g t c = λ plain.
+pub write_if::write_if-clauses-preserved : goal.write_if::write_if-clauses-preserved
+write_if::write_if-clauses-preserved g t c = λ plain.
     let gap = spaces c.args.depth.now in
-    let items = c.args.clauses.now in
+    let items = c.deref-clause-items.result.now in
     let one = c.clauses.invariant plain in
     let two = c.in_ok-write_line_end.ensures one.plain refl in
     has_written_of_eq _ _ _ _ _ (else_if_more gap items c.clauses.clause-index c.clause-item.result (search rules) c.clause-item.is)
     (has_written_append _ _ _ _ _ _ one (two ▸ (λ p. c.in_ok-write_else_if_clause.ensures p refl)))
 
-pub write_if::write_else_ifs-returns : goal.write_if::write_else_ifs-returns
-write_if::write_else_ifs-returns g t c = λ plain ok.
-    has_written_of_eq _ _ _ _ _ (ap (else_if_lines (spaces c.args.depth.now)) (take_all _ c.args.clauses.now c.clauses-test.false)) (c.clauses.invariant plain)
-
-pub write::write_lines-statements-preserved-then-is_void : goal.write::write_lines-statements-preserved-then-is_void
-write::write_lines-statements-preserved-then-is_void g t c =
+pub write::write_opened-statements-preserved-then-is_void : goal.write::write_opened-statements-preserved-then-is_void
+write::write_opened-statements-preserved-then-is_void g t c =
     let gap = spaces c.args.depth.now in
-    let items = c.args.statements.now in
+    let items = c.deref-statement-items.result.now in
     let item = c.statement-item.result in
     let empty : is_void (statement_view (spanned_node item)) ≡ true = sym (c.is_void.ensures ∙ ap (λ (s : Statement). is_void (statement_view s)) c.node.ensures) ∙ c.if-is_void.true in
     let same = empty_more gap items c.statements.statement-index item (search rules) c.statement-item.is empty in (
@@ -225,10 +182,10 @@ write::write_lines-statements-preserved-then-is_void g t c =
       λ plain. has_written_of_eq _ _ _ _ _ (ap (lines_at gap) same) (c.statements.invariant.1 plain),
     )
 
-pub write::write_lines-statements-preserved : goal.write::write_lines-statements-preserved
-write::write_lines-statements-preserved g t c =
+pub write::write_opened-statements-preserved : goal.write::write_opened-statements-preserved
+write::write_opened-statements-preserved g t c =
     let gap = spaces c.args.depth.now in
-    let items = c.args.statements.now in
+    let items = c.deref-statement-items.result.now in
     let item = c.statement-item.result in
     let lines = statement_lines gap (take c.statements.statement-index items) in
     let text = λ (s : Statement). after_line_ends (gap ++ codes "    ") (print_statement (statement_view s)) in
@@ -246,19 +203,10 @@ write::write_lines-statements-preserved g t c =
           has_written_of_eq _ _ _ _ _ written (has_written_append _ _ _ _ _ _ one (two ▸ (λ p. c.in_ok-write_statement.ensures p refl))),
     )
 
-pub write::write_lines-returns : goal.write::write_lines-returns
-write::write_lines-returns g t c = λ plain ok.
+pub write_switch::write_switch-clauses-preserved : goal.write_switch::write_switch-clauses-preserved
+write_switch::write_switch-clauses-preserved g t c =
     let gap = spaces c.args.depth.now in
-    let items = c.args.statements.now in
-    let nodes = statement_nodes_view items in
-    has_written_of_eq _ _ _ _ _
-    (ap (λ xs. lines_at gap (statement_lines gap xs)) (take_all _ items c.statements-test.false) ∙ sym (lines_within gap (statement_texts nodes) (statements_filled nodes)))
-    (c.statements.invariant.1 plain)
-
-pub write_switch::write_clauses-clauses-preserved : goal.write_switch::write_clauses-clauses-preserved
-write_switch::write_clauses-clauses-preserved g t c =
-    let gap = spaces c.args.depth.now in
-    let items = c.args.clauses.now in
+    let items = c.deref-clause-items.result.now in
     let item = c.clause-item.result in
     let lines = clause_lines gap (take c.clauses.clause-index items) in
     let text = after_line_ends (gap ++ codes "    ") (print_switch_clause (switch_clause_view item)) in
@@ -272,11 +220,51 @@ write_switch::write_clauses-clauses-preserved g t c =
           has_written_of_eq _ _ _ _ _ written (has_written_append _ _ _ _ _ _ one (two ▸ (λ p. c.in_ok-write_switch_clause.ensures p refl))),
     )
 
-pub write_switch::write_clauses-returns : goal.write_switch::write_clauses-returns
-write_switch::write_clauses-returns g t c = λ plain ok.
+pub write::write_opened-returns : goal.write::write_opened-returns
+write::write_opened-returns g t c = λ plain ok.
     let gap = spaces c.args.depth.now in
-    let items = c.args.clauses.now in
-    let clauses = clauses_of (map switch_clause_view items) in
-    has_written_of_eq _ _ _ _ _
-    (ap (λ xs. lines_at gap (clause_lines gap xs)) (take_all _ items c.clauses-test.false) ∙ sym (lines_within gap (clause_texts clauses) (clauses_filled clauses)))
-    (c.clauses.invariant.1 plain)
+    let nodes = statement_nodes_view (layers.out-CompoundStatement c.args.block.now).statements.items in
+    has_written_of_eq _ _ _ _ _ (opened_is gap _ _ _ (compound_statement_out c.args.block.now))
+    (c.in_ok-write_open.ensures plain refl
+    ▸ (λ p. has_written_of_eq _ _ _ _ _
+    (ap (λ xs. lines_at gap (statement_lines gap xs)) (take_all _ c.deref-statement-items.result.now c.statements-test.false ∙ c.deref-statement-items.ensures.value)
+    ∙ sym (lines_within gap (statement_texts nodes) (statements_filled nodes)))
+    (c.statements.invariant.1 p))
+    ▸ (λ p. c.write_line_end.ensures p ok))
+
+pub write_if::write_if-returns-in-None : goal.write_if::write_if-returns-in-None
+write_if::write_if-returns-in-None g t c = λ plain ok.
+    let gap = spaces c.args.depth.now in
+    let text = λ (o : Option ElseClause). after_line_ends gap (print_else (else_of (option_map else_clause_view o))) in
+    has_written_of_eq _ _ _ _ _ (if_is gap _ _ _ _ _ (if_statement_out c.args.statement.now))
+    (c.in_ok-write_attribute_line.ensures plain refl
+    ▸ (λ p. c.in_ok-write_if_clause.ensures p refl)
+    ▸ (λ p. has_written_of_eq _ _ _ _ _ (ap (else_if_lines gap) (take_all _ c.deref-clause-items.result.now c.clauses-test.false ∙ c.deref-clause-items.ensures.value)) (c.clauses.invariant p))
+    ▸ (λ p. has_written_of_eq _ _ _ _ _ (sym (ap text c.in-None.is)) (nothing_written g.W.Write.write_str_gives _ p)))
+
+pub write_if::write_if-returns-in_ok-write_line_end-in-Some : goal.write_if::write_if-returns-in_ok-write_line_end-in-Some
+write_if::write_if-returns-in_ok-write_line_end-in-Some g t c = λ plain ok.
+    let gap = spaces c.args.depth.now in
+    let text = λ (o : Option ElseClause). after_line_ends gap (print_else (else_of (option_map else_clause_view o))) in
+    has_written_of_eq _ _ _ _ _ (if_is gap _ _ _ _ _ (if_statement_out c.args.statement.now))
+    (c.in_ok-write_attribute_line.ensures plain refl
+    ▸ (λ p. c.in_ok-write_if_clause.ensures p refl)
+    ▸ (λ p. has_written_of_eq _ _ _ _ _ (ap (else_if_lines gap) (take_all _ c.deref-clause-items.result.now c.clauses-test.false ∙ c.deref-clause-items.ensures.value)) (c.clauses.invariant p))
+    ▸ (λ p. has_written_of_eq _ _ _ _ _ (sym (ap text c.in-Some.is))
+    (c.in_ok-write_line_end-in-Some.ensures p refl
+    ▸ (λ q. c.write_else_clause.ensures q ok))))
+
+pub write_switch::write_switch-returns : goal.write_switch::write_switch-returns
+write_switch::write_switch-returns g t c = λ plain ok.
+    let gap = spaces c.args.depth.now in
+    let clauses = clauses_of (map switch_clause_view (layers.out-SwitchStatement c.args.statement.now).clauses.items) in
+    has_written_of_eq _ _ _ _ _ (switch_is gap _ _ _ _ _ (switch_statement_out c.args.statement.now))
+    (c.in_ok-write_attribute_line.ensures plain refl
+    ▸ (λ p. c.in_ok-write_head.ensures p refl)
+    ▸ (λ p. c.in_ok-write_open.ensures p refl)
+    ▸ (λ p. has_written_of_eq _ _ _ _ _
+    (ap (λ xs. lines_at gap (clause_lines gap xs)) (take_all _ c.deref-clause-items.result.now c.clauses-test.false ∙ c.deref-clause-items.ensures.value)
+    ∙ sym (lines_within gap (clause_texts clauses) (clauses_filled clauses)))
+    (c.clauses.invariant.1 p))
+    ▸ (λ p. c.in_ok-write_line_end.ensures p refl)
+    ▸ (λ p. c.write_str.ensures.writes p ok))

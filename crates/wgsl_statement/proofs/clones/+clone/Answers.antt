@@ -11,14 +11,61 @@ use Rattle.wgsl_simple_statement.proofs.Copies.{attributes_shown, maybe_node_sho
 use Rattle.wgsl_statement.proofs.Copies.{selectors_shown, node_more, item_more}
 use Rattle.wgsl_statement.proofs.clones.+clone.Goals as goal
 
+pub CompoundStatementCloneWith::clone_with-nodes-preserved : goal.CompoundStatementCloneWith::clone_with-nodes-preserved
+CompoundStatementCloneWith::clone_with-nodes-preserved t c =
+    let same : V.statement_node_view c.in_ok-new.field-0 ≡ V.statement_node_view c.node-item.result = search rules in
+    ap V.statement_nodes_view c.in_ok-push.ensures.items
+    ∙ node_more c.deref-node-items.result.now c.nodes.statements.items c.nodes.node-index c.node-item.result c.in_ok-new.field-0 (search rules) c.node-item.is c.nodes.invariant same
+
 pub CompoundStatementCloneWith::clone_with-returns : goal.CompoundStatementCloneWith::clone_with-returns
 CompoundStatementCloneWith::clone_with-returns t c =
     let original = layers.out-CompoundStatement c.args.self.now in
-    let attributes = attributes_shown original.attributes.items _ c.in_ok-clone_with.ensures.copy in
-    let nodes = c.in_ok-clone_nodes.ensures ∙ ap V.statement_nodes_view c.deref.ensures.value in record {
+    let attributes = attributes_shown original.attributes.items _ c.in_ok-attributes.ensures.copy in
+    let nodes = c.nodes.invariant ∙ ap V.statement_nodes_view (take_all _ c.deref-node-items.result.now c.nodes-test.false ∙ c.deref-node-items.ensures.value) in record {
       copy = compound_statement_roll _
           ∙ (λ i. plain.compound_statement (attributes i) (nodes i))
           ∙ sym (compound_statement_out c.args.self.now);
+    }
+
+pub IfStatementCloneWith::clone_with-clauses-preserved : goal.IfStatementCloneWith::clone_with-clauses-preserved
+IfStatementCloneWith::clone_with-clauses-preserved t c =
+    ap (map V.else_if_clause_view) c.in_ok-push.ensures.items
+    ∙ item_more V.else_if_clause_view c.deref-clause-items.result.now c.clauses.else_if_clauses.items c.clauses.clause-index c.clause-item.result c.in_ok-clone_with.field-0 (search rules) c.clause-item.is c.clauses.invariant c.in_ok-clone_with.ensures.copy
+
+pub IfStatementCloneWith::clone_with-returns : goal.IfStatementCloneWith::clone_with-returns
+IfStatementCloneWith::clone_with-returns t c =
+    let original = layers.out-IfStatement c.args.self.now in
+    let attributes = attributes_shown original.attributes.items _ c.in_ok-attributes.ensures.copy in
+    let else_ifs = c.clauses.invariant ∙ ap (map V.else_if_clause_view) (take_all _ c.deref-clause-items.result.now c.clauses-test.false ∙ c.deref-clause-items.ensures.value) in record {
+      copy = if_statement_roll _ _ _ _
+          ∙ (λ i. plain.if_else (attributes i) (c.in_ok-if_clause.ensures.copy i) (plain.else_ifs_of (else_ifs i)) (plain.else_of (c.in_ok-clone_else.ensures i)))
+          ∙ sym (if_statement_out c.args.self.now);
+    }
+
+pub SwitchStatementCloneWith::clone_with-clauses-preserved : goal.SwitchStatementCloneWith::clone_with-clauses-preserved
+SwitchStatementCloneWith::clone_with-clauses-preserved t c =
+    ap (map V.switch_clause_view) c.in_ok-push.ensures.items
+    ∙ item_more V.switch_clause_view c.deref-clause-items.result.now c.clauses.clauses.items c.clauses.clause-index c.clause-item.result c.in_ok-clone_with.field-0 (search rules) c.clause-item.is c.clauses.invariant c.in_ok-clone_with.ensures.copy
+
+pub SwitchStatementCloneWith::clone_with-returns : goal.SwitchStatementCloneWith::clone_with-returns
+SwitchStatementCloneWith::clone_with-returns t c =
+    let original = layers.out-SwitchStatement c.args.self.now in
+    let attributes = attributes_shown original.attributes.items _ c.in_ok-attributes.ensures.copy in
+    let body_attributes = attributes_shown original.body_attributes.items _ c.in_ok-body_attributes.ensures.copy in
+    let expression : expression_node_view c.in_ok-expression.expression ≡ expression_node_view original.expression = search rules in
+    let clauses = c.clauses.invariant ∙ ap (map V.switch_clause_view) (take_all _ c.deref-clause-items.result.now c.clauses-test.false ∙ c.deref-clause-items.ensures.value) in record {
+      copy = switch_statement_roll _
+          ∙ (λ i. plain.switch (attributes i) (expression i) (body_attributes i) (plain.clauses_of (clauses i)))
+          ∙ sym (switch_statement_out c.args.self.now);
+    }
+
+pub LoopStatementCloneWith::clone_with-returns : goal.LoopStatementCloneWith::clone_with-returns
+LoopStatementCloneWith::clone_with-returns t c =
+    let original = layers.out-LoopStatement c.args.self.now in
+    let attributes = attributes_shown original.attributes.items _ c.in_ok-clone_with.ensures.copy in record {
+      copy = loop_statement_roll _ _ _
+          ∙ (λ i. plain.repeat (attributes i) (c.in_ok-clone_with-2.ensures.copy i) (plain.continuing_of (c.in_ok-clone_continuing.ensures i)))
+          ∙ sym (loop_statement_out c.args.self.now);
     }
 
 pub ForStatementCloneWith::clone_with-returns : goal.ForStatementCloneWith::clone_with-returns
@@ -31,25 +78,6 @@ ForStatementCloneWith::clone_with-returns t c =
           ∙ sym (for_statement_out c.args.self.now);
     }
 
-pub IfStatementCloneWith::clone_with-returns : goal.IfStatementCloneWith::clone_with-returns
-IfStatementCloneWith::clone_with-returns t c =
-    let original = layers.out-IfStatement c.args.self.now in
-    let attributes = attributes_shown original.attributes.items _ c.in_ok-clone_with.ensures.copy in
-    let else_ifs = c.in_ok-clone_else_ifs.ensures ∙ ap (map V.else_if_clause_view) c.deref.ensures.value in record {
-      copy = if_statement_roll _ _ _ _
-          ∙ (λ i. plain.if_else (attributes i) (c.in_ok-clone_with-2.ensures.copy i) (plain.else_ifs_of (else_ifs i)) (plain.else_of (c.in_ok-clone_else.ensures i)))
-          ∙ sym (if_statement_out c.args.self.now);
-    }
-
-pub LoopStatementCloneWith::clone_with-returns : goal.LoopStatementCloneWith::clone_with-returns
-LoopStatementCloneWith::clone_with-returns t c =
-    let original = layers.out-LoopStatement c.args.self.now in
-    let attributes = attributes_shown original.attributes.items _ c.in_ok-clone_with.ensures.copy in record {
-      copy = loop_statement_roll _ _ _
-          ∙ (λ i. plain.repeat (attributes i) (c.in_ok-clone_with-2.ensures.copy i) (plain.continuing_of (c.in_ok-clone_continuing.ensures i)))
-          ∙ sym (loop_statement_out c.args.self.now);
-    }
-
 pub SwitchClauseCloneWith::clone_with-returns : goal.SwitchClauseCloneWith::clone_with-returns
 SwitchClauseCloneWith::clone_with-returns t c =
     let original = layers.out-SwitchClause c.args.self.now in
@@ -57,18 +85,6 @@ SwitchClauseCloneWith::clone_with-returns t c =
       copy = switch_clause_roll _
           ∙ (λ i. plain.switch_clause (selectors i) (c.in_ok-clone_with-2.ensures.copy i))
           ∙ sym (switch_clause_out c.args.self.now);
-    }
-
-pub SwitchStatementCloneWith::clone_with-returns : goal.SwitchStatementCloneWith::clone_with-returns
-SwitchStatementCloneWith::clone_with-returns t c =
-    let original = layers.out-SwitchStatement c.args.self.now in
-    let attributes = attributes_shown original.attributes.items _ c.in_ok-clone_with.ensures.copy in
-    let body_attributes = attributes_shown original.body_attributes.items _ c.in_ok-clone_with-3.ensures.copy in
-    let expression : expression_node_view c.in_ok-clone_with-2.field-0 ≡ expression_node_view original.expression = search rules in
-    let clauses = c.in_ok-clone_clauses.ensures ∙ ap (map V.switch_clause_view) c.deref.ensures.value in record {
-      copy = switch_statement_roll _
-          ∙ (λ i. plain.switch (attributes i) (expression i) (body_attributes i) (plain.clauses_of (clauses i)))
-          ∙ sym (switch_statement_out c.args.self.now);
     }
 
 pub WhileStatementCloneWith::clone_with-returns : goal.WhileStatementCloneWith::clone_with-returns
@@ -80,31 +96,6 @@ WhileStatementCloneWith::clone_with-returns t c =
           ∙ (λ i. plain.repeat_while (attributes i) (condition i) (c.in_ok-clone_with-3.ensures.copy i))
           ∙ sym (while_statement_out c.args.self.now);
     }
-
-pub clone_nodes-nodes-preserved : goal.clone_nodes-nodes-preserved
-clone_nodes-nodes-preserved t c =
-    let same : V.statement_node_view c.in_ok-new.field-0 ≡ V.statement_node_view c.node-item.result = search rules in
-    ap V.statement_nodes_view c.in_ok-push.ensures.items
-    ∙ node_more c.args.nodes.now c.nodes.copies.items c.nodes.node-index c.node-item.result c.in_ok-new.field-0 (search rules) c.node-item.is c.nodes.invariant same
-
-pub clone_nodes-returns : goal.clone_nodes-returns
-clone_nodes-returns t c = c.nodes.invariant ∙ ap V.statement_nodes_view (take_all _ c.args.nodes.now c.nodes-test.false)
-
-pub clone_else_ifs-clauses-preserved : goal.clone_else_ifs-clauses-preserved
-clone_else_ifs-clauses-preserved t c =
-    ap (map V.else_if_clause_view) c.in_ok-push.ensures.items
-    ∙ item_more V.else_if_clause_view c.args.clauses.now c.clauses.copies.items c.clauses.clause-index c.clause-item.result c.in_ok-clone_with.field-0 (search rules) c.clause-item.is c.clauses.invariant c.in_ok-clone_with.ensures.copy
-
-pub clone_else_ifs-returns : goal.clone_else_ifs-returns
-clone_else_ifs-returns t c = c.clauses.invariant ∙ ap (map V.else_if_clause_view) (take_all _ c.args.clauses.now c.clauses-test.false)
-
-pub clone_clauses-clauses-preserved : goal.clone_clauses-clauses-preserved
-clone_clauses-clauses-preserved t c =
-    ap (map V.switch_clause_view) c.in_ok-push.ensures.items
-    ∙ item_more V.switch_clause_view c.args.clauses.now c.clauses.copies.items c.clauses.clause-index c.clause-item.result c.in_ok-clone_with.field-0 (search rules) c.clause-item.is c.clauses.invariant c.in_ok-clone_with.ensures.copy
-
-pub clone_clauses-returns : goal.clone_clauses-returns
-clone_clauses-returns t c = c.clauses.invariant ∙ ap (map V.switch_clause_view) (take_all _ c.args.clauses.now c.clauses-test.false)
 
 pub StatementCloneWith::clone_with-returns-in_ok-clone_with-in-Compound : goal.StatementCloneWith::clone_with-returns-in_ok-clone_with-in-Compound
 StatementCloneWith::clone_with-returns-in_ok-clone_with-in-Compound t c = record { copy = is_compound _ ∙ ap plain.compound c.in_ok-clone_with-in-Compound.ensures.copy ∙ sym (ap (λ (s : Statement). V.statement_view s) c.in-Compound.is ∙ is_compound _) }

@@ -9,8 +9,8 @@ use Rattle.wgsl_equality.specs.Lists.{unlike, next_differs, none_left}
 use Rattle.wgsl_statement.specs.declared.statement.Statement.TheViews as layers
 use Rattle.wgsl_simple_statement.specs.View.{selector_view}
 use Rattle.wgsl_statement.specs.View.{statement_view}
-use Rattle.wgsl_statement.proofs.StatementViews.{is_declaration}
-use Rattle.wgsl_simple_statement.proofs.Equalities.{declarations_same, selectors_same}
+use Rattle.wgsl_statement.proofs.StatementViews.{is_compound, is_assignment, is_increment, is_decrement, is_if, is_switch, is_loop, is_for, is_while, is_return, is_function_call, is_const_assert, is_declaration}
+use Rattle.wgsl_simple_statement.proofs.Equalities.{declarations_same, assignments_same, increments_same, decrements_same, call_statements_same, asserts_same, returns_same, selectors_same}
 use Rattle.wgsl_statement.proofs.Equalities.{and_true, and_false, attributes_part, expression_part, condition_part, selectors_part, block_part, statements_part, if_clause_part, else_ifs_part, else_part, clauses_part, continuing_part, header_part, compounds_same, ifs_same, switches_same, switch_clauses_same, loops_same, fors_same, whiles_same, node_code, else_if_view_code, switch_clause_view_code, nodes_same, else_ifs_same, clauses_same}
 use Rattle.wgsl_statement.proofs.equality.+equal.Goals as goal
 use Rattle.wgsl_statement.proofs.equality.+equal.Goals.{LoopStatementPartialEq::eq-then-eq, LoopStatementPartialEq::eq-else-eq, WhileStatementPartialEq::eq-then-eq, WhileStatementPartialEq::eq-else-eq, IfStatementPartialEq::eq-then-eq, IfStatementPartialEq::eq-else-eq, IfStatementPartialEq::eq-then-eq-2, IfStatementPartialEq::eq-else-eq-2, SwitchStatementPartialEq::eq-then-eq, SwitchStatementPartialEq::eq-else-eq, SwitchStatementPartialEq::eq-then-eq-2, SwitchStatementPartialEq::eq-else-eq-2, ForStatementPartialEq::eq-then-eq, ForStatementPartialEq::eq-else-eq, ForStatementPartialEq::eq-then-part_equal, ForStatementPartialEq::eq-else-part_equal, ForStatementPartialEq::eq-then-eq-2, ForStatementPartialEq::eq-else-eq-2}
@@ -308,4 +308,256 @@ StatementPartialEq::eq-returns-in_default-matches-16 t c =
     ∙ (λ i. same (statement_code (is_declaration x i)) (statement_code (is_declaration y i)))
     ∙ sym (declarations_same x y)
     ∙ sym c.eq-in-Declaration.ensures
+    ∙ answer)
+
+pub StatementPartialEq::eq-returns-in-Compound-matches : goal.StatementPartialEq::eq-returns-in-Compound-matches
+StatementPartialEq::eq-returns-in-Compound-matches t c =
+    let x = c.in-Compound.a in
+    let y = c.in-Compound-matches.b in
+    let answer : c.eq.result ≡ true = search rules in
+    sym ((λ i. same (statement_code (statement_view (c.in-Compound.is i))) (statement_code (statement_view (c.in-Compound-matches.is i))))
+    ∙ (λ i. same (statement_code (is_compound x i)) (statement_code (is_compound y i)))
+    ∙ sym c.eq.ensures
+    ∙ answer)
+
+pub StatementPartialEq::eq-returns-in_default-matches-4 : goal.StatementPartialEq::eq-returns-in_default-matches-4
+StatementPartialEq::eq-returns-in_default-matches-4 t c =
+    let x = c.in-Compound.a in
+    let y = c.in-Compound-matches.b in
+    let answer : c.eq.result ≡ false = search rules in
+    sym ((λ i. same (statement_code (statement_view (c.in-Compound.is i))) (statement_code (statement_view (c.in-Compound-matches.is i))))
+    ∙ (λ i. same (statement_code (is_compound x i)) (statement_code (is_compound y i)))
+    ∙ sym c.eq.ensures
+    ∙ answer)
+
+pub StatementPartialEq::eq-returns-in-Assignment-matches : goal.StatementPartialEq::eq-returns-in-Assignment-matches
+StatementPartialEq::eq-returns-in-Assignment-matches t c =
+    let x = c.in-Assignment.a in
+    let y = c.in-Assignment-matches.b in
+    let answer : c.eq-in-Assignment.result ≡ true = search rules in
+    sym ((λ i. same (statement_code (statement_view (c.in-Assignment.is i))) (statement_code (statement_view (c.in-Assignment-matches.is i))))
+    ∙ (λ i. same (statement_code (is_assignment x i)) (statement_code (is_assignment y i)))
+    ∙ sym (assignments_same x y)
+    ∙ sym c.eq-in-Assignment.ensures
+    ∙ answer)
+
+pub StatementPartialEq::eq-returns-in_default-matches-5 : goal.StatementPartialEq::eq-returns-in_default-matches-5
+StatementPartialEq::eq-returns-in_default-matches-5 t c =
+    let x = c.in-Assignment.a in
+    let y = c.in-Assignment-matches.b in
+    let answer : c.eq-in-Assignment.result ≡ false = search rules in
+    sym ((λ i. same (statement_code (statement_view (c.in-Assignment.is i))) (statement_code (statement_view (c.in-Assignment-matches.is i))))
+    ∙ (λ i. same (statement_code (is_assignment x i)) (statement_code (is_assignment y i)))
+    ∙ sym (assignments_same x y)
+    ∙ sym c.eq-in-Assignment.ensures
+    ∙ answer)
+
+pub StatementPartialEq::eq-returns-in-Increment-matches : goal.StatementPartialEq::eq-returns-in-Increment-matches
+StatementPartialEq::eq-returns-in-Increment-matches t c =
+    let x = c.in-Increment.a in
+    let y = c.in-Increment-matches.b in
+    let answer : c.eq-in-Increment.result ≡ true = search rules in
+    sym ((λ i. same (statement_code (statement_view (c.in-Increment.is i))) (statement_code (statement_view (c.in-Increment-matches.is i))))
+    ∙ (λ i. same (statement_code (is_increment x i)) (statement_code (is_increment y i)))
+    ∙ sym (increments_same x y)
+    ∙ sym c.eq-in-Increment.ensures
+    ∙ answer)
+
+pub StatementPartialEq::eq-returns-in_default-matches-6 : goal.StatementPartialEq::eq-returns-in_default-matches-6
+StatementPartialEq::eq-returns-in_default-matches-6 t c =
+    let x = c.in-Increment.a in
+    let y = c.in-Increment-matches.b in
+    let answer : c.eq-in-Increment.result ≡ false = search rules in
+    sym ((λ i. same (statement_code (statement_view (c.in-Increment.is i))) (statement_code (statement_view (c.in-Increment-matches.is i))))
+    ∙ (λ i. same (statement_code (is_increment x i)) (statement_code (is_increment y i)))
+    ∙ sym (increments_same x y)
+    ∙ sym c.eq-in-Increment.ensures
+    ∙ answer)
+
+pub StatementPartialEq::eq-returns-in-Decrement-matches : goal.StatementPartialEq::eq-returns-in-Decrement-matches
+StatementPartialEq::eq-returns-in-Decrement-matches t c =
+    let x = c.in-Decrement.a in
+    let y = c.in-Decrement-matches.b in
+    let answer : c.eq-in-Decrement.result ≡ true = search rules in
+    sym ((λ i. same (statement_code (statement_view (c.in-Decrement.is i))) (statement_code (statement_view (c.in-Decrement-matches.is i))))
+    ∙ (λ i. same (statement_code (is_decrement x i)) (statement_code (is_decrement y i)))
+    ∙ sym (decrements_same x y)
+    ∙ sym c.eq-in-Decrement.ensures
+    ∙ answer)
+
+pub StatementPartialEq::eq-returns-in_default-matches-7 : goal.StatementPartialEq::eq-returns-in_default-matches-7
+StatementPartialEq::eq-returns-in_default-matches-7 t c =
+    let x = c.in-Decrement.a in
+    let y = c.in-Decrement-matches.b in
+    let answer : c.eq-in-Decrement.result ≡ false = search rules in
+    sym ((λ i. same (statement_code (statement_view (c.in-Decrement.is i))) (statement_code (statement_view (c.in-Decrement-matches.is i))))
+    ∙ (λ i. same (statement_code (is_decrement x i)) (statement_code (is_decrement y i)))
+    ∙ sym (decrements_same x y)
+    ∙ sym c.eq-in-Decrement.ensures
+    ∙ answer)
+
+pub StatementPartialEq::eq-returns-in-If-matches : goal.StatementPartialEq::eq-returns-in-If-matches
+StatementPartialEq::eq-returns-in-If-matches t c =
+    let x = c.in-If.a in
+    let y = c.in-If-matches.b in
+    let answer : c.eq-in-If.result ≡ true = search rules in
+    sym ((λ i. same (statement_code (statement_view (c.in-If.is i))) (statement_code (statement_view (c.in-If-matches.is i))))
+    ∙ (λ i. same (statement_code (is_if x i)) (statement_code (is_if y i)))
+    ∙ sym c.eq-in-If.ensures
+    ∙ answer)
+
+pub StatementPartialEq::eq-returns-in_default-matches-8 : goal.StatementPartialEq::eq-returns-in_default-matches-8
+StatementPartialEq::eq-returns-in_default-matches-8 t c =
+    let x = c.in-If.a in
+    let y = c.in-If-matches.b in
+    let answer : c.eq-in-If.result ≡ false = search rules in
+    sym ((λ i. same (statement_code (statement_view (c.in-If.is i))) (statement_code (statement_view (c.in-If-matches.is i))))
+    ∙ (λ i. same (statement_code (is_if x i)) (statement_code (is_if y i)))
+    ∙ sym c.eq-in-If.ensures
+    ∙ answer)
+
+pub StatementPartialEq::eq-returns-in-Switch-matches : goal.StatementPartialEq::eq-returns-in-Switch-matches
+StatementPartialEq::eq-returns-in-Switch-matches t c =
+    let x = c.in-Switch.a in
+    let y = c.in-Switch-matches.b in
+    let answer : c.eq-in-Switch.result ≡ true = search rules in
+    sym ((λ i. same (statement_code (statement_view (c.in-Switch.is i))) (statement_code (statement_view (c.in-Switch-matches.is i))))
+    ∙ (λ i. same (statement_code (is_switch x i)) (statement_code (is_switch y i)))
+    ∙ sym c.eq-in-Switch.ensures
+    ∙ answer)
+
+pub StatementPartialEq::eq-returns-in_default-matches-9 : goal.StatementPartialEq::eq-returns-in_default-matches-9
+StatementPartialEq::eq-returns-in_default-matches-9 t c =
+    let x = c.in-Switch.a in
+    let y = c.in-Switch-matches.b in
+    let answer : c.eq-in-Switch.result ≡ false = search rules in
+    sym ((λ i. same (statement_code (statement_view (c.in-Switch.is i))) (statement_code (statement_view (c.in-Switch-matches.is i))))
+    ∙ (λ i. same (statement_code (is_switch x i)) (statement_code (is_switch y i)))
+    ∙ sym c.eq-in-Switch.ensures
+    ∙ answer)
+
+pub StatementPartialEq::eq-returns-in-Loop-matches : goal.StatementPartialEq::eq-returns-in-Loop-matches
+StatementPartialEq::eq-returns-in-Loop-matches t c =
+    let x = c.in-Loop.a in
+    let y = c.in-Loop-matches.b in
+    let answer : c.eq-in-Loop.result ≡ true = search rules in
+    sym ((λ i. same (statement_code (statement_view (c.in-Loop.is i))) (statement_code (statement_view (c.in-Loop-matches.is i))))
+    ∙ (λ i. same (statement_code (is_loop x i)) (statement_code (is_loop y i)))
+    ∙ sym c.eq-in-Loop.ensures
+    ∙ answer)
+
+pub StatementPartialEq::eq-returns-in_default-matches-10 : goal.StatementPartialEq::eq-returns-in_default-matches-10
+StatementPartialEq::eq-returns-in_default-matches-10 t c =
+    let x = c.in-Loop.a in
+    let y = c.in-Loop-matches.b in
+    let answer : c.eq-in-Loop.result ≡ false = search rules in
+    sym ((λ i. same (statement_code (statement_view (c.in-Loop.is i))) (statement_code (statement_view (c.in-Loop-matches.is i))))
+    ∙ (λ i. same (statement_code (is_loop x i)) (statement_code (is_loop y i)))
+    ∙ sym c.eq-in-Loop.ensures
+    ∙ answer)
+
+pub StatementPartialEq::eq-returns-in-For-matches : goal.StatementPartialEq::eq-returns-in-For-matches
+StatementPartialEq::eq-returns-in-For-matches t c =
+    let x = c.in-For.a in
+    let y = c.in-For-matches.b in
+    let answer : c.eq-in-For.result ≡ true = search rules in
+    sym ((λ i. same (statement_code (statement_view (c.in-For.is i))) (statement_code (statement_view (c.in-For-matches.is i))))
+    ∙ (λ i. same (statement_code (is_for x i)) (statement_code (is_for y i)))
+    ∙ sym c.eq-in-For.ensures
+    ∙ answer)
+
+pub StatementPartialEq::eq-returns-in_default-matches-11 : goal.StatementPartialEq::eq-returns-in_default-matches-11
+StatementPartialEq::eq-returns-in_default-matches-11 t c =
+    let x = c.in-For.a in
+    let y = c.in-For-matches.b in
+    let answer : c.eq-in-For.result ≡ false = search rules in
+    sym ((λ i. same (statement_code (statement_view (c.in-For.is i))) (statement_code (statement_view (c.in-For-matches.is i))))
+    ∙ (λ i. same (statement_code (is_for x i)) (statement_code (is_for y i)))
+    ∙ sym c.eq-in-For.ensures
+    ∙ answer)
+
+pub StatementPartialEq::eq-returns-in-While-matches : goal.StatementPartialEq::eq-returns-in-While-matches
+StatementPartialEq::eq-returns-in-While-matches t c =
+    let x = c.in-While.a in
+    let y = c.in-While-matches.b in
+    let answer : c.eq-in-While.result ≡ true = search rules in
+    sym ((λ i. same (statement_code (statement_view (c.in-While.is i))) (statement_code (statement_view (c.in-While-matches.is i))))
+    ∙ (λ i. same (statement_code (is_while x i)) (statement_code (is_while y i)))
+    ∙ sym c.eq-in-While.ensures
+    ∙ answer)
+
+pub StatementPartialEq::eq-returns-in_default-matches-12 : goal.StatementPartialEq::eq-returns-in_default-matches-12
+StatementPartialEq::eq-returns-in_default-matches-12 t c =
+    let x = c.in-While.a in
+    let y = c.in-While-matches.b in
+    let answer : c.eq-in-While.result ≡ false = search rules in
+    sym ((λ i. same (statement_code (statement_view (c.in-While.is i))) (statement_code (statement_view (c.in-While-matches.is i))))
+    ∙ (λ i. same (statement_code (is_while x i)) (statement_code (is_while y i)))
+    ∙ sym c.eq-in-While.ensures
+    ∙ answer)
+
+pub StatementPartialEq::eq-returns-in-Return-matches : goal.StatementPartialEq::eq-returns-in-Return-matches
+StatementPartialEq::eq-returns-in-Return-matches t c =
+    let x = c.in-Return.a in
+    let y = c.in-Return-matches.b in
+    let answer : c.eq-in-Return.result ≡ true = search rules in
+    sym ((λ i. same (statement_code (statement_view (c.in-Return.is i))) (statement_code (statement_view (c.in-Return-matches.is i))))
+    ∙ (λ i. same (statement_code (is_return x i)) (statement_code (is_return y i)))
+    ∙ sym (returns_same x y)
+    ∙ sym c.eq-in-Return.ensures
+    ∙ answer)
+
+pub StatementPartialEq::eq-returns-in_default-matches-13 : goal.StatementPartialEq::eq-returns-in_default-matches-13
+StatementPartialEq::eq-returns-in_default-matches-13 t c =
+    let x = c.in-Return.a in
+    let y = c.in-Return-matches.b in
+    let answer : c.eq-in-Return.result ≡ false = search rules in
+    sym ((λ i. same (statement_code (statement_view (c.in-Return.is i))) (statement_code (statement_view (c.in-Return-matches.is i))))
+    ∙ (λ i. same (statement_code (is_return x i)) (statement_code (is_return y i)))
+    ∙ sym (returns_same x y)
+    ∙ sym c.eq-in-Return.ensures
+    ∙ answer)
+
+pub StatementPartialEq::eq-returns-in-FunctionCall-matches : goal.StatementPartialEq::eq-returns-in-FunctionCall-matches
+StatementPartialEq::eq-returns-in-FunctionCall-matches t c =
+    let x = c.in-FunctionCall.a in
+    let y = c.in-FunctionCall-matches.b in
+    let answer : c.eq-in-FunctionCall.result ≡ true = search rules in
+    sym ((λ i. same (statement_code (statement_view (c.in-FunctionCall.is i))) (statement_code (statement_view (c.in-FunctionCall-matches.is i))))
+    ∙ (λ i. same (statement_code (is_function_call x i)) (statement_code (is_function_call y i)))
+    ∙ sym (call_statements_same x y)
+    ∙ sym c.eq-in-FunctionCall.ensures
+    ∙ answer)
+
+pub StatementPartialEq::eq-returns-in_default-matches-14 : goal.StatementPartialEq::eq-returns-in_default-matches-14
+StatementPartialEq::eq-returns-in_default-matches-14 t c =
+    let x = c.in-FunctionCall.a in
+    let y = c.in-FunctionCall-matches.b in
+    let answer : c.eq-in-FunctionCall.result ≡ false = search rules in
+    sym ((λ i. same (statement_code (statement_view (c.in-FunctionCall.is i))) (statement_code (statement_view (c.in-FunctionCall-matches.is i))))
+    ∙ (λ i. same (statement_code (is_function_call x i)) (statement_code (is_function_call y i)))
+    ∙ sym (call_statements_same x y)
+    ∙ sym c.eq-in-FunctionCall.ensures
+    ∙ answer)
+
+pub StatementPartialEq::eq-returns-in-ConstAssert-matches : goal.StatementPartialEq::eq-returns-in-ConstAssert-matches
+StatementPartialEq::eq-returns-in-ConstAssert-matches t c =
+    let x = c.in-ConstAssert.a in
+    let y = c.in-ConstAssert-matches.b in
+    let answer : c.eq-in-ConstAssert.result ≡ true = search rules in
+    sym ((λ i. same (statement_code (statement_view (c.in-ConstAssert.is i))) (statement_code (statement_view (c.in-ConstAssert-matches.is i))))
+    ∙ (λ i. same (statement_code (is_const_assert x i)) (statement_code (is_const_assert y i)))
+    ∙ sym (asserts_same x y)
+    ∙ sym c.eq-in-ConstAssert.ensures
+    ∙ answer)
+
+pub StatementPartialEq::eq-returns-in_default-matches-15 : goal.StatementPartialEq::eq-returns-in_default-matches-15
+StatementPartialEq::eq-returns-in_default-matches-15 t c =
+    let x = c.in-ConstAssert.a in
+    let y = c.in-ConstAssert-matches.b in
+    let answer : c.eq-in-ConstAssert.result ≡ false = search rules in
+    sym ((λ i. same (statement_code (statement_view (c.in-ConstAssert.is i))) (statement_code (statement_view (c.in-ConstAssert-matches.is i))))
+    ∙ (λ i. same (statement_code (is_const_assert x i)) (statement_code (is_const_assert y i)))
+    ∙ sym (asserts_same x y)
+    ∙ sym c.eq-in-ConstAssert.ensures
     ∙ answer)
