@@ -1,16 +1,13 @@
 //! Statements without the empty ones of their lists.
 
-ghost use Rattle.std.specs.Prelude.{◌≡◌, filter, map, not};
+ghost use Rattle.std.specs.Prelude.{◌≡◌, map};
 ghost use Rattle.std.specs.Option.{option_map};
-ghost use Rattle.wgsl_model.specs.PrintedStatements as printed;
 ghost use Rattle.wgsl_model.specs.Statements.{else_ifs_of, maybe_statement};
-ghost use Rattle.wgsl_model.specs.EmptyItems.{full_statement, full_compound, full_if, full_else_ifs, full_switch, full_for, full_part, full_while};
-ghost use Rattle.wgsl_span.specs.Spanned.{spanned_node};
-ghost use Rattle.wgsl_statement.specs.View.{statement_view, statement_node_view, compound_statement_view, if_statement_view, else_if_clause_view, switch_statement_view, for_statement_view, while_statement_view};
+ghost use Rattle.wgsl_model.specs.EmptyItems.{full_statement, full_compound, full_if, full_else_ifs, full_switch, full_part};
+ghost use Rattle.wgsl_statement.specs.View.{statement_view, statement_node_view, compound_statement_view, if_statement_view, else_if_clause_view, switch_statement_view};
 
 use crate::statement::{
-    CompoundStatement, ElseIfClause, ForStatement, IfStatement, Statement, StatementNode,
-    SwitchStatement, WhileStatement,
+    CompoundStatement, ElseIfClause, IfStatement, Statement, StatementNode, SwitchStatement,
 };
 
 impl Statement {
@@ -29,8 +26,12 @@ impl Statement {
                     continuing.body.remove_voids();
                 }
             }
-            Statement::For(statement) => statement.remove_voids(),
-            Statement::While(statement) => statement.remove_voids(),
+            Statement::For(statement) => {
+                remove_from_part(&mut statement.initializer);
+                remove_from_part(&mut statement.update);
+                statement.body.remove_voids();
+            }
+            Statement::While(statement) => statement.body.remove_voids(),
             Statement::Void
             | Statement::Assignment(_)
             | Statement::Increment(_)
@@ -56,7 +57,7 @@ impl CompoundStatement {
         'statements: for i in 0..statements.len() {
             statements[i].node_mut().remove_voids();
         }
-        remove_empty(statements);
+        statements.retain(|statement| !statement.node().is_void());
     }
 }
 
@@ -94,17 +95,6 @@ impl SwitchStatement {
     }
 }
 
-impl ForStatement {
-    #[cycle(remove)]
-    fn remove_voids(&mut self)
-        ensures { for_statement_view self.new ≡ full_for (for_statement_view self.old) }
-    {
-        remove_from_part(&mut self.initializer);
-        remove_from_part(&mut self.update);
-        self.body.remove_voids();
-    }
-}
-
 #[cycle(remove)]
 fn remove_from_part(part: &mut Option<StatementNode>)
     ensures { maybe_statement (option_map statement_node_view part.new) ≡ full_part (maybe_statement (option_map statement_node_view part.old)) }
@@ -112,20 +102,4 @@ fn remove_from_part(part: &mut Option<StatementNode>)
     if let Some(statement) = part {
         statement.node_mut().remove_voids();
     }
-}
-
-impl WhileStatement {
-    #[cycle(remove)]
-    fn remove_voids(&mut self)
-        ensures { while_statement_view self.new ≡ full_while (while_statement_view self.old) }
-    {
-        self.body.remove_voids();
-    }
-}
-
-/// Removes the empty statements from a list.
-fn remove_empty(statements: &mut Vec<StatementNode>)
-    ensures { statements.new.items ≡ filter (λ node. not (printed.is_void (statement_view (spanned_node node)))) statements.old.items }
-{
-    statements.retain(|statement| !statement.node().is_void());
 }

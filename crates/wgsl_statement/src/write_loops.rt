@@ -3,9 +3,9 @@
 ghost use Rattle.std.specs.Prelude.{Some};
 ghost use Rattle.std.specs.Option.{option_map};
 ghost use Rattle.std.specs.Fmt.{DisplaysOnOk};
-ghost use Rattle.wgsl_model.specs.Statements.{continuing_of, maybe_statement};
+ghost use Rattle.wgsl_model.specs.Statements.{maybe_statement};
 ghost use Rattle.wgsl_model.specs.Indentation.{after_line_ends};
-ghost use Rattle.wgsl_model.specs.PrintedStatements.{print_loop, print_continuing, continuing_line, print_for, unended_part, print_while};
+ghost use Rattle.wgsl_model.specs.PrintedStatements.{print_loop, print_continuing, print_for, unended_part, print_while};
 ghost use Rattle.wgsl_writer.specs.Depth.{spaces};
 ghost use Rattle.wgsl_statement.specs.View.{statement_node_view, loop_statement_view, continuing_statement_view, for_statement_view, while_statement_view};
 
@@ -30,26 +30,14 @@ pub fn write_loop<W: fmt::Write>(
 {
     write_start(&statement.attributes, "loop ", depth, f)?;
     write_opened(&statement.body, depth, f)?;
-    write_continuing_line(&statement.continuing, depth, f)?;
-    f.write_str("}")
-}
-
-/// Writes the statement on lines of its own, if there is one.
-#[cycle(printing)]
-fn write_continuing_line<W: fmt::Write>(
-    statement: &Option<ContinuingStatement>,
-    depth: &Depth<'_>,
-    f: &mut fmt::Formatter<W>,
-) -> fmt::Result
-    ensures { DisplaysOnOk W.write_str_gives f.old result (Some (after_line_ends (spaces depth.now) (continuing_line (continuing_of (option_map continuing_statement_view statement.now))))) f.new }
-{
-    match statement {
-        None => Ok(()),
-        Some(statement) => {
+    match &statement.continuing {
+        None => f.write_str("}"),
+        Some(continuing) => {
             let inner = Depth::Below(&*depth);
             f.write_str("    ")?;
-            write_continuing(statement, &inner, f)?;
-            write_line_end(depth, f)
+            write_continuing(continuing, &inner, f)?;
+            write_line_end(depth, f)?;
+            f.write_str("}")
         }
     }
 }

@@ -1,20 +1,22 @@
-use Rattle.std.proofs.Common.{rules, ◌≡◌, refl, sym, ap, ◌∙◌, Bool, true, false, List, ◌+◌, ◌++◌, codes, take, map, Option}
+use Rattle.std.proofs.Common.{rules, ◌≡◌, refl, sym, ap, ◌∙◌, Bool, true, false, true≢false, List, ◌+◌, ◌++◌, codes, take, map, Option}
 use Rattle.std.proofs.lemmas.List.{take_all}
 use Rattle.std.proofs.Output.{has_written_append, has_written_of_eq}
 use Rattle.std.specs.Option.{option_map}
+use Rattle.std.specs.Prelude.{Result, Ok, Err, IsOk, IsErr}
 use Rattle.wgsl_model.specs.Joining.{joined}
-use Rattle.wgsl_model.specs.Statements.{else_of, clauses_of, continuing_of}
+use Rattle.wgsl_model.specs.Statements.{else_of, clauses_of, continuing_of, maybe_statement}
 use Rattle.wgsl_model.specs.Indentation.{after_line_ends}
-use Rattle.wgsl_model.specs.PrintedStatements.{is_void, print_statement, statement_texts, clause_texts, print_switch_clause, print_else, continuing_line}
+use Rattle.wgsl_model.specs.PrintedStatements.{is_void, unended, unended_part, print_statement, statement_texts, clause_texts, print_switch_clause, print_else, continuing_line}
 use Rattle.wgsl_writer.specs.Depth.{spaces}
 use Rattle.wgsl_span.specs.Spanned.{spanned_node}
+use Rattle.wgsl_span.specs.declared.Spanned.{Spanned}
 use Rattle.wgsl_model.specs.PrintedDeclarations.{print_selector}
 use Rattle.wgsl_simple_statement.specs.declared.simple.CaseSelector.{CaseSelector}
 use Rattle.wgsl_statement.specs.declared.statement.Statement.{Statement}
 use Rattle.wgsl_statement.specs.declared.statement.ElseClause.{ElseClause}
 use Rattle.wgsl_statement.specs.declared.statement.ContinuingStatement.{ContinuingStatement}
 use Rattle.wgsl_simple_statement.specs.View.{selector_view}
-use Rattle.wgsl_statement.specs.View.{statement_view, statement_nodes_view, compound_statement_view, else_clause_view, switch_clause_view, continuing_statement_view}
+use Rattle.wgsl_statement.specs.View.{statement_view, statement_node_view, statement_nodes_view, compound_statement_view, else_clause_view, switch_clause_view, continuing_statement_view}
 use Rattle.wgsl_statement.proofs.StatementViews.{is_compound, is_assignment, is_increment, is_decrement, is_if, is_switch, is_loop, is_for, is_while, is_break, is_continue, is_return, is_discard, is_function_call, is_const_assert, is_declaration}
 use Rattle.wgsl_statement.proofs.Views.{compound_statement_out, if_statement_out, switch_statement_out, switch_clause_out, loop_statement_out, for_statement_out, while_statement_out}
 use Rattle.wgsl_statement.proofs.ClauseViews.{if_clause_out, else_if_clause_out, else_clause_out, continuing_statement_out}
@@ -113,14 +115,6 @@ write_switch::write_switch_clause-returns g t c = λ plain ok.
     (has_written_of_eq _ _ _ _ _ (ap (λ (xs : List CaseSelector). codes "case " ++ after_line_ends (spaces c.args.depth.now) (joined (codes ", ") (map print_selector (map selector_view xs))) ++ codes " ") c.deref.ensures.value) (c.in_ok-write_case.ensures plain refl)
     ▸ (λ p. c.write_compound.ensures p ok))
 
-pub write_loops::write_loop-returns : goal.write_loops::write_loop-returns
-write_loops::write_loop-returns g t c = λ plain ok.
-    has_written_of_eq _ _ _ _ _ (loop_is (spaces c.args.depth.now) _ _ _ _ (loop_statement_out c.args.statement.now))
-    (c.in_ok-write_start.ensures plain refl
-    ▸ (λ p. c.in_ok-write_opened.ensures p refl)
-    ▸ (λ p. c.in_ok-write_continuing_line.ensures p refl)
-    ▸ (λ p. c.write_str.ensures.writes p ok))
-
 pub write_loops::write_continuing-returns : goal.write_loops::write_continuing-returns
 write_loops::write_continuing-returns g t c = λ plain ok.
     has_written_of_eq _ _ _ _ _ (continuing_is (spaces c.args.depth.now) _ _ _ (continuing_statement_out c.args.statement.now))
@@ -147,19 +141,28 @@ write_loops::write_while-returns g t c = λ plain ok.
     ▸ (λ p. c.write_compound.ensures p ok))
 
 -- parts that may be left out
-pub write_loops::write_continuing_line-returns-in-None : goal.write_loops::write_continuing_line-returns-in-None
-write_loops::write_continuing_line-returns-in-None g t c = λ plain ok.
-    let text = λ (o : Option ContinuingStatement). after_line_ends (spaces c.args.depth.now) (continuing_line (continuing_of (option_map continuing_statement_view o))) in
-    has_written_of_eq _ _ _ _ _ (sym (ap text c.in-None.is)) (nothing_written g.W.Write.write_str_gives _ plain)
-
-pub write_loops::write_continuing_line-returns-in_ok-write_continuing-in-Some : goal.write_loops::write_continuing_line-returns-in_ok-write_continuing-in-Some
-write_loops::write_continuing_line-returns-in_ok-write_continuing-in-Some g t c = λ plain ok.
+pub write_loops::write_loop-returns-in-None : goal.write_loops::write_loop-returns-in-None
+write_loops::write_loop-returns-in-None g t c = λ plain ok.
     let gap = spaces c.args.depth.now in
     let text = λ (o : Option ContinuingStatement). after_line_ends gap (continuing_line (continuing_of (option_map continuing_statement_view o))) in
-    has_written_of_eq _ _ _ _ _ (continuing_line_is gap (continuing_statement_view c.in-Some.statement) ∙ sym (ap text c.in-Some.is))
-    (c.in_ok-write_str-in-Some.ensures.writes plain refl
-    ▸ (λ p. c.in_ok-write_continuing-in-Some.ensures p refl)
-    ▸ (λ p. c.write_line_end.ensures p ok))
+    has_written_of_eq _ _ _ _ _ (loop_is gap _ _ _ _ (loop_statement_out c.args.statement.now))
+    (c.in_ok-write_start.ensures plain refl
+    ▸ (λ p. c.in_ok-write_opened.ensures p refl)
+    ▸ (λ p. has_written_of_eq _ _ _ _ _ (sym (ap text c.in-None.is)) (nothing_written g.W.Write.write_str_gives _ p))
+    ▸ (λ p. c.write_str.ensures.writes p ok))
+
+pub write_loops::write_loop-returns-in_ok-write_line_end-in-Some : goal.write_loops::write_loop-returns-in_ok-write_line_end-in-Some
+write_loops::write_loop-returns-in_ok-write_line_end-in-Some g t c = λ plain ok.
+    let gap = spaces c.args.depth.now in
+    let text = λ (o : Option ContinuingStatement). after_line_ends gap (continuing_line (continuing_of (option_map continuing_statement_view o))) in
+    has_written_of_eq _ _ _ _ _ (loop_is gap _ _ _ _ (loop_statement_out c.args.statement.now))
+    (c.in_ok-write_start.ensures plain refl
+    ▸ (λ p. c.in_ok-write_opened.ensures p refl)
+    ▸ (λ p. has_written_of_eq _ _ _ _ _ (continuing_line_is gap (continuing_statement_view c.in-Some.continuing) ∙ sym (ap text c.in-Some.is))
+    (c.in_ok-write_str-in-Some.ensures.writes p refl
+    ▸ (λ q. c.in_ok-write_continuing-in-Some.ensures q refl)
+    ▸ (λ q. c.in_ok-write_line_end-in-Some.ensures q refl)))
+    ▸ (λ p. c.write_str-in-Some-2.ensures.writes p ok))
 
 -- loops over statements and clauses
 pub write_if::write_if-clauses-preserved : goal.write_if::write_if-clauses-preserved
@@ -268,3 +271,126 @@ write_switch::write_switch-returns g t c = λ plain ok.
     (c.clauses.invariant.1 p))
     ▸ (λ p. c.in_ok-write_line_end.ensures p refl)
     ▸ (λ p. c.write_str.ensures.writes p ok))
+
+-- an error, handed on
+
+error_not_ok : {T E : Type 0} (r : Result T E) → IsErr r → IsOk r → ⊥
+error_not_ok (Ok x) e ok = true≢false (sym e)
+error_not_ok (Err x) e ok = true≢false (sym ok)
+
+pub write::write_compound-returns-in_err-write_opened : goal.write::write_compound-returns-in_err-write_opened
+write::write_compound-returns-in_err-write_opened g t c = λ plain ok. absurd (error_not_ok _ c.from_residual.ensures.0 ok)
+
+pub write::write_opened-returns-in_err-write_gap : goal.write::write_opened-returns-in_err-write_gap
+write::write_opened-returns-in_err-write_gap g t c = λ plain ok. absurd (error_not_ok _ c.from_residual-in_err-write_gap.ensures.0 ok)
+
+pub write::write_opened-returns-in_err-write_open : goal.write::write_opened-returns-in_err-write_open
+write::write_opened-returns-in_err-write_open g t c = λ plain ok. absurd (error_not_ok _ c.from_residual.ensures.0 ok)
+
+pub write::write_opened-returns-in_err-write_statement : goal.write::write_opened-returns-in_err-write_statement
+write::write_opened-returns-in_err-write_statement g t c = λ plain ok. absurd (error_not_ok _ c.from_residual-in_err-write_statement.ensures.0 ok)
+
+pub write::write_statement-returns-in_err-write_unended : goal.write::write_statement-returns-in_err-write_unended
+write::write_statement-returns-in_err-write_unended g t c = λ plain ok. absurd (error_not_ok _ c.from_residual.ensures.0 ok)
+
+pub write_if::write_else_clause-returns-in_err-write_str : goal.write_if::write_else_clause-returns-in_err-write_str
+write_if::write_else_clause-returns-in_err-write_str g t c = λ plain ok. absurd (error_not_ok _ c.from_residual.ensures.0 ok)
+
+pub write_if::write_else_if_clause-returns-in_err-write_head : goal.write_if::write_else_if_clause-returns-in_err-write_head
+write_if::write_else_if_clause-returns-in_err-write_head g t c = λ plain ok. absurd (error_not_ok _ c.from_residual.ensures.0 ok)
+
+pub write_if::write_if-returns-in_err-write_attribute_line : goal.write_if::write_if-returns-in_err-write_attribute_line
+write_if::write_if-returns-in_err-write_attribute_line g t c = λ plain ok. absurd (error_not_ok _ c.from_residual.ensures.0 ok)
+
+pub write_if::write_if-returns-in_err-write_else_if_clause : goal.write_if::write_if-returns-in_err-write_else_if_clause
+write_if::write_if-returns-in_err-write_else_if_clause g t c = λ plain ok. absurd (error_not_ok _ c.from_residual-in_err-write_else_if_clause.ensures.0 ok)
+
+pub write_if::write_if-returns-in_err-write_if_clause : goal.write_if::write_if-returns-in_err-write_if_clause
+write_if::write_if-returns-in_err-write_if_clause g t c = λ plain ok. absurd (error_not_ok _ c.from_residual-in_err-write_if_clause.ensures.0 ok)
+
+pub write_if::write_if-returns-in_err-write_line_end : goal.write_if::write_if-returns-in_err-write_line_end
+write_if::write_if-returns-in_err-write_line_end g t c = λ plain ok. absurd (error_not_ok _ c.from_residual-in_err-write_line_end.ensures.0 ok)
+
+pub write_if::write_if-returns-in_err-write_line_end-in-Some : goal.write_if::write_if-returns-in_err-write_line_end-in-Some
+write_if::write_if-returns-in_err-write_line_end-in-Some g t c = λ plain ok. absurd (error_not_ok _ c.from_residual-in_err-write_line_end-in-Some.ensures.0 ok)
+
+pub write_if::write_if_clause-returns-in_err-write_head : goal.write_if::write_if_clause-returns-in_err-write_head
+write_if::write_if_clause-returns-in_err-write_head g t c = λ plain ok. absurd (error_not_ok _ c.from_residual.ensures.0 ok)
+
+pub write_loops::write_continuing-returns-in_err-write_break_if : goal.write_loops::write_continuing-returns-in_err-write_break_if
+write_loops::write_continuing-returns-in_err-write_break_if g t c = λ plain ok. absurd (error_not_ok _ c.from_residual-in_err-write_break_if.ensures.0 ok)
+
+pub write_loops::write_continuing-returns-in_err-write_opened : goal.write_loops::write_continuing-returns-in_err-write_opened
+write_loops::write_continuing-returns-in_err-write_opened g t c = λ plain ok. absurd (error_not_ok _ c.from_residual-in_err-write_opened.ensures.0 ok)
+
+pub write_loops::write_continuing-returns-in_err-write_str : goal.write_loops::write_continuing-returns-in_err-write_str
+write_loops::write_continuing-returns-in_err-write_str g t c = λ plain ok. absurd (error_not_ok _ c.from_residual.ensures.0 ok)
+
+pub write_loops::write_for-returns-in_err-write_condition : goal.write_loops::write_for-returns-in_err-write_condition
+write_loops::write_for-returns-in_err-write_condition g t c = λ plain ok. absurd (error_not_ok _ c.from_residual-in_err-write_condition.ensures.0 ok)
+
+pub write_loops::write_for-returns-in_err-write_part : goal.write_loops::write_for-returns-in_err-write_part
+write_loops::write_for-returns-in_err-write_part g t c = λ plain ok. absurd (error_not_ok _ c.from_residual-in_err-write_part.ensures.0 ok)
+
+pub write_loops::write_for-returns-in_err-write_part-2 : goal.write_loops::write_for-returns-in_err-write_part-2
+write_loops::write_for-returns-in_err-write_part-2 g t c = λ plain ok. absurd (error_not_ok _ c.from_residual-in_err-write_part-2.ensures.0 ok)
+
+pub write_loops::write_for-returns-in_err-write_start : goal.write_loops::write_for-returns-in_err-write_start
+write_loops::write_for-returns-in_err-write_start g t c = λ plain ok. absurd (error_not_ok _ c.from_residual.ensures.0 ok)
+
+pub write_loops::write_for-returns-in_err-write_str : goal.write_loops::write_for-returns-in_err-write_str
+write_loops::write_for-returns-in_err-write_str g t c = λ plain ok. absurd (error_not_ok _ c.from_residual-in_err-write_str.ensures.0 ok)
+
+pub write_loops::write_loop-returns-in_err-write_str-in-Some : goal.write_loops::write_loop-returns-in_err-write_str-in-Some
+write_loops::write_loop-returns-in_err-write_str-in-Some g t c = λ plain ok. absurd (error_not_ok _ c.from_residual-in_err-write_str-in-Some.ensures.0 ok)
+
+pub write_loops::write_loop-returns-in_err-write_continuing-in-Some : goal.write_loops::write_loop-returns-in_err-write_continuing-in-Some
+write_loops::write_loop-returns-in_err-write_continuing-in-Some g t c = λ plain ok. absurd (error_not_ok _ c.from_residual-in_err-write_continuing-in-Some.ensures.0 ok)
+
+pub write_loops::write_loop-returns-in_err-write_line_end-in-Some : goal.write_loops::write_loop-returns-in_err-write_line_end-in-Some
+write_loops::write_loop-returns-in_err-write_line_end-in-Some g t c = λ plain ok. absurd (error_not_ok _ c.from_residual-in_err-write_line_end-in-Some.ensures.0 ok)
+
+pub write_loops::write_loop-returns-in_err-write_opened : goal.write_loops::write_loop-returns-in_err-write_opened
+write_loops::write_loop-returns-in_err-write_opened g t c = λ plain ok. absurd (error_not_ok _ c.from_residual-in_err-write_opened.ensures.0 ok)
+
+pub write_loops::write_loop-returns-in_err-write_start : goal.write_loops::write_loop-returns-in_err-write_start
+write_loops::write_loop-returns-in_err-write_start g t c = λ plain ok. absurd (error_not_ok _ c.from_residual.ensures.0 ok)
+
+pub write_loops::write_while-returns-in_err-write_attribute_line : goal.write_loops::write_while-returns-in_err-write_attribute_line
+write_loops::write_while-returns-in_err-write_attribute_line g t c = λ plain ok. absurd (error_not_ok _ c.from_residual.ensures.0 ok)
+
+pub write_loops::write_while-returns-in_err-write_head : goal.write_loops::write_while-returns-in_err-write_head
+write_loops::write_while-returns-in_err-write_head g t c = λ plain ok. absurd (error_not_ok _ c.from_residual-in_err-write_head.ensures.0 ok)
+
+pub write_switch::write_switch-returns-in_err-write_attribute_line : goal.write_switch::write_switch-returns-in_err-write_attribute_line
+write_switch::write_switch-returns-in_err-write_attribute_line g t c = λ plain ok. absurd (error_not_ok _ c.from_residual.ensures.0 ok)
+
+pub write_switch::write_switch-returns-in_err-write_gap : goal.write_switch::write_switch-returns-in_err-write_gap
+write_switch::write_switch-returns-in_err-write_gap g t c = λ plain ok. absurd (error_not_ok _ c.from_residual-in_err-write_gap.ensures.0 ok)
+
+pub write_switch::write_switch-returns-in_err-write_head : goal.write_switch::write_switch-returns-in_err-write_head
+write_switch::write_switch-returns-in_err-write_head g t c = λ plain ok. absurd (error_not_ok _ c.from_residual-in_err-write_head.ensures.0 ok)
+
+pub write_switch::write_switch-returns-in_err-write_line_end : goal.write_switch::write_switch-returns-in_err-write_line_end
+write_switch::write_switch-returns-in_err-write_line_end g t c = λ plain ok. absurd (error_not_ok _ c.from_residual-in_err-write_line_end.ensures.0 ok)
+
+pub write_switch::write_switch-returns-in_err-write_open : goal.write_switch::write_switch-returns-in_err-write_open
+write_switch::write_switch-returns-in_err-write_open g t c = λ plain ok. absurd (error_not_ok _ c.from_residual-in_err-write_open.ensures.0 ok)
+
+pub write_switch::write_switch-returns-in_err-write_switch_clause : goal.write_switch::write_switch-returns-in_err-write_switch_clause
+write_switch::write_switch-returns-in_err-write_switch_clause g t c = λ plain ok. absurd (error_not_ok _ c.from_residual-in_err-write_switch_clause.ensures.0 ok)
+
+pub write_switch::write_switch_clause-returns-in_err-write_case : goal.write_switch::write_switch_clause-returns-in_err-write_case
+write_switch::write_switch_clause-returns-in_err-write_case g t c = λ plain ok. absurd (error_not_ok _ c.from_residual.ensures.0 ok)
+
+-- a part of a `for` header
+
+pub write_loops::write_part-returns-in-None : goal.write_loops::write_part-returns-in-None
+write_loops::write_part-returns-in-None g t c = λ plain ok.
+    has_written_of_eq _ _ _ _ _ (sym (ap (λ (p : Option (Spanned Statement)). after_line_ends (spaces c.args.depth.now) (unended_part (maybe_statement (option_map statement_node_view p)))) c.in-None.is))
+    (nothing_written g.W.Write.write_str_gives _ plain)
+
+pub write_loops::write_part-returns-in-Some : goal.write_loops::write_part-returns-in-Some
+write_loops::write_part-returns-in-Some g t c = λ plain ok.
+    has_written_of_eq _ _ _ _ _ (sym (ap (λ (p : Option (Spanned Statement)). after_line_ends (spaces c.args.depth.now) (unended_part (maybe_statement (option_map statement_node_view p)))) c.in-Some.is))
+    (has_written_of_eq _ _ _ _ _ (ap (λ (s : Statement). after_line_ends (spaces c.args.depth.now) (unended (statement_view s))) c.node.ensures) (c.write_unended.ensures plain ok))

@@ -1,5 +1,7 @@
-use Rattle.std.proofs.Common.{rules, ◌≡◌, ◌∙◌, sym, ap, map}
+use Rattle.std.proofs.Common.{rules, ◌≡◌, ◌∙◌, sym, ap, map, Some}
 use Rattle.std.proofs.lemmas.List.{take_all}
+use Rattle.std.proofs.lemmas.Result.{IfOk-from_err}
+use Rattle.std.specs.Option.{option_map}
 use Rattle.wgsl_model.specs.Statements as plain
 use Rattle.wgsl_expression.specs.View.{expression_node_view}
 use Rattle.wgsl_statement.specs.declared.statement.Statement.TheViews as layers
@@ -144,3 +146,184 @@ StatementCloneWith::clone_with-returns-in_ok-clone_with-in-ConstAssert t c = rec
 
 pub StatementCloneWith::clone_with-returns-in_ok-clone_with-in-Declaration : goal.StatementCloneWith::clone_with-returns-in_ok-clone_with-in-Declaration
 StatementCloneWith::clone_with-returns-in_ok-clone_with-in-Declaration t c = record { copy = is_declaration _ ∙ ap plain.declaration c.in_ok-clone_with-in-Declaration.ensures.copy ∙ sym (ap (λ (s : Statement). V.statement_view s) c.in-Declaration.is ∙ is_declaration _) }
+
+-- an error, handed on
+
+pub CompoundStatementCloneWith::clone_with-returns-in_err-attributes : goal.CompoundStatementCloneWith::clone_with-returns-in_err-attributes
+CompoundStatementCloneWith::clone_with-returns-in_err-attributes t c = record { copy = IfOk-from_err _ _ c.from_residual.ensures.0 }
+
+pub CompoundStatementCloneWith::clone_with-returns-in_err-copy : goal.CompoundStatementCloneWith::clone_with-returns-in_err-copy
+CompoundStatementCloneWith::clone_with-returns-in_err-copy t c = record { copy = IfOk-from_err _ _ c.from_residual-in_err-copy.ensures.0 }
+
+pub CompoundStatementCloneWith::clone_with-returns-in_err-new : goal.CompoundStatementCloneWith::clone_with-returns-in_err-new
+CompoundStatementCloneWith::clone_with-returns-in_err-new t c = record { copy = IfOk-from_err _ _ c.from_residual-in_err-new.ensures.0 }
+
+pub CompoundStatementCloneWith::clone_with-returns-in_err-push : goal.CompoundStatementCloneWith::clone_with-returns-in_err-push
+CompoundStatementCloneWith::clone_with-returns-in_err-push t c = record { copy = IfOk-from_err _ _ c.from_residual-in_err-push.ensures.0 }
+
+pub ContinuingStatementCloneWith::clone_with-returns-in_err-clone_with : goal.ContinuingStatementCloneWith::clone_with-returns-in_err-clone_with
+ContinuingStatementCloneWith::clone_with-returns-in_err-clone_with t c = record { copy = IfOk-from_err _ _ c.from_residual.ensures.0 }
+
+pub ContinuingStatementCloneWith::clone_with-returns-in_err-clone_with-2 : goal.ContinuingStatementCloneWith::clone_with-returns-in_err-clone_with-2
+ContinuingStatementCloneWith::clone_with-returns-in_err-clone_with-2 t c = record { copy = IfOk-from_err _ _ c.from_residual-in_err-clone_with-2.ensures.0 }
+
+pub ElseClauseCloneWith::clone_with-returns-in_err-clone_with : goal.ElseClauseCloneWith::clone_with-returns-in_err-clone_with
+ElseClauseCloneWith::clone_with-returns-in_err-clone_with t c = record { copy = IfOk-from_err _ _ c.from_residual.ensures.0 }
+
+pub ElseIfClauseCloneWith::clone_with-returns-in_err-clone_with : goal.ElseIfClauseCloneWith::clone_with-returns-in_err-clone_with
+ElseIfClauseCloneWith::clone_with-returns-in_err-clone_with t c = record { copy = IfOk-from_err _ _ c.from_residual.ensures.0 }
+
+pub ElseIfClauseCloneWith::clone_with-returns-in_err-clone_with-2 : goal.ElseIfClauseCloneWith::clone_with-returns-in_err-clone_with-2
+ElseIfClauseCloneWith::clone_with-returns-in_err-clone_with-2 t c = record { copy = IfOk-from_err _ _ c.from_residual-in_err-clone_with-2.ensures.0 }
+
+pub ForStatementCloneWith::clone_with-returns-in_err-clone_part : goal.ForStatementCloneWith::clone_with-returns-in_err-clone_part
+ForStatementCloneWith::clone_with-returns-in_err-clone_part t c = record { copy = IfOk-from_err _ _ c.from_residual-in_err-clone_part.ensures.0 }
+
+pub ForStatementCloneWith::clone_with-returns-in_err-clone_part-2 : goal.ForStatementCloneWith::clone_with-returns-in_err-clone_part-2
+ForStatementCloneWith::clone_with-returns-in_err-clone_part-2 t c = record { copy = IfOk-from_err _ _ c.from_residual-in_err-clone_part-2.ensures.0 }
+
+pub ForStatementCloneWith::clone_with-returns-in_err-clone_with : goal.ForStatementCloneWith::clone_with-returns-in_err-clone_with
+ForStatementCloneWith::clone_with-returns-in_err-clone_with t c = record { copy = IfOk-from_err _ _ c.from_residual.ensures.0 }
+
+pub ForStatementCloneWith::clone_with-returns-in_err-clone_with-2 : goal.ForStatementCloneWith::clone_with-returns-in_err-clone_with-2
+ForStatementCloneWith::clone_with-returns-in_err-clone_with-2 t c = record { copy = IfOk-from_err _ _ c.from_residual-in_err-clone_with-2.ensures.0 }
+
+pub ForStatementCloneWith::clone_with-returns-in_err-clone_with-3 : goal.ForStatementCloneWith::clone_with-returns-in_err-clone_with-3
+ForStatementCloneWith::clone_with-returns-in_err-clone_with-3 t c = record { copy = IfOk-from_err _ _ c.from_residual-in_err-clone_with-3.ensures.0 }
+
+pub IfClauseCloneWith::clone_with-returns-in_err-clone_with : goal.IfClauseCloneWith::clone_with-returns-in_err-clone_with
+IfClauseCloneWith::clone_with-returns-in_err-clone_with t c = record { copy = IfOk-from_err _ _ c.from_residual.ensures.0 }
+
+pub IfClauseCloneWith::clone_with-returns-in_err-clone_with-2 : goal.IfClauseCloneWith::clone_with-returns-in_err-clone_with-2
+IfClauseCloneWith::clone_with-returns-in_err-clone_with-2 t c = record { copy = IfOk-from_err _ _ c.from_residual-in_err-clone_with-2.ensures.0 }
+
+pub IfStatementCloneWith::clone_with-returns-in_err-attributes : goal.IfStatementCloneWith::clone_with-returns-in_err-attributes
+IfStatementCloneWith::clone_with-returns-in_err-attributes t c = record { copy = IfOk-from_err _ _ c.from_residual.ensures.0 }
+
+pub IfStatementCloneWith::clone_with-returns-in_err-clone_else : goal.IfStatementCloneWith::clone_with-returns-in_err-clone_else
+IfStatementCloneWith::clone_with-returns-in_err-clone_else t c = record { copy = IfOk-from_err _ _ c.from_residual-in_err-clone_else.ensures.0 }
+
+pub IfStatementCloneWith::clone_with-returns-in_err-clone_with : goal.IfStatementCloneWith::clone_with-returns-in_err-clone_with
+IfStatementCloneWith::clone_with-returns-in_err-clone_with t c = record { copy = IfOk-from_err _ _ c.from_residual-in_err-clone_with.ensures.0 }
+
+pub IfStatementCloneWith::clone_with-returns-in_err-if_clause : goal.IfStatementCloneWith::clone_with-returns-in_err-if_clause
+IfStatementCloneWith::clone_with-returns-in_err-if_clause t c = record { copy = IfOk-from_err _ _ c.from_residual-in_err-if_clause.ensures.0 }
+
+pub IfStatementCloneWith::clone_with-returns-in_err-push : goal.IfStatementCloneWith::clone_with-returns-in_err-push
+IfStatementCloneWith::clone_with-returns-in_err-push t c = record { copy = IfOk-from_err _ _ c.from_residual-in_err-push.ensures.0 }
+
+pub LoopStatementCloneWith::clone_with-returns-in_err-clone_continuing : goal.LoopStatementCloneWith::clone_with-returns-in_err-clone_continuing
+LoopStatementCloneWith::clone_with-returns-in_err-clone_continuing t c = record { copy = IfOk-from_err _ _ c.from_residual-in_err-clone_continuing.ensures.0 }
+
+pub LoopStatementCloneWith::clone_with-returns-in_err-clone_with : goal.LoopStatementCloneWith::clone_with-returns-in_err-clone_with
+LoopStatementCloneWith::clone_with-returns-in_err-clone_with t c = record { copy = IfOk-from_err _ _ c.from_residual.ensures.0 }
+
+pub LoopStatementCloneWith::clone_with-returns-in_err-clone_with-2 : goal.LoopStatementCloneWith::clone_with-returns-in_err-clone_with-2
+LoopStatementCloneWith::clone_with-returns-in_err-clone_with-2 t c = record { copy = IfOk-from_err _ _ c.from_residual-in_err-clone_with-2.ensures.0 }
+
+pub StatementCloneWith::clone_with-returns-in_err-clone_with-in-Assignment : goal.StatementCloneWith::clone_with-returns-in_err-clone_with-in-Assignment
+StatementCloneWith::clone_with-returns-in_err-clone_with-in-Assignment t c = record { copy = IfOk-from_err _ _ c.from_residual-in_err-clone_with-in-Assignment.ensures.0 }
+
+pub StatementCloneWith::clone_with-returns-in_err-clone_with-in-Break : goal.StatementCloneWith::clone_with-returns-in_err-clone_with-in-Break
+StatementCloneWith::clone_with-returns-in_err-clone_with-in-Break t c = record { copy = IfOk-from_err _ _ c.from_residual-in_err-clone_with-in-Break.ensures.0 }
+
+pub StatementCloneWith::clone_with-returns-in_err-clone_with-in-Compound : goal.StatementCloneWith::clone_with-returns-in_err-clone_with-in-Compound
+StatementCloneWith::clone_with-returns-in_err-clone_with-in-Compound t c = record { copy = IfOk-from_err _ _ c.from_residual.ensures.0 }
+
+pub StatementCloneWith::clone_with-returns-in_err-clone_with-in-ConstAssert : goal.StatementCloneWith::clone_with-returns-in_err-clone_with-in-ConstAssert
+StatementCloneWith::clone_with-returns-in_err-clone_with-in-ConstAssert t c = record { copy = IfOk-from_err _ _ c.from_residual-in_err-clone_with-in-ConstAssert.ensures.0 }
+
+pub StatementCloneWith::clone_with-returns-in_err-clone_with-in-Continue : goal.StatementCloneWith::clone_with-returns-in_err-clone_with-in-Continue
+StatementCloneWith::clone_with-returns-in_err-clone_with-in-Continue t c = record { copy = IfOk-from_err _ _ c.from_residual-in_err-clone_with-in-Continue.ensures.0 }
+
+pub StatementCloneWith::clone_with-returns-in_err-clone_with-in-Declaration : goal.StatementCloneWith::clone_with-returns-in_err-clone_with-in-Declaration
+StatementCloneWith::clone_with-returns-in_err-clone_with-in-Declaration t c = record { copy = IfOk-from_err _ _ c.from_residual-in_err-clone_with-in-Declaration.ensures.0 }
+
+pub StatementCloneWith::clone_with-returns-in_err-clone_with-in-Decrement : goal.StatementCloneWith::clone_with-returns-in_err-clone_with-in-Decrement
+StatementCloneWith::clone_with-returns-in_err-clone_with-in-Decrement t c = record { copy = IfOk-from_err _ _ c.from_residual-in_err-clone_with-in-Decrement.ensures.0 }
+
+pub StatementCloneWith::clone_with-returns-in_err-clone_with-in-Discard : goal.StatementCloneWith::clone_with-returns-in_err-clone_with-in-Discard
+StatementCloneWith::clone_with-returns-in_err-clone_with-in-Discard t c = record { copy = IfOk-from_err _ _ c.from_residual-in_err-clone_with-in-Discard.ensures.0 }
+
+pub StatementCloneWith::clone_with-returns-in_err-clone_with-in-For : goal.StatementCloneWith::clone_with-returns-in_err-clone_with-in-For
+StatementCloneWith::clone_with-returns-in_err-clone_with-in-For t c = record { copy = IfOk-from_err _ _ c.from_residual-in_err-clone_with-in-For.ensures.0 }
+
+pub StatementCloneWith::clone_with-returns-in_err-clone_with-in-FunctionCall : goal.StatementCloneWith::clone_with-returns-in_err-clone_with-in-FunctionCall
+StatementCloneWith::clone_with-returns-in_err-clone_with-in-FunctionCall t c = record { copy = IfOk-from_err _ _ c.from_residual-in_err-clone_with-in-FunctionCall.ensures.0 }
+
+pub StatementCloneWith::clone_with-returns-in_err-clone_with-in-If : goal.StatementCloneWith::clone_with-returns-in_err-clone_with-in-If
+StatementCloneWith::clone_with-returns-in_err-clone_with-in-If t c = record { copy = IfOk-from_err _ _ c.from_residual-in_err-clone_with-in-If.ensures.0 }
+
+pub StatementCloneWith::clone_with-returns-in_err-clone_with-in-Increment : goal.StatementCloneWith::clone_with-returns-in_err-clone_with-in-Increment
+StatementCloneWith::clone_with-returns-in_err-clone_with-in-Increment t c = record { copy = IfOk-from_err _ _ c.from_residual-in_err-clone_with-in-Increment.ensures.0 }
+
+pub StatementCloneWith::clone_with-returns-in_err-clone_with-in-Loop : goal.StatementCloneWith::clone_with-returns-in_err-clone_with-in-Loop
+StatementCloneWith::clone_with-returns-in_err-clone_with-in-Loop t c = record { copy = IfOk-from_err _ _ c.from_residual-in_err-clone_with-in-Loop.ensures.0 }
+
+pub StatementCloneWith::clone_with-returns-in_err-clone_with-in-Return : goal.StatementCloneWith::clone_with-returns-in_err-clone_with-in-Return
+StatementCloneWith::clone_with-returns-in_err-clone_with-in-Return t c = record { copy = IfOk-from_err _ _ c.from_residual-in_err-clone_with-in-Return.ensures.0 }
+
+pub StatementCloneWith::clone_with-returns-in_err-clone_with-in-Switch : goal.StatementCloneWith::clone_with-returns-in_err-clone_with-in-Switch
+StatementCloneWith::clone_with-returns-in_err-clone_with-in-Switch t c = record { copy = IfOk-from_err _ _ c.from_residual-in_err-clone_with-in-Switch.ensures.0 }
+
+pub StatementCloneWith::clone_with-returns-in_err-clone_with-in-While : goal.StatementCloneWith::clone_with-returns-in_err-clone_with-in-While
+StatementCloneWith::clone_with-returns-in_err-clone_with-in-While t c = record { copy = IfOk-from_err _ _ c.from_residual-in_err-clone_with-in-While.ensures.0 }
+
+pub SwitchClauseCloneWith::clone_with-returns-in_err-clone_with : goal.SwitchClauseCloneWith::clone_with-returns-in_err-clone_with
+SwitchClauseCloneWith::clone_with-returns-in_err-clone_with t c = record { copy = IfOk-from_err _ _ c.from_residual.ensures.0 }
+
+pub SwitchClauseCloneWith::clone_with-returns-in_err-clone_with-2 : goal.SwitchClauseCloneWith::clone_with-returns-in_err-clone_with-2
+SwitchClauseCloneWith::clone_with-returns-in_err-clone_with-2 t c = record { copy = IfOk-from_err _ _ c.from_residual-in_err-clone_with-2.ensures.0 }
+
+pub SwitchStatementCloneWith::clone_with-returns-in_err-attributes : goal.SwitchStatementCloneWith::clone_with-returns-in_err-attributes
+SwitchStatementCloneWith::clone_with-returns-in_err-attributes t c = record { copy = IfOk-from_err _ _ c.from_residual.ensures.0 }
+
+pub SwitchStatementCloneWith::clone_with-returns-in_err-body_attributes : goal.SwitchStatementCloneWith::clone_with-returns-in_err-body_attributes
+SwitchStatementCloneWith::clone_with-returns-in_err-body_attributes t c = record { copy = IfOk-from_err _ _ c.from_residual-in_err-body_attributes.ensures.0 }
+
+pub SwitchStatementCloneWith::clone_with-returns-in_err-clone_with : goal.SwitchStatementCloneWith::clone_with-returns-in_err-clone_with
+SwitchStatementCloneWith::clone_with-returns-in_err-clone_with t c = record { copy = IfOk-from_err _ _ c.from_residual-in_err-clone_with.ensures.0 }
+
+pub SwitchStatementCloneWith::clone_with-returns-in_err-expression : goal.SwitchStatementCloneWith::clone_with-returns-in_err-expression
+SwitchStatementCloneWith::clone_with-returns-in_err-expression t c = record { copy = IfOk-from_err _ _ c.from_residual-in_err-expression.ensures.0 }
+
+pub SwitchStatementCloneWith::clone_with-returns-in_err-push : goal.SwitchStatementCloneWith::clone_with-returns-in_err-push
+SwitchStatementCloneWith::clone_with-returns-in_err-push t c = record { copy = IfOk-from_err _ _ c.from_residual-in_err-push.ensures.0 }
+
+pub WhileStatementCloneWith::clone_with-returns-in_err-clone_with : goal.WhileStatementCloneWith::clone_with-returns-in_err-clone_with
+WhileStatementCloneWith::clone_with-returns-in_err-clone_with t c = record { copy = IfOk-from_err _ _ c.from_residual.ensures.0 }
+
+pub WhileStatementCloneWith::clone_with-returns-in_err-clone_with-2 : goal.WhileStatementCloneWith::clone_with-returns-in_err-clone_with-2
+WhileStatementCloneWith::clone_with-returns-in_err-clone_with-2 t c = record { copy = IfOk-from_err _ _ c.from_residual-in_err-clone_with-2.ensures.0 }
+
+pub WhileStatementCloneWith::clone_with-returns-in_err-clone_with-3 : goal.WhileStatementCloneWith::clone_with-returns-in_err-clone_with-3
+WhileStatementCloneWith::clone_with-returns-in_err-clone_with-3 t c = record { copy = IfOk-from_err _ _ c.from_residual-in_err-clone_with-3.ensures.0 }
+
+pub clone_continuing-returns-in_err-clone_with-in-Some : goal.clone_continuing-returns-in_err-clone_with-in-Some
+clone_continuing-returns-in_err-clone_with-in-Some t c = IfOk-from_err _ _ c.from_residual.ensures.0
+
+pub clone_else-returns-in_err-clone_with-in-Some : goal.clone_else-returns-in_err-clone_with-in-Some
+clone_else-returns-in_err-clone_with-in-Some t c = IfOk-from_err _ _ c.from_residual.ensures.0
+
+pub clone_part-returns-in_err-copy-in-Some : goal.clone_part-returns-in_err-copy-in-Some
+clone_part-returns-in_err-copy-in-Some t c = IfOk-from_err _ _ c.from_residual.ensures.0
+
+pub clone_part-returns-in_err-new-in-Some : goal.clone_part-returns-in_err-new-in-Some
+clone_part-returns-in_err-new-in-Some t c = IfOk-from_err _ _ c.from_residual-in_err-new-in-Some.ensures.0
+
+-- clauses and parts
+
+pub clone_else-returns-in-None : goal.clone_else-returns-in-None
+clone_else-returns-in-None t c = sym (ap (option_map V.else_clause_view) c.in-None.is)
+
+pub clone_else-returns-in_ok-clone_with-in-Some : goal.clone_else-returns-in_ok-clone_with-in-Some
+clone_else-returns-in_ok-clone_with-in-Some t c = ap Some c.in_ok-clone_with-in-Some.ensures.copy ∙ sym (ap (option_map V.else_clause_view) c.in-Some.is)
+
+pub clone_continuing-returns-in-None : goal.clone_continuing-returns-in-None
+clone_continuing-returns-in-None t c = sym (ap (option_map V.continuing_statement_view) c.in-None.is)
+
+pub clone_continuing-returns-in_ok-clone_with-in-Some : goal.clone_continuing-returns-in_ok-clone_with-in-Some
+clone_continuing-returns-in_ok-clone_with-in-Some t c = ap Some c.in_ok-clone_with-in-Some.ensures.copy ∙ sym (ap (option_map V.continuing_statement_view) c.in-Some.is)
+
+pub clone_part-returns-in-None : goal.clone_part-returns-in-None
+clone_part-returns-in-None t c = sym (ap (option_map V.statement_node_view) c.in-None.is)
