@@ -1,6 +1,10 @@
-//! The statements, and the clauses of statements, that have no span, name or attributes of their own.
+//! The expressions, the statements and the clauses of statements that have no span, name or attributes of their own.
 
 use crate::syntax_node::BareNode;
+use wgsl_expression::{
+    BinaryExpression, Expression, FunctionCall, IndexingExpression, LiteralExpression,
+    NamedComponentExpression, ParenthesizedExpression, TypeExpression, UnaryExpression,
+};
 use wgsl_simple_statement::{
     AssignmentStatement, BreakIfStatement, BreakStatement, ConstAssert, ContinueStatement,
     DecrementStatement, DiscardStatement, FunctionCallStatement, IncrementStatement,
@@ -9,6 +13,24 @@ use wgsl_simple_statement::{
 use wgsl_statement::{
     ContinuingStatement, ElseClause, ElseIfClause, IfClause, Statement, SwitchClause,
 };
+
+impl BareNode for Expression {}
+
+impl BareNode for LiteralExpression {}
+
+impl BareNode for ParenthesizedExpression {}
+
+impl BareNode for NamedComponentExpression {}
+
+impl BareNode for IndexingExpression {}
+
+impl BareNode for UnaryExpression {}
+
+impl BareNode for BinaryExpression {}
+
+impl BareNode for FunctionCall {}
+
+impl BareNode for TypeExpression {}
 
 impl BareNode for Statement {}
 

@@ -1,6 +1,7 @@
 //! What the nodes of a tree can do.
 #![tactic(auto)]
 
+pub mod attribute_laws;
 mod attribute_list;
 mod bare;
 mod statements;

@@ -149,3 +149,16 @@ fn a_node_without_attributes(rt: HostRuntime) -> Result<(), Fail> {
     assert_eq!(rt; node.number, 3);
     Ok(())
 }
+
+#[test]
+fn an_expression_answers_its_span_alone(rt: HostRuntime) -> Result<(), Fail> {
+    let alloc = rt.alloc();
+    let mut node = Spanned::new(alloc, Expression::from(3i64), Span::new(4..5))?;
+    node.retain_attributes_mut(|_| false);
+    assert_eq!(rt; SyntaxNode::span(&node), Some(Span::new(4..5)));
+    assert!(rt; node.ident(alloc)?.is_none());
+    assert!(rt; node.attributes().is_empty() && node.attributes_mut().is_empty());
+    assert!(rt; !node.contains_attribute(&Attribute::Const));
+    assert!(rt; node == integer(alloc, 3)?);
+    Ok(())
+}

@@ -11,7 +11,8 @@ use wgsl_statement::{ConstAssert, Declaration, DeclarationKind, Statement};
 use wgsl_syntax_node::SyntaxNode;
 use wgsl_unit::{
     DiagnosticDirective, EnableDirective, FormalParameter, Function, GlobalDeclaration,
-    GlobalDirective, RequiresDirective, Struct, StructMember, TranslationUnit, TypeAlias,
+    GlobalDirective, RequiresDirective, Struct, StructMember, StructMemberNode, TranslationUnit,
+    TypeAlias,
 };
 
 fn ty(alloc: Global, name: &str) -> Result<TypeExpression, AllocError> {
@@ -53,6 +54,17 @@ fn structure(alloc: Global) -> Result<Struct, Fail> {
     members.push(Spanned::new(alloc, first, Span::new(2..5))?)?;
     members.push(Spanned::new(alloc, second, Span::new(5..9))?)?;
     Ok(structure)
+}
+
+/// A member `@size(16) @align(4) x: f32`, each part where that text has it.
+fn aligned_member(alloc: Global) -> Result<StructMemberNode, Fail> {
+    let mut member = StructMember::new(alloc, ident(alloc, "x")?, ty(alloc, "f32")?);
+    let size = Attribute::Size(integer(alloc, 16)?);
+    let align = Attribute::Align(integer(alloc, 4)?);
+    let attributes = &mut member.attributes;
+    attributes.push(Spanned::new(alloc, size, Span::new(0..9))?)?;
+    attributes.push(Spanned::new(alloc, align, Span::new(10..19))?)?;
+    Ok(Spanned::new(alloc, member, Span::new(0..26))?)
 }
 
 /// A function with attributes on itself, its parameter and its result.
@@ -216,5 +228,31 @@ fn nodes(rt: HostRuntime) -> Result<(), Fail> {
     let declaration = GlobalDeclaration::from(alias(alloc)?);
     assert!(rt; declaration.is_type_alias());
     assert!(rt; declaration.unwrap_type_alias() == alias(alloc)?);
+    Ok(())
+}
+
+#[test]
+fn attributes_are_retained(rt: HostRuntime) -> Result<(), Fail> {
+    let alloc = rt.alloc();
+    let mut node = aligned_member(alloc)?;
+    assert_eq!(rt;
+        format!(in alloc; "{node}")?.as_str(),
+        "@size(16) @align(4)\nx: f32"
+    );
+    node.retain_attributes_mut(|attribute| {
+        if attribute.is_size() {
+            return false;
+        }
+        if attribute.is_align() {
+            *attribute = Attribute::Invariant;
+        }
+        true
+    });
+    assert_eq!(rt; format!(in alloc; "{node}")?.as_str(), "@invariant\nx: f32");
+    for attribute in node.attributes() {
+        assert_eq!(rt; attribute.span(), Span::new(10..19));
+    }
+    assert_eq!(rt; SyntaxNode::span(&node), Some(Span::new(0..26)));
+    assert!(rt; node.ident(alloc)? == Some(ident(alloc, "x")?));
     Ok(())
 }
