@@ -19,10 +19,11 @@ pub(crate) fn unexpected_token(
 ) -> Result<Error, AllocError>
     ensures { IfOk result (λ e. fault_view e ≡ unexpected_token (placed_view token)) }
 {
+    let refused = token.token.kind();
     Ok(Error {
         error: ErrorKind::UnexpectedToken {
             token: format!(in alloc; "{}", token.token)?,
-            expected: expected.texts(alloc)?,
+            expected: expected.texts(alloc, Some(refused))?,
         },
         span: token.span,
     })
@@ -38,7 +39,7 @@ pub(crate) fn unexpected_end(
 {
     Ok(Error {
         error: ErrorKind::UnexpectedEof {
-            expected: expected.texts(alloc)?,
+            expected: expected.texts(alloc, None)?,
         },
         span: Span {
             start: place,

@@ -8,6 +8,8 @@ use wgsl_token::kind::TokenKind;
 pub enum Expected {
     One(TokenKind),
     OneOf(&'static [TokenKind]),
+    /// No token, but the end of the text.
+    End,
 }
 
 impl Expected {
@@ -74,6 +76,22 @@ impl Expected {
         TokenKind::ReservedWord,
     ]);
 
+    /// What a directive or a declaration begins with.
+    pub const DIRECTIVE_OR_DECLARATION: Expected = Expected::OneOf(&[
+        TokenKind::SymAttr,
+        TokenKind::SymSemicolon,
+        TokenKind::KwAlias,
+        TokenKind::KwConst,
+        TokenKind::KwConstAssert,
+        TokenKind::KwDiagnostic,
+        TokenKind::KwEnable,
+        TokenKind::KwFn,
+        TokenKind::KwOverride,
+        TokenKind::KwRequires,
+        TokenKind::KwStruct,
+        TokenKind::KwVar,
+    ]);
+
     /// What a declaration begins with.
     pub const DECLARATION: Expected = Expected::OneOf(&[
         TokenKind::SymAttr,
@@ -87,16 +105,23 @@ impl Expected {
         TokenKind::KwVar,
     ]);
 
-    /// Their texts.
-    pub fn texts(self, alloc: Global) -> Result<Vec<String>, AllocError> {
+    /// Their texts, without that of the token that was refused, if there was one.
+    pub fn texts(
+        self,
+        alloc: Global,
+        refused: Option<TokenKind>,
+    ) -> Result<Vec<String>, AllocError> {
         let mut texts = Vec::new(alloc);
         match self {
             Expected::One(kind) => texts.push(String::from_str(alloc, text_of(kind))?)?,
             Expected::OneOf(kinds) => {
                 for kind in kinds {
-                    texts.push(String::from_str(alloc, text_of(*kind))?)?;
+                    if refused != Some(*kind) {
+                        texts.push(String::from_str(alloc, text_of(*kind))?)?;
+                    }
                 }
             }
+            Expected::End => texts.push(String::from_str(alloc, "end of file")?)?,
         }
         Ok(texts)
     }

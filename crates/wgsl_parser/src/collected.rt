@@ -9,7 +9,7 @@ ghost use Rattle.wgsl_statement.specs.View.{statement_node_view};
 ghost use Rattle.wgsl_unit.specs.View.{unit_view, global_directive_view, global_declaration_view};
 ghost use Rattle.wgsl_answer.specs.Answers.{Answered};
 
-use crate::expected::{BEHIND_EXPRESSION, NOTHING};
+use crate::expected::{BEHIND_EXPRESSION, behind_statement, behind_unit};
 use std::alloc::Global;
 use wgsl_answer::TokenSource;
 use wgsl_cursor::Expected;
@@ -29,7 +29,8 @@ pub(crate) fn unit_of(alloc: Global, found: Collected) -> Result<TranslationUnit
 {
     let mut source = TokenSource::new(found)?;
     let read = parse_translation_unit(alloc, &mut source.tokens);
-    source.answer(alloc, read, Expected::DECLARATION)
+    let behind = behind_unit(&read);
+    source.answer(alloc, read, behind)
 }
 
 #[tactic(auto, using(wgsl_answer::proofs::Seen::seen))]
@@ -38,7 +39,7 @@ pub(crate) fn directive_of(alloc: Global, found: Collected) -> Result<GlobalDire
 {
     let mut source = TokenSource::new(found)?;
     let read = parse_global_directive(alloc, &mut source.tokens);
-    source.answer(alloc, read, NOTHING)
+    source.answer(alloc, read, Expected::End)
 }
 
 #[tactic(auto, using(wgsl_answer::proofs::Seen::seen))]
@@ -50,7 +51,7 @@ pub(crate) fn declaration_of(
 {
     let mut source = TokenSource::new(found)?;
     let read = parse_global_declaration(alloc, &mut source.tokens);
-    source.answer(alloc, read, NOTHING)
+    source.answer(alloc, read, Expected::End)
 }
 
 #[tactic(auto, using(wgsl_answer::proofs::Seen::seen))]
@@ -59,7 +60,8 @@ pub(crate) fn statement_of(alloc: Global, found: Collected) -> Result<StatementN
 {
     let mut source = TokenSource::new(found)?;
     let read = parse_statement(alloc, &mut source.tokens);
-    source.answer(alloc, read, NOTHING)
+    let behind = behind_statement(&read);
+    source.answer(alloc, read, behind)
 }
 
 #[tactic(auto, using(wgsl_answer::proofs::Seen::seen))]
@@ -77,5 +79,5 @@ pub(crate) fn literal_of(alloc: Global, found: Collected) -> Result<LiteralExpre
 {
     let mut source = TokenSource::new(found)?;
     let read = source.tokens.literal(Expected::LITERAL);
-    source.answer(alloc, read, NOTHING)
+    source.answer(alloc, read, Expected::End)
 }

@@ -1,7 +1,9 @@
 //! What could stand behind a value, where a token is left.
 
-use wgsl_cursor::Expected;
+use wgsl_cursor::{Expected, Fault};
+use wgsl_statement::{Statement, StatementNode};
 use wgsl_token::kind::TokenKind;
+use wgsl_unit::TranslationUnit;
 
 /// Behind an expression: a component or an operator.
 pub(crate) const BEHIND_EXPRESSION: Expected = Expected::OneOf(&[
@@ -30,5 +32,23 @@ pub(crate) const BEHIND_EXPRESSION: Expected = Expected::OneOf(&[
     TokenKind::TemplateArgsStart,
 ]);
 
-/// Behind a statement, a directive, a declaration, a literal or a template list: nothing.
-pub(crate) const NOTHING: Expected = Expected::OneOf(&[]);
+/// Behind a module: more declarations, and directives where no declaration stands yet.
+pub(crate) fn behind_unit(read: &Result<TranslationUnit, Fault>) -> Expected {
+    match read {
+        Ok(unit) if unit.global_declarations.is_empty() => Expected::DIRECTIVE_OR_DECLARATION,
+        _ => Expected::DECLARATION,
+    }
+}
+
+/// Behind a statement: `else` where it ends with an `if` or an `else if`.
+pub(crate) fn behind_statement(read: &Result<StatementNode, Fault>) -> Expected {
+    match read {
+        Ok(node) => match node.node() {
+            Statement::If(statement) if statement.else_clause.is_none() => {
+                Expected::One(TokenKind::KwElse)
+            }
+            _ => Expected::End,
+        },
+        Err(_) => Expected::End,
+    }
+}

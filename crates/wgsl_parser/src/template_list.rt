@@ -12,10 +12,10 @@ ghost use Rattle.wgsl_answer.specs.Answers.{Answered};
 ghost use Rattle.wgsl_parser.specs.Iterators.{Derived, IsParsed};
 ghost use Rattle.wgsl_parser.specs.Spans.{IsSpanOf, SpanAnswered};
 
-use crate::expected::NOTHING;
 use std::alloc::Global;
 use std::collections::VecDeque;
 use wgsl_answer::{TokenSource, last_end};
+use wgsl_cursor::Expected;
 use wgsl_error::Error;
 use wgsl_expression::TemplateArg;
 use wgsl_expression_reader::parse_template_list;
@@ -51,7 +51,7 @@ fn template_args_of(alloc: Global, found: Collected) -> Result<Vec<TemplateArg>,
 {
     let mut source = TokenSource::new(found)?;
     let read = parse_template_list(alloc, &mut source.tokens);
-    source.answer(alloc, read, NOTHING)
+    source.answer(alloc, read, Expected::End)
 }
 
 /// The span of the template list that the tokens are.
