@@ -23,6 +23,12 @@ fn prints(rt: HostRuntime) -> Result<(), Fail> {
         ("while (a) { x = 1 .k; }", "while (a) {\n    x = 1 .k;\n}"),
         ("_ = f();", "_ = f();"),
         ("(a).b++;", "(a).b++;"),
+        ("a--;", "a--;"),
+        ("break;", "break;"),
+        ("continue;", "continue;"),
+        ("discard;", "discard;"),
+        ("return;", "return;"),
+        ("return a;", "return a;"),
         ("@if(a) {}", "@if(a)\n{\n\n}"),
     ] {
         assert_printed::<Statement>(&rt, rt.alloc(), text, wanted)?;
