@@ -73,5 +73,15 @@ pub mod laws {
         nothing_behind_the_end, one_list_left, one_token_list, tokens_in_order,
     };
     pub use wgsl_scanner::laws::longest_spelling;
-    pub use wgsl_tree_theory::{spans_unprinted, voids_twice, voids_unprinted};
+    pub use wgsl_syntax_node::attribute_laws::statement_attributes;
+    pub use wgsl_tree_theory::{spans_unprinted, voids_twice};
+
+    /// That `==` of trees is an equivalence, and where two trees are equal: where they are one with their spans set aside.
+    pub mod equality {
+        pub use wgsl_equality::{
+            branches, calls, declarations, directives, equivalence, expressions,
+            global_declarations, literals, loops, nodes, simple_statements, statements, types,
+            units,
+        };
+    }
 }

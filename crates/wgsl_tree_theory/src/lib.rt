@@ -12,20 +12,16 @@ ghost use Rattle.wgsl_model.specs.PrintedExpressions.{print_expression};
 ghost use Rattle.wgsl_model.specs.PrintedStatements.{print_statement, print_compound};
 ghost use Rattle.wgsl_model.specs.PrintedUnits.{print_global_declaration, print_unit};
 
-/// Removing the empty items twice is removing them once.
+/// Removing the empty items twice is removing them once, and it does not change the printed text.
 pub fn voids_twice()
     ensures statement { (s : Statement) → full_statement (full_statement s) ≡ full_statement s }
     ensures block { (b : CompoundStatement) → full_compound (full_compound b) ≡ full_compound b }
     ensures declaration { (d : GlobalDeclaration) → full_declaration (full_declaration d) ≡ full_declaration d }
     ensures unit { (u : TranslationUnit) → full_unit (full_unit u) ≡ full_unit u }
-{}
-
-/// The printed text is the same without the empty items.
-pub fn voids_unprinted()
-    ensures statement { (s : Statement) → print_statement (full_statement s) ≡ print_statement s }
-    ensures block { (b : CompoundStatement) → print_compound (full_compound b) ≡ print_compound b }
-    ensures declaration { (d : GlobalDeclaration) → print_global_declaration (full_declaration d) ≡ print_global_declaration d }
-    ensures unit { (u : TranslationUnit) → print_unit (full_unit u) ≡ print_unit u }
+    ensures printed_statement { (s : Statement) → print_statement (full_statement s) ≡ print_statement s }
+    ensures printed_block { (b : CompoundStatement) → print_compound (full_compound b) ≡ print_compound b }
+    ensures printed_declaration { (d : GlobalDeclaration) → print_global_declaration (full_declaration d) ≡ print_global_declaration d }
+    ensures printed_unit { (u : TranslationUnit) → print_unit (full_unit u) ≡ print_unit u }
 {}
 
 /// The printed text is the same with the spans set aside.

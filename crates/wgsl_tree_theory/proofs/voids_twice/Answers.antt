@@ -1,6 +1,16 @@
 use Rattle.wgsl_tree_theory.proofs.Twice.{statement_twice, compound_twice}
-use Rattle.wgsl_tree_theory.proofs.Modules.{declaration_twice, unit_twice}
+use Rattle.wgsl_tree_theory.proofs.Printed.{statement_printed, compound_printed}
+use Rattle.wgsl_tree_theory.proofs.Modules.{declaration_twice, declaration_printed, unit_twice, unit_printed}
 use Rattle.wgsl_tree_theory.proofs.voids_twice.Goals as goal
 
 pub returns : goal.returns
-returns c = record { statement = statement_twice; block = compound_twice; declaration = declaration_twice; unit = unit_twice }
+returns c = record {
+  statement = statement_twice;
+  block = compound_twice;
+  declaration = declaration_twice;
+  unit = unit_twice;
+  printed_statement = statement_printed;
+  printed_block = compound_printed;
+  printed_declaration = declaration_printed;
+  printed_unit = unit_printed;
+}
