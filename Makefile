@@ -10,11 +10,11 @@ demo:
 	@echo "Proved. The program is build/wgslfmt; this is examples/waves.wgsl, formatted:"
 	@./build/wgslfmt < examples/waves.wgsl
 
-# Runs everything: the proofs from nothing, the edits that must be refused, the tests, the programs, and the shaders of examples/, formatted. The last line is the verdict.
+# Runs everything: the proofs from nothing, the edits that must be refused, the tests, the programs, and the shaders of examples/, formatted, and formatted again. The last line is the verdict.
 test:
 	@test "$$(cat HANDLES)" = "Handles allowed: none."
 	@rt ci
-	@for shader in $(notdir $(wildcard examples/*.wgsl)); do ./crates/wgslfmt/out/wgslfmt < examples/$$shader | cmp - examples/printed/$$shader || exit 1; done
+	@for shader in $(notdir $(wildcard examples/*.wgsl)); do for from in examples examples/printed; do ./crates/wgslfmt/out/wgslfmt < $$from/$$shader | cmp - examples/printed/$$shader || exit 1; done; done
 
 # Runs wgslfmt in seconds, without any proof.
 try:

@@ -15,8 +15,11 @@ enum Measured {
     /// A loop over its bytes, to compare with.
     Bytes,
     Lex,
+    /// Its tokens and the tree of an expression.
     Expression,
+    /// Its tokens and the tree of a module.
     Unit,
+    /// The printing of a module that was read before.
     Print,
 }
 
@@ -32,8 +35,16 @@ impl Measured {
         }
     }
 
+    /// The module that is printed in each turn.
+    fn printed(self, alloc: Global, text: &str) -> Option<TranslationUnit> {
+        match self {
+            Measured::Print => TranslationUnit::from_str(alloc, text).ok(),
+            _ => None,
+        }
+    }
+
     /// A number that depends on all that was done, so that none of it is left out; none where the text was refused.
-    fn turn(self, alloc: Global, text: &str) -> Option<usize> {
+    fn turn(self, alloc: Global, text: &str, printed: &Option<TranslationUnit>) -> Option<usize> {
         match self {
             Measured::Bytes => Some(text.bytes().filter(|byte| *byte == b';').count()),
             Measured::Lex => Some(Lexer::new(alloc, text).ok()?.count()),
@@ -45,10 +56,7 @@ impl Measured {
                 let unit = TranslationUnit::from_str(alloc, text).ok()?;
                 Some(unit.global_declarations.len())
             }
-            Measured::Print => {
-                let unit = TranslationUnit::from_str(alloc, text).ok()?;
-                Some(unit.to_string(alloc).ok()?.len())
-            }
+            Measured::Print => Some(printed.as_ref()?.to_string(alloc).ok()?.len()),
         }
     }
 }
@@ -65,10 +73,11 @@ fn main(rt: HostRuntime) -> io::Result<()> {
         );
     };
     let text = io::read_to_string(rt.alloc(), rt.stdin())?;
+    let printed = measured.printed(rt.alloc(), text.as_str());
     let start = Instant::now(&rt)?;
     let mut sum = 0usize;
     for _ in 0..turns {
-        match measured.turn(rt.alloc(), text.as_str()) {
+        match measured.turn(rt.alloc(), text.as_str(), &printed) {
             Some(number) => sum = sum.wrapping_add(number),
             None => return println!(rt; "{what}: the text was refused"),
         }
