@@ -8,7 +8,7 @@ use Rattle.wgsl_model.specs.Classes.{SymAndEqual, SymDivisionEqual, SymEqual, Sy
 use Rattle.wgsl_model.specs.Kind.{Kind, plain}
 use Rattle.wgsl_model.specs.Operators.{AssignmentOperator}
 use Rattle.wgsl_model.specs.Statements as tree
-use Rattle.wgsl_model.specs.Statements.{DeclarationKind, ElseIfClause, ElseClause, BreakIfStatement, ContinuingStatement, StatementNode, StatementNode.statement_node, Statement, SwitchClause, StatementNodes, StatementNodes.no_statements, StatementNodes.statement_before, ElseIfClauses.else_if_before, SwitchClauses.clause_before, statements_of, else_ifs_of, else_of, clauses_of, continuing_of, maybe_statement}
+use Rattle.wgsl_model.specs.Statements.{ElseIfClause, StatementNode, StatementNode.statement_node, Statement, SwitchClause, StatementNodes, StatementNodes.no_statements, StatementNodes.statement_before, ElseIfClauses.else_if_before, SwitchClauses.clause_before, statements_of, else_ifs_of, else_of, clauses_of, continuing_of, maybe_statement}
 use Rattle.wgsl_model.specs.PrintedStatements.{is_void}
 use Rattle.wgsl_model.specs.StatementParts.{statements, assignment_operator, else_if, else_block, break_if}
 use Rattle.wgsl_model.specs.StatementsWithoutSpans.{bare_break_if, bare_statement_node, bare_statements, bare_else_if_clause, bare_else_ifs, bare_else_clause, bare_else, bare_switch_clause, bare_clauses, bare_maybe_continuing, bare_part}

@@ -8,7 +8,7 @@ use Rattle.wgsl_model.specs.Classes.{SymBraceLeft, SymBraceRight, SymColon, SymC
 use Rattle.wgsl_model.specs.Kind.{plain}
 use Rattle.wgsl_model.specs.Operators.{AssignmentOperator.equal}
 use Rattle.wgsl_model.specs.Statements as tree
-use Rattle.wgsl_model.specs.Statements.{DeclarationKind, DeclarationKind.let_kind, DeclarationKind.const_kind, CompoundStatement, Statement, StatementNode.statement_node, SwitchClause, CaseSelector, CaseSelector.default_selector, CaseSelector.expression_selector}
+use Rattle.wgsl_model.specs.Statements.{DeclarationKind.let_kind, DeclarationKind.const_kind, CompoundStatement, Statement, StatementNode.statement_node, SwitchClause, CaseSelector.default_selector, CaseSelector.expression_selector}
 use Rattle.wgsl_model.specs.StatementParts.{underscore_at, clause_of}
 use Rattle.wgsl_model.specs.WithoutSpans.{no_span, bare_expression_node}
 use Rattle.wgsl_model.specs.StatementsWithoutSpans.{bare_statement, bare_compound, bare_switch_clause}

@@ -1,8 +1,8 @@
 -- Which tokens are the name of an attribute.
-use Rattle.std.proofs.Common.{◌≡◌, ℕ, zero, suc, ◌+◌, Bool, true, false, cond, eqb, ◌&&◌, nat_le, List, [], ◌∷◌, refl, ap, arith}
+use Rattle.std.proofs.Common.{◌≡◌, ℕ, zero, suc, ◌+◌, Bool, true, cond, eqb, ◌&&◌, nat_le, List, [], ◌∷◌, refl, ap, arith}
 use Rattle.std.proofs.lemmas.Bool.Decides.{nat_tests}
 use Rattle.grammar.specs.Tokens as plain
-use Rattle.grammar.specs.States.{State, Read, done, stop, unexpected, ended, is_at, first_of, after}
+use Rattle.grammar.specs.States.{Read, done, stop, unexpected, ended, is_at, first_of, after}
 use Rattle.wgsl_model.specs.Classes.{KwAlias, Ident, ReservedWord}
 use Rattle.wgsl_model.specs.TokenValues.{word_of}
 use Rattle.wgsl_token.specs.Groups.{is_keyword, word_of_class}

@@ -1,7 +1,6 @@
 -- The code of an attribute has all but its spans.
-use Rattle.std.specs.Prelude.{ℕ, true, List, [], ◌∷◌, map, Option, Some, None, ◌≡◌, ◌↔◌}
+use Rattle.std.specs.Prelude.{ℕ, true, [], ◌∷◌, map, Option, Some, None, ◌≡◌, ◌↔◌}
 use Rattle.std.proofs.Common.{refl, ap}
-use Rattle.wgsl_model.specs.Expressions.{ExpressionNode, TypeExpression}
 use Rattle.wgsl_model.specs.Attributes.{Attribute, align, binding, blend_src, group, id, location, size, if_attribute, elif_attribute, builtin, const_attribute, invariant, must_use, vertex, fragment, compute, else_attribute, Attribute.diagnostic, Attribute.interpolate, Attribute.workgroup_size, Attribute.type_constraint, Attribute.custom, Attributes, DiagnosticAttribute, InterpolateAttribute, WorkgroupSizeAttribute, TypeConstraint, CustomAttribute}
 use Rattle.wgsl_model.specs.NamedValues.{InterpolationSampling}
 use Rattle.wgsl_model.specs.Spanned.{Spanned}

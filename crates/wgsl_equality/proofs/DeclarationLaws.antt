@@ -1,17 +1,17 @@
 -- The code of a declaration, and of a statement that holds no others, has all but its spans.
-use Rattle.std.specs.Prelude.{ℕ, zero, suc, true, List, [], ◌∷◌, Option, Some, None, ◌≡◌, ◌↔◌}
+use Rattle.std.specs.Prelude.{ℕ, true, [], ◌∷◌, Option, Some, None, ◌≡◌, ◌↔◌}
 use Rattle.std.specs.Option.{option_map}
 use Rattle.std.proofs.Common.{refl, ap}
 use Rattle.wgsl_model.specs.Operators.{AssignmentOperator, equal, plus_equal, minus_equal, times_equal, division_equal, modulo_equal, and_equal, or_equal, xor_equal, shift_right_assign, shift_left_assign}
 use Rattle.wgsl_model.specs.NamedValues.{AddressSpace, function, private, workgroup, uniform, storage, AccessMode, read, write, read_write}
-use Rattle.wgsl_model.specs.Expressions.{call, type_expression, no_template, no_expressions}
+use Rattle.wgsl_model.specs.Expressions.{call}
 use Rattle.wgsl_model.specs.Statements.{DeclarationKind, const_kind, override_kind, let_kind, var_kind, Declaration, AssignmentStatement, IncrementStatement, DecrementStatement, ReturnStatement, FunctionCallStatement, ConstAssert, BreakIfStatement, CaseSelector, default_selector, expression_selector}
-use Rattle.wgsl_model.specs.WithoutSpans.{bare_expression_node, bare_call, bare_type}
+use Rattle.wgsl_model.specs.WithoutSpans.{bare_expression_node, bare_type}
 use Rattle.wgsl_model.specs.StatementsWithoutSpans.{bare_declaration, bare_assignment, bare_increment, bare_decrement, bare_return, bare_call_statement, bare_assert, bare_break_if, bare_selector}
 use Rattle.wgsl_equality.specs.Code.{Code, number, text, pair, same, option_code}
 use Rattle.wgsl_equality.specs.Laws.{same_is}
 use Rattle.wgsl_equality.specs.NamedValues.{address_space_number, access_mode_number}
-use Rattle.wgsl_equality.specs.Expressions.{expression_node_code, call_code, type_code}
+use Rattle.wgsl_equality.specs.Expressions.{expression_node_code, type_code}
 use Rattle.wgsl_equality.specs.Declarations.{assignment_operator_number, var_template_code, declaration_kind_code, declaration_code, assignment_code, increment_code, decrement_code, return_code, call_statement_code, assert_code, break_if_code, selector_code}
 use Rattle.wgsl_equality.proofs.Parts.{value_at, number_of, text_of, option_of, option_decoded, option_coded}
 use Rattle.wgsl_equality.proofs.ExpressionLaws.{node_of, node_decoded, node_coded, call_of, call_decoded, call_coded, type_of, type_decoded, type_coded}

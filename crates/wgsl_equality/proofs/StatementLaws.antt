@@ -1,11 +1,10 @@
 -- The code of a statement has all but its spans.
-use Rattle.std.specs.Prelude.{ℕ, true, List, [], ◌∷◌, map, ◌≡◌, ◌↔◌}
-use Rattle.std.specs.Option.{option_map}
+use Rattle.std.specs.Prelude.{true, [], ◌∷◌, ◌≡◌, ◌↔◌}
 use Rattle.std.proofs.Common.{refl, ap}
-use Rattle.wgsl_model.specs.Statements.{StatementNode, statement_node, Statement, void, compound, assignment, increment, decrement, if_statement, switch_statement, loop_statement, for_statement, while_statement, break_statement, continue_statement, discard_statement, return_statement, function_call_statement, Statement.const_assert, Statement.declaration, CompoundStatement, compound_statement, IfStatement, if_else, IfClause, if_clause, ElseIfClause, else_if_clause, ElseClause, else_clause, SwitchStatement, switch, SwitchClause, switch_clause, LoopStatement, repeat, ContinuingStatement, continuing, ForStatement, repeat_for, WhileStatement, repeat_while, StatementNodes, no_statements, statement_before, ElseIfClauses, no_else_ifs, else_if_before, MaybeElseClause, no_else, one_else, SwitchClauses, no_clauses, clause_before, MaybeContinuing, no_continuing, one_continuing, MaybeStatement, no_statement, one_statement, BreakIfStatement, CaseSelector}
+use Rattle.wgsl_model.specs.Statements.{StatementNode, statement_node, Statement, void, compound, assignment, increment, decrement, if_statement, switch_statement, loop_statement, for_statement, while_statement, break_statement, continue_statement, discard_statement, return_statement, function_call_statement, Statement.const_assert, Statement.declaration, CompoundStatement, compound_statement, IfStatement, if_else, IfClause, if_clause, ElseIfClause, else_if_clause, ElseClause, else_clause, SwitchStatement, switch, SwitchClause, switch_clause, LoopStatement, repeat, ContinuingStatement, continuing, ForStatement, repeat_for, WhileStatement, repeat_while, StatementNodes, no_statements, statement_before, ElseIfClauses, no_else_ifs, else_if_before, MaybeElseClause, no_else, one_else, SwitchClauses, no_clauses, clause_before, MaybeContinuing, no_continuing, one_continuing, MaybeStatement, no_statement, one_statement}
 use Rattle.wgsl_model.specs.WithoutSpans.{no_span, bare_expression_node}
 use Rattle.wgsl_model.specs.StatementsWithoutSpans.{bare_break_if, bare_selector, bare_statement, bare_statement_node, bare_statements, bare_compound, bare_if, bare_if_clause, bare_else_if_clause, bare_else_ifs, bare_else_clause, bare_else, bare_switch, bare_clauses, bare_switch_clause, bare_loop, bare_maybe_continuing, bare_continuing, bare_for, bare_part, bare_while}
-use Rattle.wgsl_equality.specs.Code.{Code, number, pair, same, list_code, option_code}
+use Rattle.wgsl_equality.specs.Code.{Code, number, pair, same}
 use Rattle.wgsl_equality.specs.Laws.{same_is}
 use Rattle.wgsl_equality.specs.Expressions.{expression_node_code}
 use Rattle.wgsl_equality.specs.Declarations.{break_if_code, selector_code}

@@ -1,5 +1,5 @@
 -- The code of a module, and of each of its parts, has all but its spans.
-use Rattle.std.specs.Prelude.{ℕ, true, List, [], ◌∷◌, map, Option, ◌≡◌, ◌↔◌}
+use Rattle.std.specs.Prelude.{ℕ, true, List, [], ◌∷◌, map, ◌≡◌, ◌↔◌}
 use Rattle.std.proofs.Common.{refl, ap}
 use Rattle.wgsl_model.specs.Spanned.{Spanned}
 use Rattle.wgsl_model.specs.Units.{DiagnosticDirective, EnableDirective, RequiresDirective, GlobalDirective, diagnostic, enable, requires, TypeAlias, StructMember, Struct, FormalParameter, Function, GlobalDeclaration, void, declaration, type_alias, structure, function, const_assert, TranslationUnit}

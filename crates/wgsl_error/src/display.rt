@@ -1,6 +1,6 @@
 //! The texts of errors.
 
-ghost use Rattle.std.specs.Prelude.{◌≡◌, ◌++◌, Some, map, string_bytes};
+ghost use Rattle.std.specs.Prelude.{◌≡◌, Some, map, string_bytes};
 ghost use Rattle.std.specs.Fmt.{DisplaysOnOk};
 ghost use Rattle.wgsl_model.specs.Program.{shown_fault};
 ghost use Rattle.wgsl_error.specs.View.{fault_view};

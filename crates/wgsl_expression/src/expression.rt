@@ -1,10 +1,5 @@
 //! Expressions and types.
 
-ghost use Rattle.std.specs.Prelude.{◌≡◌};
-ghost use Rattle.wgsl_model.specs.PrintedExpressions.{is_abstract_int, fuses};
-ghost use Rattle.wgsl_named_values.specs.View.{unary_operator_view};
-ghost use Rattle.wgsl_expression.specs.View.{expression_view};
-
 use crate::ident::Ident;
 use crate::literal::LiteralExpression;
 use wgsl_named_values::{BinaryOperator, UnaryOperator};

@@ -1,7 +1,7 @@
 //! Laws of the grammar: each is the contract of a function that takes nothing and does nothing.
 #![tactic(auto)]
 
-ghost use Rattle.std.specs.Prelude.{◌≡◌, ◌↔◌, ℕ, true, false, List, [], ◌∷◌, ◌++◌};
+ghost use Rattle.std.specs.Prelude.{◌≡◌, ◌↔◌, true, false, List, [], ◌∷◌, ◌++◌};
 ghost use Rattle.grammar.specs.Tokens.{Token, Fault};
 ghost use Rattle.grammar.specs.Grammar.{Mode, Mode.full, Derives, IsSentence};
 ghost use Rattle.grammar.specs.Faults.{Ending, Ending.finished, FaultIn};

@@ -4,7 +4,7 @@ use Rattle.std.proofs.Common.{◌≡◌, ◌↔◌, ℕ, suc, true, false, List,
 use Rattle.std.specs.Prelude.{◌==◌, Some, None}
 use Rattle.grammar.specs.Tokens.{Token, Fault}
 use Rattle.grammar.specs.Grammar.{Mode.full, Mode.unchecked, Derives, IsViable}
-use Rattle.grammar.specs.Faults.{last_class, FaultIn, IsFirstFault, IsUnexpected, Ending, Ending.finished, Ending.carried, Answer, Answer.accepted, Answer.denied}
+use Rattle.grammar.specs.Faults.{FaultIn, IsFirstFault, IsUnexpected, Ending, Ending.finished, Ending.carried}
 use Rattle.grammar.specs.Reading.{Outcome, Outcome.ok, Outcome.stuck, Outcome.bad, Outcome.out, read_all, Says}
 use Rattle.grammar.proofs.Sets.{clash, cases}
 use Rattle.grammar.proofs.Depth.{loosen}

@@ -1,19 +1,19 @@
 -- What is left of a text inside template lists: one list of tokens, and of a source its token list.
-use Rattle.std.proofs.Common.{◌≡◌, ◌⊎◌, ◌↔◌, ℕ, zero, suc, ◌<◌, ◌≤◌, ◌-◌, Bool, true, false, eqb, eqb-true, List, [], ◌∷◌, ◌++◌, drop, length, refl, sym, ap, subst, ◌∙◌, append_assoc, append-nil, inl, inr, arith, length-append}
+use Rattle.std.proofs.Common.{◌≡◌, ◌⊎◌, ℕ, zero, suc, ◌<◌, ◌≤◌, ◌-◌, Bool, true, false, eqb, eqb-true, List, [], ◌∷◌, ◌++◌, drop, length, refl, sym, ap, subst, ◌∙◌, append_assoc, inl, inr, arith, length-append}
 use Rattle.grammar.specs.Tokens.{Token}
-use Rattle.grammar.specs.Faults.{Ending, Ending.finished, Ending.carried}
+use Rattle.grammar.specs.Faults.{Ending, Ending.finished}
 use Rattle.grammar.proofs.Sets.{cases, clash}
 use Rattle.wgsl_model.specs.Classes.{SymLessThan, TemplateArgsStart, TemplateArgsEnd}
 use Rattle.wgsl_model.specs.Kind.{Kind, plain}
 use Rattle.wgsl_model.specs.Raw.{Raw, none_left, invalid, token, raw}
-use Rattle.wgsl_model.specs.Templates.{is_word, is_opening, is_closing, NoTemplate, Inside, at_greater, at_opening, at_closing, at_template, at_other, Template}
-use Rattle.wgsl_model.specs.TokenList.{TokensOf, at_end, at_fault, before_template, before_more, IsTokenList, place, width}
+use Rattle.wgsl_model.specs.Templates.{is_word, NoTemplate, Inside, at_greater, at_opening, at_closing, at_template, at_other, Template}
+use Rattle.wgsl_model.specs.TokenList.{TokensOf, at_end, at_fault, before_template, before_more, place, width}
 use Rattle.wgsl_token_theory.proofs.Cuts.{EndsWith, EndsPast, cut_at, joined, ends_length, shorter, behind_token, behind_first}
 use Rattle.wgsl_token_theory.proofs.Widths.{within, past, past_first}
 use Rattle.wgsl_token_theory.proofs.Classes.{opening_word, closing_word}
 use Rattle.wgsl_token_theory.proofs.Bounds.{inside_leaves, template_leaves}
 use Rattle.wgsl_token_theory.proofs.Inside.{at}
-use Rattle.wgsl_token_theory.proofs.Unique.{inside_unique, template_unique, marked}
+use Rattle.wgsl_token_theory.proofs.Unique.{inside_unique, template_unique}
 use Rattle.wgsl_token_theory.proofs.Decided.{Decided, Begins, template_decided}
 use Rattle.wgsl_token_theory.proofs.Lists.{fault_at, tokens_exist}
 use Rattle.wgsl_lexer.specs.TemplateEnds.{EndsAt}

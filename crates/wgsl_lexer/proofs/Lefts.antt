@@ -1,5 +1,5 @@
 -- What a lexer has left, by what its rest begins with.
-use Rattle.std.proofs.Common.{◌≡◌, ◌↔◌, ◌<◌, ◌≤◌, ℕ, Bool, true, false, List, [], ◌∷◌, ◌++◌, Option, Some, None, Ok, Err, inl, inr, chars, drop, length, reverse, refl, sym, ap, ap₂, subst, ◌∙◌, arith}
+use Rattle.std.proofs.Common.{◌≡◌, ◌↔◌, ℕ, Bool, true, false, List, [], ◌∷◌, ◌++◌, Option, Some, None, Ok, Err, inl, inr, chars, drop, reverse, refl, sym, ap, ap₂, subst, ◌∙◌, arith}
 use Rattle.std.proofs.lemmas.Str.{chars-nil}
 use Rattle.std.proofs.lemmas.List.{reverse-append}
 use Rattle.grammar.specs.Tokens.{Token, Fault}
@@ -14,7 +14,6 @@ use Rattle.wgsl_model.specs.TokenList.{IsTokenList, place, width}
 use Rattle.wgsl_token.specs.declared.token.Token as rust
 use Rattle.wgsl_token.specs.View.{kind_view, token_view}
 use Rattle.wgsl_lexer.specs.declared.lexer.Lexer.{Lexer}
-use Rattle.wgsl_lexer.specs.OpenLists.{Leaves}
 use Rattle.wgsl_lexer.specs.TemplateEnds.{EndsAt, HasNoEnd}
 use Rattle.wgsl_lexer.specs.Left.{IsBeforeEnd, LeftOf, left_nothing, left_fault, left_end, left_start, left_token, IsLeft, HasEnded, HasToken, Gives}
 use Rattle.wgsl_lexer.specs.Given.{TokenItem}

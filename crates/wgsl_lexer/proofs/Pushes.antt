@@ -1,5 +1,5 @@
 -- The classes of kinds in a list that grows, and is cut back.
-use Rattle.std.proofs.Common.{◌≡◌, ◌≤◌, ℕ, zero, suc, ◌+◌, ◌-◌, arith, refl, length-drop, List, [], ◌∷◌, ◌++◌, take, drop, length, map, sym, ap, ◌∙◌, append_assoc, length-append}
+use Rattle.std.proofs.Common.{◌≡◌, ◌≤◌, ℕ, zero, suc, ◌+◌, ◌-◌, arith, refl, length-drop, List, [], ◌∷◌, ◌++◌, take, drop, length, map, sym, ap, ◌∙◌, append_assoc}
 use Rattle.std.proofs.lemmas.List.{length-map, map-append, take-map, drop-map}
 use Rattle.std.proofs.Math.Seq.{take-append_seam, drop-append_seam}
 use Rattle.wgsl_token.specs.declared.kind.TokenKind.{TokenKind}

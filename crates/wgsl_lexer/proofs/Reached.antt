@@ -1,17 +1,16 @@
 -- What was read of a template list, up to some place in it.
-use Rattle.std.proofs.Common.{◌≡◌, ◌≤◌, ◌⊎◌, ◌↔◌, ℕ, zero, suc, arith, Bool, true, false, List, [], ◌∷◌, ◌++◌, drop, map, refl, sym, ap, ap₂, subst, ◌∙◌, append-nil, append_assoc, inl, inr, Some, None}
+use Rattle.std.proofs.Common.{◌≡◌, ◌≤◌, ◌⊎◌, ℕ, suc, arith, Bool, true, false, List, [], ◌∷◌, ◌++◌, drop, map, refl, sym, ap, ap₂, subst, ◌∙◌, append-nil, append_assoc, inl, inr}
 use Rattle.std.proofs.lemmas.List.{map-append}
 use Rattle.grammar.specs.Tokens.{Token}
 use Rattle.grammar.specs.Grammar.{is_among}
-use Rattle.grammar.proofs.Sets.{clash}
 use Rattle.wgsl_model.specs.Classes.{SymLessThan, TemplateArgsStart, TemplateArgsEnd}
 use Rattle.wgsl_model.specs.Kind.{Kind, plain}
 use Rattle.wgsl_model.specs.Raw.{Raw, none_left, invalid, token, raw}
 use Rattle.wgsl_model.specs.Templates.{is_word, is_opening, is_closing, begins_with_greater, is_short_circuit, goes_on, NoTemplate, Inside, at_greater, at_opening, at_closing, Enclosed, enclosed, Template}
 use Rattle.wgsl_token_theory.specs.Refuted.{in_no_expression}
-use Rattle.wgsl_token_theory.proofs.Classes.{false_where, opening_word, closing_word}
+use Rattle.wgsl_token_theory.proofs.Classes.{opening_word, closing_word}
 use Rattle.wgsl_token_theory.proofs.Bounds.{template_is}
-use Rattle.wgsl_token_theory.proofs.Inside.{at, Step, greater_step, opening_step, closing_step, template_step, other_step, step_at, Behind, behind_list, behind_none, from_greater, from_opening, from_closing, from_short_circuit, from_other, to_other}
+use Rattle.wgsl_token_theory.proofs.Inside.{at, Step, greater_step, opening_step, closing_step, template_step, other_step, step_at, Behind, behind_list, behind_none, from_opening, from_closing, from_short_circuit, from_other, to_other}
 use Rattle.wgsl_token_theory.proofs.Unique.{inside_unique, template_unique, marked}
 use Rattle.wgsl_token_theory.proofs.Decided.{enclosed_kind}
 use Rattle.wgsl_token_theory.proofs.Refuted.{refuted, none_greater}

@@ -1,8 +1,7 @@
 -- Whether a source begins with a template list, by what was found behind its first token.
-use Rattle.std.proofs.Common.{◌≡◌, ◌↔◌, ◌∙◌, sym, ℕ, true, false, List, [], drop, chars, Option, Some, None, IsTrue, refl}
+use Rattle.std.proofs.Common.{◌≡◌, ◌↔◌, ◌∙◌, sym, ℕ, true, List, drop, chars, Option, Some, None, IsTrue, refl}
 use Rattle.std.specs.Prelude.{is_some}
 use Rattle.std.specs.Borrow.{Bor}
-use Rattle.grammar.specs.Tokens.{Token}
 use Rattle.wgsl_model.specs.Kind.{Kind}
 use Rattle.wgsl_model.specs.Raw.{token, raw}
 use Rattle.wgsl_model.specs.TokenList.{width}

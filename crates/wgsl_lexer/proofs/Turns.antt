@@ -1,9 +1,8 @@
 -- What a token does, by its class.
-use Rattle.std.proofs.Common.{◌≡◌, ℕ, zero, suc, Bool, true, false, refl, sym, ap, ◌∙◌, inl, inr}
+use Rattle.std.proofs.Common.{◌≡◌, ℕ, zero, suc, Bool, true, false, refl, inl, inr}
 use Rattle.std.specs.Prelude.{if◌then◌else◌}
 use Rattle.grammar.specs.Grammar.{is_among}
-use Rattle.grammar.proofs.Sets.{cases}
-use Rattle.wgsl_model.specs.Templates.{is_opening, is_closing, begins_with_greater, is_short_circuit, goes_on}
+use Rattle.wgsl_model.specs.Templates.{is_opening, is_closing, begins_with_greater, is_short_circuit}
 use Rattle.wgsl_token_theory.specs.Refuted.{in_no_expression}
 use Rattle.wgsl_token_theory.proofs.Classes.{goes_on_zero, goes_on_deeper}
 use Rattle.wgsl_lexer.specs.Roles.{role, turn, turn_by}

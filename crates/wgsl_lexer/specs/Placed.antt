@@ -6,7 +6,6 @@ use Rattle.wgsl_token.specs.Placed.{placed_view}
 use Rattle.wgsl_error.specs.declared.ParseError.{ParseError}
 use Rattle.wgsl_error.specs.declared.ParseError.TheVariants as parse
 use Rattle.wgsl_error.specs.View.{parse_error_fault}
-use Rattle.wgsl_token.specs.declared.placed.PlacedToken.{PlacedToken}
 use Rattle.wgsl_lexer.specs.declared.collect.Collected.{Collected}
 
 -- an error, from its start to its end

@@ -1,6 +1,6 @@
 //! The tokens of a text, one after the other.
 
-ghost use Rattle.std.specs.Prelude.{◌≡◌, ◌⊎◌, ◌≤◌, ◌<◌, ℕ, ◌↔◌, List, ◌∷◌, ◌++◌, chars, length, IfOk, IsTrue};
+ghost use Rattle.std.specs.Prelude.{◌≡◌, ◌⊎◌, ◌≤◌, ◌<◌, ◌↔◌, List, ◌∷◌, ◌++◌, chars, length, IfOk, IsTrue};
 ghost use Rattle.std.specs.Iterator.{at_most};
 ghost use Rattle.grammar.specs.Tokens as grammar;
 ghost use Rattle.grammar.specs.Faults.{Ending};

@@ -1,6 +1,6 @@
 //! Where template lists end (WGSL, section 3.9, "Template Lists").
 
-ghost use Rattle.std.specs.Prelude.{◌≡◌, ◌<◌, ◌≤◌, ◌+◌, ◌==◌, ◌^◌, ⊤, ℕ, List, chars, drop, length, IfOk, MatchOption};
+ghost use Rattle.std.specs.Prelude.{◌≡◌, ◌<◌, ◌≤◌, ◌+◌, ◌==◌, ◌^◌, ⊤, ℕ, chars, drop, length, IfOk, MatchOption};
 ghost use Rattle.wgsl_model.specs.Classes.{SymLessThan};
 ghost use Rattle.wgsl_model.specs.Templates.{is_word};
 ghost use Rattle.wgsl_token.specs.View.{class_of_kind};

@@ -4,7 +4,7 @@ use Rattle.std.specs.Prelude.{pos}
 use Rattle.std.specs.Fmt.{decimal, signed_decimal}
 use Rattle.wgsl_model.specs.Operators.{negation, subtraction, multiplication}
 use Rattle.wgsl_model.specs.Expressions.{LiteralExpression.abstract_int, LiteralExpression.boolean, LiteralExpression.u32, ExpressionNode, expression_node, Expression, literal, unary, binary, named_component, type_or_identifier, call, type_expression, no_template, no_expressions}
-use Rattle.wgsl_model.specs.Statements.{Statement, Statement.void, compound, loop_statement, function_call_statement, CompoundStatement, compound_statement, repeat, continuing, one_continuing, statement_node, StatementNodes, no_statements, statement_before, BreakIfStatement}
+use Rattle.wgsl_model.specs.Statements.{Statement, Statement.void, compound, loop_statement, function_call_statement, CompoundStatement, compound_statement, repeat, continuing, one_continuing, statement_node, StatementNodes, no_statements, statement_before}
 use Rattle.wgsl_model.specs.WithoutSpans.{no_span}
 use Rattle.wgsl_model.specs.PrintedExpressions.{print_expression}
 use Rattle.wgsl_model.specs.PrintedStatements.{print_statement}

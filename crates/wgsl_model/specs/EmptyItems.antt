@@ -1,7 +1,7 @@
 -- Trees without the empty items of their lists. An empty item that is itself the value, or the part of a `for` header, stays.
-use Rattle.std.specs.Prelude.{Bool, List, [], ◌∷◌, if◌then◌else◌}
+use Rattle.std.specs.Prelude.{List, [], ◌∷◌, if◌then◌else◌}
 use Rattle.wgsl_model.specs.Spanned.{Spanned}
-use Rattle.wgsl_model.specs.Statements.{StatementNode, statement_node, Statement, compound, if_statement, switch_statement, loop_statement, for_statement, while_statement, CompoundStatement, compound_statement, IfStatement, if_else, IfClause, if_clause, ElseIfClause, else_if_clause, ElseClause, else_clause, SwitchStatement, switch, SwitchClause, switch_clause, LoopStatement, repeat, ContinuingStatement, continuing, ForStatement, repeat_for, WhileStatement, repeat_while, StatementNodes, no_statements, statement_before, ElseIfClauses, no_else_ifs, else_if_before, MaybeElseClause, no_else, one_else, SwitchClauses, no_clauses, clause_before, MaybeContinuing, no_continuing, one_continuing, MaybeStatement, no_statement, one_statement}
+use Rattle.wgsl_model.specs.Statements.{statement_node, Statement, compound, if_statement, switch_statement, loop_statement, for_statement, while_statement, CompoundStatement, compound_statement, IfStatement, if_else, IfClause, if_clause, ElseIfClause, else_if_clause, ElseClause, else_clause, SwitchStatement, switch, SwitchClause, switch_clause, LoopStatement, repeat, ContinuingStatement, continuing, ForStatement, repeat_for, WhileStatement, repeat_while, StatementNodes, no_statements, statement_before, ElseIfClauses, no_else_ifs, else_if_before, MaybeElseClause, no_else, one_else, SwitchClauses, no_clauses, clause_before, MaybeContinuing, no_continuing, one_continuing, MaybeStatement, no_statement, one_statement}
 use Rattle.wgsl_model.specs.Units.{Function, GlobalDeclaration, GlobalDeclaration.function, TranslationUnit}
 use Rattle.wgsl_model.specs.PrintedStatements as statements
 use Rattle.wgsl_model.specs.PrintedUnits as units

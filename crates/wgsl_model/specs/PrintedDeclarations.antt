@@ -1,5 +1,5 @@
 -- The printed texts of the declarations of values, and of the statements that hold no others.
-use Rattle.std.specs.Prelude.{ℕ, List, [], ◌∷◌, ◌++◌, Option, Some, None, codes}
+use Rattle.std.specs.Prelude.{ℕ, List, [], ◌++◌, Option, Some, None, codes}
 use Rattle.wgsl_model.specs.NamedValues.{AddressSpace, AccessMode}
 use Rattle.wgsl_model.specs.NamedValueTexts.{access_mode_text, address_space_text}
 use Rattle.wgsl_model.specs.OperatorTexts.{assignment_operator_text}

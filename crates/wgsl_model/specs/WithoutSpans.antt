@@ -1,5 +1,5 @@
 -- Trees with their spans set aside: each span is 0 to 0.
-use Rattle.std.specs.Prelude.{List, [], ◌∷◌, map, Option, Some, None}
+use Rattle.std.specs.Prelude.{map}
 use Rattle.std.specs.Option.{option_map}
 use Rattle.grammar.specs.Tokens.{Span}
 use Rattle.wgsl_model.specs.Spanned.{Spanned}

@@ -7,7 +7,7 @@ use Rattle.unicode_ident.proofs.IdentLemmas.{is_xid_start-ascii}
 use Rattle.wgsl_model.specs.Classes.{AbstractInt, I32, U32, AbstractFloat, F32, F16, SymPeriod}
 use Rattle.wgsl_model.specs.Kind.{Kind}
 use Rattle.wgsl_model.specs.Numbers as model
-use Rattle.wgsl_model.specs.Numbers.{whole_number, number_of, number_value, digits_value, without_last, below, float_of, i_suffix, u_suffix, abstract_float, f_suffix, h_suffix}
+use Rattle.wgsl_model.specs.Numbers.{whole_number, number_of, number_value, digits_value, without_last, below, i_suffix, u_suffix, abstract_float, f_suffix, h_suffix}
 use Rattle.wgsl_model.specs.Pattern.{Pattern, empty, either, spells, after_spelling}
 use Rattle.wgsl_model.specs.Raw.{raw_at, value, valued, front}
 use Rattle.wgsl_model.specs.Spelling.{spelling}

@@ -1,4 +1,4 @@
--- Which variant a statement, a kind of declaration or a selector is.
+-- Which variant a statement is.
 use Rattle.std.specs.Prelude.{Bool, true, false}
 use Rattle.wgsl_model.specs.Statements as plain
 

@@ -1,4 +1,4 @@
--- Statements and declarations of values as plain data.
+-- Statements as plain data.
 use Rattle.std.specs.Prelude.{List, [], ◌∷◌, Option, None, Some, map}
 use Rattle.std.specs.Option.{option_map}
 use Rattle.wgsl_model.specs.Statements as plain

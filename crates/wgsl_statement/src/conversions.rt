@@ -1,27 +1,20 @@
-//! What becomes a statement or a part of one.
+//! What becomes a statement, and the block without statements.
 
-ghost use Rattle.std.specs.Prelude.{◌≡◌, Some, [], IfOk};
-ghost use Rattle.wgsl_model.specs.Expressions.{expression_node};
+ghost use Rattle.std.specs.Prelude.{◌≡◌, []};
 ghost use Rattle.wgsl_model.specs.Statements.{compound_statement, no_statements};
-ghost use Rattle.wgsl_model.specs.WithoutSpans.{no_span};
-ghost use Rattle.wgsl_expression.specs.View.{expression_view};
-ghost use Rattle.wgsl_simple_statement.specs.View.{return_view, assert_view};
 ghost use Rattle.wgsl_statement.specs.View.{compound_statement_view};
-ghost use Rattle.wgsl_simple_statement.specs.declared.simple.CaseSelector.TheVariants as selector;
 ghost use Rattle.wgsl_statement.specs.declared.statement.Statement.TheVariants as statement;
 
 use crate::statement::{
     CompoundStatement, ForStatement, IfStatement, LoopStatement, Statement, SwitchStatement,
     WhileStatement,
 };
-use std::alloc::{AllocError, Global};
-use wgsl_expression::{Expression, ExpressionNode, FunctionCall};
+use std::alloc::Global;
 use wgsl_simple_statement::{
-    AssignmentStatement, BreakStatement, CaseSelector, ConstAssert, ContinueStatement, Declaration,
+    AssignmentStatement, BreakStatement, ConstAssert, ContinueStatement, Declaration,
     DecrementStatement, DiscardStatement, FunctionCallStatement, IncrementStatement,
     ReturnStatement,
 };
-use wgsl_span::Spanned;
 
 impl From<CompoundStatement> for Statement {
     ghost from_gives = { λ inner made. made ≡ statement.Compound inner };

@@ -1,22 +1,19 @@
-//! Which variant a statement, a selector or a kind of declaration is, and its payload.
+//! Which variant a statement is, and its payload.
 
 ghost use Rattle.std.specs.Prelude.{◌≡◌, IsTrue};
 ghost use Rattle.wgsl_model.specs.PrintedStatements.{is_void};
-ghost use Rattle.wgsl_simple_statement.specs.View.{declaration_kind_view, selector_view};
 ghost use Rattle.wgsl_statement.specs.View.{statement_view};
 ghost use Rattle.wgsl_statement.specs.Variants.{is_compound, is_assignment, is_increment, is_decrement, is_if, is_switch, is_loop, is_for, is_while, is_break, is_continue, is_return, is_discard, is_function_call, is_const_assert, is_declaration};
-ghost use Rattle.wgsl_simple_statement.specs.declared.simple.CaseSelector.TheVariants as selector;
 ghost use Rattle.wgsl_statement.specs.declared.statement.Statement.TheVariants as statement;
 
 use crate::statement::{
     CompoundStatement, ForStatement, IfStatement, LoopStatement, Statement, SwitchStatement,
     WhileStatement,
 };
-use wgsl_expression::ExpressionNode;
 use wgsl_simple_statement::{
-    AssignmentStatement, BreakStatement, CaseSelector, ConstAssert, ContinueStatement, Declaration,
-    DeclarationKind, DecrementStatement, DiscardStatement, FunctionCallStatement,
-    IncrementStatement, ReturnStatement,
+    AssignmentStatement, BreakStatement, ConstAssert, ContinueStatement, Declaration,
+    DecrementStatement, DiscardStatement, FunctionCallStatement, IncrementStatement,
+    ReturnStatement,
 };
 
 impl Statement {

@@ -8,7 +8,7 @@ use Rattle.wgsl_model.specs.Classes.{SymAndEqual, SymColon, SymDivisionEqual, Sy
 use Rattle.wgsl_model.specs.Kind.{Kind, plain}
 use Rattle.wgsl_model.specs.Operators.{AssignmentOperator}
 use Rattle.wgsl_model.specs.Statements as tree
-use Rattle.wgsl_model.specs.Statements.{CompoundStatement, ElseIfClause, StatementNode, StatementNode.statement_node, Statement, SwitchClause, statements_of, else_ifs_of, else_of, clauses_of, continuing_of, maybe_statement}
+use Rattle.wgsl_model.specs.Statements.{CompoundStatement, StatementNode, StatementNode.statement_node, statements_of, else_ifs_of, else_of, clauses_of, continuing_of, maybe_statement}
 use Rattle.wgsl_model.specs.PrintedStatements.{is_void}
 use Rattle.wgsl_model.specs.StatementParts.{statements, initializer, var_kind, assignment_operator, else_if, else_block, break_if}
 use Rattle.wgsl_model.specs.Symbols.{compound_statement, switch_clause, continuing_statement, Rule}

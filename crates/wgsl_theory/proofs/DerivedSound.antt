@@ -9,7 +9,7 @@ use Rattle.wgsl_model.specs.Spanned.{Spanned}
 use Rattle.wgsl_model.specs.Expressions.{ExpressionNode, expression_node, Expression, expressions_of, template_of}
 use Rattle.wgsl_model.specs.Attributes.{Attribute}
 use Rattle.wgsl_model.specs.Statements as tree
-use Rattle.wgsl_model.specs.Statements.{DeclarationKind, StatementNode, statement_node, Statement, CompoundStatement, ElseIfClause, ElseClause, else_clause, SwitchClause, ContinuingStatement, BreakIfStatement, CaseSelector, statements_of, else_ifs_of, else_of, clauses_of, continuing_of, maybe_statement}
+use Rattle.wgsl_model.specs.Statements.{DeclarationKind, StatementNode, statement_node, Statement, ElseIfClause, ElseClause, else_clause, SwitchClause, ContinuingStatement, statements_of, else_ifs_of, else_of, clauses_of, continuing_of, maybe_statement}
 use Rattle.wgsl_model.specs.TokenValues.{text_of, literal_of}
 use Rattle.wgsl_model.specs.Checks.{unreserved, attribute_parts, attribute_fault, attribute_node, var_kind_of}
 use Rattle.wgsl_model.specs.ExpressionParts.{placed_expression, type_of, call_of, index_of, component_of, with_component, unary_of, binary_of, operation_of, negation_of, negated_product_of, two, two_or_more, unary_operator, multiplicative_operator, additive_operator, relational_operator}

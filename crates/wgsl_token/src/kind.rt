@@ -1,6 +1,6 @@
 //! Which token it is, without what it holds.
 
-ghost use Rattle.std.specs.Prelude.{◌≡◌, ◌++◌, List, ℕ};
+ghost use Rattle.std.specs.Prelude.{◌≡◌, ◌++◌};
 ghost use Rattle.wgsl_token.specs.Groups.{word_of_class};
 ghost use Rattle.wgsl_token.specs.View.{class_of_kind};
 

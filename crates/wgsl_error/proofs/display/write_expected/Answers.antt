@@ -1,4 +1,4 @@
-use Rattle.std.proofs.Common.{rules, ◌≡◌, refl, ◌∙◌, ap, List, [], ◌∷◌, codes, map, string_bytes}
+use Rattle.std.proofs.Common.{rules, refl, ap, codes, map, string_bytes}
 use Rattle.std.proofs.Output.{has_written_append, has_written_of_eq}
 use Rattle.std.proofs.lemmas.List.{map-id}
 use Rattle.wgsl_model.specs.Joining.{joined}

@@ -1,4 +1,4 @@
-use Rattle.std.proofs.Common.{rules, arith, ◌≡◌, ◌++◌, ◌∷◌, ℕ, ◌∙◌, sym, ap, subst, eqb-true, ◌+◌, length, chars, [], None, refl}
+use Rattle.std.proofs.Common.{rules, arith, ◌≡◌, ◌++◌, ◌∷◌, ◌∙◌, sym, ap, subst, eqb-true, ◌+◌, length, chars, [], refl}
 use Rattle.grammar.proofs.Sets.{clash}
 use Rattle.wgsl_model.specs.Classes.{SymLessThan, TemplateArgsStart, TemplateArgsEnd}
 use Rattle.wgsl_token.specs.declared.kind.TokenKind.TheVariants as kind
@@ -7,7 +7,7 @@ use Rattle.wgsl_token.specs.View.{class_of_kind}
 use Rattle.wgsl_scanner.specs.View.{lexeme_view, scanned_view}
 use Rattle.wgsl_recognizer.specs.ExpressionLists.{classes, classes_of}
 use Rattle.wgsl_lexer.specs.Roles.{turn}
-use Rattle.wgsl_lexer.specs.TemplateEnds.{HasNoEnd, ReadsInside, ReadsBehind}
+use Rattle.wgsl_lexer.specs.TemplateEnds.{ReadsInside, ReadsBehind}
 use Rattle.wgsl_lexer.specs.declared.template.Turn.TheVariants as turn
 use Rattle.wgsl_lexer.proofs.Reached.{takes, takes_list, ends, refutes, nothing_follows, not_ended, moved, taken_within}
 use Rattle.wgsl_lexer.proofs.Turns.{IsTurn, turn_is}

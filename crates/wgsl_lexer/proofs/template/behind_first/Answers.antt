@@ -1,4 +1,4 @@
-use Rattle.std.proofs.Common.{◌≡◌, ◌++◌, arith, chars, drop, length, sym, ap}
+use Rattle.std.proofs.Common.{◌≡◌, ◌++◌, arith, drop, length, sym, ap}
 use Rattle.std.proofs.lemmas.Grind.{common_steps}
 use Rattle.std.proofs.lemmas.Str.{chars_past_char}
 use Rattle.std.specs.Char.{encode_utf8}

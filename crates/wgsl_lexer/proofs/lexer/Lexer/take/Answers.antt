@@ -1,4 +1,4 @@
-use Rattle.std.proofs.Common.{◌≡◌, ◌∷◌, ℕ, ◌∙◌, sym, ap, ap₂, subst, false, chars}
+use Rattle.std.proofs.Common.{◌∷◌, ◌∙◌, sym, ap, ap₂, subst, false, chars}
 use Rattle.wgsl_model.specs.Templates.{is_word}
 use Rattle.wgsl_token.specs.View.{class_of_kind}
 use Rattle.wgsl_scanner.specs.View.{lexeme_view}

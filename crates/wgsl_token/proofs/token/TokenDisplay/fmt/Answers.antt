@@ -1,4 +1,4 @@
-use Rattle.std.proofs.Common.{◌≡◌, ap, ◌∙◌}
+use Rattle.std.proofs.Common.{ap, ◌∙◌}
 use Rattle.std.proofs.Output.{has_written_of_eq}
 use Rattle.wgsl_token.specs.Groups.{word_of_class}
 use Rattle.wgsl_token.proofs.Texts.{text_of-plain}
