@@ -9,8 +9,6 @@ mod rules;
 mod statements;
 mod step;
 mod symbol;
-#[cfg(test)]
-mod tests;
 mod units;
 
 pub use recognize::recognize_str;

@@ -51,6 +51,3 @@ pub struct Error {
 impl std::error::Error for ErrorKind {}
 
 impl std::error::Error for Error {}
-
-#[cfg(test)]
-mod tests;

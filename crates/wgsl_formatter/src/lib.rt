@@ -3,8 +3,6 @@
 
 mod report;
 mod streams;
-#[cfg(test)]
-mod tests;
 
 ghost use Rattle.std.specs.Prelude.{◌≡◌, ◌⊎◌, ◌≤◌, ◌<◌, ℕ, List};
 ghost use Rattle.std.specs.Io.KnownBytes.{Appends, IsAtEnd};

@@ -6,8 +6,6 @@ pub mod laws;
 mod lexer;
 mod open_lists;
 mod template;
-#[cfg(test)]
-mod tests;
 mod token_iterator;
 
 pub use collect::{Collected, collect_tokens};

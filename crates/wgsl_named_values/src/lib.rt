@@ -12,6 +12,3 @@ pub use interpolation::{InterpolationSampling, InterpolationType};
 pub use memory::{AccessMode, AddressSpace};
 pub use operators::{AssignmentOperator, BinaryOperator, UnaryOperator};
 pub use severity::DiagnosticSeverity;
-
-#[cfg(test)]
-mod tests;

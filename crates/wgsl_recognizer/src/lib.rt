@@ -4,7 +4,5 @@
 mod expression;
 mod list;
 mod next;
-#[cfg(test)]
-mod tests;
 
 pub use list::is_expression_list;

@@ -2,12 +2,6 @@
 #![tactic(auto)]
 
 #[cfg(test)]
-mod copied_declarations;
-#[cfg(test)]
-mod copied_expressions;
-#[cfg(test)]
-mod copied_statements;
-#[cfg(test)]
 mod declarations;
 #[cfg(test)]
 mod depth;
@@ -15,8 +9,6 @@ mod depth;
 mod dialect;
 #[cfg(test)]
 mod directives;
-#[cfg(test)]
-mod empty_items;
 #[cfg(test)]
 mod expected;
 #[cfg(test)]

@@ -93,17 +93,3 @@ pub(crate) fn assert_refused<T: FromSource + Drop>(
     assert_eq!(rt; told.as_str(), wanted, "at {text}");
     Ok(())
 }
-
-/// The text is printed of the node and of its copy, and the two are equal.
-pub(crate) fn assert_copied<T: fmt::Display + PartialEq + Drop>(
-    rt: &impl Abort,
-    alloc: Global,
-    node: &T,
-    copy: T,
-    wanted: &str,
-) -> Result<(), Fail> {
-    assert_eq!(rt; format!(in alloc; "{node}")?.as_str(), wanted);
-    assert_eq!(rt; format!(in alloc; "{copy}")?.as_str(), wanted, "the copy");
-    assert!(rt; copy == *node, "the copy of {wanted}");
-    Ok(())
-}

@@ -11,8 +11,6 @@ mod number;
 mod reserved;
 pub mod scan;
 mod symbol;
-#[cfg(test)]
-mod tests;
 mod text;
 mod trivia;
 mod word;

@@ -9,6 +9,3 @@ mod syntax_node;
 
 pub use attribute_list::{has_attribute, no_attributes, retain_nodes};
 pub use syntax_node::{BareNode, SyntaxNode};
-
-#[cfg(test)]
-mod tests;

@@ -3,6 +3,4 @@
 
 pub mod kind;
 pub mod placed;
-#[cfg(test)]
-mod tests;
 pub mod token;

@@ -1,122 +1,131 @@
 //! Printed texts and copies of attributes made by hand.
 
-use crate::nodes::{ident, integer, name, text};
-use std::alloc::Global;
+use crate::nodes::{assert_text, ident, integer, name, text};
+use std::alloc::{AllocError, Global};
 use std::test::Fail;
 use wgsl_attribute::{
     Attribute, AttributesBefore, CustomAttribute, DiagnosticAttribute, InterpolateAttribute,
     TypeConstraint, WorkgroupSizeAttribute,
 };
-use wgsl_expression::TypeExpression;
+use wgsl_expression::{ExpressionNode, TypeExpression};
 use wgsl_named_values::{
     BuiltinValue, DiagnosticSeverity, InterpolationSampling, InterpolationType,
 };
 use wgsl_span::Spanned;
 
-/// Attributes with one expression or with none, each with its printed text.
-fn simple(alloc: Global) -> Result<Vec<(Attribute, &'static str)>, Fail> {
-    Ok(vec![in alloc;
-        (Attribute::Align(integer(alloc, 4)?), "@align(4)"),
-        (Attribute::Binding(integer(alloc, 0)?), "@binding(0)"),
-        (Attribute::BlendSrc(integer(alloc, 1)?), "@blend_src(1)"),
-        (Attribute::Group(integer(alloc, 2)?), "@group(2)"),
-        (Attribute::Id(integer(alloc, 3)?), "@id(3)"),
-        (Attribute::Location(integer(alloc, 5)?), "@location(5)"),
-        (Attribute::Size(integer(alloc, 16)?), "@size(16)"),
-        (Attribute::If(name(alloc, "a")?), "@if(a)"),
-        (Attribute::Elif(name(alloc, "b")?), "@elif(b)"),
-        (Attribute::Const, "@const"),
-        (Attribute::Invariant, "@invariant"),
-        (Attribute::MustUse, "@must_use"),
-        (Attribute::Vertex, "@vertex"),
-        (Attribute::Fragment, "@fragment"),
-        (Attribute::Compute, "@compute"),
-        (Attribute::Else, "@else"),
-    ]?)
+#[test]
+fn without_arguments(rt: HostRuntime) -> Result<(), Fail> {
+    let alloc = rt.alloc();
+    let clone = Attribute::clone;
+    assert_text(&rt, alloc, Attribute::Const, clone, "@const")?;
+    assert_text(&rt, alloc, Attribute::Invariant, clone, "@invariant")?;
+    assert_text(&rt, alloc, Attribute::MustUse, clone, "@must_use")?;
+    assert_text(&rt, alloc, Attribute::Vertex, clone, "@vertex")?;
+    assert_text(&rt, alloc, Attribute::Fragment, clone, "@fragment")?;
+    assert_text(&rt, alloc, Attribute::Compute, clone, "@compute")?;
+    assert_text(&rt, alloc, Attribute::Else, clone, "@else")
 }
 
-/// Attributes with other arguments, each with its printed text.
-fn further(alloc: Global) -> Result<Vec<(Attribute, &'static str)>, Fail> {
-    let diagnostic = DiagnosticAttribute {
-        severity: DiagnosticSeverity::Off,
-        rule: text(alloc, "x.y")?,
-    };
-    let flat = InterpolateAttribute {
-        ty: InterpolationType::Flat,
-        sampling: None,
-    };
-    let linear = InterpolateAttribute {
-        ty: InterpolationType::Linear,
-        sampling: Some(InterpolationSampling::Sample),
-    };
-    let one = WorkgroupSizeAttribute {
+#[test]
+fn of_one_expression(rt: HostRuntime) -> Result<(), Fail> {
+    let alloc = rt.alloc();
+    let attribute = Attribute::Align(integer(alloc, 4)?);
+    assert_text(&rt, alloc, attribute, Attribute::clone, "@align(4)")?;
+    let attribute = Attribute::Binding(integer(alloc, 0)?);
+    assert_text(&rt, alloc, attribute, Attribute::clone, "@binding(0)")?;
+    let attribute = Attribute::BlendSrc(integer(alloc, 1)?);
+    assert_text(&rt, alloc, attribute, Attribute::clone, "@blend_src(1)")?;
+    let attribute = Attribute::Group(integer(alloc, 2)?);
+    assert_text(&rt, alloc, attribute, Attribute::clone, "@group(2)")?;
+    let attribute = Attribute::Id(integer(alloc, 3)?);
+    assert_text(&rt, alloc, attribute, Attribute::clone, "@id(3)")?;
+    let attribute = Attribute::Location(integer(alloc, 5)?);
+    assert_text(&rt, alloc, attribute, Attribute::clone, "@location(5)")?;
+    let attribute = Attribute::Size(integer(alloc, 16)?);
+    assert_text(&rt, alloc, attribute, Attribute::clone, "@size(16)")?;
+    let attribute = Attribute::If(name(alloc, "a")?);
+    assert_text(&rt, alloc, attribute, Attribute::clone, "@if(a)")?;
+    let attribute = Attribute::Elif(name(alloc, "b")?);
+    assert_text(&rt, alloc, attribute, Attribute::clone, "@elif(b)")
+}
+
+/// A size of one number, or of two numbers and a name.
+fn size(alloc: Global, full: bool) -> Result<Attribute, AllocError> {
+    let mut size = WorkgroupSizeAttribute {
         x: integer(alloc, 8)?,
         y: None,
         z: None,
     };
-    let three = WorkgroupSizeAttribute {
-        x: integer(alloc, 8)?,
-        y: Some(integer(alloc, 4)?),
-        z: Some(name(alloc, "n")?),
-    };
+    if full {
+        size.y = Some(integer(alloc, 4)?);
+        size.z = Some(name(alloc, "n")?);
+    }
+    Ok(Attribute::from(size))
+}
+
+fn constraint(alloc: Global) -> Result<Attribute, Fail> {
     let types = vec![in alloc;
         TypeExpression::new(ident(alloc, "f32")?),
         TypeExpression::new(ident(alloc, "u32")?),
     ]?;
-    Ok(vec![in alloc;
-        (
-            Attribute::from(BuiltinValue::Position),
-            "@builtin(position)"
-        ),
-        (Attribute::from(diagnostic), "@diagnostic(off, x.y)"),
-        (Attribute::from(flat), "@interpolate(flat)"),
-        (Attribute::from(linear), "@interpolate(linear, sample)"),
-        (Attribute::from(one), "@workgroup_size(8)"),
-        (Attribute::from(three), "@workgroup_size(8, 4, n)"),
-        (
-            Attribute::from(TypeConstraint::from((ident(alloc, "T")?, types))),
-            "@type(T, f32 | u32)"
-        ),
-    ]?)
+    Ok(Attribute::from(TypeConstraint::from((ident(alloc, "T")?, types))))
 }
 
-/// Attributes of other names, each with its printed text.
-fn custom(alloc: Global) -> Result<Vec<(Attribute, &'static str)>, Fail> {
-    let plain = CustomAttribute {
-        name: text(alloc, "a")?,
-        arguments: None,
-    };
-    let empty = CustomAttribute {
-        name: text(alloc, "b")?,
-        arguments: Some(Vec::new(alloc)),
-    };
-    let two = CustomAttribute {
-        name: text(alloc, "c")?,
-        arguments: Some(vec![in alloc; integer(alloc, 1)?, name(alloc, "n")?]?),
-    };
-    Ok(vec![in alloc;
-        (Attribute::from(plain), "@a"),
-        (Attribute::from(empty), "@b()"),
-        (Attribute::from(two), "@c(1, n)"),
-    ]?)
+fn interpolate(ty: InterpolationType, sampling: Option<InterpolationSampling>) -> Attribute {
+    Attribute::from(InterpolateAttribute { ty, sampling })
 }
 
 #[test]
-fn texts_and_copies(rt: HostRuntime) -> Result<(), Fail> {
+fn of_other_arguments(rt: HostRuntime) -> Result<(), Fail> {
     let alloc = rt.alloc();
-    let mut samples = simple(alloc)?;
-    samples.append(&mut further(alloc)?)?;
-    samples.append(&mut custom(alloc)?)?;
-    let mut last = Attribute::Custom(CustomAttribute {
-        name: text(alloc, "last")?,
-        arguments: None,
+    let clone = Attribute::clone;
+    let builtin = Attribute::from(BuiltinValue::Position);
+    assert_text(&rt, alloc, builtin, clone, "@builtin(position)")?;
+    let diagnostic = Attribute::from(DiagnosticAttribute {
+        severity: DiagnosticSeverity::Off,
+        rule: text(alloc, "x.y")?,
     });
-    for (attribute, expected) in samples {
-        assert_eq!(rt; format!(in alloc; "{attribute}")?.as_str(), expected);
-        assert!(rt; attribute.clone(alloc)? == attribute);
-        assert!(rt; attribute != last);
-        last = attribute;
-    }
+    assert_text(&rt, alloc, diagnostic, clone, "@diagnostic(off, x.y)")?;
+    let flat = interpolate(InterpolationType::Flat, None);
+    assert_text(&rt, alloc, flat, clone, "@interpolate(flat)")?;
+    let linear = interpolate(
+        InterpolationType::Linear,
+        Some(InterpolationSampling::Sample),
+    );
+    assert_text(&rt, alloc, linear, clone, "@interpolate(linear, sample)")?;
+    let text = "@workgroup_size(8)";
+    assert_text(&rt, alloc, size(alloc, false)?, clone, text)?;
+    let text = "@workgroup_size(8, 4, n)";
+    assert_text(&rt, alloc, size(alloc, true)?, clone, text)?;
+    assert_text(&rt, alloc, constraint(alloc)?, clone, "@type(T, f32 | u32)")
+}
+
+/// An attribute of another name.
+fn custom(
+    alloc: Global,
+    name: &str,
+    arguments: Option<Vec<ExpressionNode>>,
+) -> Result<Attribute, AllocError> {
+    let name = text(alloc, name)?;
+    Ok(Attribute::from(CustomAttribute { name, arguments }))
+}
+
+#[test]
+fn of_other_names(rt: HostRuntime) -> Result<(), Fail> {
+    let alloc = rt.alloc();
+    let clone = Attribute::clone;
+    assert_text(&rt, alloc, custom(alloc, "a", None)?, clone, "@a")?;
+    let empty = custom(alloc, "b", Some(Vec::new(alloc)))?;
+    assert_text(&rt, alloc, empty, clone, "@b()")?;
+    let arguments = vec![in alloc; integer(alloc, 1)?, name(alloc, "n")?]?;
+    let two = custom(alloc, "c", Some(arguments))?;
+    assert_text(&rt, alloc, two, clone, "@c(1, n)")
+}
+
+#[test]
+fn others_differ(rt: HostRuntime) -> Result<(), Fail> {
+    assert!(rt; Attribute::Const != Attribute::Invariant);
+    assert!(rt; custom(rt.alloc(), "a", None)? != custom(rt.alloc(), "b", None)?);
     Ok(())
 }
 

@@ -1,6 +1,6 @@
 //! Printed texts, copies and equality of trees made by hand.
 
-use crate::nodes::{ident, integer, name, node};
+use crate::nodes::{assert_text, ident, integer, name, node};
 use std::alloc::{AllocError, Global};
 use std::test::Fail;
 use wgsl_expression::{
@@ -64,79 +64,105 @@ fn template(alloc: Global, name: &str, argument: ExpressionNode) -> Result<TypeE
     })
 }
 
-/// Trees, each with its printed text.
-fn samples(alloc: Global) -> Result<Vec<(ExpressionNode, &'static str)>, Fail> {
+/// A name behind an operator that stands there twice.
+fn doubled(
+    alloc: Global,
+    operator: UnaryOperator,
+    text: &str,
+) -> Result<ExpressionNode, AllocError> {
+    unary(alloc, operator, unary(alloc, operator, name(alloc, text)?)?)
+}
+
+fn difference(alloc: Global) -> Result<ExpressionNode, AllocError> {
+    let factor = unary(alloc, UnaryOperator::Negation, integer(alloc, 7)?)?;
     let product = binary(
         alloc,
-        unary(alloc, UnaryOperator::Negation, integer(alloc, 7)?)?,
+        factor,
         BinaryOperator::Multiplication,
         integer(alloc, 2)?,
     )?;
-    let minus = unary(alloc, UnaryOperator::Negation, name(alloc, "x")?)?;
-    let address = unary(alloc, UnaryOperator::AddressOf, name(alloc, "w")?)?;
-    let bang = unary(alloc, UnaryOperator::LogicalNegation, name(alloc, "t")?)?;
-    let types = template(alloc, "f", name(alloc, "b")?)?;
-    let call = FunctionCall {
+    binary(
+        alloc,
+        integer(alloc, 5)?,
+        BinaryOperator::Subtraction,
+        product,
+    )
+}
+
+fn comparison(alloc: Global) -> Result<ExpressionNode, Fail> {
+    let left = node(
+        alloc,
+        Expression::from(template(alloc, "f", name(alloc, "b")?)?),
+    )?;
+    Ok(binary(alloc, left, BinaryOperator::Equality, name(alloc, "c")?)?)
+}
+
+fn call(alloc: Global) -> Result<FunctionCall, Fail> {
+    Ok(FunctionCall {
         ty: template(alloc, "array", name(alloc, "f32")?)?,
         arguments: vec![in alloc; name(alloc, "a")?, integer(alloc, 1)?]?,
-    };
-    let indexing = IndexingExpression {
+    })
+}
+
+fn element(alloc: Global) -> Result<IndexingExpression, AllocError> {
+    Ok(IndexingExpression {
         base: component(alloc, name(alloc, "a")?, "b")?,
         index: integer(alloc, 0)?,
-    };
-    let float = LiteralExpression::AbstractFloat(String::from_str(alloc, "01.5")?);
-    let parenthesized = ParenthesizedExpression {
-        expression: node(alloc, Expression::from(true))?,
-    };
-    Ok(vec![in alloc;
-        (
-            binary(
-                alloc,
-                integer(alloc, 5)?,
-                BinaryOperator::Subtraction,
-                product
-            )?,
-            "5 - -7 * 2"
-        ),
-        (unary(alloc, UnaryOperator::Negation, minus)?, "- -x"),
-        (unary(alloc, UnaryOperator::AddressOf, address)?, "& &w"),
-        (unary(alloc, UnaryOperator::LogicalNegation, bang)?, "!!t"),
-        (component(alloc, integer(alloc, 1)?, "k")?, "1 .k"),
-        (
-            component(alloc, node(alloc, Expression::from(1u32))?, "x")?,
-            "1u.x"
-        ),
-        (
-            binary(
-                alloc,
-                node(alloc, Expression::from(types))?,
-                BinaryOperator::Equality,
-                name(alloc, "c")?
-            )?,
-            "f<b> == c"
-        ),
-        (node(alloc, Expression::from(call))?, "array<f32>(a, 1)"),
-        (node(alloc, Expression::from(indexing))?, "a.b[0]"),
-        (node(alloc, Expression::from(float))?, "01.5"),
-        (node(alloc, Expression::from(parenthesized))?, "(true)"),
-        (node(alloc, Expression::from(3i32))?, "3i"),
-    ]?)
+    })
 }
 
 #[test]
-fn texts_and_copies(rt: HostRuntime) -> Result<(), Fail> {
+fn operators(rt: HostRuntime) -> Result<(), Fail> {
     let alloc = rt.alloc();
-    let mut last = name(alloc, "other")?;
-    for (tree, text) in samples(alloc)? {
-        assert_eq!(rt; format!(in alloc; "{tree}")?.as_str(), text);
-        let copy = tree.clone(alloc)?;
-        assert!(rt; copy == tree);
-        assert!(rt; copy.node().clone(alloc)? == *tree.node());
-        assert!(rt; copy != last);
-        last = tree;
-    }
+    let clone = ExpressionNode::clone;
+    assert_text(&rt, alloc, difference(alloc)?, clone, "5 - -7 * 2")?;
+    let minuses = doubled(alloc, UnaryOperator::Negation, "x")?;
+    assert_text(&rt, alloc, minuses, clone, "- -x")?;
+    let addresses = doubled(alloc, UnaryOperator::AddressOf, "w")?;
+    assert_text(&rt, alloc, addresses, clone, "& &w")?;
+    let negations = doubled(alloc, UnaryOperator::LogicalNegation, "t")?;
+    assert_text(&rt, alloc, negations, clone, "!!t")?;
+    assert_text(&rt, alloc, comparison(alloc)?, clone, "f<b> == c")
+}
+
+#[test]
+fn parts(rt: HostRuntime) -> Result<(), Fail> {
+    let alloc = rt.alloc();
+    let of_integer = component(alloc, integer(alloc, 1)?, "k")?;
+    assert_text(&rt, alloc, of_integer, ExpressionNode::clone, "1 .k")?;
+    let of_unsigned = component(alloc, node(alloc, Expression::from(1u32))?, "x")?;
+    assert_text(&rt, alloc, of_unsigned, ExpressionNode::clone, "1u.x")?;
+    let text = "array<f32>(a, 1)";
+    assert_text(&rt, alloc, call(alloc)?, FunctionCall::clone, text)?;
+    let text = "a.b[0]";
+    assert_text(&rt, alloc, element(alloc)?, IndexingExpression::clone, text)
+}
+
+#[test]
+fn values(rt: HostRuntime) -> Result<(), Fail> {
+    let alloc = rt.alloc();
+    let float = LiteralExpression::AbstractFloat(String::from_str(alloc, "01.5")?);
+    assert_text(
+        &rt,
+        alloc,
+        Expression::from(float),
+        Expression::clone,
+        "01.5",
+    )?;
+    assert_text(&rt, alloc, Expression::from(3i32), Expression::clone, "3i")?;
+    let parenthesized = ParenthesizedExpression {
+        expression: node(alloc, Expression::from(true))?,
+    };
+    let clone = ParenthesizedExpression::clone;
+    assert_text(&rt, alloc, parenthesized, clone, "(true)")?;
     let foo = TypeExpression::new(ident(alloc, "foo")?);
-    assert_eq!(rt; format!(in alloc; "{foo}")?.as_str(), "foo");
+    assert_text(&rt, alloc, foo, TypeExpression::clone, "foo")
+}
+
+#[test]
+fn others_differ(rt: HostRuntime) -> Result<(), Fail> {
+    assert!(rt; name(rt.alloc(), "a")? != name(rt.alloc(), "b")?);
+    assert!(rt; Expression::from(1i32) != Expression::from(1u32));
     Ok(())
 }
 

@@ -14,4 +14,6 @@ mod read_expressions;
 #[cfg(test)]
 mod statements;
 #[cfg(test)]
+mod syntax_nodes;
+#[cfg(test)]
 mod units;

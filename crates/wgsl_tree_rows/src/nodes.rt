@@ -1,6 +1,9 @@
-//! Names and numbers for trees made by hand.
+//! Names and numbers for trees made by hand, and the text of a tree.
 
 use std::alloc::{AllocError, Global};
+use std::fmt;
+use std::process::Abort;
+use std::test::Fail;
 use wgsl_expression::{Expression, ExpressionNode, Ident};
 use wgsl_span::Spanned;
 
@@ -22,4 +25,16 @@ pub(crate) fn name(alloc: Global, name: &str) -> Result<ExpressionNode, AllocErr
 
 pub(crate) fn integer(alloc: Global, value: i64) -> Result<ExpressionNode, AllocError> {
     node(alloc, Expression::from(value))
+}
+
+/// The text is printed of the tree, and its copy is equal to it.
+pub(crate) fn assert_text<
+    T: fmt::Display + PartialEq + Drop,
+    F: FnOnce(&T, Global) -> Result<T, AllocError>,
+>(rt: &impl Abort, alloc: Global, tree: T, clone: F, wanted: &str) -> Result<(), Fail>
+    requires { F.IsAlwaysCallable clone }
+{
+    assert_eq!(rt; format!(in alloc; "{tree}")?.as_str(), wanted);
+    assert!(rt; clone(&tree, alloc)? == tree, "the copy of {wanted}");
+    Ok(())
 }

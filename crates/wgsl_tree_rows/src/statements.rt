@@ -1,6 +1,6 @@
 //! Statements made by hand: their texts, their empty items and their attributes.
 
-use crate::nodes::{ident, name};
+use crate::nodes::{assert_text, ident, name};
 use std::alloc::{AllocError, Global};
 use std::test::Fail;
 use wgsl_attribute::{Attribute, AttributeNode};
@@ -33,6 +33,19 @@ fn call(alloc: Global, text: &str) -> Result<Statement, AllocError> {
     }))
 }
 
+/// A block with a call of a name that holds a line end.
+fn two_lines(alloc: Global) -> Result<CompoundStatement, Fail> {
+    block(alloc, vec![in alloc; call(alloc, "a\nb")?]?)
+}
+
+fn turn(alloc: Global) -> Result<Statement, Fail> {
+    Ok(Statement::from(WhileStatement {
+        attributes: Vec::new(alloc),
+        condition: name(alloc, "a")?,
+        body: two_lines(alloc)?,
+    }))
+}
+
 fn chain(alloc: Global) -> Result<Statement, Fail> {
     Ok(Statement::from(IfStatement {
         attributes: Vec::new(alloc),
@@ -51,6 +64,9 @@ fn chain(alloc: Global) -> Result<Statement, Fail> {
         }),
     }))
 }
+
+/// The text of `repeat`, with its empty statements and without.
+const REPEAT: &str = "loop {\n\n    continuing {\n    \n        break if true;\n    }\n}";
 
 /// A loop with an empty statement in it and in what is done after each turn.
 fn repeat(alloc: Global) -> Result<Statement, Fail> {
@@ -113,45 +129,33 @@ fn choice(alloc: Global) -> Result<Statement, Fail> {
 #[test]
 fn texts(rt: HostRuntime) -> Result<(), Fail> {
     let alloc = rt.alloc();
-    let turn = Statement::from(WhileStatement {
-        attributes: Vec::new(alloc),
-        condition: name(alloc, "a")?,
-        body: block(alloc, vec![in alloc; call(alloc, "a\nb")?]?)?,
-    });
-    let cases = vec![in alloc;
-        (chain(alloc)?, "if a {\n\n}\nelse if b {\n\n}\nelse {\n\n}"),
-        (
-            repeat(alloc)?,
-            "loop {\n\n    continuing {\n    \n        break if true;\n    }\n}"
-        ),
-        (header(alloc, false)?, "for (; ; ) {\n\n}"),
-        (header(alloc, true)?, "for (var i = n; ; ) {\n\n}"),
-        (
-            choice(alloc)?,
-            "switch x {\n    case one, default {\n    \n    }\n}"
-        ),
-        (turn, "while a {\n    a\n    b();\n}"),
-        (
-            Statement::from(block(alloc, vec![in alloc; call(alloc, "a\nb")?]?)?),
-            "{\n    a\n    b();\n}"
-        ),
-    ]?;
-    for (statement, text) in cases {
-        assert_eq!(rt; format!(in alloc; "{statement}")?.as_str(), text);
-        assert!(rt; statement.clone(alloc)? == statement);
-    }
-    Ok(())
+    let text = "if a {\n\n}\nelse if b {\n\n}\nelse {\n\n}";
+    assert_text(&rt, alloc, chain(alloc)?, Statement::clone, text)?;
+    assert_text(&rt, alloc, repeat(alloc)?, Statement::clone, REPEAT)?;
+    let text = "for (; ; ) {\n\n}";
+    assert_text(&rt, alloc, header(alloc, false)?, Statement::clone, text)?;
+    let text = "for (var i = n; ; ) {\n\n}";
+    assert_text(&rt, alloc, header(alloc, true)?, Statement::clone, text)?;
+    let text = "switch x {\n    case one, default {\n    \n    }\n}";
+    assert_text(&rt, alloc, choice(alloc)?, Statement::clone, text)?;
+    let text = "while a {\n    a\n    b();\n}";
+    assert_text(&rt, alloc, turn(alloc)?, Statement::clone, text)?;
+    let text = "{\n    a\n    b();\n}";
+    assert_text(
+        &rt,
+        alloc,
+        two_lines(alloc)?,
+        CompoundStatement::clone,
+        text,
+    )
 }
 
 #[test]
 fn empty_statements(rt: HostRuntime) -> Result<(), Fail> {
-    let alloc = rt.alloc();
-    let mut statement = repeat(alloc)?;
-    let before = format!(in alloc; "{statement}")?;
+    let mut statement = repeat(rt.alloc())?;
     statement.remove_voids();
-    assert_eq!(rt; format!(in alloc; "{statement}")?.as_str(), before.as_str());
     assert!(rt; is_without_empty_statements(&statement));
-    Ok(())
+    assert_text(&rt, rt.alloc(), statement, Statement::clone, REPEAT)
 }
 
 /// Whether a statement is a loop whose body, and what is done after each turn, hold no statement.
@@ -168,33 +172,34 @@ fn is_without_empty_statements(statement: &Statement) -> bool {
     }
 }
 
+/// A block as a statement has its attributes, and answers none.
 #[test]
-fn attributes(rt: HostRuntime) -> Result<(), Fail> {
+fn attributes_of_a_block(rt: HostRuntime) -> Result<(), Fail> {
     let alloc = rt.alloc();
-    let constant: AttributeNode = Spanned::with_default_span(alloc, Attribute::Const)?;
     let mut body = CompoundStatement::new(alloc);
-    body.attributes.push(constant)?;
+    body.attributes.push(constant(alloc)?)?;
     assert!(rt; body.contains_attribute(&Attribute::Const));
     let mut statement = Statement::from(body);
     statement.retain_attributes_mut(|_| false);
     assert!(rt; statement.attributes().is_empty());
-    assert_eq!(rt;
-        format!(in alloc; "{statement}")?.as_str(),
-        "@const\n{\n\n}"
-    );
+    assert_text(&rt, alloc, statement, Statement::clone, "@const\n{\n\n}")
+}
 
+/// A function as a declaration has its attributes, and answers none.
+#[test]
+fn attributes_of_a_function(rt: HostRuntime) -> Result<(), Fail> {
+    let alloc = rt.alloc();
     let mut function = Function::new(alloc, ident(alloc, "f")?);
-    function
-        .attributes
-        .push(Spanned::with_default_span(alloc, Attribute::Const)?)?;
+    function.attributes.push(constant(alloc)?)?;
     let mut declaration = GlobalDeclaration::from(function);
     declaration.retain_attributes_mut(|_| false);
     assert!(rt; declaration.attributes().is_empty());
-    assert_eq!(rt;
-        format!(in alloc; "{declaration}")?.as_str(),
-        "@const\nfn f() {\n\n}"
-    );
-    Ok(())
+    let text = "@const\nfn f() {\n\n}";
+    assert_text(&rt, alloc, declaration, GlobalDeclaration::clone, text)
+}
+
+fn constant(alloc: Global) -> Result<AttributeNode, AllocError> {
+    Spanned::with_default_span(alloc, Attribute::Const)
 }
 
 #[test]

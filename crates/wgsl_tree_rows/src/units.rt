@@ -1,7 +1,8 @@
 //! Printed texts, copies and equality of modules made by hand, and what their declarations do as nodes.
 
-use crate::nodes::{ident, integer, text};
+use crate::nodes::{assert_text, ident, integer, text};
 use std::alloc::{AllocError, Global};
+use std::process::Abort;
 use std::test::Fail;
 use wgsl_attribute::{Attribute, AttributeNode};
 use wgsl_expression::{Expression, LiteralExpression, TypeExpression};
@@ -41,6 +42,12 @@ fn constant(
         initializer: Some(value),
     }))
 }
+
+/// The text of `structure`.
+const STRUCTURE: &str = "struct S {\n    @align(4)\n    a: f32,\n    b\n    c: T\n}";
+
+/// The text of `function`.
+const FUNCTION: &str = "@fragment\nfn f(@builtin(position) p: vec4f) -> @location(0) vec4f {\n\n}";
 
 /// A structure whose first member has an attribute, and whose second has a line end in its name.
 fn structure(alloc: Global) -> Result<Struct, Fail> {
@@ -87,6 +94,12 @@ fn enable(alloc: Global, name: &str) -> Result<GlobalDirective, Fail> {
     }))
 }
 
+fn requirement(alloc: Global) -> Result<GlobalDirective, Fail> {
+    Ok(GlobalDirective::from(RequiresDirective {
+        extensions: vec![in alloc; text(alloc, "a")?, text(alloc, "b")?]?,
+    }))
+}
+
 fn diagnostic(alloc: Global) -> Result<GlobalDirective, Fail> {
     Ok(GlobalDirective::from(DiagnosticDirective {
         severity: DiagnosticSeverity::Off,
@@ -124,69 +137,57 @@ fn placed(alloc: Global, place: u8) -> Result<TranslationUnit, Fail> {
 #[test]
 fn declarations(rt: HostRuntime) -> Result<(), Fail> {
     let alloc = rt.alloc();
+    let empty = GlobalDeclaration::Void;
+    assert_text(&rt, alloc, empty, GlobalDeclaration::clone, ";")?;
+    assert_text(&rt, alloc, alias(alloc)?, TypeAlias::clone, "alias A = B;")?;
     let assertion = ConstAssert::new(alloc, Expression::from(true))?;
-    let cases = vec![in alloc;
-        (GlobalDeclaration::Void, ";"),
-        (GlobalDeclaration::from(alias(alloc)?), "alias A = B;"),
-        (GlobalDeclaration::from(assertion), "const_assert true;"),
-        (
-            GlobalDeclaration::from(Struct::new(alloc, ident(alloc, "E")?)),
-            "struct E {\n\n}"
-        ),
-        (
-            GlobalDeclaration::from(structure(alloc)?),
-            "struct S {\n    @align(4)\n    a: f32,\n    b\n    c: T\n}"
-        ),
-        (
-            GlobalDeclaration::from(function(alloc)?),
-            "@fragment\nfn f(@builtin(position) p: vec4f) -> @location(0) vec4f {\n\n}"
-        ),
-    ]?;
-    for (declaration, text) in cases {
-        assert_eq!(rt; format!(in alloc; "{declaration}")?.as_str(), text);
-        assert!(rt; declaration.clone(alloc)? == declaration);
-    }
-    Ok(())
+    let text = "const_assert true;";
+    assert_text(&rt, alloc, assertion, ConstAssert::clone, text)?;
+    let empty = Struct::new(alloc, ident(alloc, "E")?);
+    assert_text(&rt, alloc, empty, Struct::clone, "struct E {\n\n}")?;
+    assert_text(&rt, alloc, structure(alloc)?, Struct::clone, STRUCTURE)?;
+    assert_text(&rt, alloc, function(alloc)?, Function::clone, FUNCTION)
+}
+
+#[test]
+fn declarations_of_a_module(rt: HostRuntime) -> Result<(), Fail> {
+    let alloc = rt.alloc();
+    let declaration = GlobalDeclaration::from(structure(alloc)?);
+    assert_text(&rt, alloc, declaration, GlobalDeclaration::clone, STRUCTURE)?;
+    let declaration = GlobalDeclaration::from(function(alloc)?);
+    assert_text(&rt, alloc, declaration, GlobalDeclaration::clone, FUNCTION)
+}
+
+/// A module with two directives and a constant.
+fn with_directives(alloc: Global) -> Result<TranslationUnit, Fail> {
+    let value = LiteralExpression::AbstractFloat(text(alloc, "01.5")?);
+    let directives = vec![in alloc; enable(alloc, "f16")?, diagnostic(alloc)?]?;
+    unit(
+        alloc,
+        directives,
+        vec![in alloc; constant(alloc, "a", value)?]?,
+        0,
+    )
+}
+
+/// A module of one directive.
+fn directive(alloc: Global, directive: GlobalDirective) -> Result<TranslationUnit, Fail> {
+    unit(alloc, vec![in alloc; directive]?, Vec::new(alloc), 0)
 }
 
 #[test]
 fn units(rt: HostRuntime) -> Result<(), Fail> {
     let alloc = rt.alloc();
-    let required = GlobalDirective::from(RequiresDirective {
-        extensions: vec![in alloc; text(alloc, "a")?, text(alloc, "b")?]?,
-    });
-    let float = constant(
-        alloc,
-        "a",
-        LiteralExpression::AbstractFloat(text(alloc, "01.5")?),
-    )?;
-    let directives = vec![in alloc; enable(alloc, "f16")?, diagnostic(alloc)?]?;
-    let cases = vec![in alloc;
-        (TranslationUnit::new(alloc), "\n"),
-        (
-            unit(
-                alloc,
-                vec![in alloc; enable(alloc, "a")?]?,
-                Vec::new(alloc),
-                0
-            )?,
-            "enable a;\n\n\n"
-        ),
-        (
-            unit(alloc, vec![in alloc; required]?, Vec::new(alloc), 0)?,
-            "requires a, b;\n\n\n"
-        ),
-        (placed(alloc, 0)?, "alias A = B;\n\nconst N = 31;\n"),
-        (
-            unit(alloc, directives, vec![in alloc; float]?, 0)?,
-            "enable f16;\ndiagnostic (off, x.y);\n\nconst a = 01.5;\n"
-        ),
-    ]?;
-    for (unit, text) in cases {
-        assert_eq!(rt; format!(in alloc; "{unit}")?.as_str(), text);
-        assert!(rt; unit.clone(alloc)? == unit);
-    }
-    Ok(())
+    let clone = TranslationUnit::clone;
+    assert_text(&rt, alloc, TranslationUnit::new(alloc), clone, "\n")?;
+    let enabled = directive(alloc, enable(alloc, "a")?)?;
+    assert_text(&rt, alloc, enabled, clone, "enable a;\n\n\n")?;
+    let required = directive(alloc, requirement(alloc)?)?;
+    assert_text(&rt, alloc, required, clone, "requires a, b;\n\n\n")?;
+    let text = "alias A = B;\n\nconst N = 31;\n";
+    assert_text(&rt, alloc, placed(alloc, 0)?, clone, text)?;
+    let text = "enable f16;\ndiagnostic (off, x.y);\n\nconst a = 01.5;\n";
+    assert_text(&rt, alloc, with_directives(alloc)?, clone, text)
 }
 
 #[test]
@@ -216,29 +217,50 @@ fn empty_items(rt: HostRuntime) -> Result<(), Fail> {
 }
 
 #[test]
-fn nodes(rt: HostRuntime) -> Result<(), Fail> {
+fn names_and_attributes(rt: HostRuntime) -> Result<(), Fail> {
     let alloc = rt.alloc();
     let mut function = function(alloc)?;
-    assert!(rt; function.ident(alloc)? == Some(ident(alloc, "f")?));
     assert!(rt; function.contains_attribute(&Attribute::Fragment));
     function.retain_attributes_mut(|_| false);
     assert!(rt; function.attributes().is_empty());
-    assert!(rt; GlobalDeclaration::from(function).ident(alloc)? == Some(ident(alloc, "f")?));
-    assert!(rt; GlobalDeclaration::Void.ident(alloc)? == None);
-    let declaration = GlobalDeclaration::from(alias(alloc)?);
+    assert_name(&rt, alloc, &function, "f")?;
+    assert_name(&rt, alloc, &GlobalDeclaration::from(function), "f")?;
+    assert!(rt; GlobalDeclaration::Void.ident(alloc)?.is_none());
+    Ok(())
+}
+
+/// The node answers the name.
+fn assert_name<T: SyntaxNode>(
+    rt: &impl Abort,
+    alloc: Global,
+    node: &T,
+    wanted: &str,
+) -> Result<(), Fail> {
+    let ident = node.ident(alloc)?.ok_or("no name")?;
+    assert_eq!(rt; ident.name(), wanted);
+    Ok(())
+}
+
+#[test]
+fn variants(rt: HostRuntime) -> Result<(), Fail> {
+    let declaration = GlobalDeclaration::from(alias(rt.alloc())?);
     assert!(rt; declaration.is_type_alias());
-    assert!(rt; declaration.unwrap_type_alias() == alias(alloc)?);
+    assert!(rt; declaration.unwrap_type_alias() == alias(rt.alloc())?);
     Ok(())
 }
 
 #[test]
 fn attributes_are_retained(rt: HostRuntime) -> Result<(), Fail> {
     let alloc = rt.alloc();
+    let text = "@size(16) @align(4)\nx: f32";
+    assert_text(
+        &rt,
+        alloc,
+        aligned_member(alloc)?.into_inner(),
+        StructMember::clone,
+        text,
+    )?;
     let mut node = aligned_member(alloc)?;
-    assert_eq!(rt;
-        format!(in alloc; "{node}")?.as_str(),
-        "@size(16) @align(4)\nx: f32"
-    );
     node.retain_attributes_mut(|attribute| {
         if attribute.is_size() {
             return false;
@@ -248,11 +270,16 @@ fn attributes_are_retained(rt: HostRuntime) -> Result<(), Fail> {
         }
         true
     });
-    assert_eq!(rt; format!(in alloc; "{node}")?.as_str(), "@invariant\nx: f32");
     for attribute in node.attributes() {
         assert_eq!(rt; attribute.span(), Span::new(10..19));
     }
     assert_eq!(rt; SyntaxNode::span(&node), Some(Span::new(0..26)));
-    assert!(rt; node.ident(alloc)? == Some(ident(alloc, "x")?));
-    Ok(())
+    assert_name(&rt, alloc, &node, "x")?;
+    assert_text(
+        &rt,
+        alloc,
+        node.into_inner(),
+        StructMember::clone,
+        "@invariant\nx: f32",
+    )
 }

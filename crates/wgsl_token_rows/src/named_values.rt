@@ -1,10 +1,10 @@
 //! Words read and printed.
 
-use crate::{
+use std::test::Fail;
+use wgsl_named_values::{
     AccessMode, AddressSpace, AssignmentOperator, BinaryOperator, BuiltinValue, DiagnosticSeverity,
     InterpolationSampling, InterpolationType, UnaryOperator,
 };
-use std::test::Fail;
 
 #[test]
 fn words_are_read(rt: HostRuntime) -> Result<(), Fail> {

@@ -4,12 +4,12 @@ ghost use Rattle.std.specs.Prelude.{◌≡◌, Some, None};
 ghost use Rattle.std.specs.Vec.{with_items};
 ghost use Rattle.wgsl_expression.specs.View.{ident_name};
 
-use crate::{BareNode, SyntaxNode, has_attribute, retain_nodes};
 use std::alloc::{AllocError, Global};
 use std::test::Fail;
 use wgsl_attribute::{Attribute, AttributeNode, AttributesBefore};
 use wgsl_expression::{Expression, ExpressionNode, Ident};
 use wgsl_span::{Span, Spanned};
+use wgsl_syntax_node::{BareNode, SyntaxNode, has_attribute, retain_nodes};
 
 fn ident(alloc: Global, name: &str) -> Result<Ident, AllocError> {
     Ok(Ident::new(String::from_str(alloc, name)?))

@@ -1,8 +1,8 @@
-//! Worked texts.
+//! Texts that are scanned.
 
-use crate::lexeme::Lexeme;
-use crate::scan::{Scanned, place, scan};
 use std::alloc::{AllocError, Global};
+use wgsl_scanner::lexeme::Lexeme;
+use wgsl_scanner::scan::{Scanned, place, scan};
 use wgsl_token::kind::TokenKind;
 
 fn found<'s>(lexeme: Lexeme<'s>, from: &'s str, after: &'s str) -> Scanned<'s> {

@@ -1,10 +1,10 @@
-//! Worked texts, with ample memory.
+//! Texts that are lexed, with ample memory.
 
-use crate::{Lexer, TokenItem, collect_tokens, lex, recognize_template_list};
 use std::alloc::{AllocError, Global};
 use std::process::Abort;
 use std::test::Fail;
 use wgsl_error::ParseError;
+use wgsl_lexer::{Lexer, TokenItem, collect_tokens, lex, recognize_template_list};
 use wgsl_span::Span;
 use wgsl_token::token::Token;
 

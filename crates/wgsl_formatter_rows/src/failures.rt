@@ -1,11 +1,11 @@
 //! Readers and writers that take their time or fail.
 
-use super::Answer;
-use crate::start;
+use crate::answers::Answer;
 use std::alloc::Global;
 use std::io;
 use std::io::{ErrorKind, Read, Write};
 use std::process::Abort;
+use wgsl_formatter::start;
 
 /// A reader that gives a byte a call, and then ends or fails.
 #[derive(Drop)]

@@ -1,8 +1,8 @@
-//! Worked texts, with ample memory.
+//! Texts that the dialect takes or refuses, with ample memory.
 
-use crate::recognize_str;
 use std::alloc::Global;
 use std::test::Fail;
+use wgsl_dialect::recognize_str;
 use wgsl_error::ErrorKind;
 
 #[test]

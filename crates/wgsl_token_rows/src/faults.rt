@@ -1,8 +1,8 @@
-//! The texts of each kind, copies and conversions.
+//! Faults: the texts of each kind, copies and conversions.
 
-use crate::{Error, ErrorKind, ParseError};
 use std::alloc::{AllocError, Global};
 use std::test::Fail;
+use wgsl_error::{Error, ErrorKind, ParseError};
 use wgsl_span::Span;
 
 fn text(alloc: Global, text: &str) -> Result<String, AllocError> {

@@ -1,22 +1,26 @@
-//! Sources with what they ask for, and readers and writers that fail.
+//! What the formatter answers and writes.
 
-mod failures;
-mod sources;
-
-use super::{run, start};
 use std::alloc::Global;
 use std::process::Abort;
+use wgsl_formatter::{run, start};
 
 /// What a call answered, and what it wrote.
 #[derive(Drop)]
-struct Answer {
-    status: u8,
-    output: Vec<u8>,
-    errors: Vec<u8>,
+pub(crate) struct Answer {
+    pub(crate) status: u8,
+    pub(crate) output: Vec<u8>,
+    pub(crate) errors: Vec<u8>,
 }
 
 impl Answer {
-    fn check(&self, rt: &impl Abort, case: &str, status: u8, output: &str, errors: &str) {
+    pub(crate) fn check(
+        &self,
+        rt: &impl Abort,
+        case: &str,
+        status: u8,
+        output: &str,
+        errors: &str,
+    ) {
         assert_eq!(rt; self.status, status, "status: {case:?}");
         assert_eq!(rt;
             self.output.as_slice(),
@@ -31,7 +35,7 @@ impl Answer {
     }
 }
 
-fn run_on(alloc: Global, source: &[u8]) -> Answer {
+pub(crate) fn run_on(alloc: Global, source: &[u8]) -> Answer {
     let mut input = source;
     let mut output = Vec::new(alloc);
     let mut errors = Vec::new(alloc);
@@ -43,7 +47,7 @@ fn run_on(alloc: Global, source: &[u8]) -> Answer {
     }
 }
 
-fn start_on(alloc: Global, arguments: usize, source: &[u8]) -> Answer {
+pub(crate) fn start_on(alloc: Global, arguments: usize, source: &[u8]) -> Answer {
     let mut input = source;
     let mut output = Vec::new(alloc);
     let mut errors = Vec::new(alloc);

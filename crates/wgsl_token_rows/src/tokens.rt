@@ -1,8 +1,8 @@
-//! Worked texts.
+//! Tokens, their texts and their kinds.
 
-use crate::kind::TokenKind;
-use crate::token::Token;
 use std::alloc::{AllocError, Global};
+use wgsl_token::kind::TokenKind;
+use wgsl_token::token::Token;
 
 fn name(alloc: Global, text: &str) -> Result<String, AllocError> {
     String::from_str(alloc, text)

@@ -1,9 +1,9 @@
 //! What sources ask for.
 
-use super::{run_on, start_on};
-use crate::refuse_memory;
+use crate::answers::{run_on, start_on};
 use std::alloc::Global;
 use std::process::Abort;
+use wgsl_formatter::refuse_memory;
 
 /// Each source is accepted, and printed as it is wanted.
 fn assert_printed(rt: &impl Abort, alloc: Global, cases: &[(&str, &str)]) {

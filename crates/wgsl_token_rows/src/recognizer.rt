@@ -1,6 +1,6 @@
-//! Worked token lists.
+//! Lists of kinds of tokens that are, or are not, lists of expressions.
 
-use crate::is_expression_list;
+use wgsl_recognizer::is_expression_list;
 use wgsl_token::kind::TokenKind;
 
 #[test]

@@ -1,0 +1,19 @@
+//! Worked rows of what stands below the trees: spans, named values, tokens, faults, the scanner, the recognizer, the lexer and the dialect.
+#![tactic(auto)]
+
+#[cfg(test)]
+mod dialect;
+#[cfg(test)]
+mod faults;
+#[cfg(test)]
+mod lexer;
+#[cfg(test)]
+mod named_values;
+#[cfg(test)]
+mod recognizer;
+#[cfg(test)]
+mod scanner;
+#[cfg(test)]
+mod spans;
+#[cfg(test)]
+mod tokens;
