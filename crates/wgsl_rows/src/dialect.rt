@@ -16,6 +16,8 @@ fn recognizes_modules(rt: HostRuntime) -> Result<(), Fail> {
         "fn f() { loop { ; continuing { ; break if true; } } }",
         "fn f() { switch x { case a < b, : {} default {} } }",
         "const x = 5 - -7 * 2;",
+        "override w: i32 = 1;",
+        "fn f(a: i32) -> i32 { for (var i = 0; i < a; i++) { if a == i { return -a; } else { a[g(1, - -i)].x += 1; } } }",
     ] {
         assert_recognized(&rt, rt.alloc(), text);
     }
@@ -72,6 +74,8 @@ fn refuses_the_others(rt: HostRuntime) -> Result<(), Fail> {
         ("var x: array<type>;", "chars 12..13: unexpected token `<`"),
         ("const x = 1; }", "chars 13..14: unexpected token `}`"),
         ("fn f(", "chars 5..6: unexpected end of file"),
+        ("const x =", "chars 9..10: unexpected end of file"),
+        ("const x = 1; #", "chars 13..14: invalid token"),
         ("const x = 1 #;", "chars 12..13: invalid token"),
     ] {
         let error = parser::recognize_str(rt.alloc(), text)

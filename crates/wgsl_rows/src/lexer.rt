@@ -23,6 +23,14 @@ fn tokens_and_faults(rt: HostRuntime) -> Result<(), Fail> {
     for (text, wanted) in [
         ("", ""),
         ("/* /* */ const", ""),
+        (
+            "; alias A = B; const N = 0x1f;",
+            "0..1 ;\n2..7 alias\n8..9 identifier `A`\n10..11 =\n12..13 identifier `B`\n13..14 ;\n15..20 const\n21..22 identifier `N`\n23..24 =\n25..29 31\n29..30 ;\n",
+        ),
+        (
+            "const x = 1 #;",
+            "0..5 const\n6..7 identifier `x`\n8..9 =\n10..11 1\n12..13 LexerError\n",
+        ),
         ("const € = 1;", "0..5 const\n6..9 LexerError\n"),
         ("01 0x", "0..1 0\n1..2 1\n3..4 0\n4..5 identifier `x`\n"),
         ("01.5 0x1f", "0..4 01.5\n5..9 31\n"),
@@ -44,6 +52,22 @@ fn tokens_and_faults(rt: HostRuntime) -> Result<(), Fail> {
             "f<b>==c",
             "0..1 identifier `f`\n1..2 start of template\n2..3 identifier `b`\n3..4 end of template\n4..6 ==\n6..7 identifier `c`\n",
         ),
+        (
+            "a<b>(c)",
+            "0..1 identifier `a`\n1..2 start of template\n2..3 identifier `b`\n3..4 end of template\n4..5 (\n5..6 identifier `c`\n6..7 )\n",
+        ),
+        (
+            "a < b && c > d",
+            "0..1 identifier `a`\n2..3 <\n4..5 identifier `b`\n6..8 &&\n9..10 identifier `c`\n11..12 >\n13..14 identifier `d`\n",
+        ),
+        (
+            "a[b<c]>d",
+            "0..1 identifier `a`\n1..2 [\n2..3 identifier `b`\n3..4 <\n4..5 identifier `c`\n5..6 ]\n6..7 >\n7..8 identifier `d`\n",
+        ),
+        (
+            "if (a<b) {}",
+            "0..2 if\n3..4 (\n4..5 identifier `a`\n5..6 <\n6..7 identifier `b`\n7..8 )\n9..10 {\n10..11 }\n",
+        ),
     ] {
         let given = items(alloc, Lexer::new(alloc, text)?)?;
         assert_eq!(rt; given.as_str(), wanted, "at {text}");
@@ -54,11 +78,13 @@ fn tokens_and_faults(rt: HostRuntime) -> Result<(), Fail> {
 #[test]
 fn copies_give_what_is_left(rt: HostRuntime) -> Result<(), Fail> {
     let alloc = rt.alloc();
-    let mut lexer = Lexer::new(alloc, "a b")?;
+    let mut lexer = Lexer::new(alloc, "a<b>")?;
+    assert!(rt; lexer.next().is_some());
     assert!(rt; lexer.next().is_some());
     let copy = lexer.clone(alloc)?;
-    assert_eq!(rt; items(alloc, copy)?.as_str(), "2..3 identifier `b`\n");
-    assert_eq!(rt; items(alloc, lexer)?.as_str(), "2..3 identifier `b`\n");
+    let wanted = "2..3 identifier `b`\n3..4 end of template\n";
+    assert_eq!(rt; items(alloc, copy)?.as_str(), wanted);
+    assert_eq!(rt; items(alloc, lexer)?.as_str(), wanted);
     Ok(())
 }
 

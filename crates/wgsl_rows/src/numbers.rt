@@ -1,46 +1,52 @@
 //! Numbers: each form and suffix, the bounds of whole numbers, and what is no number.
 
 use crate::reading::{assert_printed, assert_refused};
-use std::alloc::{AllocError, Global};
+use std::alloc::Global;
 use std::test::Fail;
 use wgsl_parse::lexer::Lexer;
 use wgsl_parse::parser::LiteralParser;
 use wgsl_parse::syntax::{Expression, LiteralExpression};
 
-fn spelling(alloc: Global, text: &str) -> Result<String, AllocError> {
-    String::from_str(alloc, text)
+/// The literal of the text, alone.
+fn literal(alloc: Global, text: &str) -> Result<LiteralExpression, Fail> {
+    Ok(LiteralParser::new().parse(alloc, Lexer::new(alloc, text)?)?)
 }
 
 #[test]
-fn kinds(rt: HostRuntime) -> Result<(), Fail> {
-    let alloc = rt.alloc();
-    let cases = vec![in alloc;
+fn kinds_of_whole_numbers(rt: HostRuntime) -> Result<(), Fail> {
+    for (text, wanted) in [
         ("31", LiteralExpression::AbstractInt(31)),
         ("0x1f", LiteralExpression::AbstractInt(31)),
         ("31i", LiteralExpression::I32(31)),
         ("0X1Fu", LiteralExpression::U32(31)),
-        (
-            "01.5",
-            LiteralExpression::AbstractFloat(spelling(alloc, "01.5")?)
-        ),
-        (
-            "0x1.8f",
-            LiteralExpression::AbstractFloat(spelling(alloc, "0x1.8f")?)
-        ),
-        (
-            "1e400",
-            LiteralExpression::AbstractFloat(spelling(alloc, "1e400")?)
-        ),
-        ("1f", LiteralExpression::F32(spelling(alloc, "1")?)),
-        (
-            "0x1.8p1f",
-            LiteralExpression::F32(spelling(alloc, "0x1.8p1")?)
-        ),
-        (".5e3h", LiteralExpression::F16(spelling(alloc, ".5e3")?)),
-    ]?;
-    for (text, wanted) in cases {
-        let literal = LiteralParser::new().parse(alloc, Lexer::new(alloc, text)?)?;
-        assert_eq!(rt; literal, wanted, "at {text}");
+    ] {
+        assert_eq!(rt; literal(rt.alloc(), text)?, wanted, "at {text}");
+    }
+    Ok(())
+}
+
+/// The kind of a float and its spelling.
+fn float(literal: &LiteralExpression) -> Option<(&'static str, &str)> {
+    match literal {
+        LiteralExpression::AbstractFloat(spelling) => Some(("abstract", spelling.as_str())),
+        LiteralExpression::F32(spelling) => Some(("f32", spelling.as_str())),
+        LiteralExpression::F16(spelling) => Some(("f16", spelling.as_str())),
+        _ => None,
+    }
+}
+
+#[test]
+fn kinds_of_floats(rt: HostRuntime) -> Result<(), Fail> {
+    for (text, kind, spelling) in [
+        ("01.5", "abstract", "01.5"),
+        ("0x1.8f", "abstract", "0x1.8f"),
+        ("1e400", "abstract", "1e400"),
+        ("1f", "f32", "1"),
+        ("0x1.8p1f", "f32", "0x1.8p1"),
+        (".5e3h", "f16", ".5e3"),
+    ] {
+        let found = literal(rt.alloc(), text)?;
+        assert_eq!(rt; float(&found), Some((kind, spelling)), "at {text}");
     }
     Ok(())
 }

@@ -33,70 +33,72 @@ fn wants_memory<T: Drop>(answer: Result<T, Error>) -> bool {
     }
 }
 
+/// The fault of the tokens, read as an expression.
+fn fault_of_expression(alloc: Global, items: Vec<TokenItem>) -> Result<String, Fail> {
+    told(alloc, ExpressionParser::new().parse(alloc, items))
+}
+
+#[test]
+fn carried_faults(rt: HostRuntime) -> Result<(), Fail> {
+    let alloc = rt.alloc();
+    let items = vec![in alloc;
+        Ok((0, name(alloc, "a")?, 1)),
+        Err((5, ParseError::DiagnosticSeverity, 9)),
+        Ok((9, Token::SymComma, 10)),
+    ]?;
+    let fault = fault_of_expression(alloc, items)?;
+    assert_eq!(rt; fault.as_str(), "chars 5..9: invalid diagnostic severity");
+    let items = vec![in alloc; Err((9, ParseError::LexerError, 4))]?;
+    let fault = fault_of_expression(alloc, items)?;
+    assert_eq!(rt; fault.as_str(), "chars 9..4: invalid token");
+    Ok(())
+}
+
 #[test]
 fn faults_of_expressions(rt: HostRuntime) -> Result<(), Fail> {
     let alloc = rt.alloc();
-    let cases: Vec<(Vec<TokenItem>, &'static str)> = vec![in alloc;
-        (Vec::new(alloc), "chars 0..1: unexpected end of file"),
-        (
-            vec![in alloc;
-                Ok((0, name(alloc, "a")?, 1)),
-                Err((5, ParseError::DiagnosticSeverity, 9)),
-                Ok((9, Token::SymComma, 10)),
-            ]?,
-            "chars 5..9: invalid diagnostic severity",
-        ),
-        (
-            vec![in alloc; Err((9, ParseError::LexerError, 4))]?,
-            "chars 9..4: invalid token",
-        ),
-        (
-            vec![in alloc;
-                Ok((0, Token::SymComma, 1)),
-                Err((1, ParseError::LexerError, 2))
-            ]?,
-            "chars 0..1: unexpected token `,`",
-        ),
-        (
-            vec![in alloc;
-                Ok((0, name(alloc, "a")?, 1)),
-                Ok((1, Token::BlockComment, 5))
-            ]?,
-            "chars 1..5: unexpected token `/* block comment */`",
-        ),
+    let fault = fault_of_expression(alloc, Vec::new(alloc))?;
+    assert_eq!(rt; fault.as_str(), "chars 0..1: unexpected end of file");
+    let items = vec![in alloc;
+        Ok((0, Token::SymComma, 1)),
+        Err((1, ParseError::LexerError, 2)),
     ]?;
-    for (items, wanted) in cases {
-        let fault = told(alloc, ExpressionParser::new().parse(alloc, items))?;
-        assert_eq!(rt; fault.as_str(), wanted);
-    }
+    let fault = fault_of_expression(alloc, items)?;
+    assert_eq!(rt; fault.as_str(), "chars 0..1: unexpected token `,`");
+    let items = vec![in alloc;
+        Ok((0, name(alloc, "a")?, 1)),
+        Ok((1, Token::BlockComment, 5)),
+    ]?;
+    let fault = fault_of_expression(alloc, items)?;
+    let wanted = "chars 1..5: unexpected token `/* block comment */`";
+    assert_eq!(rt; fault.as_str(), wanted);
     Ok(())
+}
+
+/// The fault of the tokens, read as a declaration.
+fn fault_of_declaration(alloc: Global, items: Vec<TokenItem>) -> Result<String, Fail> {
+    told(alloc, GlobalDeclParser::new().parse(alloc, items))
 }
 
 #[test]
 fn faults_of_declarations(rt: HostRuntime) -> Result<(), Fail> {
     let alloc = rt.alloc();
-    let cases: Vec<(Vec<TokenItem>, &'static str)> = vec![in alloc;
-        (
-            vec![in alloc;
-                Ok((0, Token::SymAttr, 1)),
-                Ok((1, name(alloc, "align")?, 6)),
-                Err((6, ParseError::LexerError, 7)),
-            ]?,
-            "chars 0..6: invalid `align` attribute, expected 1 argument",
-        ),
-        (
-            vec![in alloc; Ok((0, Token::KwFn, usize::MAX))]?,
-            "chars 18446744073709551615..18446744073709551615: unexpected end of file",
-        ),
-        (
-            vec![in alloc; Ok((0, Token::LineComment, 2))]?,
-            "chars 0..2: unexpected token `// line comment`",
-        ),
+    let items = vec![in alloc;
+        Ok((0, Token::SymAttr, 1)),
+        Ok((1, name(alloc, "align")?, 6)),
+        Err((6, ParseError::LexerError, 7)),
     ]?;
-    for (items, wanted) in cases {
-        let fault = told(alloc, GlobalDeclParser::new().parse(alloc, items))?;
-        assert_eq!(rt; fault.as_str(), wanted);
-    }
+    let fault = fault_of_declaration(alloc, items)?;
+    let wanted = "chars 0..6: invalid `align` attribute, expected 1 argument";
+    assert_eq!(rt; fault.as_str(), wanted);
+    let items = vec![in alloc; Ok((0, Token::KwFn, usize::MAX))]?;
+    let fault = fault_of_declaration(alloc, items)?;
+    let wanted = "chars 18446744073709551615..18446744073709551615: unexpected end of file";
+    assert_eq!(rt; fault.as_str(), wanted);
+    let items = vec![in alloc; Ok((0, Token::LineComment, 2))]?;
+    let fault = fault_of_declaration(alloc, items)?;
+    let wanted = "chars 0..2: unexpected token `// line comment`";
+    assert_eq!(rt; fault.as_str(), wanted);
     Ok(())
 }
 

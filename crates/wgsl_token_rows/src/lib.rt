@@ -1,8 +1,6 @@
-//! Worked rows of what stands below the trees: spans, named values, tokens, faults, the scanner, the recognizer, the lexer and the dialect.
+//! Worked rows of what stands below the trees: spans, named values, tokens, faults, the scanner, the recognizer and the lexer.
 #![tactic(auto)]
 
-#[cfg(test)]
-mod dialect;
 #[cfg(test)]
 mod faults;
 #[cfg(test)]
