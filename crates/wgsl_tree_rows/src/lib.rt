@@ -17,3 +17,5 @@ mod statements;
 mod syntax_nodes;
 #[cfg(test)]
 mod units;
+#[cfg(test)]
+mod words;

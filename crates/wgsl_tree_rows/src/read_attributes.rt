@@ -1,51 +1,12 @@
 //! Attributes, `var` and typed names read from tokens made by hand.
 
-use std::alloc::{AllocError, Global};
-use std::collections::VecDeque;
+use crate::words::cursor;
+use std::alloc::Global;
 use std::test::Fail;
 use wgsl_attribute_reader::{parse_attributes, parse_typed_ident, parse_var_kind};
-use wgsl_cursor::{Cursor, Fault};
+use wgsl_cursor::Fault;
 use wgsl_error::{Error, ErrorKind};
 use wgsl_span::Span;
-use wgsl_token::placed::PlacedToken;
-use wgsl_token::token::Token;
-
-fn token(alloc: Global, word: &str) -> Result<Token, AllocError> {
-    Ok(match word {
-        "@" => Token::SymAttr,
-        "(" => Token::SymParenLeft,
-        ")" => Token::SymParenRight,
-        "," => Token::SymComma,
-        "." => Token::SymPeriod,
-        "|" => Token::SymOr,
-        ":" => Token::SymColon,
-        "<" => Token::TemplateArgsStart,
-        ">" => Token::TemplateArgsEnd,
-        "const" => Token::KwConst,
-        "diagnostic" => Token::KwDiagnostic,
-        "else" => Token::KwElse,
-        "if" => Token::KwIf,
-        "let" => Token::KwLet,
-        "var" => Token::KwVar,
-        "type" => Token::ReservedWord(String::from_str(alloc, word)?),
-        _ => match word.parse::<i64>() {
-            Ok(number) => Token::AbstractInt(number),
-            Err(_) => Token::Ident(String::from_str(alloc, word)?),
-        },
-    })
-}
-
-/// The tokens of words with a space between, each one long and right behind the last.
-fn cursor(alloc: Global, words: &str) -> Result<Cursor, AllocError> {
-    let mut tokens = VecDeque::new(alloc);
-    for (start, word) in words.split(' ').enumerate() {
-        tokens.push_back(PlacedToken {
-            token: token(alloc, word)?,
-            span: Span::new(start..start + 1),
-        })?;
-    }
-    Ok(Cursor::new(tokens))
-}
 
 /// The attributes of tokens, printed.
 fn printed(alloc: Global, words: &str) -> Result<String, Fail> {

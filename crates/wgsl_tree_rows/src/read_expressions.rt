@@ -1,5 +1,6 @@
 //! Expressions read from tokens made by hand.
 
+use crate::words::cursor;
 use std::alloc::{AllocError, Global};
 use std::collections::VecDeque;
 use std::test::Fail;
@@ -13,9 +14,9 @@ use wgsl_token::placed::PlacedToken;
 use wgsl_token::token::Token;
 
 /// Tokens with their starts and ends.
-fn cursor(alloc: Global, placed: Vec<(Token, usize, usize)>) -> Result<Cursor, AllocError> {
+fn placed(alloc: Global, items: Vec<(Token, usize, usize)>) -> Result<Cursor, AllocError> {
     let mut tokens = VecDeque::new(alloc);
-    for (token, start, end) in placed {
+    for (token, start, end) in items {
         tokens.push_back(PlacedToken {
             token,
             span: Span { start, end },
@@ -31,7 +32,7 @@ fn ident(alloc: Global, name: &str) -> Result<Token, AllocError> {
 #[test]
 fn two_minuses_subtract_a_negated_product(rt: HostRuntime) -> Result<(), Fail> {
     let alloc = rt.alloc();
-    let mut tokens = cursor(
+    let mut tokens = placed(
         alloc,
         vec![in alloc;
             (Token::AbstractInt(5), 0, 1),
@@ -61,18 +62,7 @@ fn two_minuses_subtract_a_negated_product(rt: HostRuntime) -> Result<(), Fail> {
 #[test]
 fn chains_end_where_another_operator_begins(rt: HostRuntime) -> Result<(), Fail> {
     let alloc = rt.alloc();
-    let mut tokens = cursor(
-        alloc,
-        vec![in alloc;
-            (ident(alloc, "a")?, 0, 1),
-            (Token::SymAnd, 1, 2),
-            (ident(alloc, "b")?, 2, 3),
-            (Token::SymAnd, 3, 4),
-            (ident(alloc, "c")?, 4, 5),
-            (Token::SymPlus, 5, 6),
-            (ident(alloc, "d")?, 6, 7),
-        ]?,
-    )?;
+    let mut tokens = cursor(alloc, "a & b & c + d")?;
     let Ok(tree) = parse_expression(alloc, &mut tokens) else {
         return Err(Fail::new("no expression"));
     };
@@ -85,23 +75,7 @@ fn chains_end_where_another_operator_begins(rt: HostRuntime) -> Result<(), Fail>
 #[test]
 fn sums_compare_and_compose(rt: HostRuntime) -> Result<(), Fail> {
     let alloc = rt.alloc();
-    let mut tokens = cursor(
-        alloc,
-        vec![in alloc;
-            (Token::SymBang, 0, 1),
-            (Token::KwTrue, 1, 5),
-            (Token::SymOrOr, 6, 8),
-            (ident(alloc, "x")?, 9, 10),
-            (Token::SymMinus, 11, 12),
-            (Token::U32(1), 13, 15),
-            (Token::SymLessThanEqual, 16, 18),
-            (ident(alloc, "y")?, 19, 20),
-            (Token::SymShiftLeft, 20, 22),
-            (Token::SymParenLeft, 22, 23),
-            (Token::I32(2), 23, 25),
-            (Token::SymParenRight, 25, 26),
-        ]?,
-    )?;
+    let mut tokens = cursor(alloc, "! true || x - 1u <= y << ( 2i )")?;
     let Ok(tree) = parse_expression(alloc, &mut tokens) else {
         return Err(Fail::new("no expression"));
     };
@@ -109,28 +83,14 @@ fn sums_compare_and_compose(rt: HostRuntime) -> Result<(), Fail> {
         format!(in alloc; "{tree}")?.as_str(),
         "!true || x - 1u <= y << (2i)"
     );
-    assert_eq!(rt; tree.span(), Span::new(0..26));
+    assert_eq!(rt; tree.span(), Span::new(0..12));
     Ok(())
 }
 
 #[test]
 fn types_have_template_lists(rt: HostRuntime) -> Result<(), Fail> {
     let alloc = rt.alloc();
-    let mut tokens = cursor(
-        alloc,
-        vec![in alloc;
-            (ident(alloc, "array")?, 0, 5),
-            (Token::TemplateArgsStart, 5, 6),
-            (ident(alloc, "f32")?, 6, 9),
-            (Token::SymComma, 9, 10),
-            (Token::AbstractInt(4), 11, 12),
-            (Token::TemplateArgsEnd, 12, 13),
-            (Token::TemplateArgsStart, 14, 15),
-            (ident(alloc, "i32")?, 15, 18),
-            (Token::SymComma, 18, 19),
-            (Token::TemplateArgsEnd, 19, 20),
-        ]?,
-    )?;
+    let mut tokens = cursor(alloc, "array < f32 , 4 > < i32 , >")?;
     let Ok(ty) = parse_type_specifier(alloc, &mut tokens) else {
         return Err(Fail::new("no type"));
     };
@@ -139,7 +99,7 @@ fn types_have_template_lists(rt: HostRuntime) -> Result<(), Fail> {
         return Err(Fail::new("no template list"));
     };
     assert_eq!(rt; template_args.len(), 1);
-    assert_eq!(rt; template_args[0].expression.span(), Span::new(15..18));
+    assert_eq!(rt; template_args[0].expression.span(), Span::new(7..8));
     assert!(rt; tokens.is_empty());
     Ok(())
 }
@@ -147,19 +107,7 @@ fn types_have_template_lists(rt: HostRuntime) -> Result<(), Fail> {
 #[test]
 fn arguments_stand_in_parentheses(rt: HostRuntime) -> Result<(), Fail> {
     let alloc = rt.alloc();
-    let mut tokens = cursor(
-        alloc,
-        vec![in alloc;
-            (Token::SymParenLeft, 0, 1),
-            (ident(alloc, "f")?, 1, 2),
-            (Token::SymParenLeft, 2, 3),
-            (Token::SymParenRight, 3, 4),
-            (Token::SymComma, 4, 5),
-            (Token::KwFalse, 6, 11),
-            (Token::SymComma, 11, 12),
-            (Token::SymParenRight, 12, 13),
-        ]?,
-    )?;
+    let mut tokens = cursor(alloc, "( f ( ) , false , )")?;
     let Ok(arguments) = parse_arguments(alloc, &mut tokens) else {
         return Err(Fail::new("no arguments"));
     };
@@ -173,7 +121,7 @@ fn arguments_stand_in_parentheses(rt: HostRuntime) -> Result<(), Fail> {
 #[test]
 fn components_reach_from_their_base(rt: HostRuntime) -> Result<(), Fail> {
     let alloc = rt.alloc();
-    let mut tokens = cursor(
+    let mut tokens = placed(
         alloc,
         vec![in alloc;
             (Token::SymPeriod, 1, 2),
@@ -196,7 +144,7 @@ fn components_reach_from_their_base(rt: HostRuntime) -> Result<(), Fail> {
 #[test]
 fn a_missing_operand_is_an_unexpected_end(rt: HostRuntime) -> Result<(), Fail> {
     let alloc = rt.alloc();
-    let mut tokens = cursor(
+    let mut tokens = placed(
         alloc,
         vec![in alloc; (Token::AbstractInt(1), 0, 1), (Token::SymPlus, 2, 3)]?,
     )?;
