@@ -78,13 +78,24 @@ fn tokens_and_faults(rt: HostRuntime) -> Result<(), Fail> {
 #[test]
 fn copies_give_what_is_left(rt: HostRuntime) -> Result<(), Fail> {
     let alloc = rt.alloc();
+    let mut lexer = Lexer::new(alloc, "a b")?;
+    assert!(rt; lexer.next().is_some());
+    let copy = lexer.clone(alloc)?;
+    assert_eq!(rt; items(alloc, copy)?.as_str(), "2..3 identifier `b`\n");
+    assert_eq!(rt; items(alloc, lexer)?.as_str(), "2..3 identifier `b`\n");
+    Ok(())
+}
+
+#[test]
+fn copies_end_a_list_that_has_begun(rt: HostRuntime) -> Result<(), Fail> {
+    let alloc = rt.alloc();
     let mut lexer = Lexer::new(alloc, "a<b>")?;
     assert!(rt; lexer.next().is_some());
     assert!(rt; lexer.next().is_some());
     let copy = lexer.clone(alloc)?;
-    let wanted = "2..3 identifier `b`\n3..4 end of template\n";
-    assert_eq!(rt; items(alloc, copy)?.as_str(), wanted);
-    assert_eq!(rt; items(alloc, lexer)?.as_str(), wanted);
+    let left = "2..3 identifier `b`\n3..4 end of template\n";
+    assert_eq!(rt; items(alloc, copy)?.as_str(), left);
+    assert_eq!(rt; items(alloc, lexer)?.as_str(), left);
     Ok(())
 }
 
