@@ -20,6 +20,13 @@ fn prints(rt: HostRuntime) -> Result<(), Fail> {
         ("a << b < c", "a << b < c"),
         ("f(a < b, c > (d),)", "f(a<b, c>(d))"),
         ("a.b[0]", "a.b[0]"),
+        ("a & b & c", "a & b & c"),
+        (
+            "!true || x - 1u <= y << (2i)",
+            "!true || x - 1u <= y << (2i)",
+        ),
+        ("g(f(), false,)", "g(f(), false)"),
+        ("array<f32, 4,>", "array<f32, 4>"),
     ] {
         assert_printed::<Expression>(&rt, rt.alloc(), text, wanted)?;
     }
@@ -33,6 +40,8 @@ fn unexpected_tokens(rt: HostRuntime) -> Result<(), Fail> {
         ("x<a<b>>=c", "chars 7..8: unexpected token `=`"),
         ("a && b || c", "chars 7..9: unexpected token `||`"),
         ("a + b << c", "chars 6..8: unexpected token `<<`"),
+        ("a & b & c + d", "chars 10..11: unexpected token `+`"),
+        ("1 +", "chars 3..4: unexpected end of file"),
     ] {
         assert_refused::<Expression>(&rt, rt.alloc(), text, wanted)?;
     }

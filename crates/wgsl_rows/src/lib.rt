@@ -2,31 +2,23 @@
 #![tactic(auto)]
 
 #[cfg(test)]
+mod attributes;
+#[cfg(test)]
 mod declarations;
 #[cfg(test)]
 mod depth;
 #[cfg(test)]
-mod dialect;
-#[cfg(test)]
 mod directives;
-#[cfg(test)]
-mod expected;
 #[cfg(test)]
 mod expressions;
 #[cfg(test)]
 mod faults;
-#[cfg(test)]
-mod lexer;
 #[cfg(test)]
 mod numbers;
 #[cfg(test)]
 mod reading;
 #[cfg(test)]
 mod statements_from;
-#[cfg(test)]
-mod template_lists;
-#[cfg(test)]
-mod token_lists;
 #[cfg(test)]
 mod trees;
 #[cfg(test)]

@@ -25,13 +25,14 @@ fn kinds_of_whole_numbers(rt: HostRuntime) -> Result<(), Fail> {
     Ok(())
 }
 
-/// The kind of a float and its spelling.
-fn float(literal: &LiteralExpression) -> Option<(&'static str, &str)> {
+/// Whether a literal is a float of the kind, spelled so.
+fn is_float(literal: &LiteralExpression, kind: &str, spelling: &str) -> bool {
     match literal {
-        LiteralExpression::AbstractFloat(spelling) => Some(("abstract", spelling.as_str())),
-        LiteralExpression::F32(spelling) => Some(("f32", spelling.as_str())),
-        LiteralExpression::F16(spelling) => Some(("f16", spelling.as_str())),
-        _ => None,
+        LiteralExpression::AbstractFloat(written) => kind == "abstract"
+            && written.as_str() == spelling,
+        LiteralExpression::F32(written) => kind == "f32" && written.as_str() == spelling,
+        LiteralExpression::F16(written) => kind == "f16" && written.as_str() == spelling,
+        _ => false,
     }
 }
 
@@ -46,7 +47,7 @@ fn kinds_of_floats(rt: HostRuntime) -> Result<(), Fail> {
         (".5e3h", "f16", ".5e3"),
     ] {
         let found = literal(rt.alloc(), text)?;
-        assert_eq!(rt; float(&found), Some((kind, spelling)), "at {text}");
+        assert!(rt; is_float(&found, kind, spelling), "at {text}");
     }
     Ok(())
 }
