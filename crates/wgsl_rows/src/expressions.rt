@@ -1,6 +1,6 @@
 //! Expressions that are read by themselves, the spans of their parts, and what is printed of them.
 
-use crate::reading::{assert_printed, assert_read, assert_refused};
+use crate::reading::{assert_printed, assert_read};
 use std::test::Fail;
 use wgsl_parse::syntax::{
     BinaryExpression, BinaryOperator, Expression, ExpressionNode, FunctionCall, Ident,
@@ -29,21 +29,6 @@ fn prints(rt: HostRuntime) -> Result<(), Fail> {
         ("array<f32, 4,>", "array<f32, 4>"),
     ] {
         assert_printed::<Expression>(&rt, rt.alloc(), text, wanted)?;
-    }
-    Ok(())
-}
-
-#[test]
-fn unexpected_tokens(rt: HostRuntime) -> Result<(), Fail> {
-    for (text, wanted) in [
-        ("1.x", "chars 2..3: unexpected token `identifier `x``"),
-        ("x<a<b>>=c", "chars 7..8: unexpected token `=`"),
-        ("a && b || c", "chars 7..9: unexpected token `||`"),
-        ("a + b << c", "chars 6..8: unexpected token `<<`"),
-        ("a & b & c + d", "chars 10..11: unexpected token `+`"),
-        ("1 +", "chars 3..4: unexpected end of file"),
-    ] {
-        assert_refused::<Expression>(&rt, rt.alloc(), text, wanted)?;
     }
     Ok(())
 }

@@ -1,4 +1,4 @@
-//! Worked texts over the public library: what is read of them, the faults that are named, and what is printed.
+//! Worked texts over the public library: what is read of them, and what is printed.
 #![tactic(auto)]
 
 #[cfg(test)]
@@ -11,8 +11,6 @@ mod depth;
 mod directives;
 #[cfg(test)]
 mod expressions;
-#[cfg(test)]
-mod faults;
 #[cfg(test)]
 mod numbers;
 #[cfg(test)]

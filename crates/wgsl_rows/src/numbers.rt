@@ -1,6 +1,6 @@
-//! Numbers: each form and suffix, the bounds of whole numbers, and what is no number.
+//! Numbers: each form and suffix, and what is printed of them.
 
-use crate::reading::{assert_printed, assert_refused};
+use crate::reading::assert_printed;
 use std::alloc::Global;
 use std::test::Fail;
 use wgsl_parse::lexer::Lexer;
@@ -85,42 +85,9 @@ fn floats_print_as_written(rt: HostRuntime) -> Result<(), Fail> {
 }
 
 #[test]
-fn whole_numbers_past_their_bounds(rt: HostRuntime) -> Result<(), Fail> {
-    for (text, wanted) in [
-        ("2147483648i", "chars 0..11: invalid token"),
-        ("0x80000000i", "chars 0..11: invalid token"),
-        ("0xffffffffi", "chars 0..11: invalid token"),
-        ("-2147483648i", "chars 1..12: invalid token"),
-        ("4294967296u", "chars 0..11: invalid token"),
-        ("0x100000000u", "chars 0..12: invalid token"),
-        ("9223372036854775808", "chars 0..19: invalid token"),
-        ("0x8000000000000000", "chars 0..18: invalid token"),
-    ] {
-        assert_refused::<Expression>(&rt, rt.alloc(), text, wanted)?;
-    }
-    Ok(())
-}
-
-#[test]
-fn two_tokens(rt: HostRuntime) -> Result<(), Fail> {
-    for (text, wanted) in [
-        ("01", "chars 1..2: unexpected token `1`"),
-        ("0x", "chars 1..2: unexpected token `identifier `x``"),
-        ("1.5i", "chars 3..4: unexpected token `identifier `i``"),
-        ("1 .5", "chars 2..4: unexpected token `.5`"),
-        ("1e", "chars 1..2: unexpected token `identifier `e``"),
-    ] {
-        assert_refused::<Expression>(&rt, rt.alloc(), text, wanted)?;
-    }
-    Ok(())
-}
-
-#[test]
 fn a_million_digits(rt: HostRuntime) -> Result<(), Fail> {
     let alloc = rt.alloc();
     let digits = "9".repeat(alloc, 1_000_000)?;
-    let digits = digits.as_str();
-    assert_refused::<Expression>(&rt, alloc, digits, "chars 0..1000000: invalid token")?;
     let float = format!(in alloc; "{digits}f")?;
     assert_printed::<Expression>(&rt, alloc, float.as_str(), float.as_str())
 }

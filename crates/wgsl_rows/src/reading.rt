@@ -1,4 +1,4 @@
-//! Texts that are read, printed and read again, and texts that are refused.
+//! Texts that are read, printed and read again.
 
 use std::alloc::Global;
 use std::fmt;
@@ -77,19 +77,4 @@ pub(crate) fn assert_read<T: FromSource>(rt: &impl Abort, alloc: Global, text: &
         Ok(tree) => tree,
         Err(error) => panic!(rt; "{error} at {text}"),
     }
-}
-
-/// The text is refused with the fault that is wanted, told without what was expected.
-pub(crate) fn assert_refused<T: FromSource + Drop>(
-    rt: &impl Abort,
-    alloc: Global,
-    text: &str,
-    wanted: &str,
-) -> Result<(), Fail> {
-    let Some(error) = T::from_str(alloc, text).err() else {
-        panic!(rt; "{text} is not refused");
-    };
-    let told = format!(in alloc; "{}", error.without_expected())?;
-    assert_eq!(rt; told.as_str(), wanted, "at {text}");
-    Ok(())
 }

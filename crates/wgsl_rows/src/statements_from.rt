@@ -1,6 +1,6 @@
 //! Statements that are read by themselves, their spans, and what is printed of them.
 
-use crate::reading::{assert_printed, assert_read, assert_refused};
+use crate::reading::{assert_printed, assert_read};
 use std::test::Fail;
 use wgsl_parse::syntax::{ForStatement, Span, Statement};
 
@@ -32,22 +32,6 @@ fn prints(rt: HostRuntime) -> Result<(), Fail> {
         ("@if(a) {}", "@if(a)\n{\n\n}"),
     ] {
         assert_printed::<Statement>(&rt, rt.alloc(), text, wanted)?;
-    }
-    Ok(())
-}
-
-#[test]
-fn unexpected_tokens(rt: HostRuntime) -> Result<(), Fail> {
-    for (text, wanted) in [
-        ("a * b;", "chars 2..3: unexpected token `*`"),
-        ("a(b) = 1;", "chars 5..6: unexpected token `=`"),
-        ("a<b> = c;", "chars 5..6: unexpected token `=`"),
-        (
-            "@if(a) a = 1;",
-            "chars 7..8: unexpected token `identifier `a``",
-        ),
-    ] {
-        assert_refused::<Statement>(&rt, rt.alloc(), text, wanted)?;
     }
     Ok(())
 }

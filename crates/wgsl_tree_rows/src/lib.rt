@@ -10,6 +10,4 @@ mod nodes;
 #[cfg(test)]
 mod statements;
 #[cfg(test)]
-mod syntax_nodes;
-#[cfg(test)]
 mod units;

@@ -1,6 +1,6 @@
-//! Texts that are refused, each with the fault that is named.
+//! Modules that are refused, each with the fault that is named.
 
-use crate::reading::assert_refused;
+use crate::refusing::assert_refused;
 use std::test::Fail;
 use wgsl_parse::syntax::TranslationUnit;
 
@@ -107,4 +107,12 @@ fn checked_faults(rt: HostRuntime) -> Result<(), Fail> {
         assert_refused::<TranslationUnit>(&rt, rt.alloc(), text, wanted)?;
     }
     Ok(())
+}
+
+#[test]
+fn fused_negations(rt: HostRuntime) -> Result<(), Fail> {
+    let minuses = "-".repeat(rt.alloc(), 200)?;
+    let text = format!(in rt.alloc(); "const x = {minuses}1;")?;
+    let wanted = "chars 10..12: unexpected token `--`";
+    assert_refused::<TranslationUnit>(&rt, rt.alloc(), text.as_str(), wanted)
 }
