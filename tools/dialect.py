@@ -145,15 +145,15 @@ class Writer:
             for classes in self.sets(steps):
                 users.setdefault(tuple(classes), []).append(n)
         shared = [classes for classes, symbols in users.items() if len(classes) > 2 and len(symbols) > 1]
-        self.names = {classes: f"BEGINS_{self.begun(classes, users)}" for classes in shared}
+        self.names = {classes: self.name(classes, users) for classes in shared}
 
-    def begun(self, classes, users):
-        """The first symbol before which such a set is asked for."""
+    def name(self, classes, users):
+        """The name of a set: by the first symbol before which it is asked for, else by the rule that goes on with it."""
         for steps in self.found.values():
             for step in self.choices(steps):
                 if tuple(step[1]) == classes and step[2] and step[2][0][0] == "Symbol":
-                    return capitals(step[2][0][1])
-        return capitals(users[classes][0])
+                    return f"BEGINS_{capitals(step[2][0][1])}"
+        return f"CONTINUES_{capitals(users[classes][0])}"
 
     def choices(self, steps):
         for step in steps:

@@ -69,7 +69,7 @@ fn main(rt: HostRuntime) -> io::Result<()> {
     let (Some(measured), Ok(turns)) = (Measured::from_word(what.as_str()), turns.parse::<u32>())
     else {
         return println!(rt;
-            "what is measured is bytes, lex, expression, unit or print, so many turns"
+            "wgsl_bench WHAT TURNS, where WHAT is bytes, lex, expression, unit or print"
         );
     };
     let text = io::read_to_string(rt.alloc(), rt.stdin())?;

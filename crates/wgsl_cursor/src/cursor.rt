@@ -105,7 +105,7 @@ impl Cursor {
         Err(self.refuse(Expected::One(kind)))
     }
 
-    /// The next token, which can't stand here, or that there is none.
+    /// Takes the next token, which can't stand here, as the fault; or the fault is that there is none.
     pub fn refuse(&mut self, expected: Expected) -> Fault
         ensures { Fails result (refused {A = Token} (state self.old).rest) }
     {
@@ -178,7 +178,7 @@ impl Cursor {
         }
     }
 
-    /// Takes a literal, where other tokens than those of literals could stand too.
+    /// Takes a literal. `expected` is what could stand in its place.
     #[tactic(auto, unfolding(wgsl_grammar_theory::specs::ExpressionRules::literal_at, grammar::specs::States::is_at, grammar::specs::States::first_of, grammar::specs::States::after), using(wgsl_grammar_theory::proofs::ExpressionEquations::literal_is))]
     pub fn literal(&mut self, expected: Expected) -> Result<LiteralExpression, Fault>
         ensures value { Gives literal_view result (state self.new) (reader (of literal) (state self.old)) }

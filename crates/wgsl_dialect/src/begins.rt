@@ -2,7 +2,7 @@
 
 use wgsl_token::kind::TokenKind;
 
-pub const BEGINS_MULTIPLICATIVE_EXPRESSION: &[TokenKind] = &[
+pub const CONTINUES_MULTIPLICATIVE_EXPRESSION: &[TokenKind] = &[
     TokenKind::SymStar,
     TokenKind::SymForwardSlash,
     TokenKind::SymModulo,

@@ -1,6 +1,6 @@
 //! The rules of names, expressions and templates.
 
-use crate::begins::BEGINS_MULTIPLICATIVE_EXPRESSION;
+use crate::begins::CONTINUES_MULTIPLICATIVE_EXPRESSION;
 use crate::step::Step::{self, Choice, Repeat, Rule, Token};
 use crate::symbol::Symbol;
 use wgsl_token::kind::TokenKind;
@@ -118,7 +118,7 @@ pub const UNARY_EXPRESSION: &[Step] = &[Choice(
 pub const MULTIPLICATIVE_EXPRESSION: &[Step] = &[
     Rule(Symbol::UnaryExpression),
     Repeat(
-        BEGINS_MULTIPLICATIVE_EXPRESSION,
+        CONTINUES_MULTIPLICATIVE_EXPRESSION,
         &[
             Choice(
                 &[TokenKind::SymStar],
@@ -181,7 +181,7 @@ pub const COMPONENTS: &[Step] = &[Repeat(
 )];
 
 pub const FACTORS: &[Step] = &[Repeat(
-    BEGINS_MULTIPLICATIVE_EXPRESSION,
+    CONTINUES_MULTIPLICATIVE_EXPRESSION,
     &[
         Choice(
             &[TokenKind::SymStar],

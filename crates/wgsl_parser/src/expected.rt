@@ -5,7 +5,7 @@ use wgsl_statement::{Statement, StatementNode};
 use wgsl_token::kind::TokenKind;
 use wgsl_unit::TranslationUnit;
 
-/// Behind an expression: a component or an operator.
+/// Behind an expression: a component, an operator, the arguments of a call or a template list.
 pub(crate) const BEHIND_EXPRESSION: Expected = Expected::OneOf(&[
     TokenKind::SymAnd,
     TokenKind::SymAndAnd,

@@ -24,7 +24,11 @@ fn keep_their_arguments(rt: HostRuntime) -> Result<(), Fail> {
         "@diagnostic(off, x)",
         "@diagnostic(info, x.y)",
         "@interpolate(flat)",
+        "@interpolate(perspective, center)",
         "@interpolate(linear, sample)",
+        "@interpolate(linear, centroid)",
+        "@interpolate(flat, first)",
+        "@interpolate(flat, either)",
         "@workgroup_size(8)",
         "@workgroup_size(8, 4, n)",
         "@type(T, i32 | f32 | u32)",
@@ -33,6 +37,32 @@ fn keep_their_arguments(rt: HostRuntime) -> Result<(), Fail> {
         let text = format!(in alloc; "{attributes} fn f() {{}}")?;
         let wanted = format!(in alloc; "{attributes}\nfn f() {{\n\n}}")?;
         assert_printed::<GlobalDeclaration>(&rt, alloc, text.as_str(), wanted.as_str())?;
+    }
+    Ok(())
+}
+
+#[test]
+fn have_each_built_in_value(rt: HostRuntime) -> Result<(), Fail> {
+    let alloc = rt.alloc();
+    for word in [
+        "vertex_index",
+        "instance_index",
+        "clip_distances",
+        "position",
+        "front_facing",
+        "frag_depth",
+        "sample_index",
+        "sample_mask",
+        "local_invocation_id",
+        "local_invocation_index",
+        "global_invocation_id",
+        "workgroup_id",
+        "num_workgroups",
+        "subgroup_invocation_id",
+        "subgroup_size",
+    ] {
+        let text = format!(in alloc; "fn f(@builtin({word}) p: u32) {{\n\n}}")?;
+        assert_printed::<GlobalDeclaration>(&rt, alloc, text.as_str(), text.as_str())?;
     }
     Ok(())
 }

@@ -32,6 +32,8 @@ fn prints(rt: HostRuntime) -> Result<(), Fail> {
             "@fragment fn frag_main() -> @location(0) vec4f { return vec4(1); }",
             "@fragment\nfn frag_main() -> @location(0) vec4f {\n    return vec4(1);\n}",
         ),
+        ("override x: f32;", "override x: f32;"),
+        ("@id(1) override y = 2.5;", "@id(1)\noverride y = 2.5;"),
         ("const x = 5--7*2;", "const x = 5 - -7 * 2;"),
         ("const a = f<b>==c;", "const a = f<b> == c;"),
         ("const b = a < c;", "const b = a < c;"),

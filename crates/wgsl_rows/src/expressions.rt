@@ -33,6 +33,23 @@ fn prints(rt: HostRuntime) -> Result<(), Fail> {
     Ok(())
 }
 
+#[test]
+fn operators(rt: HostRuntime) -> Result<(), Fail> {
+    let alloc = rt.alloc();
+    for operator in [
+        "||", "&&", "+", "-", "*", "/", "%", "==", "!=", "<", "<=", ">", ">=", "|", "&", "^", "<<",
+        ">>",
+    ] {
+        let text = format!(in alloc; "a {operator} b")?;
+        assert_printed::<Expression>(&rt, alloc, text.as_str(), text.as_str())?;
+    }
+    for operator in ["!", "-", "~", "&", "*"] {
+        let text = format!(in alloc; "{operator}a")?;
+        assert_printed::<Expression>(&rt, alloc, text.as_str(), text.as_str())?;
+    }
+    Ok(())
+}
+
 fn binary(expression: Expression) -> Result<BinaryExpression, Fail> {
     let Expression::Binary(binary) = expression else {
         return Err(Fail::new("no binary expression"));

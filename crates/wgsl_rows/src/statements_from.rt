@@ -36,6 +36,18 @@ fn prints(rt: HostRuntime) -> Result<(), Fail> {
     Ok(())
 }
 
+#[test]
+fn assignments(rt: HostRuntime) -> Result<(), Fail> {
+    let alloc = rt.alloc();
+    for operator in [
+        "=", "+=", "-=", "*=", "/=", "%=", "&=", "|=", "^=", ">>=", "<<=",
+    ] {
+        let text = format!(in alloc; "a {operator} b;")?;
+        assert_printed::<Statement>(&rt, alloc, text.as_str(), text.as_str())?;
+    }
+    Ok(())
+}
+
 /// The spans of the parts of a header, and of the first statement of the body.
 fn spans(statement: &ForStatement) -> [Option<Span>; 4] {
     [

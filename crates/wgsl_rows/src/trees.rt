@@ -1,22 +1,29 @@
 //! Modules with their trees, and the span of each node.
 
-use crate::reading::assert_read;
+use std::alloc::Global;
 use std::test::Fail;
 use wgsl_parse::parse_str;
 use wgsl_parse::syntax::{
-    BinaryOperator, Declaration, DeclarationKind, Expression, ExpressionNode, GlobalDeclaration,
-    LiteralExpression, Span,
+    BinaryOperator, DeclarationKind, Expression, ExpressionNode, GlobalDeclaration,
+    LiteralExpression, Span, UnaryOperator,
 };
 
-fn declared(declaration: GlobalDeclaration) -> Result<Declaration, Fail> {
-    let GlobalDeclaration::Declaration(declaration) = declaration else {
+/// The value that the last declaration of a module gives to its name.
+fn last_value(alloc: Global, text: &str) -> Result<ExpressionNode, Fail> {
+    let mut declarations = parse_str(alloc, text)?.global_declarations;
+    let last = declarations.pop().ok_or("no declaration")?;
+    let GlobalDeclaration::Declaration(declaration) = last.into_inner() else {
         return Err(Fail::new("no declaration of a value"));
     };
-    Ok(declaration)
+    Ok(declaration.initializer.ok_or("no initializer")?)
 }
 
-fn initializer(declaration: Declaration) -> Result<ExpressionNode, Fail> {
-    Ok(declaration.initializer.ok_or("no initializer")?)
+#[test]
+fn the_empty_text_is_the_empty_module(rt: HostRuntime) -> Result<(), Fail> {
+    let unit = parse_str(rt.alloc(), "")?;
+    assert!(rt; unit.global_directives.is_empty());
+    assert!(rt; unit.global_declarations.is_empty());
+    Ok(())
 }
 
 #[test]
@@ -58,25 +65,29 @@ fn reads_each_declaration_with_its_span(rt: HostRuntime) -> Result<(), Fail> {
 
 #[test]
 fn counts_places_from_the_front_of_the_module(rt: HostRuntime) -> Result<(), Fail> {
-    let constant = declared(assert_read(&rt, rt.alloc(), "const x = 5--7*2;"))?;
-    let sum = initializer(constant)?;
-    assert_eq!(rt; sum.span(), Span::new(10..16));
-    let Expression::Binary(sum) = sum.into_inner() else {
-        return Err(Fail::new("no sum"));
+    let value = last_value(rt.alloc(), "const x = 5--7*2;")?;
+    assert_eq!(rt; value.span(), Span::new(10..16));
+    let Expression::Binary(difference) = value.into_inner() else {
+        return Err(Fail::new("no difference"));
     };
-    assert_eq!(rt; sum.right.span(), Span::new(12..16));
-    let Expression::Binary(product) = sum.right.into_inner() else {
+    assert_eq!(rt; difference.operator, BinaryOperator::Subtraction);
+    assert_eq!(rt; difference.right.span(), Span::new(12..16));
+    let Expression::Binary(product) = difference.right.into_inner() else {
         return Err(Fail::new("no product"));
     };
-    assert!(rt; product.left.node().is_unary());
+    assert_eq!(rt; product.operator, BinaryOperator::Multiplication);
     assert_eq!(rt; product.left.span(), Span::new(12..14));
+    let Expression::Unary(negation) = product.left.into_inner() else {
+        return Err(Fail::new("no negation"));
+    };
+    assert_eq!(rt; negation.operator, UnaryOperator::Negation);
     Ok(())
 }
 
 #[test]
 fn a_less_than_sign_that_opens_no_list_compares(rt: HostRuntime) -> Result<(), Fail> {
-    let constant = declared(assert_read(&rt, rt.alloc(), "const b = a < c;"))?;
-    let Expression::Binary(comparison) = initializer(constant)?.into_inner() else {
+    let value = last_value(rt.alloc(), "const b = a < c;")?;
+    let Expression::Binary(comparison) = value.into_inner() else {
         return Err(Fail::new("no comparison"));
     };
     assert_eq!(rt; comparison.operator, BinaryOperator::LessThan);

@@ -37,7 +37,7 @@ const SIMPLE_STATEMENT: Expected = Expected::OneOf(&[
     TokenKind::Ident,
 ]);
 
-/// What goes on behind a left side.
+/// What can stand behind a left side.
 const LEFT_SIDE_REST: Expected = Expected::OneOf(&[
     TokenKind::SymBracketLeft,
     TokenKind::SymEqual,

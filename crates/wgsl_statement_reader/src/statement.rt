@@ -25,7 +25,7 @@ use wgsl_statement_part_reader::{
 };
 use wgsl_token::kind::TokenKind;
 
-/// What attributes stand before in a body.
+/// What can stand behind the attributes of a statement.
 const ATTRIBUTED_STATEMENT: Expected = Expected::OneOf(&[
     TokenKind::SymAttr,
     TokenKind::SymBraceLeft,

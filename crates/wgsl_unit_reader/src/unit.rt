@@ -24,7 +24,7 @@ use wgsl_statement_reader::parse_const_assert;
 use wgsl_token::kind::TokenKind;
 use wgsl_unit::{GlobalDeclaration, GlobalDeclarationNode, GlobalDirective, TranslationUnit};
 
-/// What goes on behind attributes of a declaration.
+/// What can stand behind the attributes of a declaration.
 const ATTRIBUTED_DECLARATION: Expected = Expected::OneOf(&[
     TokenKind::SymAttr,
     TokenKind::KwFn,
