@@ -1,0 +1,107 @@
+//! The nodes of a tree: each one's text, span and copy, under its path from the root.
+//! A path has the names of fields and the places in lists, with a `.` between them; the root is `.` alone.
+
+pub mod attributes;
+pub mod declarations;
+pub mod directives;
+pub mod expressions;
+pub mod statements;
+
+use crate::facts::Facts;
+use std::alloc::{AllocError, Global};
+use std::fmt;
+use wgsl_parse::SyntaxNode;
+use wgsl_parse::syntax::Span;
+
+/// The path of a part.
+fn path_of(alloc: Global, path: &str, part: &str) -> Result<String, AllocError> {
+    if path == "." {
+        return String::from_str(alloc, part);
+    }
+    format!(in alloc; "{path}.{part}")
+}
+
+/// The path of an item of a list.
+fn item_path(alloc: Global, path: &str, list: &str, place: usize) -> Result<String, AllocError> {
+    let list = path_of(alloc, path, list)?;
+    format!(in alloc; "{list}.{place}")
+}
+
+impl Facts {
+    /// The text of a part.
+    fn part<T: fmt::Display>(
+        &mut self,
+        path: &str,
+        name: &str,
+        part: &T,
+    ) -> Result<(), AllocError> {
+        let path = path_of(self.alloc, path, name)?;
+        let words = format!(in self.alloc; "part {path}")?;
+        self.tell(words, part.to_string(self.alloc)?)
+    }
+
+    /// How many items a list has, or one if a part is there.
+    fn count(&mut self, path: &str, name: &str, count: usize) -> Result<(), AllocError> {
+        let path = path_of(self.alloc, path, name)?;
+        let words = format!(in self.alloc; "count {path}")?;
+        self.tell(words, format!(in self.alloc; "{count}")?)
+    }
+
+    /// Which variant a node is.
+    fn variant(&mut self, path: &str, variant: &str) -> Result<(), AllocError> {
+        let words = format!(in self.alloc; "variant {path}")?;
+        self.tell(words, String::from_str(self.alloc, variant)?)
+    }
+
+    /// Where a node stands.
+    pub fn span(&mut self, path: &str, span: Span) -> Result<(), AllocError> {
+        let words = format!(in self.alloc; "span {path}")?;
+        self.tell(
+            words,
+            format!(in self.alloc; "{}..{}", span.start, span.end)?,
+        )
+    }
+
+    /// The name that a node has, as it answers itself.
+    fn name<T: SyntaxNode>(&mut self, path: &str, node: &T) -> Result<(), AllocError> {
+        match node.ident(self.alloc)? {
+            Some(ident) => {
+                let words = format!(in self.alloc; "name {path}")?;
+                self.tell(words, ident.to_string(self.alloc)?)
+            }
+            None => Ok(()),
+        }
+    }
+
+    /// Looks at the copy of what prints nothing by itself.
+    fn copy<T: PartialEq + Drop, F: FnOnce(&T, Global) -> Result<T, AllocError>>(
+        &mut self,
+        path: &str,
+        node: &T,
+        clone: F,
+    ) -> Result<(), AllocError>
+        requires { F.IsAlwaysCallable clone }
+    {
+        let copy = clone(node, self.alloc)?;
+        self.expect(copy == *node, "a copy is equal", path)
+    }
+
+    /// The text of a node, which is that of its copy too.
+    fn node<T: fmt::Display + PartialEq + Drop, F: FnOnce(&T, Global) -> Result<T, AllocError>>(
+        &mut self,
+        path: &str,
+        node: &T,
+        clone: F,
+    ) -> Result<(), AllocError>
+        requires { F.IsAlwaysCallable clone }
+    {
+        let text = node.to_string(self.alloc)?;
+        let copy = clone(node, self.alloc)?;
+        let is_equal = copy == *node;
+        let copied = copy.to_string(self.alloc)?;
+        self.expect(is_equal, "a copy is equal", path)?;
+        self.expect(copied == text, "a copy prints alike", path)?;
+        let words = format!(in self.alloc; "part {path}")?;
+        self.tell(words, text)
+    }
+}

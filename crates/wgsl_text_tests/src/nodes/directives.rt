@@ -1,0 +1,31 @@
+//! Directives.
+
+use crate::facts::Facts;
+use std::alloc::AllocError;
+use wgsl_parse::syntax::{
+    DiagnosticDirective, EnableDirective, GlobalDirective, RequiresDirective,
+};
+
+/// A directive and its parts.
+pub fn see_directive(
+    node: &GlobalDirective,
+    facts: &mut Facts,
+    path: &str,
+) -> Result<(), AllocError> {
+    facts.node(path, node, GlobalDirective::clone)?;
+    match node {
+        GlobalDirective::Diagnostic(inner) => {
+            facts.node(path, inner, DiagnosticDirective::clone)?;
+            facts.part(path, "severity", &inner.severity)?;
+            facts.part(path, "rule_name", &inner.rule_name)
+        }
+        GlobalDirective::Enable(inner) => {
+            facts.node(path, inner, EnableDirective::clone)?;
+            facts.count(path, "extensions", inner.extensions.len())
+        }
+        GlobalDirective::Requires(inner) => {
+            facts.node(path, inner, RequiresDirective::clone)?;
+            facts.count(path, "extensions", inner.extensions.len())
+        }
+    }
+}

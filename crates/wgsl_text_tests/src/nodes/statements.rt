@@ -1,0 +1,228 @@
+//! Statements.
+
+use crate::facts::Facts;
+use crate::nodes::attributes::see_attributes;
+use crate::nodes::expressions::{see_call, see_ident, see_optional, see_optional_type, see_part};
+use crate::nodes::{item_path, path_of};
+use std::alloc::AllocError;
+use wgsl_parse::syntax::{
+    AssignmentStatement, BreakIfStatement, BreakStatement, CaseSelector, CompoundStatement,
+    ConstAssert, ContinueStatement, ContinuingStatement, Declaration, DecrementStatement,
+    DiscardStatement, ElseClause, ElseIfClause, ForStatement, FunctionCallStatement, IfClause,
+    IfStatement, IncrementStatement, LoopStatement, ReturnStatement, Statement, StatementNode,
+    SwitchClause, SwitchStatement, WhileStatement,
+};
+
+/// A statement and its parts.
+pub fn see_statement(node: &Statement, facts: &mut Facts, path: &str) -> Result<(), AllocError> {
+    facts.node(path, node, Statement::clone)?;
+    match node {
+        Statement::Compound(inner) => see_block(inner, facts, path),
+        Statement::If(inner) => see_if(inner, facts, path),
+        Statement::Switch(inner) => see_switch(inner, facts, path),
+        Statement::Loop(inner) => see_loop(inner, facts, path),
+        Statement::For(inner) => see_for(inner, facts, path),
+        Statement::While(inner) => see_while(inner, facts, path),
+        _ => see_simple(node, facts, path),
+    }
+}
+
+/// A statement that holds no other.
+fn see_simple(node: &Statement, facts: &mut Facts, path: &str) -> Result<(), AllocError> {
+    match node {
+        Statement::Assignment(inner) => {
+            facts.node(path, inner, AssignmentStatement::clone)?;
+            facts.part(path, "operator", &inner.operator)?;
+            see_part(&inner.lhs, facts, path, "lhs")?;
+            see_part(&inner.rhs, facts, path, "rhs")
+        }
+        Statement::Increment(inner) => {
+            facts.node(path, inner, IncrementStatement::clone)?;
+            see_part(&inner.expression, facts, path, "expression")
+        }
+        Statement::Decrement(inner) => {
+            facts.node(path, inner, DecrementStatement::clone)?;
+            see_part(&inner.expression, facts, path, "expression")
+        }
+        Statement::Return(inner) => {
+            facts.node(path, inner, ReturnStatement::clone)?;
+            see_optional(&inner.expression, facts, path, "expression")
+        }
+        Statement::FunctionCall(inner) => {
+            facts.node(path, inner, FunctionCallStatement::clone)?;
+            let path = path_of(facts.alloc, path, "call")?;
+            see_call(&inner.call, facts, &path)
+        }
+        Statement::ConstAssert(inner) => see_assertion(inner, facts, path),
+        Statement::Declaration(inner) => see_declaration(inner, facts, path),
+        Statement::Break(inner) => facts.node(path, inner, BreakStatement::clone),
+        Statement::Continue(inner) => facts.node(path, inner, ContinueStatement::clone),
+        Statement::Discard(inner) => facts.node(path, inner, DiscardStatement::clone),
+        _ => Ok(()),
+    }
+}
+
+/// The assertion of a constant.
+pub fn see_assertion(node: &ConstAssert, facts: &mut Facts, path: &str) -> Result<(), AllocError> {
+    facts.node(path, node, ConstAssert::clone)?;
+    see_part(&node.expression, facts, path, "expression")
+}
+
+/// The declaration of a value.
+pub fn see_declaration(
+    node: &Declaration,
+    facts: &mut Facts,
+    path: &str,
+) -> Result<(), AllocError> {
+    facts.node(path, node, Declaration::clone)?;
+    facts.name(path, node)?;
+    facts.part(path, "kind", &node.kind)?;
+    see_attributes(&node.attributes, facts, path, "attributes")?;
+    see_ident(&node.ident, facts, path, "ident")?;
+    see_optional_type(&node.ty, facts, path, "ty")?;
+    see_optional(&node.initializer, facts, path, "initializer")
+}
+
+/// A block.
+pub fn see_block(
+    node: &CompoundStatement,
+    facts: &mut Facts,
+    path: &str,
+) -> Result<(), AllocError> {
+    facts.node(path, node, CompoundStatement::clone)?;
+    see_attributes(&node.attributes, facts, path, "attributes")?;
+    facts.count(path, "statements", node.statements.len())?;
+    for (place, statement) in node.statements.iter().enumerate() {
+        let path = item_path(facts.alloc, path, "statements", place)?;
+        facts.span(&path, statement.span())?;
+        see_statement(statement.node(), facts, &path)?;
+    }
+    Ok(())
+}
+
+/// The block of another node.
+pub fn see_body(body: &CompoundStatement, facts: &mut Facts, path: &str) -> Result<(), AllocError> {
+    let path = path_of(facts.alloc, path, "body")?;
+    see_block(body, facts, &path)
+}
+
+fn see_if(node: &IfStatement, facts: &mut Facts, path: &str) -> Result<(), AllocError> {
+    facts.node(path, node, IfStatement::clone)?;
+    see_attributes(&node.attributes, facts, path, "attributes")?;
+    let first = path_of(facts.alloc, path, "if_clause")?;
+    facts.node(&first, &node.if_clause, IfClause::clone)?;
+    see_part(&node.if_clause.expression, facts, &first, "expression")?;
+    see_body(&node.if_clause.body, facts, &first)?;
+    facts.count(path, "else_if_clauses", node.else_if_clauses.len())?;
+    for (place, clause) in node.else_if_clauses.iter().enumerate() {
+        let path = item_path(facts.alloc, path, "else_if_clauses", place)?;
+        facts.node(&path, clause, ElseIfClause::clone)?;
+        see_part(&clause.expression, facts, &path, "expression")?;
+        see_body(&clause.body, facts, &path)?;
+    }
+    let Some(last) = &node.else_clause else {
+        return facts.count(path, "else_clause", 0);
+    };
+    facts.count(path, "else_clause", 1)?;
+    let path = path_of(facts.alloc, path, "else_clause")?;
+    facts.node(&path, last, ElseClause::clone)?;
+    see_body(&last.body, facts, &path)
+}
+
+fn see_switch(node: &SwitchStatement, facts: &mut Facts, path: &str) -> Result<(), AllocError> {
+    facts.node(path, node, SwitchStatement::clone)?;
+    see_attributes(&node.attributes, facts, path, "attributes")?;
+    see_part(&node.expression, facts, path, "expression")?;
+    see_attributes(&node.body_attributes, facts, path, "body_attributes")?;
+    facts.count(path, "clauses", node.clauses.len())?;
+    for (place, clause) in node.clauses.iter().enumerate() {
+        let path = item_path(facts.alloc, path, "clauses", place)?;
+        facts.node(&path, clause, SwitchClause::clone)?;
+        see_selectors(&clause.case_selectors, facts, &path)?;
+        see_body(&clause.body, facts, &path)?;
+    }
+    Ok(())
+}
+
+/// What a clause of a `switch` selects.
+fn see_selectors(
+    selectors: &[CaseSelector],
+    facts: &mut Facts,
+    path: &str,
+) -> Result<(), AllocError> {
+    facts.count(path, "case_selectors", selectors.len())?;
+    for (place, selector) in selectors.iter().enumerate() {
+        let path = item_path(facts.alloc, path, "case_selectors", place)?;
+        facts.node(&path, selector, CaseSelector::clone)?;
+        if let CaseSelector::Expression(node) = selector {
+            facts.span(&path, node.span())?;
+        }
+    }
+    Ok(())
+}
+
+fn see_loop(node: &LoopStatement, facts: &mut Facts, path: &str) -> Result<(), AllocError> {
+    facts.node(path, node, LoopStatement::clone)?;
+    see_attributes(&node.attributes, facts, path, "attributes")?;
+    see_body(&node.body, facts, path)?;
+    match &node.continuing {
+        Some(continuing) => {
+            facts.count(path, "continuing", 1)?;
+            let path = path_of(facts.alloc, path, "continuing")?;
+            see_continuing(continuing, facts, &path)
+        }
+        None => facts.count(path, "continuing", 0),
+    }
+}
+
+fn see_continuing(
+    node: &ContinuingStatement,
+    facts: &mut Facts,
+    path: &str,
+) -> Result<(), AllocError> {
+    facts.node(path, node, ContinuingStatement::clone)?;
+    see_body(&node.body, facts, path)?;
+    match &node.break_if {
+        Some(break_if) => {
+            facts.count(path, "break_if", 1)?;
+            let path = path_of(facts.alloc, path, "break_if")?;
+            facts.node(&path, break_if, BreakIfStatement::clone)?;
+            see_part(&break_if.expression, facts, &path, "expression")
+        }
+        None => facts.count(path, "break_if", 0),
+    }
+}
+
+fn see_for(node: &ForStatement, facts: &mut Facts, path: &str) -> Result<(), AllocError> {
+    facts.node(path, node, ForStatement::clone)?;
+    see_attributes(&node.attributes, facts, path, "attributes")?;
+    see_header_part(&node.initializer, facts, path, "initializer")?;
+    see_optional(&node.condition, facts, path, "condition")?;
+    see_header_part(&node.update, facts, path, "update")?;
+    see_body(&node.body, facts, path)
+}
+
+/// A statement of a `for` header, which may be left out.
+fn see_header_part(
+    node: &Option<StatementNode>,
+    facts: &mut Facts,
+    path: &str,
+    name: &str,
+) -> Result<(), AllocError> {
+    match node {
+        Some(node) => {
+            facts.count(path, name, 1)?;
+            let path = path_of(facts.alloc, path, name)?;
+            facts.span(&path, node.span())?;
+            see_statement(node.node(), facts, &path)
+        }
+        None => facts.count(path, name, 0),
+    }
+}
+
+fn see_while(node: &WhileStatement, facts: &mut Facts, path: &str) -> Result<(), AllocError> {
+    facts.node(path, node, WhileStatement::clone)?;
+    see_attributes(&node.attributes, facts, path, "attributes")?;
+    see_part(&node.condition, facts, path, "condition")?;
+    see_body(&node.body, facts, path)
+}

@@ -1,0 +1,214 @@
+//! Trees that are read from a text and printed.
+
+use crate::facts::Facts;
+use crate::nodes::declarations::{see_global_declaration, see_unit};
+use crate::nodes::directives::see_directive;
+use crate::nodes::expressions::see_expression;
+use crate::nodes::statements::see_statement;
+use std::alloc::{AllocError, Global};
+use std::fmt;
+use wgsl_parse::error::{Error, ErrorKind};
+use wgsl_parse::lexer::Lexer;
+use wgsl_parse::parser::{
+    ExpressionParser, GlobalDeclParser, GlobalDirectiveParser, StatementParser,
+    TranslationUnitParser,
+};
+use wgsl_parse::syntax::{
+    Expression, GlobalDeclaration, GlobalDirective, Span, Statement, TranslationUnit,
+};
+use wgsl_parse::{FromSource, parse_str};
+
+/// A tree that is read from a text by itself.
+pub trait Tree: FromSource + fmt::Display + PartialEq + Drop {
+    /// The tree of the tokens, with its span if it has one.
+    fn parsed(alloc: Global, tokens: Lexer<'_>) -> Result<(Option<Span>, Self), Error>;
+
+    /// The tree without the empty items of its lists.
+    fn full(self) -> Self;
+
+    /// Looks at the nodes of the tree.
+    fn see(&self, facts: &mut Facts) -> Result<(), AllocError>;
+}
+
+impl Tree for TranslationUnit {
+    fn parsed(alloc: Global, tokens: Lexer<'_>) -> Result<(Option<Span>, Self), Error> {
+        Ok((None, TranslationUnitParser::new().parse(alloc, tokens)?))
+    }
+
+    fn full(mut self) -> Self {
+        self.remove_voids();
+        self
+    }
+
+    fn see(&self, facts: &mut Facts) -> Result<(), AllocError> {
+        see_unit(self, facts, ".")
+    }
+}
+
+impl Tree for GlobalDirective {
+    fn parsed(alloc: Global, tokens: Lexer<'_>) -> Result<(Option<Span>, Self), Error> {
+        Ok((None, GlobalDirectiveParser::new().parse(alloc, tokens)?))
+    }
+
+    fn full(self) -> Self {
+        self
+    }
+
+    fn see(&self, facts: &mut Facts) -> Result<(), AllocError> {
+        see_directive(self, facts, ".")
+    }
+}
+
+impl Tree for GlobalDeclaration {
+    fn parsed(alloc: Global, tokens: Lexer<'_>) -> Result<(Option<Span>, Self), Error> {
+        let node = GlobalDeclParser::new().parse(alloc, tokens)?;
+        Ok((Some(node.span()), node.into_inner()))
+    }
+
+    fn full(mut self) -> Self {
+        self.remove_voids();
+        self
+    }
+
+    fn see(&self, facts: &mut Facts) -> Result<(), AllocError> {
+        see_global_declaration(self, facts, ".")
+    }
+}
+
+impl Tree for Statement {
+    fn parsed(alloc: Global, tokens: Lexer<'_>) -> Result<(Option<Span>, Self), Error> {
+        let node = StatementParser::new().parse(alloc, tokens)?;
+        Ok((Some(node.span()), node.into_inner()))
+    }
+
+    fn full(mut self) -> Self {
+        self.remove_voids();
+        self
+    }
+
+    fn see(&self, facts: &mut Facts) -> Result<(), AllocError> {
+        see_statement(self, facts, ".")
+    }
+}
+
+impl Tree for Expression {
+    fn parsed(alloc: Global, tokens: Lexer<'_>) -> Result<(Option<Span>, Self), Error> {
+        let node = ExpressionParser::new().parse(alloc, tokens)?;
+        Ok((Some(node.span()), node.into_inner()))
+    }
+
+    fn full(self) -> Self {
+        self
+    }
+
+    fn see(&self, facts: &mut Facts) -> Result<(), AllocError> {
+        see_expression(self, facts, ".")
+    }
+}
+
+/// What is wrong with a text: the fault with its span, and what is told to have been expected.
+pub fn see_error(error: &Error, facts: &mut Facts) -> Result<(), AllocError> {
+    let alloc = facts.alloc;
+    let (start, end) = (error.span.start, error.span.end);
+    let told = format!(in alloc; "{}", error.without_expected())?;
+    let place = format!(in alloc; "chars {start}..{end}: ")?;
+    let message = told.strip_prefix(place.as_str()).unwrap_or(told.as_str());
+    let message = String::from_str(alloc, message)?;
+    facts.answer(format!(in alloc; "fault {start}..{end}")?, message)?;
+    match &error.error {
+        ErrorKind::UnexpectedToken { token, expected } => {
+            let is_other = expected.iter().all(|other| other != token);
+            facts.expect(is_other, "the refused token is not expected", "")?;
+            see_expected(error, expected, &told, facts)
+        }
+        ErrorKind::UnexpectedEof { expected } => see_expected(error, expected, &told, facts),
+        _ => {
+            let whole = error.to_string(alloc)?;
+            facts.expect(whole == told, "nothing is told to have been expected", "")
+        }
+    }
+}
+
+fn see_expected(
+    error: &Error,
+    expected: &[String],
+    told: &str,
+    facts: &mut Facts,
+) -> Result<(), AllocError> {
+    let alloc = facts.alloc;
+    let mut list = String::new(alloc);
+    for text in expected {
+        if !list.is_empty() {
+            list.push_str(", ")?;
+        }
+        list.push_str(text)?;
+    }
+    facts.expect(!list.is_empty(), "something is expected", "")?;
+    let whole = format!(in alloc; "{told}, expected `{list}`")?;
+    let is_whole = error.to_string(alloc)? == whole;
+    facts.expect(is_whole, "what was expected is told at the end", "")?;
+    facts.tell(String::from_str(alloc, "expected")?, list)
+}
+
+/// What is printed of the tree reads as the tree without its empty items, and prints as itself.
+fn see_again<T: Tree>(tree: T, printed: &str, facts: &mut Facts) -> Result<(), AllocError> {
+    let Ok(again) = T::from_str(facts.alloc, printed) else {
+        return facts.refuse("what is printed is read again", "");
+    };
+    let twice = again.to_string(facts.alloc)?;
+    let is_full = again == tree.full();
+    facts.expect(
+        is_full,
+        "what is printed reads as the tree without its empty items",
+        "",
+    )?;
+    facts.expect(
+        twice.as_str() == printed,
+        "what is printed prints as itself",
+        "",
+    )
+}
+
+/// The tree of a text, or what is wrong with the text.
+pub fn see_tree<T: Tree>(text: &str, facts: &mut Facts) -> Result<(), AllocError> {
+    let alloc = facts.alloc;
+    let parsed = T::parsed(alloc, Lexer::new(alloc, text)?);
+    match T::from_str(alloc, text) {
+        Ok(tree) => {
+            see_parsed(&tree, parsed, facts)?;
+            let printed = tree.to_string(alloc)?;
+            tree.see(facts)?;
+            see_again(tree, &printed, facts)?;
+            facts.answer(String::from_str(alloc, "printed")?, printed)
+        }
+        Err(error) => {
+            let is_alike = parsed.err().is_some_and(|other| other == error);
+            facts.expect(is_alike, "the parser of tokens refuses the text alike", "")?;
+            see_error(&error, facts)
+        }
+    }
+}
+
+/// The parser of tokens gives the tree, with its span.
+fn see_parsed<T: Tree>(
+    tree: &T,
+    parsed: Result<(Option<Span>, T), Error>,
+    facts: &mut Facts,
+) -> Result<(), AllocError> {
+    let Ok((span, other)) = parsed else {
+        return facts.refuse("the parser of tokens reads the text", "");
+    };
+    let is_alike = other == *tree;
+    facts.expect(is_alike, "the parser of tokens reads the same tree", "")?;
+    match span {
+        Some(span) => facts.span(".", span),
+        None => Ok(()),
+    }
+}
+
+/// `parse_str` answers what is read as a module.
+pub fn see_unit_of(text: &str, facts: &mut Facts) -> Result<(), AllocError> {
+    let is_alike = parse_str(facts.alloc, text) == TranslationUnit::from_str(facts.alloc, text);
+    facts.expect(is_alike, "`parse_str` reads the text alike", "")?;
+    see_tree::<TranslationUnit>(text, facts)
+}
