@@ -3,7 +3,9 @@
 use std::test::Fail;
 use wgsl_error::ParseError;
 use wgsl_lexer::{TokenItem, collect_tokens, lex};
+use wgsl_recognizer::is_expression_list;
 use wgsl_span::Span;
+use wgsl_token::kind::TokenKind;
 use wgsl_token::token::Token;
 
 #[test]
@@ -31,4 +33,23 @@ fn reads_a_text_to_its_end(rt: HostRuntime) -> Result<(), Fail> {
     assert_eq!(rt; found.tokens[1].span, Span { start: 2, end: 3 });
     assert_eq!(rt; found.error, None);
     Ok(())
+}
+
+/// Lists that no text gives: in a text a template's start stands only where its end does, with something between.
+#[test]
+fn templates_without_an_end_or_arguments_are_no_expressions(rt: HostRuntime) {
+    assert!(rt;
+        !is_expression_list(&[
+            TokenKind::Ident,
+            TokenKind::TemplateArgsStart,
+            TokenKind::Ident,
+        ])
+    );
+    assert!(rt;
+        !is_expression_list(&[
+            TokenKind::Ident,
+            TokenKind::TemplateArgsStart,
+            TokenKind::TemplateArgsEnd,
+        ])
+    );
 }

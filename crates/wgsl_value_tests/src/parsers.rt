@@ -1,4 +1,4 @@
-//! The parsers over tokens that a lexer gives, and over lists of tokens made by hand.
+//! The parsers over lists of tokens made by hand, and over an iterator that counts its calls.
 
 ghost use Rattle.std.specs.Iterator.{at_most};
 ghost use Rattle.std.proofs.Common.{rules};
@@ -12,7 +12,7 @@ use wgsl_parse::parser::{
     ExpressionParser, GlobalDeclParser, GlobalDirectiveParser, LiteralParser, StatementParser,
     TranslationUnitParser, TryTemplateListParser, recognize_template_list,
 };
-use wgsl_parse::syntax::{Expression, LiteralExpression, Span};
+use wgsl_parse::syntax::{Expression, Span};
 
 fn name(alloc: Global, text: &str) -> Result<Token, AllocError> {
     Ok(Token::Ident(String::from_str(alloc, text)?))
@@ -198,19 +198,6 @@ fn nothing_is_asked_behind_an_error(rt: HostRuntime) -> Result<(), Fail> {
     Ok(())
 }
 
-#[test]
-fn literals(rt: HostRuntime) -> Result<(), Fail> {
-    let alloc = rt.alloc();
-    let literal = LiteralParser::new().parse(alloc, Lexer::new(alloc, "true")?)?;
-    assert_eq!(rt; literal, LiteralExpression::Bool(true));
-    let minus = LiteralParser::new().parse(alloc, Lexer::new(alloc, "-1")?);
-    assert_eq!(rt;
-        told(alloc, minus)?.as_str(),
-        "chars 0..1: unexpected token `-`"
-    );
-    Ok(())
-}
-
 /// The tokens of a template list of one name.
 fn template_list(alloc: Global) -> Result<Vec<TokenItem>, AllocError> {
     Ok(vec![in alloc;
@@ -233,27 +220,5 @@ fn template_lists(rt: HostRuntime) -> Result<(), Fail> {
     assert_eq!(rt; told(alloc, span)?.as_str(), fault);
     let recognized = recognize_template_list(alloc, Lexer::new(alloc, "<a>")?);
     assert_eq!(rt; told(alloc, recognized)?.as_str(), fault);
-    Ok(())
-}
-
-#[test]
-fn tokens_of_a_lexer(rt: HostRuntime) -> Result<(), Fail> {
-    let alloc = rt.alloc();
-    let unit = TranslationUnitParser::new().parse(alloc, Lexer::new(alloc, "enable a;")?)?;
-    assert_eq!(rt; format!(in alloc; "{unit}")?.as_str(), "enable a;\n\n\n");
-    let directive = GlobalDirectiveParser::new().parse(
-        alloc,
-        Lexer::new(alloc, "requires a, b,;")?,
-    )?;
-    assert_eq!(rt;
-        format!(in alloc; "{directive}")?.as_str(),
-        "requires a, b;"
-    );
-    let declaration = GlobalDeclParser::new().parse(alloc, Lexer::new(alloc, "@const fn f() {}")?)?;
-    assert_eq!(rt; declaration.span(), Span::new(0..16));
-    let statement = StatementParser::new().parse(alloc, Lexer::new(alloc, "(a).b++;")?)?;
-    assert_eq!(rt; statement.span(), Span::new(0..8));
-    let expression = ExpressionParser::new().parse(alloc, Lexer::new(alloc, "5--7*2")?)?;
-    assert_eq!(rt; expression.span(), Span::new(0..6));
     Ok(())
 }

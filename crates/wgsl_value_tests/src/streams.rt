@@ -1,11 +1,10 @@
 //! Readers and writers that take their time or fail.
 
-use crate::answers::Answer;
 use std::alloc::Global;
 use std::io;
 use std::io::{ErrorKind, Read, Write};
 use std::process::Abort;
-use wgsl_formatter::start;
+use wgsl_formatter::{refuse_memory, start};
 
 /// A reader that gives a byte a call, and then ends or fails.
 #[derive(Drop)]
@@ -114,15 +113,16 @@ fn slow_reads(rt: HostRuntime) {
             bytes: source.as_bytes(),
             fault,
         };
-        let mut output = Vec::new(rt.alloc());
-        let mut errors = Vec::new(rt.alloc());
-        let status_answered = start(rt.alloc(), 0, &mut input, &mut output, &mut errors);
-        let answer = Answer {
-            status: status_answered,
-            output,
-            errors,
-        };
-        answer.check(&rt, source, status, text, "");
+        let mut output: Vec<u8> = Vec::new(rt.alloc());
+        let mut errors: Vec<u8> = Vec::new(rt.alloc());
+        let answer = start(rt.alloc(), 0, &mut input, &mut output, &mut errors);
+        assert_eq!(rt; answer, status, "the status: {source:?}");
+        assert_eq!(rt;
+            output.as_slice(),
+            text.as_bytes(),
+            "the output: {source:?}"
+        );
+        assert!(rt; errors.is_empty(), "the errors: {source:?}");
     }
 }
 
@@ -156,4 +156,11 @@ fn narrow_writes(rt: HostRuntime) {
             narrow.check(&rt, text, taken);
         }
     }
+}
+
+#[test]
+fn no_memory(rt: HostRuntime) {
+    let mut errors = Vec::new(rt.alloc());
+    assert_eq!(rt; refuse_memory(&mut errors), 3);
+    assert_eq!(rt; errors.as_slice(), b"out of memory\n".as_slice());
 }

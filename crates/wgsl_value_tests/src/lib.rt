@@ -1,0 +1,17 @@
+//! Tests of values made by hand: spans, words, tokens, faults, lists and iterators of tokens, readers and writers that fail.
+#![tactic(auto)]
+
+#[cfg(test)]
+mod faults;
+#[cfg(test)]
+mod lists;
+#[cfg(test)]
+mod named_values;
+#[cfg(test)]
+mod parsers;
+#[cfg(test)]
+mod spans;
+#[cfg(test)]
+mod streams;
+#[cfg(test)]
+mod tokens;
