@@ -1,24 +1,50 @@
-# Needs the Rattle kit, with its command `rt` on the path, and nothing else.
+# Needs the Rattle kit, with its command `rt` on the path, and python3.
 
-.PHONY: demo test try clean
+PREFIX = /usr/local
+bin = $(DESTDIR)$(PREFIX)/bin
+man = $(DESTDIR)$(PREFIX)/share/man/man1
 
-# Proves and builds wgslfmt, and formats a shader with it.
+.PHONY: help demo build test install uninstall clean
+
+help:
+	@echo "make demo       formats a shader with wgslfmt in about a minute, without any proof"
+	@echo "make build      proves wgslfmt and what it stands on, and leaves it at build/wgslfmt"
+	@echo "make install    puts build/wgslfmt and its man page below PREFIX, which is $(PREFIX)"
+	@echo "make uninstall  removes them"
+	@echo "make test       runs everything: proofs, edits that must be refused, tests, programs"
+	@echo "make clean      removes build/ and what rt keeps in crates/*/out"
+
 demo:
-	@echo "Proving and building wgslfmt. The first time this takes some minutes; each crate tells when it is proved."
-	@cd crates/wgslfmt && rt run < ../../examples/waves.wgsl > /dev/null
-	@mkdir -p build && cp crates/wgslfmt/out/wgslfmt build/wgslfmt
-	@echo "Proved. The program is build/wgslfmt; this is examples/waves.wgsl, formatted:"
-	@./build/wgslfmt < examples/waves.wgsl
+	@echo "Formatting examples/waves.wgsl, in about a minute:"
+	@{ said=$$(cd crates/wgslfmt && rt try < ../../examples/waves.wgsl 2>&1 >&3); } 3>&1 \
+	    || { echo "$$said" >&2; exit 1; }
+	@echo "This was wgslfmt unproved: \`make build\` proves it."
 
-# Runs everything: the proofs from nothing, the edits that must be refused, the tests, the programs, and the shaders of examples/, formatted, and formatted again. The last line is the verdict.
+build:
+	@tools/build
+
+# What rt ci runs; and each shader of examples/ has to print as examples/printed/ has it, and
+# what is there as it stands.
 test:
-	@test "$$(cat HANDLES)" = "Handles allowed: none."
-	@rt ci
-	@for shader in $(notdir $(wildcard examples/*.wgsl)); do for from in examples examples/printed; do ./crates/wgslfmt/out/wgslfmt < $$from/$$shader | cmp - examples/printed/$$shader || exit 1; done; done
+	@test "$$(cat HANDLES)" = "Handles allowed: none." \
+	    || { echo "Failed: the file HANDLES."; exit 1; }
+	@rt ci || { echo "Failed: rt ci, as the lines above say."; exit 1; }
+	@cd examples && for shader in *.wgsl printed/*.wgsl; do \
+	    ../crates/wgslfmt/out/wgslfmt < $$shader | cmp - printed/$${shader##*/} \
+	        || { echo "Failed: the print of examples/$$shader."; exit 1; }; \
+	done
+	@echo "All passed."
 
-# Runs wgslfmt in seconds, without any proof.
-try:
-	@cd crates/wgslfmt && rt try < ../../examples/waves.wgsl
+install:
+	@test -x build/wgslfmt \
+	    || { echo "build/wgslfmt is not there: run \`make build\` first."; exit 1; }
+	@install -d "$(bin)" "$(man)"
+	@install -m 755 build/wgslfmt "$(bin)/wgslfmt"
+	@install -m 644 man/wgslfmt.1 "$(man)/wgslfmt.1"
+	@echo "Installed $(bin)/wgslfmt and $(man)/wgslfmt.1."
+
+uninstall:
+	@rm -f "$(bin)/wgslfmt" "$(man)/wgslfmt.1"
 
 clean:
 	@rm -rf build crates/*/out
