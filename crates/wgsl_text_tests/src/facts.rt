@@ -71,14 +71,18 @@ impl Facts {
         self.refuse(what, path)
     }
 
-    /// The value of the fact with these words.
-    fn value(&self, words: &str) -> Option<&str> {
+    /// The value of a fact with these words: one that is not wanted, if there is such a one.
+    fn value(&self, words: &str, wanted: &[u8]) -> Option<&str> {
+        let mut found = None;
         for fact in &self.seen {
             if fact.words.as_str() == words {
-                return Some(fact.value.as_str());
+                found = Some(fact.value.as_str());
+                if fact.value.as_bytes() != wanted {
+                    return found;
+                }
             }
         }
-        None
+        found
     }
 
     /// What the row wants and the facts do not have, and the reverse; nothing where the row holds.
@@ -86,7 +90,7 @@ impl Facts {
         let mut report = self.broken.clone()?;
         for field in row.fields.iter().skip(1) {
             let wanted = String::from_utf8_lossy(self.alloc, &field.value)?;
-            match self.value(field.words) {
+            match self.value(field.words, &field.value) {
                 Some(got) if got.as_bytes() == field.value.as_slice() => {}
                 Some(got) => {
                     let line = format!(in self.alloc;

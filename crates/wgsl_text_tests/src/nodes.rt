@@ -62,14 +62,12 @@ impl Facts {
         )
     }
 
-    /// The name that a node has, as it answers itself.
+    /// The name that a node has, as it answers itself; no text where it has none.
     fn name<T: SyntaxNode>(&mut self, path: &str, node: &T) -> Result<(), AllocError> {
+        let words = format!(in self.alloc; "name {path}")?;
         match node.ident(self.alloc)? {
-            Some(ident) => {
-                let words = format!(in self.alloc; "name {path}")?;
-                self.tell(words, ident.to_string(self.alloc)?)
-            }
-            None => Ok(()),
+            Some(ident) => self.tell(words, ident.to_string(self.alloc)?),
+            None => self.tell(words, String::new(self.alloc)),
         }
     }
 

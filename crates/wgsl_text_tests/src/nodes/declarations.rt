@@ -75,6 +75,7 @@ fn see_struct(node: &Struct, facts: &mut Facts, path: &str) -> Result<(), AllocE
         facts.name(&path, member)?;
         let member = member.node();
         facts.node(&path, member, StructMember::clone)?;
+        facts.name(&path, member)?;
         see_attributes(&member.attributes, facts, &path, "attributes")?;
         see_ident(&member.ident, facts, &path, "ident")?;
         see_type_part(&member.ty, facts, &path, "ty")?;
