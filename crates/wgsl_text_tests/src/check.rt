@@ -5,11 +5,13 @@ use crate::nodes::expressions::see_literal;
 use crate::row::Row;
 use crate::streams::see_run;
 use crate::tokens::{see_list, see_template_list, see_tokens};
-use crate::tree::{see_error, see_tree, see_unit_of};
+use crate::tree::{see_error, see_tree};
 use std::alloc::{AllocError, Global};
 use wgsl_parse::lexer::Lexer;
 use wgsl_parse::parser::{LiteralParser, recognize_str};
-use wgsl_parse::syntax::{Expression, GlobalDeclaration, GlobalDirective, Statement};
+use wgsl_parse::syntax::{
+    Expression, GlobalDeclaration, GlobalDirective, Statement, TranslationUnit,
+};
 
 /// A literal by itself.
 fn see_literal_of(text: &str, facts: &mut Facts) -> Result<(), AllocError> {
@@ -56,7 +58,7 @@ pub fn facts_of(alloc: Global, row: &Row<'_>) -> Result<Facts, AllocError> {
 /// What is seen of a text that is read as the word says.
 fn see_text(word: &str, text: &str, facts: &mut Facts) -> Result<(), AllocError> {
     match word {
-        "unit" => see_unit_of(text, facts),
+        "unit" => see_tree::<TranslationUnit>(text, facts),
         "directive" => see_tree::<GlobalDirective>(text, facts),
         "declaration" => see_tree::<GlobalDeclaration>(text, facts),
         "statement" => see_tree::<Statement>(text, facts),

@@ -13,6 +13,15 @@ use std::fmt;
 use wgsl_parse::SyntaxNode;
 use wgsl_parse::syntax::Span;
 
+/// How long the path of a node is at most that is looked at: each is printed by itself, so without a bound a text
+/// that nests deep would take the square of its length.
+const LONGEST_PATH: usize = 300;
+
+/// Whether a node stands too deep to be looked at.
+fn is_too_deep(path: &str) -> bool {
+    path.len() > LONGEST_PATH
+}
+
 /// The path of a part.
 fn path_of(alloc: Global, path: &str, part: &str) -> Result<String, AllocError> {
     if path == "." {

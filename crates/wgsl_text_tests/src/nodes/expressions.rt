@@ -1,7 +1,7 @@
 //! Expressions and types.
 
 use crate::facts::Facts;
-use crate::nodes::{item_path, path_of};
+use crate::nodes::{is_too_deep, item_path, path_of};
 use std::alloc::AllocError;
 use wgsl_parse::syntax::{
     BinaryExpression, Expression, ExpressionNode, FunctionCall, Ident, IndexingExpression,
@@ -11,6 +11,9 @@ use wgsl_parse::syntax::{
 
 /// An expression and its parts.
 pub fn see_expression(node: &Expression, facts: &mut Facts, path: &str) -> Result<(), AllocError> {
+    if is_too_deep(path) {
+        return Ok(());
+    }
     facts.node(path, node, Expression::clone)?;
     match node {
         Expression::Literal(literal) => see_literal(literal, facts, path),

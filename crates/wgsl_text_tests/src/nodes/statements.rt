@@ -3,7 +3,7 @@
 use crate::facts::Facts;
 use crate::nodes::attributes::see_attributes;
 use crate::nodes::expressions::{see_call, see_ident, see_optional, see_optional_type, see_part};
-use crate::nodes::{item_path, path_of};
+use crate::nodes::{is_too_deep, item_path, path_of};
 use std::alloc::AllocError;
 use wgsl_parse::syntax::{
     AssignmentStatement, BreakIfStatement, BreakStatement, CaseSelector, CompoundStatement,
@@ -15,6 +15,9 @@ use wgsl_parse::syntax::{
 
 /// A statement and its parts.
 pub fn see_statement(node: &Statement, facts: &mut Facts, path: &str) -> Result<(), AllocError> {
+    if is_too_deep(path) {
+        return Ok(());
+    }
     facts.node(path, node, Statement::clone)?;
     match node {
         Statement::Compound(inner) => see_block(inner, facts, path),
