@@ -1,4 +1,4 @@
-//! What blocks, functions and members answer of themselves as syntax nodes.
+//! What blocks and members answer of themselves as syntax nodes.
 
 use crate::making::{assert_text, attribute, ident, integer, ty};
 use std::alloc::Global;
@@ -7,7 +7,7 @@ use wgsl_attribute::Attribute;
 use wgsl_span::{Span, Spanned};
 use wgsl_statement::{CompoundStatement, Statement};
 use wgsl_syntax_node::SyntaxNode;
-use wgsl_unit::{Function, GlobalDeclaration, StructMember, StructMemberNode};
+use wgsl_unit::{StructMember, StructMemberNode};
 
 /// A block as a statement keeps its attributes, and answers none.
 #[test]
@@ -20,29 +20,6 @@ fn attributes_of_a_block(rt: HostRuntime) -> Result<(), Fail> {
     statement.retain_attributes_mut(|_| false);
     assert!(rt; statement.attributes().is_empty());
     assert_text(&rt, alloc, statement, Statement::clone, "@const\n{\n\n}")
-}
-
-/// A function as a declaration keeps its attributes, and answers none.
-#[test]
-fn attributes_of_a_function(rt: HostRuntime) -> Result<(), Fail> {
-    let alloc = rt.alloc();
-    let mut function = Function::new(alloc, ident(alloc, "f")?);
-    function
-        .attributes
-        .push(attribute(alloc, Attribute::Const)?)?;
-    assert!(rt; function.contains_attribute(&Attribute::Const));
-    let mut declaration = GlobalDeclaration::from(function);
-    declaration.retain_attributes_mut(|_| false);
-    assert!(rt; declaration.attributes().is_empty());
-    assert!(rt; declaration.ident(alloc)? == Some(ident(alloc, "f")?));
-    let text = "@const\nfn f() {\n\n}";
-    assert_text(&rt, alloc, declaration, GlobalDeclaration::clone, text)
-}
-
-#[test]
-fn an_empty_declaration_has_no_name(rt: HostRuntime) -> Result<(), Fail> {
-    assert!(rt; GlobalDeclaration::Void.ident(rt.alloc())?.is_none());
-    Ok(())
 }
 
 /// A member `@size(16) @align(4) x: f32`, each part where that text has it.

@@ -1,4 +1,4 @@
-//! Nodes with a list of attributes, and nodes without one.
+//! A node of the user's own with a list of attributes, and one without.
 
 ghost use Rattle.std.specs.Prelude.{◌≡◌, Some, None};
 ghost use Rattle.std.specs.Vec.{with_items};
@@ -99,31 +99,6 @@ fn a_member_answers(rt: HostRuntime) -> Result<(), Fail> {
 }
 
 #[test]
-fn attributes_are_retained(rt: HostRuntime) -> Result<(), Fail> {
-    let alloc = rt.alloc();
-    let mut node = sample(alloc)?;
-    node.retain_attributes_mut(|attribute| {
-        if attribute.is_size() {
-            return false;
-        }
-        if attribute.is_align() {
-            *attribute = Attribute::Invariant;
-        }
-        true
-    });
-    let line = AttributesBefore {
-        attributes: node.attributes(),
-        end: "\n",
-    };
-    assert_eq!(rt; format!(in alloc; "{line}")?.as_str(), "@invariant\n");
-    for attribute in node.attributes() {
-        assert_eq!(rt; attribute.span(), Span::new(10..19));
-    }
-    assert_eq!(rt; SyntaxNode::span(&node), Some(Span::new(0..26)));
-    Ok(())
-}
-
-#[test]
 fn attributes_are_written(rt: HostRuntime) -> Result<(), Fail> {
     let alloc = rt.alloc();
     let mut node = sample(alloc)?;
@@ -147,18 +122,5 @@ fn a_node_without_attributes(rt: HostRuntime) -> Result<(), Fail> {
     assert!(rt; !node.contains_attribute(&Attribute::Const));
     assert!(rt; node.span().is_none() && node.ident(alloc)?.is_none());
     assert_eq!(rt; node.number, 3);
-    Ok(())
-}
-
-#[test]
-fn an_expression_answers_its_span_alone(rt: HostRuntime) -> Result<(), Fail> {
-    let alloc = rt.alloc();
-    let mut node = Spanned::new(alloc, Expression::from(3i64), Span::new(4..5))?;
-    node.retain_attributes_mut(|_| false);
-    assert_eq!(rt; SyntaxNode::span(&node), Some(Span::new(4..5)));
-    assert!(rt; node.ident(alloc)?.is_none());
-    assert!(rt; node.attributes().is_empty() && node.attributes_mut().is_empty());
-    assert!(rt; !node.contains_attribute(&Attribute::Const));
-    assert!(rt; node == integer(alloc, 3)?);
     Ok(())
 }
