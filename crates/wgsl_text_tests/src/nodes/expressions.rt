@@ -10,6 +10,7 @@ use wgsl_parse::syntax::{
 };
 
 /// An expression and its parts.
+#[cycle(expression)]
 pub fn see_expression(node: &Expression, facts: &mut Facts, path: &str) -> Result<(), AllocError> {
     if is_too_deep(path) {
         return Ok(());
@@ -52,6 +53,7 @@ pub fn see_expression(node: &Expression, facts: &mut Facts, path: &str) -> Resul
     }
 }
 
+#[cycle(expression)]
 fn see_binary(node: &BinaryExpression, facts: &mut Facts, path: &str) -> Result<(), AllocError> {
     facts.variant(path, "Binary")?;
     facts.node(path, node, BinaryExpression::clone)?;
@@ -80,6 +82,7 @@ pub fn see_literal(
 }
 
 /// An expression that is a part of another node.
+#[cycle(expression)]
 pub fn see_part(
     node: &ExpressionNode,
     facts: &mut Facts,
@@ -92,6 +95,7 @@ pub fn see_part(
 }
 
 /// The expressions of a list.
+#[cycle(expression)]
 pub fn see_parts(
     nodes: &[ExpressionNode],
     facts: &mut Facts,
@@ -124,6 +128,7 @@ pub fn see_optional(
 }
 
 /// A call.
+#[cycle(expression)]
 pub fn see_call(call: &FunctionCall, facts: &mut Facts, path: &str) -> Result<(), AllocError> {
     facts.node(path, call, FunctionCall::clone)?;
     see_type_part(&call.ty, facts, path, "ty")?;
@@ -131,6 +136,7 @@ pub fn see_call(call: &FunctionCall, facts: &mut Facts, path: &str) -> Result<()
 }
 
 /// A type, or a name.
+#[cycle(expression)]
 pub fn see_type(ty: &TypeExpression, facts: &mut Facts, path: &str) -> Result<(), AllocError> {
     facts.node(path, ty, TypeExpression::clone)?;
     see_ident(&ty.ident, facts, path, "ident")?;
@@ -147,6 +153,7 @@ pub fn see_type(ty: &TypeExpression, facts: &mut Facts, path: &str) -> Result<()
 }
 
 /// A type that is a part of another node.
+#[cycle(expression)]
 pub fn see_type_part(
     ty: &TypeExpression,
     facts: &mut Facts,

@@ -14,6 +14,7 @@ use wgsl_parse::syntax::{
 };
 
 /// A statement and its parts.
+#[cycle(statement)]
 pub fn see_statement(node: &Statement, facts: &mut Facts, path: &str) -> Result<(), AllocError> {
     if is_too_deep(path) {
         return Ok(());
@@ -87,6 +88,7 @@ pub fn see_declaration(
 }
 
 /// A block.
+#[cycle(statement)]
 pub fn see_block(
     node: &CompoundStatement,
     facts: &mut Facts,
@@ -104,11 +106,13 @@ pub fn see_block(
 }
 
 /// The block of another node.
+#[cycle(statement)]
 pub fn see_body(body: &CompoundStatement, facts: &mut Facts, path: &str) -> Result<(), AllocError> {
     let path = path_of(facts.alloc, path, "body")?;
     see_block(body, facts, &path)
 }
 
+#[cycle(statement)]
 fn see_if(node: &IfStatement, facts: &mut Facts, path: &str) -> Result<(), AllocError> {
     facts.node(path, node, IfStatement::clone)?;
     see_attributes(&node.attributes, facts, path, "attributes")?;
@@ -132,6 +136,7 @@ fn see_if(node: &IfStatement, facts: &mut Facts, path: &str) -> Result<(), Alloc
     see_body(&last.body, facts, &path)
 }
 
+#[cycle(statement)]
 fn see_switch(node: &SwitchStatement, facts: &mut Facts, path: &str) -> Result<(), AllocError> {
     facts.node(path, node, SwitchStatement::clone)?;
     see_attributes(&node.attributes, facts, path, "attributes")?;
@@ -164,6 +169,7 @@ fn see_selectors(
     Ok(())
 }
 
+#[cycle(statement)]
 fn see_loop(node: &LoopStatement, facts: &mut Facts, path: &str) -> Result<(), AllocError> {
     facts.node(path, node, LoopStatement::clone)?;
     see_attributes(&node.attributes, facts, path, "attributes")?;
@@ -178,6 +184,7 @@ fn see_loop(node: &LoopStatement, facts: &mut Facts, path: &str) -> Result<(), A
     }
 }
 
+#[cycle(statement)]
 fn see_continuing(
     node: &ContinuingStatement,
     facts: &mut Facts,
@@ -196,6 +203,7 @@ fn see_continuing(
     }
 }
 
+#[cycle(statement)]
 fn see_for(node: &ForStatement, facts: &mut Facts, path: &str) -> Result<(), AllocError> {
     facts.node(path, node, ForStatement::clone)?;
     see_attributes(&node.attributes, facts, path, "attributes")?;
@@ -206,6 +214,7 @@ fn see_for(node: &ForStatement, facts: &mut Facts, path: &str) -> Result<(), All
 }
 
 /// A statement of a `for` header, which may be left out.
+#[cycle(statement)]
 fn see_header_part(
     node: &Option<StatementNode>,
     facts: &mut Facts,
@@ -223,6 +232,7 @@ fn see_header_part(
     }
 }
 
+#[cycle(statement)]
 fn see_while(node: &WhileStatement, facts: &mut Facts, path: &str) -> Result<(), AllocError> {
     facts.node(path, node, WhileStatement::clone)?;
     see_attributes(&node.attributes, facts, path, "attributes")?;
