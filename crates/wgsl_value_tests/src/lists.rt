@@ -53,3 +53,17 @@ fn templates_without_an_end_or_arguments_are_no_expressions(rt: HostRuntime) {
         ])
     );
 }
+
+/// Kinds that no text gives: in a text the `<` of `a < b > c` opens a template list.
+#[test]
+fn kinds_that_no_text_gives_are_no_expressions(rt: HostRuntime) {
+    assert!(rt;
+        !is_expression_list(&[
+            TokenKind::Ident,
+            TokenKind::SymLessThan,
+            TokenKind::Ident,
+            TokenKind::SymGreaterThan,
+            TokenKind::Ident,
+        ])
+    );
+}
