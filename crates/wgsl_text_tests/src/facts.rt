@@ -1,6 +1,6 @@
 //! What is seen of a row's text.
 
-use crate::row::Row;
+use crate::row::{Field, Row};
 use std::alloc::{AllocError, Global};
 use std::fmt;
 
@@ -89,21 +89,7 @@ impl Facts {
     pub fn report(&self, row: &Row<'_>) -> Result<String, AllocError> {
         let mut report = self.broken.clone()?;
         for field in row.fields.iter().skip(1) {
-            let wanted = String::from_utf8_lossy(self.alloc, &field.value)?;
-            match self.value(field.words, &field.value) {
-                Some(got) if got.as_bytes() == field.value.as_slice() => {}
-                Some(got) => {
-                    let line = format!(in self.alloc;
-                        "  wanted {} {wanted:?}\n  got    {} {got:?}\n",
-                        field.words, field.words
-                    )?;
-                    report.push_str(&line)?;
-                }
-                None => {
-                    let line = format!(in self.alloc; "  wanted {} {wanted:?}\n", field.words)?;
-                    report.push_str(&line)?;
-                }
-            }
+            self.report_field(field, &mut report)?;
         }
         for fact in &self.seen {
             if fact.is_required && !row.wants(&fact.words) {
@@ -112,5 +98,25 @@ impl Facts {
             }
         }
         Ok(report)
+    }
+
+    /// What a line of the row wants, and what was got instead, unless it is there.
+    fn report_field(&self, field: &Field<'_>, report: &mut String) -> Result<(), AllocError> {
+        let got = self.value(field.words, &field.value);
+        if got.is_some_and(|got| got.as_bytes() == field.value.as_slice()) {
+            return Ok(());
+        }
+        self.report_wanted(field, report)?;
+        let Some(got) = got else {
+            return Ok(());
+        };
+        let line = format!(in self.alloc; "  got    {} {got:?}\n", field.words)?;
+        report.push_str(&line)
+    }
+
+    fn report_wanted(&self, field: &Field<'_>, report: &mut String) -> Result<(), AllocError> {
+        let wanted = String::from_utf8_lossy(self.alloc, &field.value)?;
+        let line = format!(in self.alloc; "  wanted {} {wanted:?}\n", field.words)?;
+        report.push_str(&line)
     }
 }

@@ -80,8 +80,8 @@ impl Facts {
         }
     }
 
-    /// Looks at the copy of what prints nothing by itself.
-    fn copy<T: PartialEq + Drop, F: FnOnce(&T, Global) -> Result<T, AllocError>>(
+    /// Looks at the copy of what is not printed by itself.
+    pub fn copy<T: PartialEq + Drop, F: FnOnce(&T, Global) -> Result<T, AllocError>>(
         &mut self,
         path: &str,
         node: &T,

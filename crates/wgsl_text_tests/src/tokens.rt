@@ -2,8 +2,8 @@
 
 use crate::facts::Facts;
 use std::alloc::{AllocError, Global};
-use wgsl_parse::error::ErrorKind;
-use wgsl_parse::lexer::{Lexer, TokenItem, recognize_template_list};
+use wgsl_parse::error::{ErrorKind, ParseError};
+use wgsl_parse::lexer::{Lexer, Token, TokenItem, recognize_template_list};
 use wgsl_recognizer::is_expression_list;
 
 /// A token with its place, or the fault that ends the tokens.
@@ -35,13 +35,11 @@ pub fn see_tokens(text: &str, facts: &mut Facts) -> Result<(), AllocError> {
     let mut lexer = Lexer::new(alloc, text)?;
     let mut given = String::new(alloc);
     for _ in 0..text.len() {
-        let mut both = given.clone()?;
-        let left = lines_of(alloc, lexer.clone(alloc)?)?;
-        both.push_str(&left)?;
-        facts.expect(both == whole, "a copy gives what is left", &given)?;
+        see_copy(&lexer, &given, &whole, facts)?;
         let Some(item) = lexer.next() else {
             break;
         };
+        see_copied(&item, &given, facts)?;
         given.push_str(&line_of(alloc, item)?)?;
         if given.len() < whole.len() {
             given.push('\n')?;
@@ -50,6 +48,26 @@ pub fn see_tokens(text: &str, facts: &mut Facts) -> Result<(), AllocError> {
     let is_over = lexer.next().is_none() && lexer.next().is_none();
     facts.expect(is_over, "nothing follows the end", "")?;
     facts.answer(String::from_str(alloc, "items")?, whole)
+}
+
+/// A copy of a lexer gives what is left of the whole behind what was given.
+fn see_copy(
+    lexer: &Lexer<'_>,
+    given: &str,
+    whole: &str,
+    facts: &mut Facts,
+) -> Result<(), AllocError> {
+    let left = lines_of(facts.alloc, lexer.clone(facts.alloc)?)?;
+    let is_left = whole.strip_prefix(given) == Some(left.as_str());
+    facts.expect(is_left, "a copy gives what is left", given)
+}
+
+/// A token, or the fault that ends the tokens, is equal to its copy.
+fn see_copied(item: &TokenItem, given: &str, facts: &mut Facts) -> Result<(), AllocError> {
+    match item {
+        Ok((_, token, _)) => facts.copy(given, token, Token::clone),
+        Err((_, error, _)) => facts.copy(given, error, ParseError::clone),
+    }
 }
 
 /// Whether something is a list.

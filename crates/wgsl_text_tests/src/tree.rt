@@ -132,12 +132,9 @@ impl Tree for Expression {
 /// What is wrong with a text: the fault with its span, and what is told to have been expected.
 pub fn see_error(error: &Error, facts: &mut Facts) -> Result<(), AllocError> {
     let alloc = facts.alloc;
-    let (start, end) = (error.span.start, error.span.end);
     let told = format!(in alloc; "{}", error.without_expected())?;
-    let place = format!(in alloc; "chars {start}..{end}: ")?;
-    let message = told.strip_prefix(place.as_str()).unwrap_or(told.as_str());
-    let message = String::from_str(alloc, message)?;
-    facts.answer(format!(in alloc; "fault {start}..{end}")?, message)?;
+    see_message(error.span, &told, facts)?;
+    facts.copy("", error, Error::clone)?;
     match &error.error {
         ErrorKind::UnexpectedToken { token, expected } => {
             let is_other = expected.iter().all(|other| other != token);
@@ -152,6 +149,15 @@ pub fn see_error(error: &Error, facts: &mut Facts) -> Result<(), AllocError> {
     }
 }
 
+/// The message of a fault, which stands behind its place.
+fn see_message(span: Span, told: &str, facts: &mut Facts) -> Result<(), AllocError> {
+    let alloc = facts.alloc;
+    let place = format!(in alloc; "chars {}..{}: ", span.start, span.end)?;
+    let message = String::from_str(alloc, told.strip_prefix(place.as_str()).unwrap_or(told))?;
+    let words = format!(in alloc; "fault {}..{}", span.start, span.end)?;
+    facts.answer(words, message)
+}
+
 fn see_expected(
     error: &Error,
     expected: &[String],
@@ -159,18 +165,24 @@ fn see_expected(
     facts: &mut Facts,
 ) -> Result<(), AllocError> {
     let alloc = facts.alloc;
-    let mut list = String::new(alloc);
-    for text in expected {
-        if !list.is_empty() {
-            list.push_str(", ")?;
-        }
-        list.push_str(text)?;
-    }
+    let list = joined(alloc, expected)?;
     facts.expect(!list.is_empty(), "something is expected", "")?;
     let whole = format!(in alloc; "{told}, expected `{list}`")?;
     let is_whole = error.to_string(alloc)? == whole;
     facts.expect(is_whole, "what was expected is told at the end", "")?;
     facts.tell(String::from_str(alloc, "expected")?, list)
+}
+
+/// The texts with commas between.
+fn joined(alloc: Global, texts: &[String]) -> Result<String, AllocError> {
+    let mut list = String::new(alloc);
+    for text in texts {
+        if !list.is_empty() {
+            list.push_str(", ")?;
+        }
+        list.push_str(text)?;
+    }
+    Ok(list)
 }
 
 /// What is printed of the tree reads as the tree without its empty items, and prints as itself.

@@ -1,4 +1,4 @@
-//! Tests of values made by hand: spans, words, tokens, faults, lists and iterators of tokens, readers and writers that fail.
+//! Tests of values made by hand: spans, words, tokens, faults, trees, lists and iterators of tokens, readers and writers that fail.
 #![tactic(auto)]
 
 #[cfg(test)]
@@ -6,7 +6,13 @@ mod faults;
 #[cfg(test)]
 mod lists;
 #[cfg(test)]
+mod making;
+#[cfg(test)]
 mod named_values;
+#[cfg(test)]
+mod nodes;
+#[cfg(test)]
+mod own_node;
 #[cfg(test)]
 mod parsers;
 #[cfg(test)]
@@ -15,3 +21,5 @@ mod spans;
 mod streams;
 #[cfg(test)]
 mod tokens;
+#[cfg(test)]
+mod trees;

@@ -10,60 +10,34 @@ use wgsl_token::token::Token;
 
 #[test]
 fn collects_up_to_an_error(rt: HostRuntime) -> Result<(), Fail> {
-    let alloc = rt.alloc();
-    let items: Vec<TokenItem> = vec![in alloc;
+    let items: Vec<TokenItem> = vec![in rt.alloc();
         Ok((7, Token::KwFn, 9)),
         Err((9, ParseError::DiagnosticSeverity, 4)),
         Ok((10, Token::SymComma, 11)),
     ]?;
-    let found = collect_tokens(alloc, items)?;
+    let found = collect_tokens(rt.alloc(), items)?;
     assert_eq!(rt; found.tokens.len(), 1);
-    assert_eq!(rt; found.tokens[0].token, Token::KwFn);
     assert_eq!(rt; found.tokens[0].span, Span { start: 7, end: 9 });
-    assert_eq!(rt; found.error, Some((9, ParseError::DiagnosticSeverity, 4)));
+    assert!(rt; found.error == Some((9, ParseError::DiagnosticSeverity, 4)));
     Ok(())
 }
 
 #[test]
 fn reads_a_text_to_its_end(rt: HostRuntime) -> Result<(), Fail> {
-    let alloc = rt.alloc();
-    let found = lex(alloc, "a < b")?;
+    let found = lex(rt.alloc(), "a < b")?;
     assert_eq!(rt; found.tokens.len(), 3);
-    assert_eq!(rt; found.tokens[1].token, Token::SymLessThan);
-    assert_eq!(rt; found.tokens[1].span, Span { start: 2, end: 3 });
-    assert_eq!(rt; found.error, None);
+    assert!(rt; found.tokens[1].token == Token::SymLessThan);
+    assert!(rt; found.error.is_none());
     Ok(())
 }
 
-/// Lists that no text gives: in a text a template's start stands only where its end does, with something between.
-#[test]
-fn templates_without_an_end_or_arguments_are_no_expressions(rt: HostRuntime) {
-    assert!(rt;
-        !is_expression_list(&[
-            TokenKind::Ident,
-            TokenKind::TemplateArgsStart,
-            TokenKind::Ident,
-        ])
-    );
-    assert!(rt;
-        !is_expression_list(&[
-            TokenKind::Ident,
-            TokenKind::TemplateArgsStart,
-            TokenKind::TemplateArgsEnd,
-        ])
-    );
-}
-
-/// Kinds that no text gives: in a text the `<` of `a < b > c` opens a template list.
+/// Kinds that no text gives: in a text a template list has an end and something in it, and the `<` of `a < b > c` opens one.
 #[test]
 fn kinds_that_no_text_gives_are_no_expressions(rt: HostRuntime) {
-    assert!(rt;
-        !is_expression_list(&[
-            TokenKind::Ident,
-            TokenKind::SymLessThan,
-            TokenKind::Ident,
-            TokenKind::SymGreaterThan,
-            TokenKind::Ident,
-        ])
-    );
+    let name = TokenKind::Ident;
+    let (start, end) = (TokenKind::TemplateArgsStart, TokenKind::TemplateArgsEnd);
+    let (less, greater) = (TokenKind::SymLessThan, TokenKind::SymGreaterThan);
+    assert!(rt; !is_expression_list(&[name, start, name]));
+    assert!(rt; !is_expression_list(&[name, start, end]));
+    assert!(rt; !is_expression_list(&[name, less, name, greater, name]));
 }

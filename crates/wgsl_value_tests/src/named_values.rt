@@ -1,13 +1,12 @@
-//! Words read and printed.
+//! Words that are read.
 
-use std::test::Fail;
 use wgsl_named_values::{
-    AccessMode, AddressSpace, AssignmentOperator, BinaryOperator, BuiltinValue, DiagnosticSeverity,
-    InterpolationSampling, InterpolationType, UnaryOperator,
+    AccessMode, AddressSpace, BuiltinValue, DiagnosticSeverity, InterpolationSampling,
+    InterpolationType,
 };
 
 #[test]
-fn words_are_read(rt: HostRuntime) -> Result<(), Fail> {
+fn words_are_read(rt: HostRuntime) {
     assert!(rt; DiagnosticSeverity::from_str("off") == Ok(DiagnosticSeverity::Off));
     assert!(rt; DiagnosticSeverity::from_str("Off") == Err(()));
     assert!(rt; AccessMode::from_str("read_write") == Ok(AccessMode::ReadWrite));
@@ -17,32 +16,4 @@ fn words_are_read(rt: HostRuntime) -> Result<(), Fail> {
     assert!(rt; InterpolationSampling::from_str("either") == Ok(InterpolationSampling::Either));
     assert!(rt; BuiltinValue::from_str("num_workgroups") == Ok(BuiltinValue::NumWorkgroups));
     assert!(rt; BuiltinValue::from_str("") == Err(()));
-    Ok(())
-}
-
-#[test]
-fn words_are_printed(rt: HostRuntime) -> Result<(), Fail> {
-    let alloc = rt.alloc();
-    let text = format!(in alloc;
-        "{} {} {}",
-        DiagnosticSeverity::Warning,
-        AccessMode::Write,
-        AddressSpace::Workgroup
-    )?;
-    assert_eq!(rt; text.as_str(), "warning write workgroup");
-    let text = format!(in alloc;
-        "{} {} {}",
-        InterpolationType::Perspective,
-        InterpolationSampling::First,
-        BuiltinValue::FragDepth
-    )?;
-    assert_eq!(rt; text.as_str(), "perspective first frag_depth");
-    let text = format!(in alloc;
-        "{} {} {}",
-        UnaryOperator::BitwiseComplement,
-        BinaryOperator::ShiftRight,
-        AssignmentOperator::ShiftRightAssign
-    )?;
-    assert_eq!(rt; text.as_str(), "~ >> >>=");
-    Ok(())
 }

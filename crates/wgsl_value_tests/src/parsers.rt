@@ -1,29 +1,231 @@
-//! The parsers over lists of tokens made by hand, and over an iterator that counts its calls.
+//! The parsers over tokens made by hand, from an iterator that counts how often it is asked.
 
+ghost use Rattle.std.specs.Prelude.{length};
 ghost use Rattle.std.specs.Iterator.{at_most};
 ghost use Rattle.std.proofs.Common.{rules};
 
-use std::alloc::{AllocError, Global};
+use std::alloc::Global;
 use std::cell::Cell;
 use std::test::Fail;
 use wgsl_parse::error::{Error, ErrorKind, ParseError};
-use wgsl_parse::lexer::{Lexer, Token, TokenItem, TokenIterator};
+use wgsl_parse::lexer::{Token, TokenItem, TokenIterator};
 use wgsl_parse::parser::{
     ExpressionParser, GlobalDeclParser, GlobalDirectiveParser, LiteralParser, StatementParser,
     TranslationUnitParser, TryTemplateListParser, recognize_template_list,
 };
 use wgsl_parse::syntax::{Expression, Span};
+use wgsl_token::kind::TokenKind;
 
-fn name(alloc: Global, text: &str) -> Result<Token, AllocError> {
-    Ok(Token::Ident(String::from_str(alloc, text)?))
+/// What the iterator gives at a place.
+#[derive(Clone, Copy)]
+enum Given {
+    Kind(TokenKind),
+    Name(&'static str),
+    InvalidToken,
+    Severity,
+    WantOfMemory,
+}
+
+/// Gives what is listed, each with its start and its end, and counts how often it is asked.
+#[derive(Drop)]
+struct Listed<'l> {
+    alloc: Global,
+    asked: &'l Cell<u32>,
+    items: &'l [(usize, Given, usize)],
+}
+
+impl<'l> Listed<'l> {
+    fn new(alloc: Global, asked: &'l Cell<u32>, items: &'l [(usize, Given, usize)]) -> Listed<'l> {
+        Listed {
+            alloc,
+            asked,
+            items,
+        }
+    }
+}
+
+impl Iterator for Listed<'_> {
+    type Item = TokenItem;
+
+    ghost remaining = { λ listed. at_most (length listed.items.now) };
+
+    fn next(&mut self) -> Option<TokenItem> {
+        self.asked.set(self.asked.get().saturating_add(1));
+        let ((start, given, end), rest) = self.items.split_first()?;
+        self.items = rest;
+        let token = match given {
+            Given::Kind(kind) => Ok(Token::from_kind(self.alloc, *kind)),
+            Given::Name(name) => match String::from_str(self.alloc, name) {
+                Ok(name) => Ok(Token::Ident(name)),
+                Err(error) => Err(ParseError::from(error)),
+            },
+            Given::InvalidToken => Err(ParseError::LexerError),
+            Given::Severity => Err(ParseError::DiagnosticSeverity),
+            Given::WantOfMemory => Err(ParseError::OutOfMemory),
+        };
+        Some(match token {
+            Ok(token) => Ok((*start, token, *end)),
+            Err(error) => Err((*start, error, *end)),
+        })
+    }
+}
+
+impl TokenIterator for Listed<'_> {
+    ghost is_finite = { Prim.search rules };
 }
 
 /// The fault of an answer, told without what was expected.
 fn told<T: Drop>(alloc: Global, answer: Result<T, Error>) -> Result<String, Fail> {
-    match answer.err() {
-        Some(error) => Ok(format!(in alloc; "{}", error.without_expected())?),
-        None => Err(Fail::new("no fault")),
+    let Some(error) = answer.err() else {
+        return Err(Fail::new("no fault"));
+    };
+    Ok(format!(in alloc; "{}", error.without_expected())?)
+}
+
+/// The fault of the tokens, read as an expression.
+fn fault_of_expression(alloc: Global, items: &[(usize, Given, usize)]) -> Result<String, Fail> {
+    let asked = Cell::new(0u32);
+    let tokens = Listed::new(alloc, &asked, items);
+    told(alloc, ExpressionParser::new().parse(alloc, tokens))
+}
+
+#[test]
+fn faults_of_expressions(rt: HostRuntime) -> Result<(), Fail> {
+    let name = (0, Given::Kind(TokenKind::Ident), 1);
+    let comma = (0, Given::Kind(TokenKind::SymComma), 1);
+    for (first, second, wanted) in [
+        (
+            name,
+            (5, Given::Severity, 9),
+            "chars 5..9: invalid diagnostic severity",
+        ),
+        (
+            (9, Given::InvalidToken, 4),
+            name,
+            "chars 9..4: invalid token",
+        ),
+        (
+            comma,
+            (1, Given::InvalidToken, 2),
+            "chars 0..1: unexpected token `,`",
+        ),
+        (
+            name,
+            (1, Given::Kind(TokenKind::BlockComment), 5),
+            "chars 1..5: unexpected token `/* block comment */`",
+        ),
+    ] {
+        let fault = fault_of_expression(rt.alloc(), &[first, second])?;
+        assert_eq!(rt; fault.as_str(), wanted);
     }
+    Ok(())
+}
+
+#[test]
+fn no_tokens_end_too_early(rt: HostRuntime) -> Result<(), Fail> {
+    let fault = fault_of_expression(rt.alloc(), &[])?;
+    assert_eq!(rt; fault.as_str(), "chars 0..1: unexpected end of file");
+    Ok(())
+}
+
+/// The fault of the tokens, read as a declaration.
+fn fault_of_declaration(alloc: Global, items: &[(usize, Given, usize)]) -> Result<String, Fail> {
+    let asked = Cell::new(0u32);
+    let tokens = Listed::new(alloc, &asked, items);
+    told(alloc, GlobalDeclParser::new().parse(alloc, tokens))
+}
+
+#[test]
+fn faults_of_declarations(rt: HostRuntime) -> Result<(), Fail> {
+    for (start, kind, end, wanted) in [
+        (
+            0,
+            TokenKind::KwFn,
+            usize::MAX,
+            "chars 18446744073709551615..18446744073709551615: unexpected end of file",
+        ),
+        (
+            0,
+            TokenKind::LineComment,
+            2,
+            "chars 0..2: unexpected token `// line comment`",
+        ),
+    ] {
+        let fault = fault_of_declaration(rt.alloc(), &[(start, Given::Kind(kind), end)])?;
+        assert_eq!(rt; fault.as_str(), wanted);
+    }
+    Ok(())
+}
+
+/// The fault of an attribute without its argument stands before an error, but for a want of memory.
+#[test]
+fn errors_behind_an_attribute(rt: HostRuntime) -> Result<(), Fail> {
+    for (error, wanted) in [
+        (
+            Given::InvalidToken,
+            "chars 0..6: invalid `align` attribute, expected 1 argument",
+        ),
+        (Given::WantOfMemory, "chars 6..7: out of memory"),
+    ] {
+        let items = [
+            (0, Given::Kind(TokenKind::SymAttr), 1),
+            (1, Given::Name("align"), 6),
+            (6, error, 7),
+        ];
+        let fault = fault_of_declaration(rt.alloc(), &items)?;
+        assert_eq!(rt; fault.as_str(), wanted);
+    }
+    Ok(())
+}
+
+/// The second minus of `a--b` stands one byte behind the first, and places have a greatest.
+#[test]
+fn greatest_places(rt: HostRuntime) -> Result<(), Fail> {
+    let asked = Cell::new(0u32);
+    let items = [
+        (0, Given::Kind(TokenKind::Ident), 1),
+        (
+            usize::MAX,
+            Given::Kind(TokenKind::SymMinusMinus),
+            usize::MAX,
+        ),
+        (2, Given::Kind(TokenKind::Ident), 3),
+    ];
+    let tokens = Listed::new(rt.alloc(), &asked, &items);
+    let difference = ExpressionParser::new().parse(rt.alloc(), tokens)?;
+    let Expression::Binary(difference) = difference.into_inner() else {
+        return Err(Fail::new("no difference"));
+    };
+    assert!(rt; difference.right.node().is_unary());
+    assert_eq!(rt; difference.right.span(), Span::new(usize::MAX..3));
+    Ok(())
+}
+
+#[test]
+fn nothing_is_asked_behind_an_error(rt: HostRuntime) -> Result<(), Fail> {
+    let asked = Cell::new(0u32);
+    let items = [
+        (0, Given::Kind(TokenKind::SymTilde), 1),
+        (1, Given::Kind(TokenKind::SymTilde), 2),
+        (9, Given::InvalidToken, 10),
+        (10, Given::Kind(TokenKind::Ident), 11),
+    ];
+    let tokens = Listed::new(rt.alloc(), &asked, &items);
+    let fault = told(
+        rt.alloc(),
+        ExpressionParser::new().parse(rt.alloc(), tokens),
+    )?;
+    assert_eq!(rt; fault.as_str(), "chars 9..10: invalid token");
+    assert_eq!(rt; asked.get(), 3);
+    Ok(())
+}
+
+/// A want of memory, and a token behind it.
+fn refused() -> [(usize, Given, usize); 2] {
+    [
+        (0, Given::WantOfMemory, 0),
+        (0, Given::Kind(TokenKind::SymSemicolon), 1),
+    ]
 }
 
 fn wants_memory<T: Drop>(answer: Result<T, Error>) -> bool {
@@ -33,192 +235,67 @@ fn wants_memory<T: Drop>(answer: Result<T, Error>) -> bool {
     }
 }
 
-/// The fault of the tokens, read as an expression.
-fn fault_of_expression(alloc: Global, items: Vec<TokenItem>) -> Result<String, Fail> {
-    told(alloc, ExpressionParser::new().parse(alloc, items))
-}
-
 #[test]
-fn carried_faults(rt: HostRuntime) -> Result<(), Fail> {
-    let alloc = rt.alloc();
-    let items = vec![in alloc;
-        Ok((0, name(alloc, "a")?, 1)),
-        Err((5, ParseError::DiagnosticSeverity, 9)),
-        Ok((9, Token::SymComma, 10)),
-    ]?;
-    let fault = fault_of_expression(alloc, items)?;
-    assert_eq!(rt; fault.as_str(), "chars 5..9: invalid diagnostic severity");
-    let items = vec![in alloc; Err((9, ParseError::LexerError, 4))]?;
-    let fault = fault_of_expression(alloc, items)?;
-    assert_eq!(rt; fault.as_str(), "chars 9..4: invalid token");
-    Ok(())
-}
-
-#[test]
-fn faults_of_expressions(rt: HostRuntime) -> Result<(), Fail> {
-    let alloc = rt.alloc();
-    let fault = fault_of_expression(alloc, Vec::new(alloc))?;
-    assert_eq!(rt; fault.as_str(), "chars 0..1: unexpected end of file");
-    let items = vec![in alloc;
-        Ok((0, Token::SymComma, 1)),
-        Err((1, ParseError::LexerError, 2)),
-    ]?;
-    let fault = fault_of_expression(alloc, items)?;
-    assert_eq!(rt; fault.as_str(), "chars 0..1: unexpected token `,`");
-    let items = vec![in alloc;
-        Ok((0, name(alloc, "a")?, 1)),
-        Ok((1, Token::BlockComment, 5)),
-    ]?;
-    let fault = fault_of_expression(alloc, items)?;
-    let wanted = "chars 1..5: unexpected token `/* block comment */`";
-    assert_eq!(rt; fault.as_str(), wanted);
-    Ok(())
-}
-
-/// The fault of the tokens, read as a declaration.
-fn fault_of_declaration(alloc: Global, items: Vec<TokenItem>) -> Result<String, Fail> {
-    told(alloc, GlobalDeclParser::new().parse(alloc, items))
-}
-
-#[test]
-fn faults_of_declarations(rt: HostRuntime) -> Result<(), Fail> {
-    let alloc = rt.alloc();
-    let items = vec![in alloc;
-        Ok((0, Token::SymAttr, 1)),
-        Ok((1, name(alloc, "align")?, 6)),
-        Err((6, ParseError::LexerError, 7)),
-    ]?;
-    let fault = fault_of_declaration(alloc, items)?;
-    let wanted = "chars 0..6: invalid `align` attribute, expected 1 argument";
-    assert_eq!(rt; fault.as_str(), wanted);
-    let items = vec![in alloc; Ok((0, Token::KwFn, usize::MAX))]?;
-    let fault = fault_of_declaration(alloc, items)?;
-    let wanted = "chars 18446744073709551615..18446744073709551615: unexpected end of file";
-    assert_eq!(rt; fault.as_str(), wanted);
-    let items = vec![in alloc; Ok((0, Token::LineComment, 2))]?;
-    let fault = fault_of_declaration(alloc, items)?;
-    let wanted = "chars 0..2: unexpected token `// line comment`";
-    assert_eq!(rt; fault.as_str(), wanted);
-    Ok(())
-}
-
-#[test]
-fn greatest_places(rt: HostRuntime) -> Result<(), Fail> {
-    let alloc = rt.alloc();
-    let items: Vec<TokenItem> = vec![in alloc;
-        Ok((0, name(alloc, "a")?, 1)),
-        Ok((usize::MAX, Token::SymMinusMinus, usize::MAX)),
-        Ok((2, name(alloc, "b")?, 3)),
-    ]?;
-    let difference = ExpressionParser::new().parse(alloc, items)?;
-    let Expression::Binary(difference) = difference.into_inner() else {
-        return Err(Fail::new("no difference"));
-    };
-    let negation = difference.right;
-    assert!(rt; negation.node().is_unary());
-    assert_eq!(rt; negation.span(), Span::new(usize::MAX..3));
-    Ok(())
-}
-
-#[test]
-fn carried_wants_of_memory(rt: HostRuntime) -> Result<(), Fail> {
-    let alloc = rt.alloc();
-    let items: Vec<TokenItem> = vec![in alloc;
-        Ok((0, Token::SymAttr, 1)),
-        Ok((1, name(alloc, "align")?, 6)),
-        Err((6, ParseError::OutOfMemory, 7)),
-    ]?;
-    assert!(rt; wants_memory(GlobalDeclParser::new().parse(alloc, items)));
-    Ok(())
-}
-
-/// A list that is a want of memory alone.
-fn refused(alloc: Global) -> Result<Vec<TokenItem>, AllocError> {
-    Ok(vec![in alloc; Err((0, ParseError::OutOfMemory, 0))]?)
-}
-
-#[test]
-fn wants_of_memory_alone(rt: HostRuntime) -> Result<(), Fail> {
-    let alloc = rt.alloc();
-    for answer in [
-        wants_memory(TranslationUnitParser::new().parse(alloc, refused(alloc)?)),
-        wants_memory(GlobalDirectiveParser::new().parse(alloc, refused(alloc)?)),
-        wants_memory(GlobalDeclParser::new().parse(alloc, refused(alloc)?)),
-        wants_memory(StatementParser::new().parse(alloc, refused(alloc)?)),
-        wants_memory(ExpressionParser::new().parse(alloc, refused(alloc)?)),
-        wants_memory(LiteralParser::new().parse(alloc, refused(alloc)?)),
-        wants_memory(TryTemplateListParser::new().parse(alloc, refused(alloc)?)),
-        wants_memory(recognize_template_list(alloc, refused(alloc)?)),
-    ] {
-        assert!(rt; answer);
-    }
-    Ok(())
-}
-
-/// Gives a few tokens, an error and more tokens, and counts how often it is asked.
-#[derive(Drop)]
-struct Counted<'c> {
-    asked: &'c Cell<u32>,
-    left: u32,
-}
-
-impl Iterator for Counted<'_> {
-    type Item = TokenItem;
-
-    ghost remaining = { λ counted. at_most counted.left };
-
-    fn next(&mut self) -> Option<TokenItem> {
-        self.asked.set(self.asked.get().saturating_add(1));
-        if self.left == 0 {
-            return None;
-        }
-        self.left -= 1;
-        if self.left == 3 {
-            return Some(Err((9, ParseError::LexerError, 10)));
-        }
-        Some(Ok((0, Token::SymTilde, 1)))
-    }
-}
-
-impl TokenIterator for Counted<'_> {
-    ghost is_finite = { Prim.search rules };
-}
-
-#[test]
-fn nothing_is_asked_behind_an_error(rt: HostRuntime) -> Result<(), Fail> {
+fn parsers_of_modules_stop_at_a_want_of_memory(rt: HostRuntime) {
     let alloc = rt.alloc();
     let asked = Cell::new(0u32);
-    let tokens = Counted {
-        asked: &asked,
-        left: 6,
-    };
-    let fault = told(alloc, ExpressionParser::new().parse(alloc, tokens))?;
-    assert_eq!(rt; fault.as_str(), "chars 9..10: invalid token");
-    assert_eq!(rt; asked.get(), 3);
-    Ok(())
+    let items = refused();
+    let unit = TranslationUnitParser::new().parse(alloc, Listed::new(alloc, &asked, &items));
+    assert!(rt; wants_memory(unit));
+    let directive = GlobalDirectiveParser::new().parse(alloc, Listed::new(alloc, &asked, &items));
+    assert!(rt; wants_memory(directive));
+    let declaration = GlobalDeclParser::new().parse(alloc, Listed::new(alloc, &asked, &items));
+    assert!(rt; wants_memory(declaration));
+    let statement = StatementParser::new().parse(alloc, Listed::new(alloc, &asked, &items));
+    assert!(rt; wants_memory(statement));
+    assert_eq!(rt; asked.get(), 4);
+}
+
+#[test]
+fn parsers_of_parts_stop_at_a_want_of_memory(rt: HostRuntime) {
+    let alloc = rt.alloc();
+    let asked = Cell::new(0u32);
+    let items = refused();
+    let expression = ExpressionParser::new().parse(alloc, Listed::new(alloc, &asked, &items));
+    assert!(rt; wants_memory(expression));
+    let literal = LiteralParser::new().parse(alloc, Listed::new(alloc, &asked, &items));
+    assert!(rt; wants_memory(literal));
+    let list = TryTemplateListParser::new().parse(alloc, Listed::new(alloc, &asked, &items));
+    assert!(rt; wants_memory(list));
+    assert!(rt; wants_memory(recognize_template_list(alloc, Listed::new(alloc, &asked, &items))));
+    assert_eq!(rt; asked.get(), 4);
 }
 
 /// The tokens of a template list of one name.
-fn template_list(alloc: Global) -> Result<Vec<TokenItem>, AllocError> {
-    Ok(vec![in alloc;
-        Ok((0, Token::TemplateArgsStart, 1)),
-        Ok((1, name(alloc, "a")?, 2)),
-        Ok((2, Token::TemplateArgsEnd, 3)),
-    ]?)
+fn template_list() -> [(usize, Given, usize); 3] {
+    [
+        (0, Given::Kind(TokenKind::TemplateArgsStart), 1),
+        (1, Given::Kind(TokenKind::Ident), 2),
+        (2, Given::Kind(TokenKind::TemplateArgsEnd), 3),
+    ]
 }
 
 #[test]
-fn template_lists(rt: HostRuntime) -> Result<(), Fail> {
+fn a_template_list_is_read(rt: HostRuntime) -> Result<(), Fail> {
     let alloc = rt.alloc();
-    let span = TryTemplateListParser::new().parse(alloc, template_list(alloc)?)?;
+    let asked = Cell::new(0u32);
+    let items = template_list();
+    let span = TryTemplateListParser::new().parse(alloc, Listed::new(alloc, &asked, &items))?;
     assert_eq!(rt; span, Span::new(0..3));
-    recognize_template_list(alloc, template_list(alloc)?)?;
+    recognize_template_list(alloc, Listed::new(alloc, &asked, &items))?;
+    Ok(())
+}
 
-    // A `<` behind no word is an operator.
-    let fault = "chars 0..1: unexpected token `<`";
-    let span = TryTemplateListParser::new().parse(alloc, Lexer::new(alloc, "<a>")?);
-    assert_eq!(rt; told(alloc, span)?.as_str(), fault);
-    let recognized = recognize_template_list(alloc, Lexer::new(alloc, "<a>")?);
-    assert_eq!(rt; told(alloc, recognized)?.as_str(), fault);
+/// A `<` behind no word is an operator.
+#[test]
+fn an_operator_is_no_template_list(rt: HostRuntime) -> Result<(), Fail> {
+    let asked = Cell::new(0u32);
+    let items = [(0, Given::Kind(TokenKind::SymLessThan), 1)];
+    let tokens = Listed::new(rt.alloc(), &asked, &items);
+    let span = TryTemplateListParser::new().parse(rt.alloc(), tokens);
+    let fault = told(rt.alloc(), span)?;
+    assert_eq!(rt; fault.as_str(), "chars 0..1: unexpected token `<`");
+    let tokens = Listed::new(rt.alloc(), &asked, &items);
+    assert!(rt; recognize_template_list(rt.alloc(), tokens).is_err());
     Ok(())
 }

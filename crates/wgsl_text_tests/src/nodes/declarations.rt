@@ -73,14 +73,17 @@ fn see_struct(node: &Struct, facts: &mut Facts, path: &str) -> Result<(), AllocE
         let path = item_path(facts.alloc, path, "members", place)?;
         facts.span(&path, member.span())?;
         facts.name(&path, member)?;
-        let member = member.node();
-        facts.node(&path, member, StructMember::clone)?;
-        facts.name(&path, member)?;
-        see_attributes(&member.attributes, facts, &path, "attributes")?;
-        see_ident(&member.ident, facts, &path, "ident")?;
-        see_type_part(&member.ty, facts, &path, "ty")?;
+        see_member(member.node(), facts, &path)?;
     }
     Ok(())
+}
+
+fn see_member(node: &StructMember, facts: &mut Facts, path: &str) -> Result<(), AllocError> {
+    facts.node(path, node, StructMember::clone)?;
+    facts.name(path, node)?;
+    see_attributes(&node.attributes, facts, path, "attributes")?;
+    see_ident(&node.ident, facts, path, "ident")?;
+    see_type_part(&node.ty, facts, path, "ty")
 }
 
 fn see_function(node: &Function, facts: &mut Facts, path: &str) -> Result<(), AllocError> {
@@ -91,13 +94,17 @@ fn see_function(node: &Function, facts: &mut Facts, path: &str) -> Result<(), Al
     facts.count(path, "parameters", node.parameters.len())?;
     for (place, parameter) in node.parameters.iter().enumerate() {
         let path = item_path(facts.alloc, path, "parameters", place)?;
-        facts.node(&path, parameter, FormalParameter::clone)?;
-        facts.name(&path, parameter)?;
-        see_attributes(&parameter.attributes, facts, &path, "attributes")?;
-        see_ident(&parameter.ident, facts, &path, "ident")?;
-        see_type_part(&parameter.ty, facts, &path, "ty")?;
+        see_parameter(parameter, facts, &path)?;
     }
     see_attributes(&node.return_attributes, facts, path, "return_attributes")?;
     see_optional_type(&node.return_type, facts, path, "return_type")?;
     see_body(&node.body, facts, path)
+}
+
+fn see_parameter(node: &FormalParameter, facts: &mut Facts, path: &str) -> Result<(), AllocError> {
+    facts.node(path, node, FormalParameter::clone)?;
+    facts.name(path, node)?;
+    see_attributes(&node.attributes, facts, path, "attributes")?;
+    see_ident(&node.ident, facts, path, "ident")?;
+    see_type_part(&node.ty, facts, path, "ty")
 }

@@ -116,24 +116,39 @@ pub fn see_body(body: &CompoundStatement, facts: &mut Facts, path: &str) -> Resu
 fn see_if(node: &IfStatement, facts: &mut Facts, path: &str) -> Result<(), AllocError> {
     facts.node(path, node, IfStatement::clone)?;
     see_attributes(&node.attributes, facts, path, "attributes")?;
-    let first = path_of(facts.alloc, path, "if_clause")?;
-    facts.node(&first, &node.if_clause, IfClause::clone)?;
-    see_part(&node.if_clause.expression, facts, &first, "expression")?;
-    see_body(&node.if_clause.body, facts, &first)?;
+    see_if_clause(&node.if_clause, facts, path)?;
     facts.count(path, "else_if_clauses", node.else_if_clauses.len())?;
     for (place, clause) in node.else_if_clauses.iter().enumerate() {
         let path = item_path(facts.alloc, path, "else_if_clauses", place)?;
-        facts.node(&path, clause, ElseIfClause::clone)?;
-        see_part(&clause.expression, facts, &path, "expression")?;
-        see_body(&clause.body, facts, &path)?;
+        see_else_if(clause, facts, &path)?;
     }
-    let Some(last) = &node.else_clause else {
-        return facts.count(path, "else_clause", 0);
-    };
+    match &node.else_clause {
+        Some(clause) => see_else(clause, facts, path),
+        None => facts.count(path, "else_clause", 0),
+    }
+}
+
+#[cycle(statement)]
+fn see_if_clause(node: &IfClause, facts: &mut Facts, path: &str) -> Result<(), AllocError> {
+    let path = path_of(facts.alloc, path, "if_clause")?;
+    facts.node(&path, node, IfClause::clone)?;
+    see_part(&node.expression, facts, &path, "expression")?;
+    see_body(&node.body, facts, &path)
+}
+
+#[cycle(statement)]
+fn see_else_if(node: &ElseIfClause, facts: &mut Facts, path: &str) -> Result<(), AllocError> {
+    facts.node(path, node, ElseIfClause::clone)?;
+    see_part(&node.expression, facts, path, "expression")?;
+    see_body(&node.body, facts, path)
+}
+
+#[cycle(statement)]
+fn see_else(node: &ElseClause, facts: &mut Facts, path: &str) -> Result<(), AllocError> {
     facts.count(path, "else_clause", 1)?;
     let path = path_of(facts.alloc, path, "else_clause")?;
-    facts.node(&path, last, ElseClause::clone)?;
-    see_body(&last.body, facts, &path)
+    facts.node(&path, node, ElseClause::clone)?;
+    see_body(&node.body, facts, &path)
 }
 
 #[cycle(statement)]
@@ -145,11 +160,16 @@ fn see_switch(node: &SwitchStatement, facts: &mut Facts, path: &str) -> Result<(
     facts.count(path, "clauses", node.clauses.len())?;
     for (place, clause) in node.clauses.iter().enumerate() {
         let path = item_path(facts.alloc, path, "clauses", place)?;
-        facts.node(&path, clause, SwitchClause::clone)?;
-        see_selectors(&clause.case_selectors, facts, &path)?;
-        see_body(&clause.body, facts, &path)?;
+        see_clause(clause, facts, &path)?;
     }
     Ok(())
+}
+
+#[cycle(statement)]
+fn see_clause(node: &SwitchClause, facts: &mut Facts, path: &str) -> Result<(), AllocError> {
+    facts.node(path, node, SwitchClause::clone)?;
+    see_selectors(&node.case_selectors, facts, path)?;
+    see_body(&node.body, facts, path)
 }
 
 /// What a clause of a `switch` selects.
@@ -195,12 +215,16 @@ fn see_continuing(
     match &node.break_if {
         Some(break_if) => {
             facts.count(path, "break_if", 1)?;
-            let path = path_of(facts.alloc, path, "break_if")?;
-            facts.node(&path, break_if, BreakIfStatement::clone)?;
-            see_part(&break_if.expression, facts, &path, "expression")
+            see_break_if(break_if, facts, path)
         }
         None => facts.count(path, "break_if", 0),
     }
+}
+
+fn see_break_if(node: &BreakIfStatement, facts: &mut Facts, path: &str) -> Result<(), AllocError> {
+    let path = path_of(facts.alloc, path, "break_if")?;
+    facts.node(&path, node, BreakIfStatement::clone)?;
+    see_part(&node.expression, facts, &path, "expression")
 }
 
 #[cycle(statement)]

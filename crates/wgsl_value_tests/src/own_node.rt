@@ -4,20 +4,13 @@ ghost use Rattle.std.specs.Prelude.{◌≡◌, Some, None};
 ghost use Rattle.std.specs.Vec.{with_items};
 ghost use Rattle.wgsl_expression.specs.View.{ident_name};
 
+use crate::making::{ident, size_and_align};
 use std::alloc::{AllocError, Global};
 use std::test::Fail;
-use wgsl_attribute::{Attribute, AttributeNode, AttributesBefore};
-use wgsl_expression::{Expression, ExpressionNode, Ident};
-use wgsl_span::{Span, Spanned};
+use wgsl_attribute::{Attribute, AttributeNode};
+use wgsl_expression::Ident;
+use wgsl_span::Span;
 use wgsl_syntax_node::{BareNode, SyntaxNode, has_attribute, retain_nodes};
-
-fn ident(alloc: Global, name: &str) -> Result<Ident, AllocError> {
-    Ok(Ident::new(String::from_str(alloc, name)?))
-}
-
-fn integer(alloc: Global, value: i64) -> Result<ExpressionNode, AllocError> {
-    Spanned::with_default_span(alloc, Expression::from(value))
-}
 
 #[derive(Drop)]
 struct Member {
@@ -69,58 +62,47 @@ struct Bare {
 impl BareNode for Bare {}
 
 /// A member with `@size(16) @align(4)`.
-fn sample(alloc: Global) -> Result<Spanned<Member>, Fail> {
-    let member = Member {
-        attributes: vec![in alloc;
-            Spanned::new(alloc, Attribute::Size(integer(alloc, 16)?), Span::new(0..9))?,
-            Spanned::new(
-                alloc,
-                Attribute::Align(integer(alloc, 4)?),
-                Span::new(10..19)
-            )?,
-        ]?,
+fn sample(alloc: Global) -> Result<Member, AllocError> {
+    Ok(Member {
+        attributes: size_and_align(alloc)?,
         ident: ident(alloc, "x")?,
-    };
-    Ok(Spanned::new(alloc, member, Span::new(0..26))?)
+    })
 }
 
 #[test]
 fn a_member_answers(rt: HostRuntime) -> Result<(), Fail> {
-    let alloc = rt.alloc();
-    let node = sample(alloc)?;
-    assert!(rt; SyntaxNode::span(&node) == Some(Span::new(0..26)));
-    assert!(rt; node.ident(alloc)? == Some(ident(alloc, "x")?));
-    assert_eq!(rt; node.attributes().len(), 2);
-
-    // By content, wherever the two stand.
-    assert!(rt; node.contains_attribute(&Attribute::Align(integer(alloc, 4)?)));
-    assert!(rt; !node.contains_attribute(&Attribute::Align(integer(alloc, 8)?)));
+    let member = sample(rt.alloc())?;
+    assert!(rt; member.span().is_none());
+    assert!(rt; member.ident(rt.alloc())?.is_some());
+    assert!(rt; !member.contains_attribute(&Attribute::Const));
+    for attribute in member.attributes() {
+        // By content, wherever the two stand.
+        assert!(rt; member.contains_attribute(attribute.node()));
+    }
     Ok(())
 }
 
 #[test]
-fn attributes_are_written(rt: HostRuntime) -> Result<(), Fail> {
-    let alloc = rt.alloc();
-    let mut node = sample(alloc)?;
-    for attribute in node.attributes_mut() {
+fn attributes_are_written_and_retained(rt: HostRuntime) -> Result<(), Fail> {
+    let mut member = sample(rt.alloc())?;
+    member.retain_attributes_mut(|attribute| attribute.is_align());
+    for attribute in member.attributes_mut() {
+        assert_eq!(rt; attribute.span(), Span::new(10..19));
         *attribute.node_mut() = Attribute::Const;
     }
-    let line = AttributesBefore {
-        attributes: node.attributes(),
-        end: "",
-    };
-    assert_eq!(rt; format!(in alloc; "{line}")?.as_str(), "@const @const");
+    assert!(rt; member.contains_attribute(&Attribute::Const));
     Ok(())
 }
 
 #[test]
 fn a_node_without_attributes(rt: HostRuntime) -> Result<(), Fail> {
-    let alloc = rt.alloc();
     let mut node = Bare { number: 3 };
     node.retain_attributes_mut(|_| false);
-    assert!(rt; node.attributes().is_empty() && node.attributes_mut().is_empty());
+    assert!(rt; node.attributes().is_empty());
+    assert!(rt; node.attributes_mut().is_empty());
     assert!(rt; !node.contains_attribute(&Attribute::Const));
-    assert!(rt; node.span().is_none() && node.ident(alloc)?.is_none());
+    assert!(rt; node.span().is_none());
+    assert!(rt; node.ident(rt.alloc())?.is_none());
     assert_eq!(rt; node.number, 3);
     Ok(())
 }
