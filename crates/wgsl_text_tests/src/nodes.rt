@@ -11,6 +11,7 @@ use crate::facts::Facts;
 use std::alloc::{AllocError, Global};
 use std::fmt;
 use wgsl_parse::SyntaxNode;
+use wgsl_parse::span::CloneWith;
 use wgsl_parse::syntax::Span;
 
 /// How long the path of a node is at most that is looked at: each is printed by itself, so without a bound a text
@@ -80,35 +81,34 @@ impl Facts {
         }
     }
 
-    /// Looks at the copy of what is not printed by itself.
-    pub fn copy<T: PartialEq + Drop, F: FnOnce(&T, Global) -> Result<T, AllocError>>(
-        &mut self,
-        path: &str,
-        node: &T,
-        clone: F,
-    ) -> Result<(), AllocError>
-        requires { F.IsAlwaysCallable clone }
-    {
-        let copy = clone(node, self.alloc)?;
+    /// Looks at the copy of what prints nothing by itself.
+    fn copy<T: PartialEq + CloneWith>(&mut self, path: &str, node: &T) -> Result<(), AllocError> {
+        let copy = node.clone_with(self.alloc)?;
         self.expect(copy == *node, "a copy is equal", path)
     }
 
     /// The text of a node, which is that of its copy too.
-    fn node<T: fmt::Display + PartialEq + Drop, F: FnOnce(&T, Global) -> Result<T, AllocError>>(
+    fn node<T: fmt::Display + PartialEq + CloneWith>(
         &mut self,
         path: &str,
         node: &T,
-        clone: F,
-    ) -> Result<(), AllocError>
-        requires { F.IsAlwaysCallable clone }
-    {
+    ) -> Result<(), AllocError> {
         let text = node.to_string(self.alloc)?;
-        let copy = clone(node, self.alloc)?;
-        let is_equal = copy == *node;
-        let copied = copy.to_string(self.alloc)?;
-        self.expect(is_equal, "a copy is equal", path)?;
-        self.expect(copied == text, "a copy prints alike", path)?;
+        self.copy_of(path, node, &text)?;
         let words = format!(in self.alloc; "part {path}")?;
         self.tell(words, text)
+    }
+
+    /// Looks at the copy of a node with this text.
+    fn copy_of<T: fmt::Display + PartialEq + CloneWith>(
+        &mut self,
+        path: &str,
+        node: &T,
+        text: &str,
+    ) -> Result<(), AllocError> {
+        let copy = node.clone_with(self.alloc)?;
+        self.expect(copy == *node, "a copy is equal", path)?;
+        let copied = copy.to_string(self.alloc)?;
+        self.expect(copied.as_str() == text, "a copy prints alike", path)
     }
 }

@@ -2,8 +2,8 @@
 
 use crate::facts::Facts;
 use std::alloc::{AllocError, Global};
-use wgsl_parse::error::{ErrorKind, ParseError};
-use wgsl_parse::lexer::{Lexer, Token, TokenItem, recognize_template_list};
+use wgsl_parse::error::ErrorKind;
+use wgsl_parse::lexer::{Lexer, TokenItem, recognize_template_list};
 use wgsl_recognizer::is_expression_list;
 
 /// A token with its place, or the fault that ends the tokens.
@@ -64,10 +64,11 @@ fn see_copy(
 
 /// A token, or the fault that ends the tokens, is equal to its copy.
 fn see_copied(item: &TokenItem, given: &str, facts: &mut Facts) -> Result<(), AllocError> {
-    match item {
-        Ok((_, token, _)) => facts.copy(given, token, Token::clone),
-        Err((_, error, _)) => facts.copy(given, error, ParseError::clone),
-    }
+    let is_equal = match item {
+        Ok((_, token, _)) => token.clone(facts.alloc)? == *token,
+        Err((_, error, _)) => error.clone(facts.alloc)? == *error,
+    };
+    facts.expect(is_equal, "a copy is equal", given)
 }
 
 /// Whether something is a list.

@@ -134,7 +134,8 @@ pub fn see_error(error: &Error, facts: &mut Facts) -> Result<(), AllocError> {
     let alloc = facts.alloc;
     let told = format!(in alloc; "{}", error.without_expected())?;
     see_message(error.span, &told, facts)?;
-    facts.copy("", error, Error::clone)?;
+    let is_equal = error.clone(alloc)? == *error;
+    facts.expect(is_equal, "a copy is equal", "")?;
     match &error.error {
         ErrorKind::UnexpectedToken { token, expected } => {
             let is_other = expected.iter().all(|other| other != token);

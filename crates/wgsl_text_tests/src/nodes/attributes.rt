@@ -4,10 +4,7 @@ use crate::facts::Facts;
 use crate::nodes::expressions::{see_optional, see_part, see_parts};
 use crate::nodes::item_path;
 use std::alloc::AllocError;
-use wgsl_parse::syntax::{
-    Attribute, AttributeNode, CustomAttribute, DiagnosticAttribute, InterpolateAttribute,
-    TypeConstraint, WorkgroupSizeAttribute,
-};
+use wgsl_parse::syntax::{Attribute, AttributeNode, TypeConstraint};
 
 /// The attributes of a list.
 pub fn see_attributes(
@@ -20,7 +17,7 @@ pub fn see_attributes(
     for (place, node) in nodes.iter().enumerate() {
         let path = item_path(facts.alloc, path, name, place)?;
         facts.span(&path, node.span())?;
-        facts.node(&path, node.node(), Attribute::clone)?;
+        facts.node(&path, node.node())?;
         see_arguments(node.node(), facts, &path)?;
     }
     Ok(())
@@ -38,17 +35,17 @@ fn see_arguments(attribute: &Attribute, facts: &mut Facts, path: &str) -> Result
         | Attribute::Size(argument)
         | Attribute::If(argument)
         | Attribute::Elif(argument) => see_part(argument, facts, path, "argument"),
-        Attribute::Diagnostic(inner) => facts.copy(path, inner, DiagnosticAttribute::clone),
-        Attribute::Interpolate(inner) => facts.copy(path, inner, InterpolateAttribute::clone),
+        Attribute::Diagnostic(inner) => facts.copy(path, inner),
+        Attribute::Interpolate(inner) => facts.copy(path, inner),
         Attribute::WorkgroupSize(inner) => {
-            facts.copy(path, inner, WorkgroupSizeAttribute::clone)?;
+            facts.copy(path, inner)?;
             see_part(&inner.x, facts, path, "x")?;
             see_optional(&inner.y, facts, path, "y")?;
             see_optional(&inner.z, facts, path, "z")
         }
-        Attribute::TypeConstraint(inner) => facts.copy(path, inner, TypeConstraint::clone),
+        Attribute::TypeConstraint(inner) => facts.copy(path, inner),
         Attribute::Custom(inner) => {
-            facts.copy(path, inner, CustomAttribute::clone)?;
+            facts.copy(path, inner)?;
             match &inner.arguments {
                 Some(arguments) => see_parts(arguments, facts, path, "arguments"),
                 None => Ok(()),

@@ -13,7 +13,7 @@ use wgsl_parse::syntax::{
 
 /// A module and its parts.
 pub fn see_unit(unit: &TranslationUnit, facts: &mut Facts, path: &str) -> Result<(), AllocError> {
-    facts.node(path, unit, TranslationUnit::clone)?;
+    facts.node(path, unit)?;
     facts.count(path, "global_directives", unit.global_directives.len())?;
     for (place, directive) in unit.global_directives.iter().enumerate() {
         let path = item_path(facts.alloc, path, "global_directives", place)?;
@@ -34,7 +34,7 @@ pub fn see_global_declaration(
     facts: &mut Facts,
     path: &str,
 ) -> Result<(), AllocError> {
-    facts.node(path, node, GlobalDeclaration::clone)?;
+    facts.node(path, node)?;
     facts.name(path, node)?;
     match node {
         GlobalDeclaration::Void => facts.variant(path, "Void"),
@@ -44,7 +44,7 @@ pub fn see_global_declaration(
         }
         GlobalDeclaration::TypeAlias(inner) => {
             facts.variant(path, "TypeAlias")?;
-            facts.node(path, inner, TypeAlias::clone)?;
+            facts.node(path, inner)?;
             facts.name(path, inner)?;
             see_ident(&inner.ident, facts, path, "ident")?;
             see_type_part(&inner.ty, facts, path, "ty")
@@ -65,7 +65,7 @@ pub fn see_global_declaration(
 }
 
 fn see_struct(node: &Struct, facts: &mut Facts, path: &str) -> Result<(), AllocError> {
-    facts.node(path, node, Struct::clone)?;
+    facts.node(path, node)?;
     facts.name(path, node)?;
     see_ident(&node.ident, facts, path, "ident")?;
     facts.count(path, "members", node.members.len())?;
@@ -79,7 +79,7 @@ fn see_struct(node: &Struct, facts: &mut Facts, path: &str) -> Result<(), AllocE
 }
 
 fn see_member(node: &StructMember, facts: &mut Facts, path: &str) -> Result<(), AllocError> {
-    facts.node(path, node, StructMember::clone)?;
+    facts.node(path, node)?;
     facts.name(path, node)?;
     see_attributes(&node.attributes, facts, path, "attributes")?;
     see_ident(&node.ident, facts, path, "ident")?;
@@ -87,7 +87,7 @@ fn see_member(node: &StructMember, facts: &mut Facts, path: &str) -> Result<(), 
 }
 
 fn see_function(node: &Function, facts: &mut Facts, path: &str) -> Result<(), AllocError> {
-    facts.node(path, node, Function::clone)?;
+    facts.node(path, node)?;
     facts.name(path, node)?;
     see_attributes(&node.attributes, facts, path, "attributes")?;
     see_ident(&node.ident, facts, path, "ident")?;
@@ -102,7 +102,7 @@ fn see_function(node: &Function, facts: &mut Facts, path: &str) -> Result<(), Al
 }
 
 fn see_parameter(node: &FormalParameter, facts: &mut Facts, path: &str) -> Result<(), AllocError> {
-    facts.node(path, node, FormalParameter::clone)?;
+    facts.node(path, node)?;
     facts.name(path, node)?;
     see_attributes(&node.attributes, facts, path, "attributes")?;
     see_ident(&node.ident, facts, path, "ident")?;

@@ -2,9 +2,7 @@
 
 use crate::facts::Facts;
 use std::alloc::AllocError;
-use wgsl_parse::syntax::{
-    DiagnosticDirective, EnableDirective, GlobalDirective, RequiresDirective,
-};
+use wgsl_parse::syntax::GlobalDirective;
 
 /// A directive and its parts.
 pub fn see_directive(
@@ -12,19 +10,19 @@ pub fn see_directive(
     facts: &mut Facts,
     path: &str,
 ) -> Result<(), AllocError> {
-    facts.node(path, node, GlobalDirective::clone)?;
+    facts.node(path, node)?;
     match node {
         GlobalDirective::Diagnostic(inner) => {
-            facts.node(path, inner, DiagnosticDirective::clone)?;
+            facts.node(path, inner)?;
             facts.part(path, "severity", &inner.severity)?;
             facts.part(path, "rule_name", &inner.rule_name)
         }
         GlobalDirective::Enable(inner) => {
-            facts.node(path, inner, EnableDirective::clone)?;
+            facts.node(path, inner)?;
             facts.count(path, "extensions", inner.extensions.len())
         }
         GlobalDirective::Requires(inner) => {
-            facts.node(path, inner, RequiresDirective::clone)?;
+            facts.node(path, inner)?;
             facts.count(path, "extensions", inner.extensions.len())
         }
     }

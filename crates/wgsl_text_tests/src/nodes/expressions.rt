@@ -4,9 +4,8 @@ use crate::facts::Facts;
 use crate::nodes::{is_too_deep, item_path, path_of};
 use std::alloc::AllocError;
 use wgsl_parse::syntax::{
-    BinaryExpression, Expression, ExpressionNode, FunctionCall, Ident, IndexingExpression,
-    LiteralExpression, NamedComponentExpression, ParenthesizedExpression, TemplateArg,
-    TypeExpression, UnaryExpression,
+    BinaryExpression, Expression, ExpressionNode, FunctionCall, Ident, LiteralExpression,
+    TypeExpression,
 };
 
 /// An expression and its parts.
@@ -15,29 +14,29 @@ pub fn see_expression(node: &Expression, facts: &mut Facts, path: &str) -> Resul
     if is_too_deep(path) {
         return Ok(());
     }
-    facts.node(path, node, Expression::clone)?;
+    facts.node(path, node)?;
     match node {
         Expression::Literal(literal) => see_literal(literal, facts, path),
         Expression::Parenthesized(inner) => {
             facts.variant(path, "Parenthesized")?;
-            facts.node(path, inner, ParenthesizedExpression::clone)?;
+            facts.node(path, inner)?;
             see_part(&inner.expression, facts, path, "expression")
         }
         Expression::NamedComponent(inner) => {
             facts.variant(path, "NamedComponent")?;
-            facts.node(path, inner, NamedComponentExpression::clone)?;
+            facts.node(path, inner)?;
             facts.part(path, "component", &inner.component)?;
             see_part(&inner.base, facts, path, "base")
         }
         Expression::Indexing(inner) => {
             facts.variant(path, "Indexing")?;
-            facts.node(path, inner, IndexingExpression::clone)?;
+            facts.node(path, inner)?;
             see_part(&inner.base, facts, path, "base")?;
             see_part(&inner.index, facts, path, "index")
         }
         Expression::Unary(inner) => {
             facts.variant(path, "Unary")?;
-            facts.node(path, inner, UnaryExpression::clone)?;
+            facts.node(path, inner)?;
             facts.part(path, "operator", &inner.operator)?;
             see_part(&inner.operand, facts, path, "operand")
         }
@@ -56,7 +55,7 @@ pub fn see_expression(node: &Expression, facts: &mut Facts, path: &str) -> Resul
 #[cycle(expression)]
 fn see_binary(node: &BinaryExpression, facts: &mut Facts, path: &str) -> Result<(), AllocError> {
     facts.variant(path, "Binary")?;
-    facts.node(path, node, BinaryExpression::clone)?;
+    facts.node(path, node)?;
     facts.part(path, "operator", &node.operator)?;
     see_part(&node.left, facts, path, "left")?;
     see_part(&node.right, facts, path, "right")
@@ -68,7 +67,7 @@ pub fn see_literal(
     facts: &mut Facts,
     path: &str,
 ) -> Result<(), AllocError> {
-    facts.node(path, literal, LiteralExpression::clone)?;
+    facts.node(path, literal)?;
     let variant = match literal {
         LiteralExpression::Bool(_) => "Bool",
         LiteralExpression::AbstractInt(_) => "AbstractInt",
@@ -130,7 +129,7 @@ pub fn see_optional(
 /// A call.
 #[cycle(expression)]
 pub fn see_call(call: &FunctionCall, facts: &mut Facts, path: &str) -> Result<(), AllocError> {
-    facts.node(path, call, FunctionCall::clone)?;
+    facts.node(path, call)?;
     see_type_part(&call.ty, facts, path, "ty")?;
     see_parts(&call.arguments, facts, path, "arguments")
 }
@@ -138,7 +137,7 @@ pub fn see_call(call: &FunctionCall, facts: &mut Facts, path: &str) -> Result<()
 /// A type, or a name.
 #[cycle(expression)]
 pub fn see_type(ty: &TypeExpression, facts: &mut Facts, path: &str) -> Result<(), AllocError> {
-    facts.node(path, ty, TypeExpression::clone)?;
+    facts.node(path, ty)?;
     see_ident(&ty.ident, facts, path, "ident")?;
     let Some(arguments) = &ty.template_args else {
         return facts.count(path, "template_args", 0);
@@ -146,7 +145,7 @@ pub fn see_type(ty: &TypeExpression, facts: &mut Facts, path: &str) -> Result<()
     facts.count(path, "template_args", arguments.len())?;
     for (place, argument) in arguments.iter().enumerate() {
         let path = item_path(facts.alloc, path, "template_args", place)?;
-        facts.node(&path, argument, TemplateArg::clone)?;
+        facts.node(&path, argument)?;
         see_part(&argument.expression, facts, &path, "expression")?;
     }
     Ok(())
@@ -188,5 +187,5 @@ pub fn see_ident(
     name: &str,
 ) -> Result<(), AllocError> {
     let path = path_of(facts.alloc, path, name)?;
-    facts.node(&path, ident, Ident::clone)
+    facts.node(&path, ident)
 }

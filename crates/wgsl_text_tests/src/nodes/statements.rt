@@ -6,11 +6,9 @@ use crate::nodes::expressions::{see_call, see_ident, see_optional, see_optional_
 use crate::nodes::{is_too_deep, item_path, path_of};
 use std::alloc::AllocError;
 use wgsl_parse::syntax::{
-    AssignmentStatement, BreakIfStatement, BreakStatement, CaseSelector, CompoundStatement,
-    ConstAssert, ContinueStatement, ContinuingStatement, Declaration, DecrementStatement,
-    DiscardStatement, ElseClause, ElseIfClause, ForStatement, FunctionCallStatement, IfClause,
-    IfStatement, IncrementStatement, LoopStatement, ReturnStatement, Statement, StatementNode,
-    SwitchClause, SwitchStatement, WhileStatement,
+    BreakIfStatement, CaseSelector, CompoundStatement, ConstAssert, ContinuingStatement,
+    Declaration, ElseClause, ElseIfClause, ForStatement, IfClause, IfStatement, LoopStatement,
+    Statement, StatementNode, SwitchClause, SwitchStatement, WhileStatement,
 };
 
 /// A statement and its parts.
@@ -19,7 +17,7 @@ pub fn see_statement(node: &Statement, facts: &mut Facts, path: &str) -> Result<
     if is_too_deep(path) {
         return Ok(());
     }
-    facts.node(path, node, Statement::clone)?;
+    facts.node(path, node)?;
     match node {
         Statement::Compound(inner) => see_block(inner, facts, path),
         Statement::If(inner) => see_if(inner, facts, path),
@@ -35,40 +33,40 @@ pub fn see_statement(node: &Statement, facts: &mut Facts, path: &str) -> Result<
 fn see_simple(node: &Statement, facts: &mut Facts, path: &str) -> Result<(), AllocError> {
     match node {
         Statement::Assignment(inner) => {
-            facts.node(path, inner, AssignmentStatement::clone)?;
+            facts.node(path, inner)?;
             facts.part(path, "operator", &inner.operator)?;
             see_part(&inner.lhs, facts, path, "lhs")?;
             see_part(&inner.rhs, facts, path, "rhs")
         }
         Statement::Increment(inner) => {
-            facts.node(path, inner, IncrementStatement::clone)?;
+            facts.node(path, inner)?;
             see_part(&inner.expression, facts, path, "expression")
         }
         Statement::Decrement(inner) => {
-            facts.node(path, inner, DecrementStatement::clone)?;
+            facts.node(path, inner)?;
             see_part(&inner.expression, facts, path, "expression")
         }
         Statement::Return(inner) => {
-            facts.node(path, inner, ReturnStatement::clone)?;
+            facts.node(path, inner)?;
             see_optional(&inner.expression, facts, path, "expression")
         }
         Statement::FunctionCall(inner) => {
-            facts.node(path, inner, FunctionCallStatement::clone)?;
+            facts.node(path, inner)?;
             let path = path_of(facts.alloc, path, "call")?;
             see_call(&inner.call, facts, &path)
         }
         Statement::ConstAssert(inner) => see_assertion(inner, facts, path),
         Statement::Declaration(inner) => see_declaration(inner, facts, path),
-        Statement::Break(inner) => facts.node(path, inner, BreakStatement::clone),
-        Statement::Continue(inner) => facts.node(path, inner, ContinueStatement::clone),
-        Statement::Discard(inner) => facts.node(path, inner, DiscardStatement::clone),
+        Statement::Break(inner) => facts.node(path, inner),
+        Statement::Continue(inner) => facts.node(path, inner),
+        Statement::Discard(inner) => facts.node(path, inner),
         _ => Ok(()),
     }
 }
 
 /// The assertion of a constant.
 pub fn see_assertion(node: &ConstAssert, facts: &mut Facts, path: &str) -> Result<(), AllocError> {
-    facts.node(path, node, ConstAssert::clone)?;
+    facts.node(path, node)?;
     see_part(&node.expression, facts, path, "expression")
 }
 
@@ -78,7 +76,7 @@ pub fn see_declaration(
     facts: &mut Facts,
     path: &str,
 ) -> Result<(), AllocError> {
-    facts.node(path, node, Declaration::clone)?;
+    facts.node(path, node)?;
     facts.name(path, node)?;
     facts.part(path, "kind", &node.kind)?;
     see_attributes(&node.attributes, facts, path, "attributes")?;
@@ -94,7 +92,7 @@ pub fn see_block(
     facts: &mut Facts,
     path: &str,
 ) -> Result<(), AllocError> {
-    facts.node(path, node, CompoundStatement::clone)?;
+    facts.node(path, node)?;
     see_attributes(&node.attributes, facts, path, "attributes")?;
     facts.count(path, "statements", node.statements.len())?;
     for (place, statement) in node.statements.iter().enumerate() {
@@ -114,7 +112,7 @@ pub fn see_body(body: &CompoundStatement, facts: &mut Facts, path: &str) -> Resu
 
 #[cycle(statement)]
 fn see_if(node: &IfStatement, facts: &mut Facts, path: &str) -> Result<(), AllocError> {
-    facts.node(path, node, IfStatement::clone)?;
+    facts.node(path, node)?;
     see_attributes(&node.attributes, facts, path, "attributes")?;
     see_if_clause(&node.if_clause, facts, path)?;
     facts.count(path, "else_if_clauses", node.else_if_clauses.len())?;
@@ -131,14 +129,14 @@ fn see_if(node: &IfStatement, facts: &mut Facts, path: &str) -> Result<(), Alloc
 #[cycle(statement)]
 fn see_if_clause(node: &IfClause, facts: &mut Facts, path: &str) -> Result<(), AllocError> {
     let path = path_of(facts.alloc, path, "if_clause")?;
-    facts.node(&path, node, IfClause::clone)?;
+    facts.node(&path, node)?;
     see_part(&node.expression, facts, &path, "expression")?;
     see_body(&node.body, facts, &path)
 }
 
 #[cycle(statement)]
 fn see_else_if(node: &ElseIfClause, facts: &mut Facts, path: &str) -> Result<(), AllocError> {
-    facts.node(path, node, ElseIfClause::clone)?;
+    facts.node(path, node)?;
     see_part(&node.expression, facts, path, "expression")?;
     see_body(&node.body, facts, path)
 }
@@ -147,13 +145,13 @@ fn see_else_if(node: &ElseIfClause, facts: &mut Facts, path: &str) -> Result<(),
 fn see_else(node: &ElseClause, facts: &mut Facts, path: &str) -> Result<(), AllocError> {
     facts.count(path, "else_clause", 1)?;
     let path = path_of(facts.alloc, path, "else_clause")?;
-    facts.node(&path, node, ElseClause::clone)?;
+    facts.node(&path, node)?;
     see_body(&node.body, facts, &path)
 }
 
 #[cycle(statement)]
 fn see_switch(node: &SwitchStatement, facts: &mut Facts, path: &str) -> Result<(), AllocError> {
-    facts.node(path, node, SwitchStatement::clone)?;
+    facts.node(path, node)?;
     see_attributes(&node.attributes, facts, path, "attributes")?;
     see_part(&node.expression, facts, path, "expression")?;
     see_attributes(&node.body_attributes, facts, path, "body_attributes")?;
@@ -167,7 +165,7 @@ fn see_switch(node: &SwitchStatement, facts: &mut Facts, path: &str) -> Result<(
 
 #[cycle(statement)]
 fn see_clause(node: &SwitchClause, facts: &mut Facts, path: &str) -> Result<(), AllocError> {
-    facts.node(path, node, SwitchClause::clone)?;
+    facts.node(path, node)?;
     see_selectors(&node.case_selectors, facts, path)?;
     see_body(&node.body, facts, path)
 }
@@ -181,7 +179,7 @@ fn see_selectors(
     facts.count(path, "case_selectors", selectors.len())?;
     for (place, selector) in selectors.iter().enumerate() {
         let path = item_path(facts.alloc, path, "case_selectors", place)?;
-        facts.node(&path, selector, CaseSelector::clone)?;
+        facts.node(&path, selector)?;
         if let CaseSelector::Expression(node) = selector {
             facts.span(&path, node.span())?;
         }
@@ -191,7 +189,7 @@ fn see_selectors(
 
 #[cycle(statement)]
 fn see_loop(node: &LoopStatement, facts: &mut Facts, path: &str) -> Result<(), AllocError> {
-    facts.node(path, node, LoopStatement::clone)?;
+    facts.node(path, node)?;
     see_attributes(&node.attributes, facts, path, "attributes")?;
     see_body(&node.body, facts, path)?;
     match &node.continuing {
@@ -210,7 +208,7 @@ fn see_continuing(
     facts: &mut Facts,
     path: &str,
 ) -> Result<(), AllocError> {
-    facts.node(path, node, ContinuingStatement::clone)?;
+    facts.node(path, node)?;
     see_body(&node.body, facts, path)?;
     match &node.break_if {
         Some(break_if) => {
@@ -223,13 +221,13 @@ fn see_continuing(
 
 fn see_break_if(node: &BreakIfStatement, facts: &mut Facts, path: &str) -> Result<(), AllocError> {
     let path = path_of(facts.alloc, path, "break_if")?;
-    facts.node(&path, node, BreakIfStatement::clone)?;
+    facts.node(&path, node)?;
     see_part(&node.expression, facts, &path, "expression")
 }
 
 #[cycle(statement)]
 fn see_for(node: &ForStatement, facts: &mut Facts, path: &str) -> Result<(), AllocError> {
-    facts.node(path, node, ForStatement::clone)?;
+    facts.node(path, node)?;
     see_attributes(&node.attributes, facts, path, "attributes")?;
     see_header_part(&node.initializer, facts, path, "initializer")?;
     see_optional(&node.condition, facts, path, "condition")?;
@@ -258,7 +256,7 @@ fn see_header_part(
 
 #[cycle(statement)]
 fn see_while(node: &WhileStatement, facts: &mut Facts, path: &str) -> Result<(), AllocError> {
-    facts.node(path, node, WhileStatement::clone)?;
+    facts.node(path, node)?;
     see_attributes(&node.attributes, facts, path, "attributes")?;
     see_part(&node.condition, facts, path, "condition")?;
     see_body(&node.body, facts, path)
