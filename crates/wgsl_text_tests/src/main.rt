@@ -10,6 +10,7 @@ mod streams;
 mod text;
 mod tokens;
 mod tree;
+mod watched;
 
 use check::facts_of;
 use row::{Row, RowError, rows_of};

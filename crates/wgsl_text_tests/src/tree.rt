@@ -5,10 +5,11 @@ use crate::nodes::declarations::{see_global_declaration, see_unit};
 use crate::nodes::directives::see_directive;
 use crate::nodes::expressions::see_expression;
 use crate::nodes::statements::see_statement;
+use crate::watched::Watched;
 use std::alloc::{AllocError, Global};
+use std::cell::Cell;
 use std::fmt;
 use wgsl_parse::error::{Error, ErrorKind};
-use wgsl_parse::lexer::Lexer;
 use wgsl_parse::parser::{
     ExpressionParser, GlobalDeclParser, GlobalDirectiveParser, StatementParser,
     TranslationUnitParser,
@@ -24,7 +25,7 @@ pub trait Tree: FromSource + fmt::Display + PartialEq + Drop {
     fn read(alloc: Global, text: &str) -> Result<Self, Error>;
 
     /// The tree of the tokens, with its span if it has one.
-    fn parsed(alloc: Global, tokens: Lexer<'_>) -> Result<(Option<Span>, Self), Error>;
+    fn parsed(alloc: Global, tokens: Watched<'_>) -> Result<(Option<Span>, Self), Error>;
 
     /// The tree without the empty items of its lists.
     fn full(self) -> Self;
@@ -38,7 +39,7 @@ impl Tree for TranslationUnit {
         parse_str(alloc, text)
     }
 
-    fn parsed(alloc: Global, tokens: Lexer<'_>) -> Result<(Option<Span>, Self), Error> {
+    fn parsed(alloc: Global, tokens: Watched<'_>) -> Result<(Option<Span>, Self), Error> {
         Ok((None, TranslationUnitParser::new().parse(alloc, tokens)?))
     }
 
@@ -57,7 +58,7 @@ impl Tree for GlobalDirective {
         GlobalDirective::from_str(alloc, text)
     }
 
-    fn parsed(alloc: Global, tokens: Lexer<'_>) -> Result<(Option<Span>, Self), Error> {
+    fn parsed(alloc: Global, tokens: Watched<'_>) -> Result<(Option<Span>, Self), Error> {
         Ok((None, GlobalDirectiveParser::new().parse(alloc, tokens)?))
     }
 
@@ -75,7 +76,7 @@ impl Tree for GlobalDeclaration {
         GlobalDeclaration::from_str(alloc, text)
     }
 
-    fn parsed(alloc: Global, tokens: Lexer<'_>) -> Result<(Option<Span>, Self), Error> {
+    fn parsed(alloc: Global, tokens: Watched<'_>) -> Result<(Option<Span>, Self), Error> {
         let node = GlobalDeclParser::new().parse(alloc, tokens)?;
         Ok((Some(node.span()), node.into_inner()))
     }
@@ -95,7 +96,7 @@ impl Tree for Statement {
         Statement::from_str(alloc, text)
     }
 
-    fn parsed(alloc: Global, tokens: Lexer<'_>) -> Result<(Option<Span>, Self), Error> {
+    fn parsed(alloc: Global, tokens: Watched<'_>) -> Result<(Option<Span>, Self), Error> {
         let node = StatementParser::new().parse(alloc, tokens)?;
         Ok((Some(node.span()), node.into_inner()))
     }
@@ -115,7 +116,7 @@ impl Tree for Expression {
         Expression::from_str(alloc, text)
     }
 
-    fn parsed(alloc: Global, tokens: Lexer<'_>) -> Result<(Option<Span>, Self), Error> {
+    fn parsed(alloc: Global, tokens: Watched<'_>) -> Result<(Option<Span>, Self), Error> {
         let node = ExpressionParser::new().parse(alloc, tokens)?;
         Ok((Some(node.span()), node.into_inner()))
     }
@@ -208,7 +209,14 @@ fn see_again<T: Tree>(tree: T, printed: &str, facts: &mut Facts) -> Result<(), A
 /// The tree of a text, or what is wrong with the text.
 pub fn see_tree<T: Tree>(text: &str, facts: &mut Facts) -> Result<(), AllocError> {
     let alloc = facts.alloc;
-    let parsed = T::parsed(alloc, Lexer::new(alloc, text)?);
+    see_refused::<T>(text, facts)?;
+    let is_asked_behind = Cell::new(false);
+    let parsed = T::parsed(alloc, Watched::new(alloc, text, &is_asked_behind)?);
+    facts.expect(
+        !is_asked_behind.get(),
+        "nothing is asked behind an error",
+        "",
+    )?;
     match T::read(alloc, text) {
         Ok(tree) => {
             see_parsed(&tree, parsed, facts)?;
@@ -225,6 +233,20 @@ pub fn see_tree<T: Tree>(text: &str, facts: &mut Facts) -> Result<(), AllocError
             see_error(&error, facts)
         }
     }
+}
+
+/// The parser of tokens tells of a want of memory that stands before the tokens, and asks no more.
+fn see_refused<T: Tree>(text: &str, facts: &mut Facts) -> Result<(), AllocError> {
+    let is_asked_behind = Cell::new(false);
+    let tokens = Watched::new(facts.alloc, text, &is_asked_behind)?.refused();
+    let fault = T::parsed(facts.alloc, tokens).err();
+    let is_told = fault.is_some_and(|fault| fault.error == ErrorKind::OutOfMemory);
+    facts.expect(is_told, "a want of memory is told", "")?;
+    facts.expect(
+        !is_asked_behind.get(),
+        "nothing is asked behind a want of memory",
+        "",
+    )
 }
 
 /// The parser of tokens gives the tree, with its span.

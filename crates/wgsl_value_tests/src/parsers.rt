@@ -10,8 +10,8 @@ use std::test::Fail;
 use wgsl_parse::error::{Error, ErrorKind, ParseError};
 use wgsl_parse::lexer::{Token, TokenItem, TokenIterator};
 use wgsl_parse::parser::{
-    ExpressionParser, GlobalDeclParser, GlobalDirectiveParser, LiteralParser, StatementParser,
-    TranslationUnitParser, TryTemplateListParser, recognize_template_list,
+    ExpressionParser, LiteralParser, StatementParser, TryTemplateListParser,
+    recognize_template_list,
 };
 use wgsl_parse::syntax::{Expression, Span};
 use wgsl_token::kind::TokenKind;
@@ -114,6 +114,11 @@ fn faults_of_expressions(rt: HostRuntime) -> Result<(), Fail> {
             (1, Given::Kind(TokenKind::BlockComment), 5),
             "chars 1..5: unexpected token `/* block comment */`",
         ),
+        (
+            name,
+            (1, Given::Kind(TokenKind::LineComment), 3),
+            "chars 1..3: unexpected token `// line comment`",
+        ),
     ] {
         let fault = fault_of_expression(rt.alloc(), &[first, second])?;
         assert_eq!(rt; fault.as_str(), wanted);
@@ -128,33 +133,20 @@ fn no_tokens_end_too_early(rt: HostRuntime) -> Result<(), Fail> {
     Ok(())
 }
 
-/// The fault of the tokens, read as a declaration.
-fn fault_of_declaration(alloc: Global, items: &[(usize, Given, usize)]) -> Result<String, Fail> {
-    let asked = Cell::new(0u32);
-    let tokens = Listed::new(alloc, &asked, items);
-    told(alloc, GlobalDeclParser::new().parse(alloc, tokens))
+#[test]
+fn an_end_at_the_greatest_place(rt: HostRuntime) -> Result<(), Fail> {
+    let minus = (0, Given::Kind(TokenKind::SymMinus), usize::MAX);
+    let fault = fault_of_expression(rt.alloc(), &[minus])?;
+    let wanted = "chars 18446744073709551615..18446744073709551615: unexpected end of file";
+    assert_eq!(rt; fault.as_str(), wanted);
+    Ok(())
 }
 
-#[test]
-fn faults_of_declarations(rt: HostRuntime) -> Result<(), Fail> {
-    for (start, kind, end, wanted) in [
-        (
-            0,
-            TokenKind::KwFn,
-            usize::MAX,
-            "chars 18446744073709551615..18446744073709551615: unexpected end of file",
-        ),
-        (
-            0,
-            TokenKind::LineComment,
-            2,
-            "chars 0..2: unexpected token `// line comment`",
-        ),
-    ] {
-        let fault = fault_of_declaration(rt.alloc(), &[(start, Given::Kind(kind), end)])?;
-        assert_eq!(rt; fault.as_str(), wanted);
-    }
-    Ok(())
+/// The fault of the tokens, read as a statement.
+fn fault_of_statement(alloc: Global, items: &[(usize, Given, usize)]) -> Result<String, Fail> {
+    let asked = Cell::new(0u32);
+    let tokens = Listed::new(alloc, &asked, items);
+    told(alloc, StatementParser::new().parse(alloc, tokens))
 }
 
 /// The fault of an attribute without its argument stands before an error, but for a want of memory.
@@ -172,7 +164,7 @@ fn errors_behind_an_attribute(rt: HostRuntime) -> Result<(), Fail> {
             (1, Given::Name("align"), 6),
             (6, error, 7),
         ];
-        let fault = fault_of_declaration(rt.alloc(), &items)?;
+        let fault = fault_of_statement(rt.alloc(), &items)?;
         assert_eq!(rt; fault.as_str(), wanted);
     }
     Ok(())
@@ -201,25 +193,6 @@ fn greatest_places(rt: HostRuntime) -> Result<(), Fail> {
     Ok(())
 }
 
-#[test]
-fn nothing_is_asked_behind_an_error(rt: HostRuntime) -> Result<(), Fail> {
-    let asked = Cell::new(0u32);
-    let items = [
-        (0, Given::Kind(TokenKind::SymTilde), 1),
-        (1, Given::Kind(TokenKind::SymTilde), 2),
-        (9, Given::InvalidToken, 10),
-        (10, Given::Kind(TokenKind::Ident), 11),
-    ];
-    let tokens = Listed::new(rt.alloc(), &asked, &items);
-    let fault = told(
-        rt.alloc(),
-        ExpressionParser::new().parse(rt.alloc(), tokens),
-    )?;
-    assert_eq!(rt; fault.as_str(), "chars 9..10: invalid token");
-    assert_eq!(rt; asked.get(), 3);
-    Ok(())
-}
-
 /// A want of memory, and a token behind it.
 fn refused() -> [(usize, Given, usize); 2] {
     [
@@ -236,34 +209,16 @@ fn wants_memory<T: Drop>(answer: Result<T, Error>) -> bool {
 }
 
 #[test]
-fn parsers_of_modules_stop_at_a_want_of_memory(rt: HostRuntime) {
-    let alloc = rt.alloc();
-    let asked = Cell::new(0u32);
-    let items = refused();
-    let unit = TranslationUnitParser::new().parse(alloc, Listed::new(alloc, &asked, &items));
-    assert!(rt; wants_memory(unit));
-    let directive = GlobalDirectiveParser::new().parse(alloc, Listed::new(alloc, &asked, &items));
-    assert!(rt; wants_memory(directive));
-    let declaration = GlobalDeclParser::new().parse(alloc, Listed::new(alloc, &asked, &items));
-    assert!(rt; wants_memory(declaration));
-    let statement = StatementParser::new().parse(alloc, Listed::new(alloc, &asked, &items));
-    assert!(rt; wants_memory(statement));
-    assert_eq!(rt; asked.get(), 4);
-}
-
-#[test]
 fn parsers_of_parts_stop_at_a_want_of_memory(rt: HostRuntime) {
     let alloc = rt.alloc();
     let asked = Cell::new(0u32);
     let items = refused();
-    let expression = ExpressionParser::new().parse(alloc, Listed::new(alloc, &asked, &items));
-    assert!(rt; wants_memory(expression));
     let literal = LiteralParser::new().parse(alloc, Listed::new(alloc, &asked, &items));
     assert!(rt; wants_memory(literal));
     let list = TryTemplateListParser::new().parse(alloc, Listed::new(alloc, &asked, &items));
     assert!(rt; wants_memory(list));
     assert!(rt; wants_memory(recognize_template_list(alloc, Listed::new(alloc, &asked, &items))));
-    assert_eq!(rt; asked.get(), 4);
+    assert_eq!(rt; asked.get(), 3);
 }
 
 /// The tokens of a template list of one name.
