@@ -1,1 +1,2 @@
 mod PrintedRows
+mod SnippetRows

@@ -43,4 +43,5 @@ pub mod NodeAttributes
 pub mod Small
 pub mod CheckedFaults
 pub mod Named
+pub mod Snippets
 pub mod Program
