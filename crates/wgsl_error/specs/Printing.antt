@@ -1,11 +1,16 @@
 -- The printed text of each error.
 use Rattle.std.specs.Prelude.{ℕ, List, ◌++◌, codes}
 use Rattle.std.specs.Fmt.{decimal}
+use Rattle.std.specs.Str.{chars}
+use Rattle.std.specs.Cow.{cow_str_bytes}
 use Rattle.wgsl_model.specs.Faults.{message, quoted}
 use Rattle.wgsl_model.specs.Joining.{joined}
+use Rattle.wgsl_model.specs.Snippets.{snippet}
+use Rattle.wgsl_span.specs.View.{span_view}
 use Rattle.wgsl_error.specs.declared.Error.{Error}
 use Rattle.wgsl_error.specs.declared.ErrorKind.{ErrorKind}
 use Rattle.wgsl_error.specs.declared.display.WithoutExpected.{WithoutExpected}
+use Rattle.wgsl_error.specs.declared.snippet.ErrorWithSource.{ErrorWithSource}
 use Rattle.wgsl_error.specs.declared.ErrorKind.TheVariants as error
 use Rattle.wgsl_error.specs.View.{kind_number, kind_texts, expected_texts}
 
@@ -30,3 +35,7 @@ print_error e = codes "chars " ++ decimal e.span.start ++ codes ".." ++ decimal 
 -- the error that is shown without what was expected
 abbrev pub shown_error : WithoutExpected → Error
 shown_error shown = shown.error.now
+
+-- the error with its source: the snippet of its message at its span
+abbrev pub print_error_with_source : ErrorWithSource → List ℕ
+print_error_with_source e = snippet (print_error_kind e.error.error) (chars (cow_str_bytes e.source)) (span_view e.error.span)

@@ -4,8 +4,12 @@
 mod clones;
 mod conversions;
 mod display;
+mod snippet;
+#[cfg(test)]
+mod tests;
 
 pub use display::WithoutExpected;
+pub use snippet::ErrorWithSource;
 use wgsl_span::Span;
 
 /// What is wrong with a text.

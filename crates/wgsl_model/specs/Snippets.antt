@@ -1,4 +1,4 @@
--- The snippet of a message at a span: the line of the source in which the span starts, and below it a line that marks the span. A text is its characters here.
+-- The snippet of a message at a span: the line of the source in which the span starts, and below it a line that marks the span. The source is its characters; the message and the snippet are bytes.
 use Rattle.std.specs.Prelude.{ℕ, ◌+◌, ◌-◌, ◌==◌, nat_le, max, if◌then◌else◌, Bool, List, [], ◌∷◌, ◌++◌, length, drop, replicate, count_by, codes}
 use Rattle.std.specs.Char.{len_utf8}
 use Rattle.std.specs.Str.{encode_utf8_all}
@@ -16,39 +16,39 @@ abbrev pub is_line_feed : ℕ → Bool
 is_line_feed c = c == 10
 
 -- what stands before a span
-abbrev pub before_span : List ℕ → Span → List ℕ
-before_span source span = characters_before span.start source
+abbrev pub text_before : List ℕ → Span → List ℕ
+text_before source span = characters_before span.start source
 
 -- what stands in a span, which is nothing where the span ends before its start
-abbrev pub in_span : List ℕ → Span → List ℕ
-in_span source span = drop (length (before_span source span)) (characters_before span.end source)
+abbrev pub text_within : List ℕ → Span → List ℕ
+text_within source span = drop (length (text_before source span)) (characters_before span.end source)
 
 -- what stands from the start of a span on
-abbrev pub from_span : List ℕ → Span → List ℕ
-from_span source span = drop (length (before_span source span)) source
+abbrev pub text_from : List ℕ → Span → List ℕ
+text_from source span = drop (length (text_before source span)) source
 
 -- the number of the line in which a span starts; the first line is 1
 abbrev pub line_number : List ℕ → Span → ℕ
-line_number source span = 1 + count_by is_line_feed (before_span source span)
+line_number source span = 1 + count_by is_line_feed (text_before source span)
 
 -- what stands before the span in that line
 abbrev pub line_front : List ℕ → Span → List ℕ
-line_front source span = after_last is_line_feed (before_span source span)
+line_front source span = after_last is_line_feed (text_before source span)
 
 -- that line, without its LF
-abbrev pub line_of : List ℕ → Span → List ℕ
-line_of source span = line_front source span ++ before_first is_line_feed (from_span source span)
+abbrev pub line_text : List ℕ → Span → List ℕ
+line_text source span = line_front source span ++ before_first is_line_feed (text_from source span)
 
 -- how many characters of the span stand in that line, its LF aside
-abbrev pub marked : List ℕ → Span → ℕ
-marked source span = length (before_first is_line_feed (in_span source span))
+abbrev pub mark_count : List ℕ → Span → ℕ
+mark_count source span = length (before_first is_line_feed (text_within source span))
 
 -- a space for each character before the span, and then carets (the byte 94): one for each character of the span, and one at least
-abbrev pub marker : List ℕ → Span → List ℕ
-marker source span = replicate (length (line_front source span)) 32 ++ replicate (max 1 (marked source span)) 94
+abbrev pub marker_line : List ℕ → Span → List ℕ
+marker_line source span = replicate (length (line_front source span)) 32 ++ replicate (max (mark_count source span) 1) 94
 
--- the message, the place, the line and its marker, with an LF between each two
+-- the message, the place, the line and the marker line, with an LF between each two
 abbrev pub snippet : List ℕ → List ℕ → Span → List ℕ
 snippet message source span =
     codes "error: " ++ message ++ codes "\n --> line " ++ decimal (line_number source span) ++ codes ", column " ++ decimal (1 + length (line_front source span))
-    ++ codes "\n" ++ encode_utf8_all (line_of source span) ++ codes "\n" ++ marker source span
+    ++ codes "\n" ++ encode_utf8_all (line_text source span) ++ codes "\n" ++ marker_line source span
