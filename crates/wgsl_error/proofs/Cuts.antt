@@ -16,6 +16,7 @@ use Rattle.wgsl_model.specs.Snippets.{characters_before}
 abbrev EndsPast : List ℕ → ℕ → Type 0
 EndsPast ys room = (y : ℕ) (zs : List ℕ) → ys ≡ y ∷ zs → room < len_utf8 y
 
+-- the characters that end up to a place are those of a front after which no other ends there
 characters_before_cut : (xs ys : List ℕ) (place : ℕ) → length (encode_utf8_all xs) ≤ place → EndsPast ys (place - length (encode_utf8_all xs)) → characters_before place (xs ++ ys) ≡ xs
 characters_before_cut [] [] place fits past = refl
 characters_before_cut [] (y ∷ ys) place fits past =
@@ -37,6 +38,7 @@ pub record IsFloor (bs : List ℕ) (place r : ℕ) : Type 0 where
 chars_cut : (bs : List ℕ) (r : ℕ) → IsUtf8 bs → IsCharBoundary bs r → chars bs ≡ chars (take r bs) ++ chars (drop r bs)
 chars_cut bs r utf8 boundary = ap chars (sym (take-append-drop r bs)) ∙ chars-append (take r bs) (drop r bs) (IsUtf8-take bs r utf8 boundary)
 
+-- the characters before a place are those before the last place up to it where the text may be cut
 pub floor_characters : (bs : List ℕ) (place r : ℕ) → IsUtf8 bs → IsFloor bs place r → chars (take r bs) ≡ characters_before place (chars bs)
 floor_characters bs place r utf8 floor =
     let xs = chars (take r bs) in
@@ -59,26 +61,27 @@ rest_characters bs place r utf8 floor = sym (
     ∙ ap (drop (length (chars (take r bs)))) (chars_cut bs r utf8 floor.boundary)
     ∙ drop-append_seam (chars (take r bs)) (chars (drop r bs)))
 
+-- the characters before a place, and those from there up to a later one
+chars_until : (bs : List ℕ) (i j : ℕ) → IsUtf8 bs → IsCharBoundary bs i → i ≤ j → chars (take j bs) ≡ chars (take i bs) ++ chars (slice_range bs i j)
+chars_until bs i j utf8 boundary order =
+    let e : j ≡ i + (j - i) = omega (arith, order) in
+    ap (λ n. chars (take n bs)) e ∙ ap chars (take-add i (j - i) bs) ∙ chars-append (take i bs) (slice_range bs i j) (IsUtf8-take bs i utf8 boundary)
+
 -- what stands between two places
 between_characters : (bs : List ℕ) (from to i j : ℕ) → IsUtf8 bs → IsFloor bs from i → IsFloor bs to j → i ≤ j → chars (slice_range bs i j) ≡ drop (length (characters_before from (chars bs))) (characters_before to (chars bs))
-between_characters bs from to i j utf8 start end order =
-    let cut : take j bs ≡ take i bs ++ slice_range bs i j = (let e : j ≡ i + (j - i) = omega (arith, order) in ap (λ n. take n bs) e ∙ take-add i (j - i) bs) in
-    let front = chars (take i bs) in
-    let whole : chars (take j bs) ≡ front ++ chars (slice_range bs i j) = ap chars cut ∙ chars-append (take i bs) (slice_range bs i j) (IsUtf8-take bs i utf8 start.boundary) in
-    sym (ap (λ cs. drop (length cs) (characters_before to (chars bs))) (sym (floor_characters bs from i utf8 start))
-    ∙ ap (drop (length front)) (sym (floor_characters bs to j utf8 end) ∙ whole)
-    ∙ drop-append_seam front (chars (slice_range bs i j)))
+between_characters bs from to i j utf8 start end order = sym (
+    ap (λ cs. drop (length cs) (characters_before to (chars bs))) (sym (floor_characters bs from i utf8 start))
+    ∙ ap (drop (length (chars (take i bs)))) (sym (floor_characters bs to j utf8 end) ∙ chars_until bs i j utf8 start.boundary order)
+    ∙ drop-append_seam (chars (take i bs)) (chars (slice_range bs i j)))
 
 -- between two places of which the second stands first, there is nothing
 nothing_between : (bs : List ℕ) (from to i j : ℕ) → IsUtf8 bs → IsFloor bs from i → IsFloor bs to j → j ≤ i → drop (length (characters_before from (chars bs))) (characters_before to (chars bs)) ≡ []
 nothing_between bs from to i j utf8 start end order =
-    let cut : take i bs ≡ take j bs ++ slice_range bs j i = (let e : i ≡ j + (i - j) = omega (arith, order) in ap (λ n. take n bs) e ∙ take-add j (i - j) bs) in
-    let front = chars (take j bs) in
-    let whole : chars (take i bs) ≡ front ++ chars (slice_range bs j i) = ap chars cut ∙ chars-append (take j bs) (slice_range bs j i) (IsUtf8-take bs j utf8 end.boundary) in
-    let fewer : length front ≤ length (chars (take i bs)) = omega (arith, ap length whole, length-append front (chars (slice_range bs j i))) in
+    let sizes = ap length (chars_until bs j i utf8 end.boundary order) ∙ length-append (chars (take j bs)) (chars (slice_range bs j i)) in
+    let fewer : length (chars (take j bs)) ≤ length (chars (take i bs)) = omega (arith, sizes) in
     ap (λ cs. drop (length cs) (characters_before to (chars bs))) (sym (floor_characters bs from i utf8 start))
     ∙ ap (drop (length (chars (take i bs)))) (sym (floor_characters bs to j utf8 end))
-    ∙ drop_of_length-le front fewer
+    ∙ drop_of_length-le (chars (take j bs)) fewer
 
 -- what `get` gives between two places, or nothing
 pub spanned_characters : (bs : List ℕ) (from to i j : ℕ) (r : Option (Bor (List ℕ))) (x : Bor (List ℕ)) → IsUtf8 bs → IsFloor bs from i → IsFloor bs to j → GetsRange bs i j r → UnwrapsOrElse r (λ y. y.now ≡ []) x → chars x.now ≡ drop (length (characters_before from (chars bs))) (characters_before to (chars bs))

@@ -17,6 +17,7 @@ none_at p [] none k lt = absurd (omega (arith, lt))
 none_at p (c ∷ cs) none zero lt = none.0
 none_at p (c ∷ cs) none (suc k) lt = none_at p cs none.1 k (omega (arith, lt))
 
+-- what stands before the first element that passes, and after the last: all where none passes
 before_first_none : (p : ℕ → Bool) (cs : List ℕ) → NonePass p cs → before_first p cs ≡ cs
 before_first_none p cs none =
     ap (λ n. take n cs) (position_or_len_is p cs (length cs) 0 (omega arith) (none_at p cs none) (λ lt. absurd (omega (arith, lt)))) ∙ take-length cs
@@ -52,6 +53,7 @@ after_last_at p xs x ys passes none =
     let start : length whole - suffix_len (λ c. not (p c)) whole ≡ n = omega (arith, back, sizes) in
     ap (λ i. drop i whole) start ∙ drop-append-add xs (x ∷ ys) 1
 
+-- where no character of a text passes
 none_of_text : (p : ℕ → Bool) (bs : List ℕ) → IsUtf8 bs → NoCharPasses p bs → NonePass p (chars bs)
 none_of_text p bs utf8 none = subst (NonePass p) (chars_from_encodes none.0 bs utf8 none.1) none.2
 
@@ -76,6 +78,7 @@ line_feed_at bs i j utf8 at =
           ∙ ap (λ cs. chars (take i bs) ++ cs) (chars_past_char (drop i bs) (drop j bs) 10 rest at.split);
     }
 
+-- what `rsplit_once` and `split_once` give at an LF
 pub line_front_none : (bs : List ℕ) → IsUtf8 bs → RFindsChar 10 bs None → chars bs ≡ after_last is_line_feed (chars bs)
 line_front_none bs utf8 none = sym (after_last_none is_line_feed (chars bs) (none_of_text is_line_feed bs utf8 none))
 

@@ -15,6 +15,7 @@ repeated : (n b : ℕ) → concat (replicate n (b ∷ [])) ≡ replicate n b
 repeated zero b = refl
 repeated (suc n) b = ap (λ bs. b ∷ bs) (repeated n b)
 
+-- the parts in the groups of the definition
 regrouped : (e m p l q c n f b s k : List ℕ) → ((e ++ (m ++ (p ++ (l ++ (q ++ (c ++ (n ++ (f ++ (b ++ n))))))))) ++ s) ++ k ≡ e ++ m ++ p ++ l ++ q ++ c ++ n ++ (f ++ b) ++ n ++ (s ++ k)
 regrouped e m p l q c n f b s k = simp append_assoc
 
