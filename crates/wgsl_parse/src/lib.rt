@@ -13,7 +13,7 @@ pub mod span {
 
 /// What is wrong with a text, and its messages.
 pub mod error {
-    pub use wgsl_error::{Error, ErrorKind, ParseError, WithoutExpected};
+    pub use wgsl_error::{Error, ErrorKind, ErrorWithSource, ParseError, WithoutExpected};
 }
 
 /// Tokens, and what gives them.
