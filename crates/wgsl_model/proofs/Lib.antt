@@ -1,2 +1,3 @@
 mod PrintedRows
 mod SnippetRows
+mod PathRows

@@ -44,4 +44,5 @@ pub mod Small
 pub mod CheckedFaults
 pub mod Named
 pub mod Snippets
+pub mod Paths
 pub mod Program

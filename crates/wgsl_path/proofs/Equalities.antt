@@ -9,7 +9,7 @@ use Rattle.std.specs.Hash as fed
 use Rattle.std.proofs.lemmas.Bool.Decides.{Decides-eqb}
 use Rattle.std.proofs.lemmas.List.{take-map, length-map}
 use Rattle.std.proofs.lemmas.Slice.Eq.{bytes_eq-Decides, slice_eq-Decides, starts_is}
-use Rattle.wgsl_path.specs.Paths as plain
+use Rattle.wgsl_model.specs.Paths as plain
 use Rattle.wgsl_path.specs.declared.path.PathOrigin.{PathOrigin}
 use Rattle.wgsl_path.specs.declared.path.PathOrigin.TheVariants.{Absolute, Relative, Package}
 use Rattle.wgsl_path.specs.declared.path.ModulePath.{ModulePath}

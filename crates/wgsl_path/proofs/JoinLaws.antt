@@ -3,7 +3,7 @@ use Rattle.std.proofs.Common.{◌≡◌, ◌∙◌, ℕ, ◌+◌, ◌-◌, ◌�
 use Rattle.std.proofs.lemmas.Bool.{cases_lt}
 use Rattle.std.proofs.lemmas.List.{take-take, take_all, take-append-le, length-take-le, append-nil, append_assoc}
 use Rattle.std.proofs.Math.Seq.{take-append-add}
-use Rattle.wgsl_path.specs.Paths.{PathOrigin, absolute, relative, of_package, ModulePath, join_paths, self_path, without_last}
+use Rattle.wgsl_model.specs.Paths.{PathOrigin, absolute, relative, of_package, ModulePath, join_paths, self_path, without_last}
 
 abbrev Names : Type 0
 Names = List (List ℕ)

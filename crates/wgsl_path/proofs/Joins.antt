@@ -2,7 +2,7 @@
 use Rattle.std.proofs.Common.{◌≡◌, ◌∙◌, ℕ, ◌-◌, List, [], ◌++◌, refl, sym, ap, map, length, take, string_bytes, String, Global}
 use Rattle.std.specs.List.{AllZip}
 use Rattle.std.proofs.lemmas.List.{take-map, length-map, map-append}
-use Rattle.wgsl_path.specs.Paths.{kept, without_last}
+use Rattle.wgsl_model.specs.Paths.{kept, without_last}
 use Rattle.wgsl_path.specs.declared.path.PathOrigin.{PathOrigin}
 use Rattle.wgsl_path.specs.declared.path.PathOrigin.TheVariants.{Absolute, Relative, Package}
 use Rattle.wgsl_path.specs.View.{origin_view}

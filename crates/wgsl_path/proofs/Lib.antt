@@ -6,4 +6,3 @@ mod Equalities
 mod Joins
 mod JoinLaws
 mod TextLaws
-mod PathRows

@@ -5,7 +5,7 @@ use borrow.Author.Tests.{eqb-true}
 use Rattle.std.proofs.lemmas.Str.Pattern.{split_text_parts}
 use Rattle.std.specs.List.{onto_first}
 use Rattle.std.specs.Str.Pattern.{FindsText, LacksTextAt}
-use Rattle.wgsl_path.specs.Paths.{is_colon, path_parts}
+use Rattle.wgsl_model.specs.Paths.{is_colon, path_parts}
 
 abbrev separator : List ℕ
 separator = codes "::"

@@ -3,7 +3,7 @@ use Rattle.std.proofs.Common.{ℕ, suc, ◌+◌, ◌≡◌, refl, sym, ◌∙◌
 use Rattle.std.specs.Str.{bytes_eq}
 use Rattle.std.specs.List.{filter_map, cons_option, prefix_len}
 use Rattle.wgsl_model.specs.Words.{look_up}
-use Rattle.wgsl_path.specs.Paths.{PathOrigin, PathFault, first_words, unless_faults, path_from, levels}
+use Rattle.wgsl_model.specs.Paths.{PathOrigin, PathFault, first_words, unless_faults, path_from, levels}
 
 -- how many `super` stand first
 

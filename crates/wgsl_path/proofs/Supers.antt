@@ -2,7 +2,7 @@
 use Rattle.std.proofs.Common.{ℕ, zero, suc, ◌+◌, ◌<◌, ◌≡◌, refl, sym, ◌∙◌, ap, List, ◌++◌, replicate, codes, arith}
 use Rattle.std.proofs.lemmas.List.{append_assoc}
 use Rattle.std.specs.List.{flat_map}
-use Rattle.wgsl_path.specs.Paths.{relative, origin_text}
+use Rattle.wgsl_model.specs.Paths.{relative, origin_text}
 
 -- the text of a `super` behind another
 abbrev further : List ℕ → List ℕ

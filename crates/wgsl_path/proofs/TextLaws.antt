@@ -6,7 +6,7 @@ use Rattle.std.specs.List.{flat_map, filter_map, onto_first}
 use Rattle.std.proofs.lemmas.Slice.Eq.{bytes_eq-Decides}
 use Rattle.wgsl_model.specs.Joining.{joined}
 use Rattle.wgsl_model.specs.Words.{look_up}
-use Rattle.wgsl_path.specs.Paths.{PathOrigin, absolute, relative, of_package, ModulePath, PathFault, empty, is_colon, path_parts, first_words, unless_faults, path_from, levels, path_of_parts, read_path, origin_text, path_text}
+use Rattle.wgsl_model.specs.Paths.{PathOrigin, absolute, relative, of_package, ModulePath, PathFault, empty, is_colon, path_parts, first_words, unless_faults, path_from, levels, path_of_parts, read_path, origin_text, path_text}
 use Rattle.wgsl_path.proofs.Parts.{both}
 use Rattle.wgsl_path.proofs.Reading.{levels_suc, levels_other, behind_super}
 

@@ -1,3 +1,2 @@
-pub mod Paths
 pub mod View
 pub mod Equality

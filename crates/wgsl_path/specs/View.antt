@@ -1,6 +1,6 @@
 -- Paths and the faults of their texts as plain data.
 use Rattle.std.specs.Prelude.{ℕ, List, [], length, map, Option, Some, None, string_bytes}
-use Rattle.wgsl_path.specs.Paths as plain
+use Rattle.wgsl_model.specs.Paths as plain
 use Rattle.wgsl_path.specs.declared.path.PathOrigin.{PathOrigin}
 use Rattle.wgsl_path.specs.declared.path.PathOrigin.TheVariants as origin
 use Rattle.wgsl_path.specs.declared.path.ModulePath.{ModulePath}

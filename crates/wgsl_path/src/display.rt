@@ -2,7 +2,7 @@
 
 ghost use Rattle.std.specs.Prelude.{◌≡◌, ◌<◌, Some};
 ghost use Rattle.std.specs.Fmt.{DisplaysOnOk};
-ghost use Rattle.wgsl_path.specs.Paths.{path_text, origin_text, relative};
+ghost use Rattle.wgsl_model.specs.Paths.{path_text, origin_text, relative};
 ghost use Rattle.wgsl_path.specs.View.{origin_view, path_view};
 
 use crate::{ModulePath, PathOrigin};

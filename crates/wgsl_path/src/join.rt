@@ -1,7 +1,7 @@
 //! How paths are joined.
 
 ghost use Rattle.std.specs.Prelude.{◌≡◌, ◌↔◌, ◌++◌, IsTrue, IfOk, map, string_bytes};
-ghost use Rattle.wgsl_path.specs.Paths as plain;
+ghost use Rattle.wgsl_model.specs.Paths as plain;
 ghost use Rattle.wgsl_path.specs.View.{origin_view, path_view, origin_behind};
 
 use crate::clones::clone_names;

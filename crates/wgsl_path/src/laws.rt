@@ -2,7 +2,7 @@
 
 ghost use Rattle.std.specs.Prelude.{◌≡◌, ◌↔◌, ℕ, List, Ok, IsTrue};
 ghost use Rattle.std.specs.Cmp.{IsEquivalence};
-ghost use Rattle.wgsl_path.specs.Paths as plain;
+ghost use Rattle.wgsl_model.specs.Paths as plain;
 ghost use Rattle.wgsl_path.specs.declared.path.PathOrigin.{PathOrigin};
 ghost use Rattle.wgsl_path.specs.declared.path.ModulePath.{ModulePath};
 ghost use Rattle.wgsl_path.specs.View.{origin_view, path_view};

@@ -1,7 +1,7 @@
 //! Paths, and what can be asked of them.
 
 ghost use Rattle.std.specs.Prelude.{◌≡◌, ℕ, ◌-◌, ◌↔◌, List, [], ◌∷◌, map, length, IsTrue, IfOk, OnOk, OnErr, slice_get, option_copied, string_bytes};
-ghost use Rattle.wgsl_path.specs.Paths as plain;
+ghost use Rattle.wgsl_model.specs.Paths as plain;
 ghost use Rattle.wgsl_path.specs.View.{plain_path, origin_view, path_view};
 
 use std::alloc::{AllocError, Global};

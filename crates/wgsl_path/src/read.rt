@@ -2,7 +2,7 @@
 
 ghost use Rattle.std.specs.Prelude.{◌≡◌, ◌∷◌, drop, Some, None, Ok, Err, IfOk, IfErr, IfSome, map, option_copied, string_bytes};
 ghost use Rattle.wgsl_model.specs.Words.{look_up};
-ghost use Rattle.wgsl_path.specs.Paths as plain;
+ghost use Rattle.wgsl_model.specs.Paths as plain;
 ghost use Rattle.wgsl_path.specs.View.{plain_path, origin_view, path_view, parse_fault, parts_left};
 
 use crate::{ModulePath, ModulePathParseError, PathOrigin};

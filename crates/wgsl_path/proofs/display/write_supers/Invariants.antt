@@ -1,6 +1,6 @@
 use Rattle.std.proofs.Common.{Some, Ok}
 use Rattle.std.specs.Fmt.{DisplaysOnOk}
-use Rattle.wgsl_path.specs.Paths.{relative, origin_text}
+use Rattle.wgsl_model.specs.Paths.{relative, origin_text}
 use Rattle.wgsl_path.proofs.display.write_supers.Given as goal
 
 abbrev pub invariant-levels : goal.invariant-levels

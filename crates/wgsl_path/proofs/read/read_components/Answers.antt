@@ -1,6 +1,6 @@
 use Rattle.std.proofs.Common.{◌≡◌, ℕ, List, [], ◌∷◌, ◌++◌, sym, ◌∙◌, ap, map, string_bytes, rules, String, Global}
 use Rattle.std.proofs.lemmas.List.{map-append, append_assoc, append-nil}
-use Rattle.wgsl_path.specs.Paths.{path_parts}
+use Rattle.wgsl_model.specs.Paths.{path_parts}
 use Rattle.wgsl_path.proofs.Parts.{one_part, more_parts}
 use Rattle.wgsl_path.proofs.Reading.{faults, fault_free, accepted}
 use Rattle.wgsl_path.proofs.read.read_components.Goals as goal

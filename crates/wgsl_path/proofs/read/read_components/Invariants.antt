@@ -3,7 +3,7 @@ use Rattle.std.specs.List.{filter_map}
 use denote.Text.{Utf8}
 use denote.Shadow.{shadow}
 use Rattle.wgsl_model.specs.Words.{look_up}
-use Rattle.wgsl_path.specs.Paths.{path_parts, first_words}
+use Rattle.wgsl_model.specs.Paths.{path_parts, first_words}
 use Rattle.wgsl_path.proofs.read.read_components.Given as goal
 
 abbrev pub invariant-parts : goal.invariant-parts

@@ -1,5 +1,5 @@
 use Rattle.std.proofs.Common.{sym, ◌∙◌, ap, drop, [], arith, rules}
-use Rattle.wgsl_path.specs.Paths.{path_parts, levels}
+use Rattle.wgsl_model.specs.Paths.{path_parts, levels}
 use Rattle.wgsl_path.proofs.Parts.{one_part, more_parts, shorter}
 use Rattle.wgsl_path.proofs.Reading.{is_other, is_same, levels_other, levels_super, behind_super}
 use Rattle.wgsl_path.proofs.read.split_levels.Goals as goal

@@ -1,7 +1,7 @@
 use Rattle.std.proofs.Common.{◌≡◌, ◌+◌, ◌≤◌, length, drop}
 use denote.Text.{Utf8}
 use denote.Shadow.{shadow}
-use Rattle.wgsl_path.specs.Paths.{path_parts, levels}
+use Rattle.wgsl_model.specs.Paths.{path_parts, levels}
 use Rattle.wgsl_path.proofs.read.split_levels.Given as goal
 
 abbrev pub invariant-levels : goal.invariant-levels

@@ -1,6 +1,6 @@
 use Rattle.std.proofs.Common.{true, refl, sym, ◌∙◌, ap, get_or, rules}
 use Rattle.std.proofs.Output.{has_written_append, has_written_of_eq}
-use Rattle.wgsl_path.specs.Paths.{origin_text}
+use Rattle.wgsl_model.specs.Paths.{origin_text}
 use Rattle.wgsl_path.specs.View.{origin_view}
 use Rattle.wgsl_path.proofs.Names.{one_component_more}
 use Rattle.wgsl_path.proofs.display.ModulePathDisplay.fmt.Goals as goal

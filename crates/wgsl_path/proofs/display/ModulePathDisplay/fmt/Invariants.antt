@@ -1,6 +1,6 @@
 use Rattle.std.proofs.Common.{Some, Ok, ◌∷◌, map, string_bytes, take, codes}
 use Rattle.std.specs.Fmt.{DisplaysOnOk}
-use Rattle.wgsl_path.specs.Paths.{origin_text}
+use Rattle.wgsl_model.specs.Paths.{origin_text}
 use Rattle.wgsl_model.specs.Joining.{joined}
 use Rattle.wgsl_path.specs.View.{origin_view}
 use Rattle.wgsl_path.proofs.display.ModulePathDisplay.fmt.Given as goal

@@ -1,5 +1,5 @@
 use Rattle.std.proofs.Common.{◌≡◌, ◌-◌, ◌++◌, ◌∙◌, sym, ap, map, length, take, string_bytes}
-use Rattle.wgsl_path.specs.Paths.{kept}
+use Rattle.wgsl_model.specs.Paths.{kept}
 use Rattle.wgsl_path.specs.View.{origin_view}
 use Rattle.wgsl_path.proofs.Joins.{joined_names, kept_names, none_kept}
 use Rattle.wgsl_path.proofs.path.ModulePath.joined_components.Goals as goal

@@ -1,6 +1,6 @@
 use Rattle.std.proofs.Common.{sym, ◌∙◌, ap, length, codes, string_bytes}
 use Rattle.std.proofs.lemmas.List.{append_assoc}
-use Rattle.wgsl_path.specs.Paths.{of_package, joined_origin}
+use Rattle.wgsl_model.specs.Paths.{of_package, joined_origin}
 use Rattle.wgsl_path.specs.View.{origin_view}
 use Rattle.wgsl_path.proofs.path.ModulePath.joined_origin.Goals as goal
 

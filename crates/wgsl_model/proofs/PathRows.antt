@@ -1,6 +1,6 @@
 -- Worked paths, computed.
 use Rattle.std.proofs.Common.{◌≡◌, refl, ℕ, ◌-◌, ◌^◌, List, [], ◌∷◌, Result, Ok, Err, codes, lit<, arith}
-use Rattle.wgsl_path.specs.Paths.{PathOrigin, absolute, relative, of_package, ModulePath, PathFault, empty, misplaced_package, misplaced_self, misplaced_super, path_parts, read_path, path_text, join_paths, JoinFits}
+use Rattle.wgsl_model.specs.Paths.{PathOrigin, absolute, relative, of_package, ModulePath, PathFault, empty, misplaced_package, misplaced_self, misplaced_super, path_parts, read_path, path_text, join_paths, JoinFits}
 
 abbrev path : PathOrigin → List (List ℕ) → ModulePath
 path origin components = record { origin = origin; components = components }
