@@ -12,6 +12,9 @@ use Rattle.wgsl_model.specs.Named.{IsNamed, IsNamed.checked_first, IsNamed.unexp
 use Rattle.wgsl_model.specs.Symbols.{Symbol}
 use Rattle.wgsl_model.specs.TokenList.{IsTokenList, width}
 use Rattle.wgsl_lexer.specs.InOrder.{AreInOrder, IsFaultBehind}
+use Rattle.wgsl_error.specs.declared.Error.{Error}
+use Rattle.wgsl_answer.specs.Answers.{IsOutOfMemory}
+use Rattle.wgsl_answer.specs.Places.{StandsWithin}
 use Rattle.wgsl_lexer.proofs.InOrder.{tokens_in_order, fault_behind, one_in_order, last_in_order}
 
 -- a span in a text of so many bytes, or that ends one byte past it
@@ -93,6 +96,10 @@ pub named_within_small : (n : Symbol) (source : List ℕ) (ts : List Token) (e :
 named_within_small n source ts e x l (unexpected_first_small p us t h v r) = unexpected_within source ts e p us t l h
 named_within_small n source ts e x l (carried_last_small y v q) = carried_within source ts e y l q
 named_within_small n source ts e x l (missing_last_small v r q) = missing_within source ts e l
+
+-- a want of memory
+pub memory_within : (size : ℕ) (e : Error) → IsOutOfMemory e → StandsWithin e.span size
+memory_within size e is = subst (λ (x : Error). StandsWithin x.span size) (sym is) (omega arith, omega arith)
 
 -- the characters of a text have its bytes
 pub width_is : (text : List ℕ) → IsUtf8 text → width (chars text) ≡ length text

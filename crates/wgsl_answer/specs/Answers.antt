@@ -7,15 +7,16 @@ use Rattle.wgsl_model.specs.Faults.{unexpected_token, unexpected_end}
 use Rattle.wgsl_model.specs.CheckedFaults.{wants_memory}
 use Rattle.wgsl_grammar_theory.specs.Answers.{opening}
 use Rattle.wgsl_error.specs.declared.Error.{Error}
-use Rattle.wgsl_error.specs.declared.ErrorKind.TheVariants as error
+use Rattle.wgsl_error.specs.declared.ParseError.TheVariants as parse
+use Rattle.wgsl_error.specs.Kinds.{error_at}
 use Rattle.wgsl_error.specs.View.{fault_view}
 use Rattle.wgsl_token.specs.Placed.{placed_view}
 use Rattle.wgsl_cursor.specs.declared.fault.Fault as declared
 use Rattle.wgsl_cursor.specs.declared.fault.Fault.TheVariants as fault
 
--- memory was refused
+-- memory was refused, which stands nowhere in a text: at 0..0
 abbrev pub IsOutOfMemory : Error → Type 0
-IsOutOfMemory e = e.error ≡ error.OutOfMemory
+IsOutOfMemory e = e ≡ error_at parse.OutOfMemory 0 0
 
 -- the fault of an end that comes too early, unless the tokens ended with another
 abbrev pub end_fault : Ending → ℕ → Fault

@@ -24,7 +24,7 @@ use Rattle.wgsl_cursor.specs.Reading.{Gives}
 use Rattle.wgsl_answer.specs.Answers.{IsOutOfMemory, IsAnsweredOf, Answered}
 use Rattle.wgsl_answer.specs.Places.{StandsWithin}
 use Rattle.wgsl_answer.specs.Sources.{tokens_to_read}
-use Rattle.wgsl_answer.proofs.Places.{named_within_small, width_is}
+use Rattle.wgsl_answer.proofs.Places.{named_within_small, memory_within, width_is}
 use Rattle.wgsl_answer.proofs.Seen.{said_seen}
 use Rattle.wgsl_dialect.specs.Steps.{rule_steps}
 use Rattle.wgsl_dialect.specs.Following.{forgotten, passes, follow}
@@ -101,7 +101,7 @@ refused_is source ts ending (Err e) l (inl m) = inl m
 refused_is source ts ending (Err e) l (inr h) = inr (ts, ending, l, h)
 
 pub placed_is : (source : List ℕ) (ts : List Token) (ending : Ending) (result : Result (Unit {0}) Error) → IsUtf8 source → IsTokenList (chars source) ts ending → Recognized result ts ending
-    → IfErr result (λ e. IsOutOfMemory e ⊎ StandsWithin e.span (length source))
+    → IfErr result (λ e. StandsWithin e.span (length source))
 placed_is source ts ending (Ok u) t l h = tt
-placed_is source ts ending (Err e) t l (inl m) = inl m
-placed_is source ts ending (Err e) t l (inr h) = inr (subst (StandsWithin e.span) (width_is source t) (named_within_small unit (chars source) ts ending (fault_view e) l h))
+placed_is source ts ending (Err e) t l (inl m) = memory_within (length source) e m
+placed_is source ts ending (Err e) t l (inr h) = subst (StandsWithin e.span) (width_is source t) (named_within_small unit (chars source) ts ending (fault_view e) l h)

@@ -34,7 +34,7 @@ fn recognize_unit(alloc: Global, found: Collected) -> Result<(), Error>
 pub fn recognize_str(alloc: Global, source: &str) -> Result<(), Error>
     ensures accepted { IfOk result (λ _. IsRecognized (chars source.now)) }
     ensures refused { IfErr result (λ e. IsOutOfMemory e ⊎ IsRefused (chars source.now) (fault_view e)) }
-    ensures placed { IfErr result (λ e. IsOutOfMemory e ⊎ StandsWithin e.span (length source.now)) }
+    ensures placed { IfErr result (λ e. StandsWithin e.span (length source.now)) }
 {
     recognize_unit(alloc, tokens_of(alloc, source)?)
 }

@@ -1,6 +1,6 @@
 -- What is answered of the tokens of a text says of the text what is promised.
 use Rattle.std.proofs.Common.{◌≡◌, ℕ, List, inl, inr, subst}
-use Rattle.std.specs.Prelude.{Result, Ok, Err, chars}
+use Rattle.std.specs.Prelude.{Result, Ok, Err, chars, length}
 use Rattle.std.specs.Str.{IsUtf8}
 use Rattle.grammar.specs.Tokens.{Token}
 use Rattle.grammar.specs.Faults.{Ending}
@@ -12,7 +12,7 @@ use Rattle.wgsl_error.specs.declared.Error.{Error}
 use Rattle.wgsl_error.specs.View.{fault_view}
 use Rattle.wgsl_answer.specs.Answers.{IsOutOfMemory, Answered}
 use Rattle.wgsl_answer.specs.Places.{StandsWithin}
-use Rattle.wgsl_answer.proofs.Places.{named_within, width_is}
+use Rattle.wgsl_answer.proofs.Places.{named_within, memory_within, width_is}
 use Rattle.wgsl_parser.specs.Sources.{IsTreeOf, IsRead}
 
 -- what is answered of the tokens of a text
@@ -21,14 +21,14 @@ pub read_is : (n : Symbol) {X : Type 0} (view : X → Value n) (source : List �
 read_is n view source ts ending (Ok v) u l a =
     let t = subst (IsAnswer n ts ending) a (answers_are_true n ts ending) in
     record { accepted = (ts, subst (IsTokenList (chars source) ts) t.0 l, t.1); refused = tt; placed = tt }
-read_is n view source ts ending (Err e) u l (inl m) = record { accepted = tt; refused = inl m; placed = inl m }
+read_is n view source ts ending (Err e) u l (inl m) = record { accepted = tt; refused = inl m; placed = memory_within (length source) e m }
 read_is n view source ts ending (Err e) u l (inr a) =
     let t = subst (IsAnswer n ts ending) a (answers_are_true n ts ending) in
-    record { accepted = tt; refused = inr (ts, ending, l, t); placed = inr (subst (StandsWithin e.span) (width_is source u) (named_within n (chars source) ts ending (fault_view e) l t)) }
+    record { accepted = tt; refused = inr (ts, ending, l, t); placed = subst (StandsWithin e.span) (width_is source u) (named_within n (chars source) ts ending (fault_view e) l t) }
 
 -- where memory was refused for the tokens
 pub unread_is : (n : Symbol) {X : Type 0} (accepts : X → Type 0) (source : List ℕ) (e : Error) → IsOutOfMemory e → IsRead n accepts source (Err e)
-unread_is n accepts source e m = record { accepted = tt; refused = inl m; placed = inl m }
+unread_is n accepts source e m = record { accepted = tt; refused = inl m; placed = memory_within (length source) e m }
 
 -- a refusal, where something else would be accepted
 pub refused_alike : (n : Symbol) {X Y : Type 0} (accepts : X → Type 0) (takes : Y → Type 0) (source : List ℕ) (read : Result X Error) (e : Error) → IsRead n accepts source read → read ≡ Err e → IsRead n takes source (Err e)

@@ -20,8 +20,8 @@ IsTreeOf n source v = (ts : List Token) × IsTokenList source ts finished × Der
 abbrev pub IsFaultIn : Symbol → List ℕ → Fault → Type 0
 IsFaultIn n source x = (ts : List Token) × (ending : Ending) × IsTokenList source ts ending × IsNamed n ts ending x
 
--- What is answered of a source: Ok only with what it is; else that memory was refused, or the fault that is named, which stands in the text or ends one byte past it.
+-- What is answered of a source: Ok only with what it is; else that memory was refused, or the fault that is named; either stands in the text or ends one byte past it.
 pub record IsRead {X : Type 0} (n : Symbol) (accepts : X → Type 0) (source : List ℕ) (result : Result X Error) : Type 0 where
   pub accepted : IfOk result accepts
   pub refused : IfErr result (λ e. IsOutOfMemory e ⊎ IsFaultIn n (chars source) (fault_view e))
-  pub placed : IfErr result (λ e. IsOutOfMemory e ⊎ StandsWithin e.span (length source))
+  pub placed : IfErr result (λ e. StandsWithin e.span (length source))

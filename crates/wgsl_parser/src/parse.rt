@@ -18,7 +18,7 @@ use wgsl_unit::TranslationUnit;
 pub fn parse_str(alloc: Global, source: &str) -> Result<TranslationUnit, Error>
     ensures accepted { IfOk result (λ unit. IsUnit (chars source.now) (unit_view unit)) }
     ensures refused { IfErr result (λ e. IsOutOfMemory e ⊎ IsFaultOf (chars source.now) (fault_view e)) }
-    ensures placed { IfErr result (λ e. IsOutOfMemory e ⊎ StandsWithin e.span (length source.now)) }
+    ensures placed { IfErr result (λ e. StandsWithin e.span (length source.now)) }
 {
     unit_from(alloc, source)
 }
