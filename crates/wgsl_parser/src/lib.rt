@@ -4,6 +4,7 @@
 mod collected;
 mod expected;
 mod from_source;
+mod given;
 mod parse;
 mod parsers;
 mod source;

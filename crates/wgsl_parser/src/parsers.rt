@@ -1,21 +1,23 @@
 //! Parsers of lists of tokens that iterators give.
 
+ghost use Rattle.grammar.specs.Tokens.{Span};
+ghost use Rattle.wgsl_model.specs.Expressions.{ExpressionNode.expression_node};
+ghost use Rattle.wgsl_model.specs.Statements.{StatementNode.statement_node};
+ghost use Rattle.wgsl_model.specs.Spanned.{spanned};
 ghost use Rattle.wgsl_model.specs.Symbols.{Symbol.unit, Symbol.global_directive, Symbol.global_declaration, Symbol.statement, Symbol.expression, Symbol.literal};
-ghost use Rattle.wgsl_span.specs.View.{spanned_view};
-ghost use Rattle.wgsl_expression.specs.View.{expression_node_view, literal_view};
-ghost use Rattle.wgsl_statement.specs.View.{statement_node_view};
+ghost use Rattle.wgsl_expression.specs.View.{expression_view, literal_view};
+ghost use Rattle.wgsl_statement.specs.View.{statement_view};
 ghost use Rattle.wgsl_unit.specs.View.{unit_view, global_directive_view, global_declaration_view};
 ghost use Rattle.wgsl_parser.specs.Iterators.{Derived, IsParsed};
 
-use crate::collected::{
-    declaration_of, directive_of, expression_of, literal_of, statement_of, unit_of,
-};
+use crate::collected::{directive_of, literal_of, unit_of};
+use crate::given::{declaration_given, expression_given, statement_given};
 use std::alloc::Global;
 use wgsl_error::Error;
-use wgsl_expression::{ExpressionNode, LiteralExpression};
+use wgsl_expression::{Expression, LiteralExpression};
 use wgsl_lexer::{TokenIterator, collect_tokens};
-use wgsl_statement::StatementNode;
-use wgsl_unit::{GlobalDeclarationNode, GlobalDirective, TranslationUnit};
+use wgsl_statement::Statement;
+use wgsl_unit::{GlobalDeclaration, GlobalDirective, TranslationUnit};
 
 /// Reads a module from all tokens of an iterator. It keeps nothing between calls.
 #[derive(Default, Drop)]
@@ -69,14 +71,15 @@ impl GlobalDeclParser {
     }
 
     /// What the tokens are, or what is wrong with them. Behind its first error the iterator is asked for nothing more.
+    #[tactic(auto, using(crate::proofs::Given::refused_alike, crate::proofs::Given::accepted_alike))]
     pub fn parse<T: TokenIterator>(
         &self,
         alloc: Global,
         tokens: T,
-    ) -> Result<GlobalDeclarationNode, Error>
-        ensures { IsParsed global_declaration (λ v found. Derived global_declaration (spanned_view global_declaration_view v) found) (T.into_iter_gives tokens) T.IntoIter.next_gives result }
+    ) -> Result<GlobalDeclaration, Error>
+        ensures { IsParsed global_declaration (λ d found. (s : Span) × Derived global_declaration (spanned (global_declaration_view d) s) found) (T.into_iter_gives tokens) T.IntoIter.next_gives result }
     {
-        declaration_of(alloc, collect_tokens(alloc, tokens)?)
+        Ok(declaration_given(alloc, tokens)?.into_inner())
     }
 }
 
@@ -90,10 +93,11 @@ impl StatementParser {
     }
 
     /// What the tokens are, or what is wrong with them. Behind its first error the iterator is asked for nothing more.
-    pub fn parse<T: TokenIterator>(&self, alloc: Global, tokens: T) -> Result<StatementNode, Error>
-        ensures { IsParsed statement (λ v found. Derived statement (statement_node_view v) found) (T.into_iter_gives tokens) T.IntoIter.next_gives result }
+    #[tactic(auto, using(crate::proofs::Given::refused_alike, crate::proofs::Given::accepted_alike))]
+    pub fn parse<T: TokenIterator>(&self, alloc: Global, tokens: T) -> Result<Statement, Error>
+        ensures { IsParsed statement (λ s found. (place : Span) × Derived statement (statement_node (statement_view s) place) found) (T.into_iter_gives tokens) T.IntoIter.next_gives result }
     {
-        statement_of(alloc, collect_tokens(alloc, tokens)?)
+        Ok(statement_given(alloc, tokens)?.into_inner())
     }
 }
 
@@ -107,10 +111,11 @@ impl ExpressionParser {
     }
 
     /// What the tokens are, or what is wrong with them. Behind its first error the iterator is asked for nothing more.
-    pub fn parse<T: TokenIterator>(&self, alloc: Global, tokens: T) -> Result<ExpressionNode, Error>
-        ensures { IsParsed expression (λ v found. Derived expression (expression_node_view v) found) (T.into_iter_gives tokens) T.IntoIter.next_gives result }
+    #[tactic(auto, using(crate::proofs::Given::refused_alike, crate::proofs::Given::accepted_alike))]
+    pub fn parse<T: TokenIterator>(&self, alloc: Global, tokens: T) -> Result<Expression, Error>
+        ensures { IsParsed expression (λ e found. (s : Span) × Derived expression (expression_node (expression_view e) s) found) (T.into_iter_gives tokens) T.IntoIter.next_gives result }
     {
-        expression_of(alloc, collect_tokens(alloc, tokens)?)
+        Ok(expression_given(alloc, tokens)?.into_inner())
     }
 }
 
