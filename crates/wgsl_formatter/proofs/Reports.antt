@@ -8,10 +8,9 @@ use Rattle.std.proofs.lemmas.Str.{IsUtf8-from_is_utf8, is_utf8-from_IsUtf8}
 use Rattle.grammar.specs.Tokens.{Fault}
 use Rattle.wgsl_model.specs.Units.{TranslationUnit}
 use Rattle.wgsl_model.specs.PrintedUnits.{print_unit}
-use Rattle.wgsl_model.specs.Program.{complaint, Formats, Formats.printed, Formats.refused, Formats.not_utf8, IsUnit, IsFaultOf, shown_fault}
+use Rattle.wgsl_model.specs.Program.{complaint, out_of_memory, Formats, Formats.printed, Formats.refused, Formats.not_utf8, IsUnit, IsFaultOf, shown_fault}
 use Rattle.wgsl_formatter.specs.declared.report.Report.{Report}
 use Rattle.wgsl_formatter.specs.declared.report.Report.TheVariants.{OutOfMemory}
-use Rattle.wgsl_formatter.specs.Ending.{IsDue}
 use Rattle.wgsl_formatter.specs.Report.{outcome_of}
 
 -- the text is the printed unit
@@ -44,6 +43,6 @@ other_side (inr b) = λ not_a. b
 
 -- a report that could not be made for want of memory says so
 pub due_report : (bytes : List ℕ) (made : Result Report AllocError) → IfOk made (λ report. Formats bytes (outcome_of report))
-    → IsDue bytes (outcome_of (result_unwrap_or made OutOfMemory))
+    → Formats bytes (outcome_of (result_unwrap_or made OutOfMemory)) ⊎ (outcome_of (result_unwrap_or made OutOfMemory) ≡ out_of_memory)
 due_report bytes (Ok report) = λ asked. inl asked
 due_report bytes (Err e) = λ _. inr refl

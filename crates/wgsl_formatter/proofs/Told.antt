@@ -2,7 +2,7 @@
 use Rattle.std.proofs.Common.{◌≡◌, inl, inr, ℕ, zero, suc, List, [], take, Option, None, refl, subst}
 use Rattle.std.proofs.KnownBytes.{Appends-nil}
 use Rattle.std.specs.Io.KnownBytes.{Appends}
-use Rattle.wgsl_model.specs.Program.{Outcome, complaint}
+use Rattle.wgsl_model.specs.Program.{Outcome, complaint, out_of_memory}
 use Rattle.wgsl_formatter.specs.Ending.{GoesOut, cut}
 use Rattle.wgsl_formatter.specs.Told.{IsTold}
 
@@ -40,3 +40,8 @@ pub told_to_errors : (text : List ℕ) (status : ℕ) (sent : List ℕ) (answer 
 told_to_errors text status sent answer old new told added =
     let whole = goes_to_errors text status sent answer None old new told added in
     (whole.0, whole.1, whole.2, whole.4)
+
+-- the line that tells of a want of memory is for the errors alone
+pub memory_told : (end : Outcome) (known : Option (List ℕ)) → GoesOut out_of_memory end → Appends known known end.output
+memory_told end known (inl whole) = rw whole (Appends-nil known)
+memory_told end known (inr (n, part)) = rw part (Appends-none known n)

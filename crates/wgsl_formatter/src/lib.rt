@@ -6,16 +6,17 @@ mod streams;
 
 ghost use Rattle.std.specs.Prelude.{◌≡◌, ◌⊎◌, ◌≤◌, ◌<◌, ℕ, List};
 ghost use Rattle.std.specs.Io.KnownBytes.{Appends, IsAtEnd};
-ghost use Rattle.wgsl_model.specs.Program.{Outcome, out_of_memory};
+ghost use Rattle.wgsl_model.specs.Program.{Outcome};
 ghost use Rattle.wgsl_formatter.specs.Ending.{IsInput, Ends, GoesOut, IsReprinted, no_arguments};
 
-use report::{Report, deliver, report_on};
+use report::{deliver, report_of};
 use std::alloc::Global;
 use std::io::{Read, Write};
-use streams::{FAILED, ReadError, read_all, tell};
+pub use streams::refuse_memory;
+use streams::{read_all, tell};
 
 /// Reads all of the input, then writes what it asks for to the output or to the errors, and flushes
-/// that one.
+/// that one. Where a read failed, nothing is written.
 pub fn run<R: Read, W: Write, E: Write>(
     alloc: Global,
     input: &mut R,
@@ -23,7 +24,7 @@ pub fn run<R: Read, W: Write, E: Write>(
     errors: &mut E,
 ) -> u8
     ensures status { result ≤ 4 }
-    ensures ends { (end : Outcome) × Ends (R.remaining input.old) end × (result ≡ end.status)
+    ensures ends { (end : Outcome) × Ends (R.remaining input.old) (R.remaining input.new) end × (result ≡ end.status)
         × Appends (W.contents output.old) (W.contents output.new) end.output
         × Appends (E.contents errors.old) (E.contents errors.new) end.errors }
     ensures all_read { result < 3 → IsAtEnd (R.remaining input.new) }
@@ -33,14 +34,8 @@ pub fn run<R: Read, W: Write, E: Write>(
         × IsInput (R.remaining input.old) bytes × IsReprinted bytes text
         × Appends (W.contents output.old) (W.contents output.new) text }
 {
-    match read_all(alloc, input) {
-        Ok(source) => {
-            let report = report_on(alloc, &source).unwrap_or(Report::OutOfMemory);
-            deliver(&report, output, errors)
-        }
-        Err(ReadError::OutOfMemory) => refuse_memory(errors),
-        Err(ReadError::Failed) => FAILED,
-    }
+    let report = report_of(alloc, read_all(alloc, input));
+    deliver(&report, output, errors)
 }
 
 /// `run` where the program was given no arguments. Otherwise nothing is read.
@@ -54,7 +49,7 @@ pub fn start<R: Read, W: Write, E: Write>(
     // With no arguments, all that `run` ensures.
     ensures status { arguments ≡ 0 → result ≤ 4 }
     ensures ends { arguments ≡ 0 → (end : Outcome)
-        × Ends (R.remaining input.old) end × (result ≡ end.status)
+        × Ends (R.remaining input.old) (R.remaining input.new) end × (result ≡ end.status)
         × Appends (W.contents output.old) (W.contents output.new) end.output
         × Appends (E.contents errors.old) (E.contents errors.new) end.errors }
     ensures all_read { arguments ≡ 0 → result < 3 → IsAtEnd (R.remaining input.new) }
@@ -74,12 +69,4 @@ pub fn start<R: Read, W: Write, E: Write>(
     } else {
         tell(errors, b"wgslfmt takes no arguments\n", 5)
     }
-}
-
-/// Tells that memory was refused: status 3, or 4 where the line could not be written.
-pub fn refuse_memory<E: Write>(errors: &mut E) -> u8
-    ensures { (end : Outcome) × GoesOut out_of_memory end × (result ≡ end.status)
-        × Appends (E.contents errors.old) (E.contents errors.new) end.errors }
-{
-    tell(errors, b"out of memory\n", 3)
 }

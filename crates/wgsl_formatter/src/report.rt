@@ -1,13 +1,13 @@
 //! What the program has to tell of its input.
 
-ghost use Rattle.std.specs.Prelude.{◌≡◌, true, IfOk};
+ghost use Rattle.std.specs.Prelude.{◌≡◌, ◌<◌, true, IfOk};
 ghost use Rattle.std.specs.Str.{is_utf8};
 ghost use Rattle.std.specs.Io.KnownBytes.{Appends};
 ghost use Rattle.wgsl_model.specs.Program.{Outcome, Formats};
-ghost use Rattle.wgsl_formatter.specs.Ending.{GoesOut};
+ghost use Rattle.wgsl_formatter.specs.Ending.{IsDue, GoesOut};
 ghost use Rattle.wgsl_formatter.specs.Report.{outcome_of};
 
-use crate::streams::tell;
+use crate::streams::{FAILED, ReadError, refuse_memory, tell};
 use std::alloc::{AllocError, Global};
 use std::io::Write;
 use wgsl_error::ErrorKind;
@@ -24,10 +24,23 @@ pub enum Report {
     NotUtf8,
     /// Memory was refused: status 3.
     OutOfMemory,
+    /// A read failed: nothing is written, with status 4.
+    Unread,
+}
+
+/// What is to be written of what was read.
+pub fn report_of(alloc: Global, read: Result<Vec<u8>, ReadError>) -> Report
+    ensures { IsDue read (outcome_of result) }
+{
+    match read {
+        Ok(source) => report_on(alloc, &source).unwrap_or(Report::OutOfMemory),
+        Err(ReadError::OutOfMemory) => Report::OutOfMemory,
+        Err(ReadError::Failed) => Report::Unread,
+    }
 }
 
 /// What the source asks to be written.
-pub fn report_on(alloc: Global, source: &[u8]) -> Result<Report, AllocError>
+fn report_on(alloc: Global, source: &[u8]) -> Result<Report, AllocError>
     ensures { IfOk result (λ report. Formats source.now (outcome_of report)) }
 {
     let Ok(text) = std::str::from_utf8(source) else {
@@ -48,11 +61,14 @@ pub fn deliver<W: Write, E: Write>(report: &Report, output: &mut W, errors: &mut
         × Appends (W.contents output.old) (W.contents output.new) end.output
         × Appends (E.contents errors.old) (E.contents errors.new) end.errors }
     ensures valid { is_utf8 (outcome_of report.now).output ≡ true }
+    // Nothing but the printed unit touches the output.
+    ensures spared { 0 < (outcome_of report.now).status → output.new ≡ output.old }
 {
     match report {
         Report::Printed(text) => tell(output, text.as_str().as_bytes(), 0),
         Report::Refused(line) => tell(errors, line.as_bytes(), 1),
         Report::NotUtf8 => tell(errors, b"input is not UTF-8\n", 2),
-        Report::OutOfMemory => tell(errors, b"out of memory\n", 3),
+        Report::OutOfMemory => refuse_memory(errors),
+        Report::Unread => FAILED,
     }
 }

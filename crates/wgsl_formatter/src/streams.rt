@@ -1,8 +1,9 @@
 //! All that a reader gives, and a text to a writer.
 
-ghost use Rattle.std.specs.Prelude.{ℕ, List, take, IfOk, OnOk};
+ghost use Rattle.std.specs.Prelude.{◌≡◌, ℕ, List, take, IfOk, OnOk};
 ghost use Rattle.std.specs.Io.KnownBytes.{Appends, IsAtEnd};
-ghost use Rattle.wgsl_formatter.specs.Ending.{IsInput};
+ghost use Rattle.wgsl_model.specs.Program.{Outcome, out_of_memory};
+ghost use Rattle.wgsl_formatter.specs.Ending.{IsInput, GoesOut};
 ghost use Rattle.wgsl_formatter.specs.Told.{IsTold};
 
 use std::alloc::Global;
@@ -65,4 +66,12 @@ pub fn tell<W: Write>(writer: &mut W, text: &[u8], status: u8) -> u8
         Ok(()) => status,
         Err(_) => FAILED,
     }
+}
+
+/// Tells that memory was refused: status 3, or 4 where the line could not be written.
+pub fn refuse_memory<E: Write>(errors: &mut E) -> u8
+    ensures { (end : Outcome) × GoesOut out_of_memory end × (result ≡ end.status)
+        × Appends (E.contents errors.old) (E.contents errors.new) end.errors }
+{
+    tell(errors, b"out of memory\n", 3)
 }

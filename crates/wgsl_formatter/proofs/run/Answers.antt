@@ -1,21 +1,29 @@
-use Rattle.std.proofs.Common.{refl, sym, ◌∙◌}
-use Rattle.std.proofs.KnownBytes.{Appends-nil}
-use Rattle.wgsl_formatter.proofs.Endings.{ends_without_memory, ends_unread, nothing_goes_out}
-use Rattle.wgsl_formatter.proofs.Reports.{due_report}
+use Rattle.std.proofs.Common.{sym, ◌∙◌}
+use Rattle.wgsl_formatter.specs.Report.{outcome_of}
+use Rattle.wgsl_formatter.proofs.Endings.{owed_is, ends_within, unread_status, all_read, unread_spared}
 use Rattle.wgsl_formatter.proofs.Reprinted.{end_reprinted}
 use Rattle.wgsl_formatter.proofs.run.Goals as goal
 
-pub returns-in-Err-OutOfMemory-clause-ends : goal.returns-in-Err-OutOfMemory-clause-ends
-returns-in-Err-OutOfMemory-clause-ends g c =
-    let told = c.refuse_memory.ensures in
-    (told.0, ends_without_memory _ _ told.1, told.2, nothing_goes_out _ _ told.1, told.3)
-
-pub returns-in-Err-Failed-clause-ends : goal.returns-in-Err-Failed-clause-ends
-returns-in-Err-Failed-clause-ends g c = (_, ends_unread _, refl, Appends-nil _, Appends-nil _)
-
-pub returns-in-Ok-clause-reads_back : goal.returns-in-Ok-clause-reads_back
-returns-in-Ok-clause-reads_back g c = λ zero.
+pub returns-clause-status : goal.returns-clause-status
+returns-clause-status g c =
     let told = c.deliver.ensures.sent in
-    let owed = rw (← c.unwrap_or-report.ensures, c.deref.ensures.value) at (due_report _ _ c.report_on.ensures) in
-    let text = end_reprinted _ _ _ owed c.deliver.ensures.valid told.1 (sym told.2 ∙ zero) in
-    (_, told.0.output, c.in-Ok.ensures.bytes, text, told.3)
+    rw told.2 (ends_within _ _ _ c.report_of-report.ensures told.1)
+
+pub returns-clause-ends : goal.returns-clause-ends
+returns-clause-ends g c =
+    let told = c.deliver.ensures.sent in
+    (told.0, record { due = _; owed = owed_is _ _ _ _ c.read_all.ensures.bytes c.read_all.ensures.end c.report_of-report.ensures; written = told.1 }, told.2, told.3, told.4)
+
+pub returns-clause-all_read : goal.returns-clause-all_read
+returns-clause-all_read g c = λ early.
+    let told = c.deliver.ensures.sent in
+    all_read _ _ _ (unread_status _ _ _ c.read_all.ensures.end c.report_of-report.ensures) told.1 (rw told.2 at early)
+
+pub returns-clause-spared : goal.returns-clause-spared
+returns-clause-spared g c = unread_spared _ (outcome_of c.report_of-report.result) _ (unread_status _ _ _ c.read_all.ensures.end c.report_of-report.ensures) c.deliver.ensures.spared
+
+pub returns-clause-reads_back : goal.returns-clause-reads_back
+returns-clause-reads_back g c = λ zero.
+    let told = c.deliver.ensures.sent in
+    let text = end_reprinted _ _ _ _ c.read_all.ensures.bytes c.report_of-report.ensures c.deliver.ensures.valid told.1 (sym told.2 ∙ zero) in
+    (text.0, told.0.output, text.1, text.2, told.3)

@@ -1,7 +1,9 @@
-use Rattle.std.proofs.Common.{◌≡◌, true, [], refl}
+use Rattle.std.proofs.Common.{◌≡◌, true, [], inl, refl}
+use Rattle.std.proofs.KnownBytes.{Appends-nil}
 use Rattle.std.specs.Str.{is_utf8}
 use Rattle.std.proofs.lemmas.Str.{is_utf8-from_IsUtf8}
-use Rattle.wgsl_formatter.proofs.Told.{goes_to_errors, goes_to_output}
+use Rattle.wgsl_formatter.specs.Ending.{nothing_read}
+use Rattle.wgsl_formatter.proofs.Told.{goes_to_errors, goes_to_output, memory_told}
 use Rattle.wgsl_formatter.proofs.report.deliver.Goals as goal
 
 pub returns-in-Printed-clause-sent : goal.returns-in-Printed-clause-sent
@@ -16,7 +18,12 @@ pub returns-in-NotUtf8-clause-sent : goal.returns-in-NotUtf8-clause-sent
 returns-in-NotUtf8-clause-sent g c = rw c.in-NotUtf8.is (goes_to_errors _ _ _ _ _ _ _ c.tell-in-NotUtf8.ensures.1 c.tell-in-NotUtf8.ensures.2)
 
 pub returns-in-OutOfMemory-clause-sent : goal.returns-in-OutOfMemory-clause-sent
-returns-in-OutOfMemory-clause-sent g c = rw c.in-OutOfMemory.is (goes_to_errors _ _ _ _ _ _ _ c.tell-in-OutOfMemory.ensures.1 c.tell-in-OutOfMemory.ensures.2)
+returns-in-OutOfMemory-clause-sent g c =
+    let told = c.refuse_memory.ensures in
+    rw c.in-OutOfMemory.is (told.0, told.1, told.2, memory_told told.0 _ told.1, told.3)
+
+pub returns-in-Unread-clause-sent : goal.returns-in-Unread-clause-sent
+returns-in-Unread-clause-sent g c = rw c.in-Unread.is (nothing_read, inl refl, refl, Appends-nil _, Appends-nil _)
 
 -- nothing is a text
 nothing_is_text : is_utf8 [] ≡ true
@@ -33,3 +40,6 @@ returns-in-NotUtf8-clause-valid g c = rw c.in-NotUtf8.is nothing_is_text
 
 pub returns-in-OutOfMemory-clause-valid : goal.returns-in-OutOfMemory-clause-valid
 returns-in-OutOfMemory-clause-valid g c = rw c.in-OutOfMemory.is nothing_is_text
+
+pub returns-in-Unread-clause-valid : goal.returns-in-Unread-clause-valid
+returns-in-Unread-clause-valid g c = rw c.in-Unread.is nothing_is_text
