@@ -18,12 +18,14 @@ pub enum PathOrigin {
 }
 
 impl PathOrigin {
+    /// Whether the path begins with `package`.
     pub fn is_absolute(&self) -> bool
         ensures { IsTrue result ↔ (origin_view self.now ≡ plain.absolute) }
     {
         matches!(self, PathOrigin::Absolute)
     }
 
+    /// Whether the path begins with `self` or `super`.
     pub fn is_relative(&self) -> bool
         ensures { IsTrue result
             ↔ ((levels : ℕ) × (origin_view self.now ≡ plain.relative levels)) }
@@ -31,6 +33,7 @@ impl PathOrigin {
         matches!(self, PathOrigin::Relative(_))
     }
 
+    /// Whether the path begins with the name of a package.
     pub fn is_package(&self) -> bool
         ensures { IsTrue result
             ↔ ((name : List ℕ) × (origin_view self.now ≡ plain.of_package name)) }
@@ -47,6 +50,7 @@ pub struct ModulePath {
 }
 
 impl ModulePath {
+    /// Any origin and any components, also ones that no text can say.
     pub fn new(origin: PathOrigin, components: Vec<String>) -> Self
         ensures { path_view result
             ≡ plain_path (origin_view origin) (map string_bytes components.items) }
@@ -71,12 +75,14 @@ impl ModulePath {
         Ok(())
     }
 
+    /// The first component, which stands behind the origin.
     pub fn first(&self) -> Option<&str>
         ensures { option_copied result ≡ slice_get (path_view self.now).components 0 }
     {
         self.components.first().map(String::as_str)
     }
 
+    /// The last component.
     pub fn last(&self) -> Option<&str>
         ensures { let components = (path_view self.now).components in
             option_copied result ≡ slice_get components (length components - 1) }

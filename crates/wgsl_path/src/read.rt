@@ -9,6 +9,9 @@ use crate::{ModulePath, ModulePathParseError, PathOrigin};
 use std::alloc::Global;
 
 impl ModulePath {
+    /// Reads a path: its parts stand between `::`. The first is `package`, `self`, as many `super` as there are levels
+    /// to go up, or the name of a package; the others are components, which may be empty. `Empty` where the first part
+    /// is empty; where another part is `package`, `self` or `super`, the fault of the first that is.
     pub fn from_str(alloc: Global, text: &str) -> Result<Self, ModulePathParseError>
         ensures read { IfOk result (λ path. plain.read_path text.now ≡ Ok (path_view path)) }
         ensures refused { IfErr result (λ e.
