@@ -19,6 +19,7 @@ pub mod error {
 /// Tokens, and what gives them.
 pub mod lexer {
     pub use wgsl_lexer::{FiniteTokens, Lexer, TokenItem, TokenIterator, recognize_template_list};
+    pub use wgsl_token::kind::TokenKind;
     pub use wgsl_token::token::Token;
 }
 
@@ -37,6 +38,7 @@ pub mod syntax {
         AccessMode, AddressSpace, AssignmentOperator, BinaryOperator, BuiltinValue,
         DiagnosticSeverity, InterpolationSampling, InterpolationType, UnaryOperator,
     };
+    pub use wgsl_path::{ModulePath, ModulePathParseError, PathOrigin};
     pub use wgsl_span::{Span, Spanned};
     pub use wgsl_statement::{
         AssignmentStatement, BreakIfStatement, BreakStatement, CaseSelector, CompoundStatement,
@@ -51,6 +53,12 @@ pub mod syntax {
         GlobalDeclarationNode, GlobalDirective, RequiresDirective, Struct, StructMember,
         StructMemberNode, TranslationUnit, TypeAlias,
     };
+}
+
+/// What a node of a tree can do, and what makes a type of one's own a node: `BareNode` for one without attributes, or
+/// `SyntaxNode` itself, whose calls on a list of attributes are `has_attribute` and `retain_nodes`.
+pub mod syntax_node {
+    pub use wgsl_syntax_node::{BareNode, SyntaxNode, has_attribute, no_attributes, retain_nodes};
 }
 
 /// Reading modules, and the parts of modules that are read by themselves, from texts and from lists of tokens.
@@ -72,16 +80,48 @@ pub mod laws {
     pub use wgsl_lexer::laws::{
         nothing_behind_the_end, one_list_left, one_token_list, tokens_in_order,
     };
+    pub use wgsl_path::laws::{join_laws, path_text, starts_with_laws};
     pub use wgsl_scanner::laws::longest_spelling;
     pub use wgsl_syntax_node::attribute_laws::statement_attributes;
     pub use wgsl_tree_theory::{spans_unprinted, voids_twice};
 
-    /// That `==` of trees is an equivalence, and where two trees are equal: where they are one with their spans set aside.
+    /// That `==` of trees is an equivalence, and where two trees are equal: where they are one with their spans set
+    /// aside. The laws that stand here speak of plain trees; those of the nodes themselves stand in the modules below.
     pub mod equality {
         pub use wgsl_equality::{
             branches, calls, declarations, directives, equivalence, expressions,
             global_declarations, literals, loops, nodes, simple_statements, statements, types,
             units,
         };
+
+        /// Of identifiers and literals.
+        pub mod expression {
+            pub use wgsl_expression::equality_laws::{idents, literals};
+        }
+
+        /// Of attributes and what they hold.
+        pub mod attribute {
+            pub use wgsl_attribute::equality_laws::{
+                attributes, customs, diagnostics, equivalence, interpolations, type_constraints,
+                workgroup_sizes,
+            };
+        }
+
+        /// Of the statements that hold no others.
+        pub mod statement {
+            pub use wgsl_simple_statement::equality_laws::{declarations, simple_statements};
+        }
+
+        /// Of modules, directives and declarations.
+        pub mod unit {
+            pub use wgsl_unit::equality_laws::{
+                directives, equivalence, global_declarations, units,
+            };
+        }
+
+        /// Of module paths, whose hashes agree with it.
+        pub mod path {
+            pub use wgsl_path::laws::{origin_equality, path_equality};
+        }
     }
 }

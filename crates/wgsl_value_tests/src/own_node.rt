@@ -1,16 +1,14 @@
-//! A node of the user's own with a list of attributes, and one without.
+//! A node of the user's own with a list of attributes, and one without, by the names of `wgsl_parse` alone.
 
 ghost use Rattle.std.specs.Prelude.{◌≡◌, Some, None};
 ghost use Rattle.std.specs.Vec.{with_items};
-ghost use Rattle.wgsl_expression.specs.View.{ident_name};
+ghost use Rattle.wgsl_parse.specs.ExpressionView.{ident_name};
 
 use crate::making::{ident, size_and_align};
 use std::alloc::{AllocError, Global};
 use std::test::Fail;
-use wgsl_attribute::{Attribute, AttributeNode};
-use wgsl_expression::Ident;
-use wgsl_span::Span;
-use wgsl_syntax_node::{BareNode, SyntaxNode, has_attribute, retain_nodes};
+use wgsl_parse::syntax::{Attribute, AttributeNode, Ident, Span};
+use wgsl_parse::syntax_node::{BareNode, SyntaxNode, has_attribute, retain_nodes};
 
 #[derive(Drop)]
 struct Member {

@@ -185,7 +185,7 @@ fn greatest_places(rt: HostRuntime) -> Result<(), Fail> {
     ];
     let tokens = Listed::new(rt.alloc(), &asked, &items);
     let difference = ExpressionParser::new().parse(rt.alloc(), tokens)?;
-    let Expression::Binary(difference) = difference.into_inner() else {
+    let Expression::Binary(difference) = difference else {
         return Err(Fail::new("no difference"));
     };
     assert!(rt; difference.right.node().is_unary());
