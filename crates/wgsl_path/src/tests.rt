@@ -1,47 +1,8 @@
-//! Rows of texts, as they are read, printed and joined.
+//! The texts of faults, levels that are too many, paths that are made longer, and equal paths.
 
 use crate::{ModulePath, ModulePathParseError, PathOrigin};
 use std::hash::{DefaultHasher, Hash, Hasher};
 use std::test::Fail;
-
-/// Texts that are read print as they stand.
-#[test]
-fn read_and_printed(rt: HostRuntime) -> Result<(), Fail> {
-    let texts = [
-        "self",
-        "super",
-        "package",
-        "a",
-        "super::super::a",
-        "a::::b::",
-        "a:::b",
-        "package::a:",
-        "self::a",
-    ];
-    for text in texts {
-        let path = ModulePath::from_str(rt.alloc(), text)?;
-        assert_eq!(rt; path.to_string(rt.alloc())?.as_str(), text);
-    }
-    Ok(())
-}
-
-#[test]
-fn refused(rt: HostRuntime) -> Result<(), Fail> {
-    let rows = [
-        ("", ModulePathParseError::Empty),
-        ("::a::super", ModulePathParseError::Empty),
-        ("a::super", ModulePathParseError::MisplacedSuper),
-        ("super::self", ModulePathParseError::MisplacedSelf),
-        ("self::package", ModulePathParseError::MisplacedPackage),
-    ];
-    for (text, error) in rows {
-        let Err(found) = ModulePath::from_str(rt.alloc(), text) else {
-            panic!(rt; "{text} is read");
-        };
-        assert_eq!(rt; found, error);
-    }
-    Ok(())
-}
 
 #[test]
 fn errors_printed(rt: HostRuntime) -> Result<(), Fail> {
@@ -63,30 +24,6 @@ fn errors_printed(rt: HostRuntime) -> Result<(), Fail> {
     ];
     for (error, text) in rows {
         assert_eq!(rt; error.to_string(rt.alloc())?.as_str(), text);
-    }
-    Ok(())
-}
-
-#[test]
-fn joined(rt: HostRuntime) -> Result<(), Fail> {
-    let alloc = rt.alloc();
-    let rows = [
-        ("pkg::m", "q::n", "pkg/q::n"),
-        ("package::m1", "package::foo", "package::foo"),
-        ("package::m1", "self::foo", "package::m1::foo"),
-        ("package::m1", "super::foo", "package::foo"),
-        ("pkg::m1::m2", "package::foo", "pkg::foo"),
-        ("pkg::m1::m2", "self::foo", "pkg::m1::m2::foo"),
-        ("pkg::m1::m2", "super::foo", "pkg::m1::foo"),
-        ("super", "super::foo", "super::super::foo"),
-        ("super", "self::foo", "super::foo"),
-    ];
-    for (text, suffix, expected) in rows {
-        let path = ModulePath::from_str(alloc, text)?;
-        let suffix = ModulePath::from_str(alloc, suffix)?;
-        assert!(rt; path.join_fits(&suffix));
-        let joined = path.join_path(alloc, &suffix)?;
-        assert_eq!(rt; joined.to_string(alloc)?.as_str(), expected);
     }
     Ok(())
 }

@@ -2,10 +2,12 @@
 
 use crate::facts::Facts;
 use crate::nodes::expressions::see_literal;
+use crate::paths::see_path;
 use crate::row::Row;
+use crate::snippets::see_snippet;
 use crate::streams::see_run;
 use crate::tokens::{see_list, see_template_list, see_tokens};
-use crate::tree::{see_error, see_tree};
+use crate::tree::{see_fault, see_tree};
 use std::alloc::{AllocError, Global};
 use wgsl_parse::lexer::Lexer;
 use wgsl_parse::parser::{LiteralParser, recognize_str};
@@ -22,7 +24,7 @@ fn see_literal_of(text: &str, facts: &mut Facts) -> Result<(), AllocError> {
             see_literal(&literal, facts, ".")?;
             facts.answer(String::from_str(alloc, "printed")?, printed)
         }
-        Err(error) => see_error(&error, facts),
+        Err(error) => see_fault(error, text, facts),
     }
 }
 
@@ -33,7 +35,7 @@ fn see_dialect(text: &str, facts: &mut Facts) -> Result<(), AllocError> {
             let words = String::from_str(facts.alloc, "accepted")?;
             facts.answer(words, String::new(facts.alloc))
         }
-        Err(error) => see_error(&error, facts),
+        Err(error) => see_fault(error, text, facts),
     }
 }
 
@@ -49,7 +51,11 @@ pub fn facts_of(alloc: Global, row: &Row<'_>) -> Result<Facts, AllocError> {
         return Ok(facts);
     }
     match std::str::from_utf8(&read.value) {
-        Ok(text) => see_text(word, text, &mut facts)?,
+        Ok(text) => match word {
+            "path" => see_path(text, row, &mut facts)?,
+            "snippet" => see_snippet(text, argument, &mut facts)?,
+            _ => see_text(word, text, &mut facts)?,
+        },
         Err(_) => facts.refuse("the text is UTF-8", "")?,
     }
     Ok(facts)

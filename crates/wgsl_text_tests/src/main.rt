@@ -5,7 +5,9 @@
 mod check;
 mod facts;
 mod nodes;
+mod paths;
 mod row;
+mod snippets;
 mod streams;
 mod text;
 mod tokens;

@@ -32,14 +32,19 @@ fn path_of(alloc: Global, path: &str, part: &str) -> Result<String, AllocError> 
 }
 
 /// The path of an item of a list.
-fn item_path(alloc: Global, path: &str, list: &str, place: usize) -> Result<String, AllocError> {
+pub fn item_path(
+    alloc: Global,
+    path: &str,
+    list: &str,
+    place: usize,
+) -> Result<String, AllocError> {
     let list = path_of(alloc, path, list)?;
     format!(in alloc; "{list}.{place}")
 }
 
 impl Facts {
     /// The text of a part.
-    fn part<T: fmt::Display>(
+    pub fn part<T: fmt::Display>(
         &mut self,
         path: &str,
         name: &str,
@@ -51,20 +56,20 @@ impl Facts {
     }
 
     /// How many items a list has, or one if a part is there.
-    fn count(&mut self, path: &str, name: &str, count: usize) -> Result<(), AllocError> {
+    pub fn count(&mut self, path: &str, name: &str, count: usize) -> Result<(), AllocError> {
         let path = path_of(self.alloc, path, name)?;
         let words = format!(in self.alloc; "count {path}")?;
         self.tell(words, format!(in self.alloc; "{count}")?)
     }
 
     /// Which variant a node is.
-    fn variant(&mut self, path: &str, variant: &str) -> Result<(), AllocError> {
+    pub fn variant(&mut self, path: &str, variant: &str) -> Result<(), AllocError> {
         let words = format!(in self.alloc; "variant {path}")?;
         self.tell(words, String::from_str(self.alloc, variant)?)
     }
 
     /// Where a node stands.
-    pub fn span(&mut self, path: &str, span: Span) -> Result<(), AllocError> {
+    fn span(&mut self, path: &str, span: Span) -> Result<(), AllocError> {
         let words = format!(in self.alloc; "span {path}")?;
         self.tell(
             words,
@@ -107,7 +112,18 @@ impl Facts {
         text: &str,
     ) -> Result<(), AllocError> {
         let copy = node.clone_with(self.alloc)?;
-        self.expect(copy == *node, "a copy is equal", path)?;
+        self.compare(path, node, &copy, text)
+    }
+
+    /// Compares a node with its copy: they are equal, and the text is that of both.
+    pub fn compare<T: fmt::Display + PartialEq>(
+        &mut self,
+        path: &str,
+        node: &T,
+        copy: &T,
+        text: &str,
+    ) -> Result<(), AllocError> {
+        self.expect(*copy == *node, "a copy is equal", path)?;
         let copied = copy.to_string(self.alloc)?;
         self.expect(copied.as_str() == text, "a copy prints alike", path)
     }

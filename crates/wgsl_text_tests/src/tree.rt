@@ -5,6 +5,7 @@ use crate::nodes::declarations::{see_global_declaration, see_unit};
 use crate::nodes::directives::see_directive;
 use crate::nodes::expressions::see_expression;
 use crate::nodes::statements::see_statement;
+use crate::snippets::snippet_of;
 use crate::watched::Watched;
 use std::alloc::{AllocError, Global};
 use std::cell::Cell;
@@ -24,8 +25,8 @@ pub trait Tree: FromSource + fmt::Display + PartialEq + Drop {
     /// The tree of the text.
     fn read(alloc: Global, text: &str) -> Result<Self, Error>;
 
-    /// The tree of the tokens, with its span if it has one.
-    fn parsed(alloc: Global, tokens: Watched<'_>) -> Result<(Option<Span>, Self), Error>;
+    /// The tree of the tokens.
+    fn parsed(alloc: Global, tokens: Watched<'_>) -> Result<Self, Error>;
 
     /// The tree without the empty items of its lists.
     fn full(self) -> Self;
@@ -39,8 +40,8 @@ impl Tree for TranslationUnit {
         parse_str(alloc, text)
     }
 
-    fn parsed(alloc: Global, tokens: Watched<'_>) -> Result<(Option<Span>, Self), Error> {
-        Ok((None, TranslationUnitParser::new().parse(alloc, tokens)?))
+    fn parsed(alloc: Global, tokens: Watched<'_>) -> Result<Self, Error> {
+        TranslationUnitParser::new().parse(alloc, tokens)
     }
 
     fn full(mut self) -> Self {
@@ -58,8 +59,8 @@ impl Tree for GlobalDirective {
         GlobalDirective::from_str(alloc, text)
     }
 
-    fn parsed(alloc: Global, tokens: Watched<'_>) -> Result<(Option<Span>, Self), Error> {
-        Ok((None, GlobalDirectiveParser::new().parse(alloc, tokens)?))
+    fn parsed(alloc: Global, tokens: Watched<'_>) -> Result<Self, Error> {
+        GlobalDirectiveParser::new().parse(alloc, tokens)
     }
 
     fn full(self) -> Self {
@@ -76,9 +77,8 @@ impl Tree for GlobalDeclaration {
         GlobalDeclaration::from_str(alloc, text)
     }
 
-    fn parsed(alloc: Global, tokens: Watched<'_>) -> Result<(Option<Span>, Self), Error> {
-        let node = GlobalDeclParser::new().parse(alloc, tokens)?;
-        Ok((Some(node.span()), node.into_inner()))
+    fn parsed(alloc: Global, tokens: Watched<'_>) -> Result<Self, Error> {
+        GlobalDeclParser::new().parse(alloc, tokens)
     }
 
     fn full(mut self) -> Self {
@@ -96,9 +96,8 @@ impl Tree for Statement {
         Statement::from_str(alloc, text)
     }
 
-    fn parsed(alloc: Global, tokens: Watched<'_>) -> Result<(Option<Span>, Self), Error> {
-        let node = StatementParser::new().parse(alloc, tokens)?;
-        Ok((Some(node.span()), node.into_inner()))
+    fn parsed(alloc: Global, tokens: Watched<'_>) -> Result<Self, Error> {
+        StatementParser::new().parse(alloc, tokens)
     }
 
     fn full(mut self) -> Self {
@@ -116,9 +115,8 @@ impl Tree for Expression {
         Expression::from_str(alloc, text)
     }
 
-    fn parsed(alloc: Global, tokens: Watched<'_>) -> Result<(Option<Span>, Self), Error> {
-        let node = ExpressionParser::new().parse(alloc, tokens)?;
-        Ok((Some(node.span()), node.into_inner()))
+    fn parsed(alloc: Global, tokens: Watched<'_>) -> Result<Self, Error> {
+        ExpressionParser::new().parse(alloc, tokens)
     }
 
     fn full(self) -> Self {
@@ -130,8 +128,15 @@ impl Tree for Expression {
     }
 }
 
-/// What is wrong with a text: the fault with its span, and what is told to have been expected.
-pub fn see_error(error: &Error, facts: &mut Facts) -> Result<(), AllocError> {
+/// What is wrong with a text, and its snippet.
+pub fn see_fault(error: Error, text: &str, facts: &mut Facts) -> Result<(), AllocError> {
+    see_error(&error, facts)?;
+    let snippet = snippet_of(error, text, facts)?;
+    facts.tell(String::from_str(facts.alloc, "snippet")?, snippet)
+}
+
+/// The fault with its span, and what is told to have been expected.
+fn see_error(error: &Error, facts: &mut Facts) -> Result<(), AllocError> {
     let alloc = facts.alloc;
     let told = format!(in alloc; "{}", error.without_expected())?;
     see_message(error.span, &told, facts)?;
@@ -230,7 +235,7 @@ pub fn see_tree<T: Tree>(text: &str, facts: &mut Facts) -> Result<(), AllocError
         Err(error) => {
             let is_alike = parsed.err().is_some_and(|other| other == error);
             facts.expect(is_alike, "the parser of tokens refuses the text alike", "")?;
-            see_error(&error, facts)
+            see_fault(error, text, facts)
         }
     }
 }
@@ -249,19 +254,15 @@ fn see_refused<T: Tree>(text: &str, facts: &mut Facts) -> Result<(), AllocError>
     )
 }
 
-/// The parser of tokens gives the tree, with its span.
+/// The parser of tokens gives the tree.
 fn see_parsed<T: Tree>(
     tree: &T,
-    parsed: Result<(Option<Span>, T), Error>,
+    parsed: Result<T, Error>,
     facts: &mut Facts,
 ) -> Result<(), AllocError> {
-    let Ok((span, other)) = parsed else {
+    let Ok(other) = parsed else {
         return facts.refuse("the parser of tokens reads the text", "");
     };
     let is_alike = other == *tree;
-    facts.expect(is_alike, "the parser of tokens reads the same tree", "")?;
-    match span {
-        Some(span) => facts.span(".", span),
-        None => Ok(()),
-    }
+    facts.expect(is_alike, "the parser of tokens reads the same tree", "")
 }

@@ -1,0 +1,37 @@
+//! Snippets: errors as they are printed with their source.
+
+use crate::facts::Facts;
+use std::alloc::AllocError;
+use std::borrow::CowStr;
+use wgsl_parse::error::{Error, ErrorKind};
+use wgsl_parse::syntax::Span;
+
+/// The snippet of an error in its source, which is that of its copy too.
+pub fn snippet_of(error: Error, source: &str, facts: &mut Facts) -> Result<String, AllocError> {
+    let error = error.with_source(CowStr::Borrowed(source));
+    let snippet = error.to_string(facts.alloc)?;
+    facts.compare("", &error, &error.clone(facts.alloc)?, &snippet)?;
+    Ok(snippet)
+}
+
+/// The snippet of an invalid token at the places `START..END` of a source.
+pub fn see_snippet(source: &str, places: &str, facts: &mut Facts) -> Result<(), AllocError> {
+    let Some(span) = span_of(places) else {
+        return facts.refuse("a snippet has a span", places);
+    };
+    let error = Error {
+        error: ErrorKind::InvalidToken,
+        span,
+    };
+    let snippet = snippet_of(error, source, facts)?;
+    facts.answer(String::from_str(facts.alloc, "printed")?, snippet)
+}
+
+/// The span of a text `START..END`.
+fn span_of(text: &str) -> Option<Span> {
+    let (start, end) = text.split_once("..")?;
+    Some(Span {
+        start: start.parse().ok()?,
+        end: end.parse().ok()?,
+    })
+}
