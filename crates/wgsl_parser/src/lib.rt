@@ -4,7 +4,7 @@
 mod collected;
 mod expected;
 mod from_source;
-mod given;
+mod from_tokens;
 mod parse;
 mod parsers;
 mod source;

@@ -11,7 +11,7 @@ ghost use Rattle.wgsl_unit.specs.View.{unit_view, global_directive_view, global_
 ghost use Rattle.wgsl_parser.specs.Iterators.{Derived, IsParsed};
 
 use crate::collected::{directive_of, literal_of, unit_of};
-use crate::given::{declaration_given, expression_given, statement_given};
+use crate::from_tokens::{declaration_given, expression_given, statement_given};
 use std::alloc::Global;
 use wgsl_error::Error;
 use wgsl_expression::{Expression, LiteralExpression};

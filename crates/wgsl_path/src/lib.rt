@@ -11,6 +11,3 @@ mod read;
 
 pub use error::ModulePathParseError;
 pub use path::{ModulePath, PathOrigin};
-
-#[cfg(test)]
-mod tests;

@@ -1,4 +1,5 @@
-//! Tests of values made by hand: spans, words, tokens, faults, trees, lists and iterators of tokens, readers and writers that fail.
+//! Tests of values made by hand: spans, words, tokens, faults, paths, trees, lists and iterators of tokens, readers and
+//! writers that fail.
 #![tactic(auto)]
 
 #[cfg(test)]
@@ -17,6 +18,8 @@ mod nodes;
 mod own_node;
 #[cfg(test)]
 mod parsers;
+#[cfg(test)]
+mod paths;
 #[cfg(test)]
 mod spans;
 #[cfg(test)]

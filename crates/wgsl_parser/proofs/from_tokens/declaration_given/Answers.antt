@@ -2,7 +2,7 @@ use Rattle.wgsl_model.specs.Symbols.{Symbol.global_declaration}
 use Rattle.wgsl_span.specs.View.{spanned_view}
 use Rattle.wgsl_unit.specs.View.{global_declaration_view}
 use Rattle.wgsl_parser.proofs.Given.{parsed_is}
-use Rattle.wgsl_parser.proofs.given.declaration_given.Goals as goal
+use Rattle.wgsl_parser.proofs.from_tokens.declaration_given.Goals as goal
 
 pub returns : goal.returns
 returns g c =

@@ -1,7 +1,7 @@
 use Rattle.wgsl_model.specs.Symbols.{Symbol.statement}
 use Rattle.wgsl_statement.specs.View.{statement_node_view}
 use Rattle.wgsl_parser.proofs.Given.{parsed_is}
-use Rattle.wgsl_parser.proofs.given.statement_given.Goals as goal
+use Rattle.wgsl_parser.proofs.from_tokens.statement_given.Goals as goal
 
 pub returns : goal.returns
 returns g c =

@@ -1,7 +1,7 @@
 use Rattle.wgsl_model.specs.Symbols.{Symbol.expression}
 use Rattle.wgsl_expression.specs.View.{expression_node_view}
 use Rattle.wgsl_parser.proofs.Given.{parsed_is}
-use Rattle.wgsl_parser.proofs.given.expression_given.Goals as goal
+use Rattle.wgsl_parser.proofs.from_tokens.expression_given.Goals as goal
 
 pub returns : goal.returns
 returns g c =
