@@ -71,7 +71,7 @@ impl GlobalDeclParser {
     }
 
     /// What the tokens are, or what is wrong with them. Behind its first error the iterator is asked for nothing more.
-    #[tactic(auto, using(crate::proofs::Given::refused_alike, crate::proofs::Given::accepted_alike))]
+    #[tactic(auto, using(crate::proofs::Given::refused_alike))]
     pub fn parse<T: TokenIterator>(
         &self,
         alloc: Global,
@@ -93,7 +93,7 @@ impl StatementParser {
     }
 
     /// What the tokens are, or what is wrong with them. Behind its first error the iterator is asked for nothing more.
-    #[tactic(auto, using(crate::proofs::Given::refused_alike, crate::proofs::Given::accepted_alike))]
+    #[tactic(auto, using(crate::proofs::Given::refused_alike))]
     pub fn parse<T: TokenIterator>(&self, alloc: Global, tokens: T) -> Result<Statement, Error>
         ensures { IsParsed statement (λ s found. (place : Span) × Derived statement (statement_node (statement_view s) place) found) (T.into_iter_gives tokens) T.IntoIter.next_gives result }
     {
@@ -111,7 +111,7 @@ impl ExpressionParser {
     }
 
     /// What the tokens are, or what is wrong with them. Behind its first error the iterator is asked for nothing more.
-    #[tactic(auto, using(crate::proofs::Given::refused_alike, crate::proofs::Given::accepted_alike))]
+    #[tactic(auto, using(crate::proofs::Given::refused_alike))]
     pub fn parse<T: TokenIterator>(&self, alloc: Global, tokens: T) -> Result<Expression, Error>
         ensures { IsParsed expression (λ e found. (s : Span) × Derived expression (expression_node (expression_view e) s) found) (T.into_iter_gives tokens) T.IntoIter.next_gives result }
     {

@@ -1,0 +1,16 @@
+use Rattle.grammar.specs.Tokens.{Span}
+use Rattle.wgsl_model.specs.Statements.StatementNode.{statement_node}
+use Rattle.wgsl_model.specs.Symbols.{Symbol.statement}
+use Rattle.wgsl_span.specs.Spanned.{spanned_span}
+use Rattle.wgsl_span.specs.View.{span_view}
+use Rattle.wgsl_statement.specs.View.{statement_view, statement_node_view}
+use Rattle.wgsl_parser.specs.Iterators.{Derived}
+use Rattle.wgsl_parser.proofs.Given.{accepted_alike}
+use Rattle.wgsl_parser.proofs.parsers.StatementParser.parse.Goals as goal
+
+pub returns : goal.returns
+returns g c =
+    let node = c.in_ok-statement_given.field-0 in
+    accepted_alike statement (λ v found. Derived statement (statement_node_view v) found) (λ v found. (s : Span) × Derived statement (statement_node (statement_view v) s) found)
+    (g.T.IntoIterator.into_iter_gives c.args.tokens) g.T.IntoIter.Iterator.next_gives c.statement_given.result node c.into_inner.result c.statement_given.ensures c.in_ok-statement_given.was
+    (λ found derived. (span_view (spanned_span node), rw c.into_inner.ensures derived))
