@@ -5,8 +5,6 @@ mod clones;
 mod conversions;
 mod display;
 mod snippet;
-#[cfg(test)]
-mod tests;
 
 pub use display::WithoutExpected;
 pub use snippet::ErrorWithSource;
