@@ -1,4 +1,6 @@
+use Rattle.std.proofs.Common.{ap}
 use Rattle.wgsl_unit.specs.View.{unit_view}
+use Rattle.wgsl_error.specs.declared.Error.{Error}
 use Rattle.wgsl_error.specs.View.{fault_view}
 use Rattle.wgsl_formatter.proofs.Reports.{formats_unit, formats_fault, formats_no_text, other_side}
 use Rattle.wgsl_formatter.proofs.report.report_on.Goals as goal
@@ -15,6 +17,6 @@ returns-in-Ok-parse_str c =
 pub returns : goal.returns
 returns c =
     let source = c.in-Ok.ensures.cases in
-    let named = rw source.0 at (other_side c.in-Err.ensures.refused c.in_default-error.not-OutOfMemory) in
+    let named = rw source.0 at (other_side c.in-Err.ensures.refused (λ is. c.in_default-error.not-OutOfMemory (ap (λ (e : Error). e.error) is))) in
     let line = rw c.without_expected.ensures at c.in_ok-format-in_default-error.ensures.ok in
     formats_fault _ _ (fault_view c.in-Err.error) source.1 named line
