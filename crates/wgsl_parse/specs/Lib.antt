@@ -105,5 +105,6 @@ pub use Rattle.wgsl_attribute.specs.Equality as AttributeEquality
 pub use Rattle.wgsl_simple_statement.specs.Equality as SimpleStatementEquality
 pub use Rattle.wgsl_unit.specs.Equality as UnitEquality
 pub use Rattle.wgsl_path.specs.Equality as PathEquality
+pub mod Hashes
 -- the tokens that are written from a tree
 pub use Rattle.wgsl_canonical_theory.specs.CanonicalUnits

@@ -1,6 +1,8 @@
 //! WGSL, the shading language of WebGPU: tokens, trees, faults and printed text, under the names of the Rust crate `wgsl-parse`.
 #![tactic(auto)]
 
+mod name_laws;
+
 pub use wgsl_dialect::recognize_str;
 pub use wgsl_error::Error;
 pub use wgsl_parser::{FromSource, parse_str};
@@ -94,8 +96,9 @@ pub mod laws {
             units,
         };
 
-        /// Of identifiers and literals.
+        /// Of identifiers, whose hashes agree with it, and of literals.
         pub mod expression {
+            pub use crate::name_laws::ident_equality;
             pub use wgsl_expression::equality_laws::{idents, literals};
         }
 

@@ -2,7 +2,7 @@ mod Names
 mod Parts
 mod Supers
 mod Reading
-mod Equalities
+pub mod Equalities
 mod Joins
 mod JoinLaws
 mod TextLaws
