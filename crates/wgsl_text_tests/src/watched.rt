@@ -1,12 +1,13 @@
 //! The tokens of a text, from an iterator that knows what is asked of it behind an error.
 
+ghost use Rattle.std.specs.Prelude.{◌≡◌};
 ghost use Rattle.std.specs.Iterator.{at_most};
 ghost use Rattle.std.proofs.Common.{rules};
 
 use std::alloc::{AllocError, Global};
 use std::cell::Cell;
 use wgsl_parse::error::ParseError;
-use wgsl_parse::lexer::{Lexer, TokenItem, TokenIterator};
+use wgsl_parse::lexer::{FiniteTokens, Lexer, TokenItem};
 
 /// Gives the tokens of a text, or a want of memory before them, and tells if it is asked behind an error.
 #[derive(Drop)]
@@ -42,7 +43,9 @@ impl<'w> Watched<'w> {
         }
     }
 
-    fn give(&mut self) -> Option<TokenItem> {
+    fn give(&mut self) -> Option<TokenItem>
+        ensures { self.new.left ≡ self.old.left }
+    {
         if self.is_refused {
             self.is_refused = false;
             return Some(Err((0, ParseError::OutOfMemory, 0)));
@@ -67,6 +70,6 @@ impl Iterator for Watched<'_> {
     }
 }
 
-impl TokenIterator for Watched<'_> {
-    ghost is_finite = { Prim.search rules };
+impl FiniteTokens for Watched<'_> {
+    ghost is_bounded = { Prim.search rules };
 }

@@ -2,9 +2,9 @@
 
 use crate::making::{assert_text, text};
 use std::alloc::AllocError;
-use std::borrow::CowStr;
 use std::test::Fail;
-use wgsl_error::{Error, ErrorKind, ErrorWithSource, ParseError};
+use wgsl_error::{Error, ErrorKind, ParseError};
+use wgsl_parse::syntax::ModulePathParseError;
 use wgsl_span::Span;
 
 #[test]
@@ -31,6 +31,8 @@ fn wants_of_memory(rt: HostRuntime) {
     assert!(rt; ParseError::default() == ParseError::LexerError);
     assert!(rt; ParseError::from(AllocError) == ParseError::OutOfMemory);
     assert!(rt; ErrorKind::from(AllocError) == ErrorKind::OutOfMemory);
+    let told = ModulePathParseError::from(AllocError).to_string(rt.alloc());
+    assert!(rt; told.is_ok_and(|text| text.as_str() == "out of memory"));
 }
 
 #[test]
@@ -39,13 +41,4 @@ fn a_fault_of_a_token_stands_at_its_place(rt: HostRuntime) {
     assert_eq!(rt; fault.span, Span::new(6..10));
     assert!(rt; fault.error == ErrorKind::DiagnosticSeverity);
     assert!(rt; fault != Error::from((6, ParseError::DiagnosticSeverity, 11)));
-}
-
-#[test]
-fn errors_with_their_source_are_compared_with_it(rt: HostRuntime) {
-    let error = |start| Error::from((start, ParseError::LexerError, 1));
-    let with_source = |start, source| ErrorWithSource::new(error(start), CowStr::Borrowed(source));
-    assert!(rt; with_source(0, "a") == error(0).with_source(CowStr::Borrowed("a")));
-    assert!(rt; with_source(0, "a") != with_source(0, "b"));
-    assert!(rt; with_source(0, "a") != with_source(1, "a"));
 }

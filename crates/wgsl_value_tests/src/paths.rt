@@ -1,9 +1,8 @@
 //! Paths that no text gives, or that are made longer, and what is equal and hashes alike.
 
-use std::alloc::AllocError;
 use std::hash::{DefaultHasher, Hash, Hasher};
 use std::test::Fail;
-use wgsl_parse::syntax::{ModulePath, ModulePathParseError, PathOrigin};
+use wgsl_parse::syntax::{ModulePath, PathOrigin};
 
 #[test]
 fn levels_that_are_too_many(rt: HostRuntime) -> Result<(), Fail> {
@@ -46,12 +45,4 @@ fn hash_of(path: &ModulePath) -> u64 {
     let mut state = DefaultHasher::new();
     path.hash(&mut state);
     state.finish()
-}
-
-#[test]
-fn a_want_of_memory_is_told(rt: HostRuntime) -> Result<(), Fail> {
-    let error = ModulePathParseError::from(AllocError);
-    let told = error.to_string(rt.alloc())?;
-    assert_eq!(rt; told.as_str(), "out of memory");
-    Ok(())
 }
