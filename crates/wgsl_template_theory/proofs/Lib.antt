@@ -29,3 +29,5 @@ pub mod EditUnitRules
 pub mod DerivedEdits
 pub mod Nested
 pub mod WrittenShape
+pub mod Swapped
+pub mod SwapRules

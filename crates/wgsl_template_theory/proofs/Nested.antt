@@ -65,17 +65,17 @@ both_nested A short_circuit k F G f h g = f k h g
 both_nested A stop k F G f h g = f k h g
 both_nested A other k F G f h g = f k h g
 
-same_head : (t u : Token) (ts us : List Token) → t ∷ ts ≡ u ∷ us → t ≡ u
+pub same_head : (t u : Token) (ts us : List Token) → t ∷ ts ≡ u ∷ us → t ≡ u
 same_head t u ts us e = cc
 
-same_tail : (t u : Token) (ts us : List Token) → t ∷ ts ≡ u ∷ us → ts ≡ us
+pub same_tail : (t u : Token) (ts us : List Token) → t ∷ ts ≡ u ∷ us → ts ≡ us
 same_tail t u ts us e = cc
 
 -- where no list is open none ends
 none_ends : (t : Token) (ts : List Kind) (k : ℕ) → k ≡ 0 → role t.class ≡ template_end → nested_role (role t.class) k (λ j. Nested j ts) → ⊥
 none_ends t ts k z e h = subst (λ (r : Role). nested_role r 0 (λ j. Nested j ts)) e (subst (λ (n : ℕ). nested_role (role t.class) n (λ j. Nested j ts)) z h)
 
-same_split : (k : ℕ) (us vs : List Token) (e f : Token) (ts rs : List Token) → role e.class ≡ template_end → role f.class ≡ template_end → Nested k (kinds us) → Nested k (kinds vs)
+pub same_split : (k : ℕ) (us vs : List Token) (e f : Token) (ts rs : List Token) → role e.class ≡ template_end → role f.class ≡ template_end → Nested k (kinds us) → Nested k (kinds vs)
     → us ++ (e ∷ ts) ≡ vs ++ (f ∷ rs) → (us ≡ vs) × (ts ≡ rs)
 same_split k [] [] e f ts rs p q h g w = (refl, same_tail e f ts rs w)
 same_split k [] (v ∷ vs) e f ts rs p q h g w = absurd (none_ends v (kinds vs) k h (ap (λ (t : Token). role t.class) (sym (same_head e v ts (vs ++ (f ∷ rs)) w)) ∙ p) g)
@@ -91,7 +91,7 @@ same_split k (u ∷ us) (v ∷ vs) e f ts rs p q h g w =
 start_role : (c : ℕ) → is_among c (TemplateArgsStart ∷ []) ≡ true → role c ≡ template_start
 start_role c h = ap role (class_is c TemplateArgsStart h)
 
-end_role : (c : ℕ) → is_among c (TemplateArgsEnd ∷ []) ≡ true → role c ≡ template_end
+pub end_role : (c : ℕ) → is_among c (TemplateArgsEnd ∷ []) ≡ true → role c ≡ template_end
 end_role c h = ap role (class_is c TemplateArgsEnd h)
 
 -- a token that is no mark
