@@ -1,5 +1,5 @@
 -- What is left of a text inside template lists: one list of tokens, and of a source its token list.
-use Rattle.std.proofs.Common.{◌≡◌, ◌⊎◌, ℕ, zero, suc, ◌<◌, ◌≤◌, ◌-◌, Bool, true, false, eqb, eqb-true, List, [], ◌∷◌, ◌++◌, drop, length, refl, sym, ap, subst, ◌∙◌, append_assoc, inl, inr, arith, length-append}
+use Rattle.std.proofs.Common.{◌≡◌, ◌⊎◌, ℕ, zero, suc, ◌<◌, ◌≤◌, Bool, true, false, eqb, eqb-true, List, [], ◌∷◌, ◌++◌, drop, length, refl, sym, ap, subst, ◌∙◌, append_assoc, inl, inr, arith, length-append}
 use Rattle.grammar.specs.Tokens.{Token}
 use Rattle.grammar.specs.Faults.{Ending, Ending.finished}
 use Rattle.grammar.proofs.Sets.{cases, clash}
@@ -16,9 +16,9 @@ use Rattle.wgsl_token_theory.proofs.Inside.{at}
 use Rattle.wgsl_token_theory.proofs.Unique.{inside_unique, template_unique}
 use Rattle.wgsl_token_theory.proofs.Decided.{Decided, Begins, template_decided}
 use Rattle.wgsl_token_theory.proofs.Lists.{fault_at, tokens_exist}
-use Rattle.wgsl_lexer.specs.TemplateEnds.{EndsAt}
+use Rattle.wgsl_templates.specs.TemplateEnds.{EndsAt}
 use Rattle.wgsl_lexer.specs.Left.{IsBeforeEnd, LeftOf, left_nothing, left_fault, left_end, left_start, left_token}
-use Rattle.wgsl_lexer.proofs.Reached.{list_front, front_list, no_list_left}
+use Rattle.wgsl_templates.proofs.Reached.{list_front, front_list, no_list_left}
 
 -- the `<` and the `>` of a list
 abbrev pub start_at : ℕ → List ℕ → List ℕ → Token

@@ -14,10 +14,10 @@ use Rattle.wgsl_model.specs.TokenList.{IsTokenList, place, width}
 use Rattle.wgsl_token.specs.declared.token.Token as rust
 use Rattle.wgsl_token.specs.View.{kind_view, token_view}
 use Rattle.wgsl_lexer.specs.declared.lexer.Lexer.{Lexer}
-use Rattle.wgsl_lexer.specs.TemplateEnds.{EndsAt, HasNoEnd}
+use Rattle.wgsl_templates.specs.TemplateEnds.{EndsAt, HasNoEnd}
 use Rattle.wgsl_lexer.specs.Left.{IsBeforeEnd, LeftOf, left_nothing, left_fault, left_end, left_start, left_token, IsLeft, HasEnded, HasToken, Gives}
 use Rattle.wgsl_lexer.specs.Given.{TokenItem}
-use Rattle.wgsl_lexer.proofs.Reached.{no_list}
+use Rattle.wgsl_templates.proofs.Reached.{no_list}
 use Rattle.wgsl_lexer.proofs.LeftTokens.{left_exists, left_unique, some_left, stream, unstream}
 
 -- a text with nothing in it has no tokens

@@ -1,10 +1,6 @@
-pub mod Reached
-pub mod Turns
-pub mod Pushes
-pub mod Scans
 pub mod LeftTokens
-pub mod ListsBehind
 pub mod Lefts
 pub mod InOrder
 pub mod Collects
+pub mod Told
 pub mod Recognized

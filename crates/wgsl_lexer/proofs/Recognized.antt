@@ -1,18 +1,55 @@
--- Whether a source begins with a template list, by what was found behind its first token.
-use Rattle.std.proofs.Common.{◌≡◌, ◌↔◌, ◌∙◌, sym, ℕ, true, List, drop, chars, Option, Some, None, IsTrue, refl}
+-- Whether a source begins with a template list, by the lists of the source.
+use Rattle.std.proofs.Common.{◌≡◌, ◌↔◌, ◌∙◌, sym, ap, subst, ℕ, List, ◌++◌, drop, Option, Some, None, IsTrue, refl, arith}
 use Rattle.std.specs.Prelude.{is_some}
-use Rattle.std.specs.Borrow.{Bor}
 use Rattle.wgsl_model.specs.Kind.{Kind}
 use Rattle.wgsl_model.specs.Raw.{token, raw}
-use Rattle.wgsl_model.specs.TokenList.{width}
-use Rattle.wgsl_lexer.specs.TemplateEnds.{EndsAt, ReadsBehind}
-use Rattle.wgsl_lexer.specs.Left.{BeginsWithList}
+use Rattle.wgsl_model.specs.Templates.{Template}
+use Rattle.wgsl_model.specs.TokenList.{place, width}
+use Rattle.wgsl_span.specs.declared.Span.{Span}
+use Rattle.wgsl_token_theory.proofs.Cuts.{cut_at}
 use Rattle.wgsl_token_theory.proofs.Unique.{marked}
-use Rattle.wgsl_lexer.proofs.Reached.{no_list, front_list}
+use Rattle.wgsl_templates.specs.Spans.{end_from}
+use Rattle.wgsl_templates.specs.Lists.{AreLists}
+use Rattle.wgsl_templates.proofs.Fronts.{raw_again, less_first}
+use Rattle.wgsl_templates.proofs.Ends.{same_place}
+use Rattle.wgsl_templates.proofs.Reached.{list_front, front_list}
+use Rattle.wgsl_lexer.specs.Left.{BeginsWithList}
 
-pub recognized : (source from after : List ℕ) (kind : Kind) (class : ℕ) (before now : List ℕ) (found : Option (Bor (List ℕ))) → raw source ≡ token kind from after → class ≡ kind.class → ReadsBehind true class (width source) after before now found
-    → IsTrue (is_some found) ↔ BeginsWithList source
-recognized source from after kind class before now None r e h = ((λ x. absurd cc), (λ (ts, rest, q). absurd (no_list (width source) source from after kind r (λ less. h.1 refl (e ∙ less)) ts rest q)))
-recognized source from after kind class before now (Some end) r e h =
-    let k : EndsAt (width source) after (chars end.now) = (h.2.0, h.2.1, h.2.2) in
-    ((λ x. (marked (width source) from after h.2.0 (chars end.now), drop 1 (chars end.now), front_list (width source) source from after (chars end.now) kind r (sym e ∙ h.1) k)), (λ x. refl))
+-- a list that starts where the first token does
+found_list : (source from after : List ℕ) (kind : Kind) (spans : List Span) (start end : ℕ) → raw source ≡ token kind from after → AreLists (width source) spans source → start ≡ place (width source) from → end_from spans start ≡ Some end → BeginsWithList source
+found_list source from after kind spans start end r are s e =
+    let total = width source in
+    let h = (are start end).0 e in
+    let cut = cut_at source from after kind r in
+    let same = same_place total source h.0 cut.0.0 _ from (omega arith) h.2 cut.0.1 (sym h.3 ∙ s) in
+    let q = subst (λ x. Template total x h.4.0 h.4.1) same h.4.2 in
+    let f = list_front total from from after kind h.4.0 h.4.1 (raw_again source from after kind r) q in
+    (marked total from after f.2.0 f.1, drop 1 f.1, front_list total source from after f.1 kind r f.0 f.2)
+
+-- and the list at the front is one
+list_found : (source from after : List ℕ) (kind : Kind) (spans : List Span) (start : ℕ) → raw source ≡ token kind from after → AreLists (width source) spans source → start ≡ place (width source) from → BeginsWithList source
+    → (end : ℕ) × (end_from spans start ≡ Some end)
+list_found source from after kind spans start r are s (ts, rest, q) =
+    let total = width source in
+    let f = list_front total source from after kind ts rest r q in
+    let less = less_first source from after kind r f.0 in
+    let cut = cut_at source from after kind r in
+    let list = front_list total from from after f.1 kind (raw_again source from after kind r) f.0 f.2 in (
+      place total (drop 1 f.1),
+      (are start (place total (drop 1 f.1))).1 (
+        cut.0.0,
+        less.0,
+        cut.0.1 ∙ ap (λ x. cut.0.0 ++ x) less.1,
+        s ∙ ap (place total) less.1,
+        (marked total from after f.2.0 f.1, drop 1 f.1, subst (λ x. Template total x (marked total from after f.2.0 f.1) (drop 1 f.1)) less.1 list, refl),
+      ),
+    )
+
+by_found : (A : Type 0) (found : Option ℕ) → ((end : ℕ) → found ≡ Some end → A) → (A → (end : ℕ) × (found ≡ Some end)) → IsTrue (is_some found) ↔ A
+by_found A None f g = ((λ x. absurd cc), (λ a. let h = g a in let no = h.1 in absurd cc))
+by_found A (Some end) f g = ((λ x. f end refl), (λ a. refl))
+
+pub recognized : (source from after : List ℕ) (kind : Kind) (spans : List Span) (start : ℕ) → raw source ≡ token kind from after → AreLists (width source) spans source → start ≡ place (width source) from
+    → IsTrue (is_some (end_from spans start)) ↔ BeginsWithList source
+recognized source from after kind spans start r are s =
+    by_found (BeginsWithList source) (end_from spans start) (λ end e. found_list source from after kind spans start end r are s e) (list_found source from after kind spans start r are s)

@@ -1,24 +1,18 @@
 //! The tokens of a text, one after the other.
 
-ghost use Rattle.std.specs.Prelude.{◌≡◌, ◌⊎◌, ◌≤◌, ◌<◌, ◌↔◌, List, ◌∷◌, ◌++◌, chars, length, IfOk, IsTrue};
-ghost use Rattle.std.specs.Iterator.{at_most};
-ghost use Rattle.grammar.specs.Tokens as grammar;
-ghost use Rattle.grammar.specs.Faults.{Ending};
-ghost use Rattle.wgsl_model.specs.Raw.{raw, Raw.token};
-ghost use Rattle.wgsl_model.specs.TokenList.{IsTokenList};
-ghost use Rattle.wgsl_token.specs.View.{token_view};
-ghost use Rattle.wgsl_scanner.specs.View.{lexeme_view};
-ghost use Rattle.wgsl_lexer.specs.Placed.{tokens_view, ending_view, IsOutOfMemory};
-ghost use Rattle.wgsl_lexer.specs.Left.{BeginsWithList, IsLeft, Gives, bytes_left};
+ghost use Rattle.std.specs.Prelude.{◌≤◌, chars, length};
+ghost use Rattle.wgsl_templates.specs.Lists.{AreTold};
 
-use crate::collect::{Collected, collect_tokens};
 use crate::open_lists::OpenLists;
-use crate::template::{behind_first, is_word, list_behind};
 use crate::token_iterator::TokenItem;
 use std::alloc::{AllocError, Global};
 use wgsl_error::ParseError;
 use wgsl_scanner::lexeme::Lexeme;
 use wgsl_scanner::scan::{Scanned, place, scan};
+use wgsl_templates::roles::{is_less_than, is_word};
+use wgsl_templates::text::behind_first;
+use wgsl_templates::{Templates, discover};
+use wgsl_token::kind::TokenKind;
 use wgsl_token::token::Token;
 
 /// Gives the tokens of a text, and then the fault that ends them if there is one. Behind a fault it gives nothing more.
@@ -33,18 +27,35 @@ pub struct Lexer<'s> {
     behind_word: bool,
     /// The template lists that the rest stands in.
     lists: OpenLists,
+    /// The template lists of the source.
+    templates: Templates,
+    ghost within: { length rest.now ≤ total },
+    ghost told: { AreTold total templates.lists.spans.items (chars rest.now) },
 }
 
 impl<'s> Lexer<'s> {
+    ghost use Rattle.std.specs.Prelude.{◌≡◌, ◌<◌, ◌↔◌, List, ◌∷◌, true, IfOk, MatchOption, Some, None};
+    ghost use Rattle.grammar.specs.Tokens as grammar;
+    ghost use Rattle.grammar.specs.Faults.{Ending};
+    ghost use Rattle.wgsl_model.specs.Classes.{SymLessThan};
+    ghost use Rattle.wgsl_model.specs.Raw.{raw, Raw.token};
+    ghost use Rattle.wgsl_model.specs.TokenList.{IsTokenList};
+    ghost use Rattle.wgsl_token.specs.View.{class_of_kind, token_view};
+    ghost use Rattle.wgsl_scanner.specs.View.{lexeme_view};
+    ghost use Rattle.wgsl_templates.specs.Spans.{end_from};
+    ghost use Rattle.wgsl_lexer.specs.Left.{IsLeft};
+
     pub fn new(alloc: Global, source: &'s str) -> Result<Lexer<'s>, AllocError>
         ensures { IfOk result (λ lexer. (ts : List grammar.Token) (e : Ending) → IsTokenList (chars source.now) ts e ↔ IsLeft lexer ts e) }
     {
+        let templates = discover(alloc, source)?;
         Ok(Lexer {
             alloc,
             total: source.len(),
             rest: source,
             behind_word: false,
             lists: OpenLists::new(alloc),
+            templates,
         })
     }
 
@@ -53,13 +64,25 @@ impl<'s> Lexer<'s> {
         ensures { IfOk result (λ copy. (ts : List grammar.Token) (e : Ending) → IsLeft self.now ts e ↔ IsLeft copy ts e) }
     {
         let lists = self.lists.clone(alloc)?;
+        let templates = self.templates.clone(alloc)?;
         Ok(Lexer {
             alloc,
             total: self.total,
             rest: self.rest,
             behind_word: self.behind_word,
             lists,
+            templates,
         })
+    }
+
+    /// Where the text begins behind the list whose `<` is a token of a kind at the place.
+    fn list_end(&self, kind: TokenKind, start: usize) -> Option<usize>
+        ensures { MatchOption result (self.now.behind_word ≡ true → class_of_kind kind ≡ SymLessThan → end_from self.now.templates.lists.spans.items start ≡ None) (λ end. (self.now.behind_word ≡ true) × (class_of_kind kind ≡ SymLessThan) × (end_from self.now.templates.lists.spans.items start ≡ Some end)) }
+    {
+        if self.behind_word && is_less_than(kind) {
+            return self.templates.end_of(start);
+        }
+        None
     }
 
     /// Takes the token at the front of the rest.
@@ -84,9 +107,8 @@ impl<'s> Lexer<'s> {
             return Ok((start, Token::TemplateArgsEnd, place(self.total, rest)));
         }
         let kind = lexeme.kind();
-        let mut kinds = Vec::new(self.alloc);
-        if let Some(end) = list_behind(&mut kinds, self.behind_word, kind, after)? {
-            self.lists.enter(place(self.total, end))?;
+        if let Some(end) = self.list_end(kind, start) {
+            self.lists.enter(end - 1)?;
             self.behind_word = false;
             self.rest = after;
             return Ok((start, Token::TemplateArgsStart, place(self.total, after)));
@@ -100,6 +122,9 @@ impl<'s> Lexer<'s> {
 
 impl<'s> Iterator for Lexer<'s> {
     type Item = TokenItem;
+
+    ghost use Rattle.std.specs.Iterator.{at_most};
+    ghost use Rattle.wgsl_lexer.specs.Left.{Gives, bytes_left};
 
     ghost next_gives = { Gives };
 
@@ -127,24 +152,4 @@ impl<'s> Iterator for Lexer<'s> {
             },
         }
     }
-}
-
-/// Whether the text, behind its trivia, begins with a template list.
-pub fn recognize_template_list(alloc: Global, source: &str) -> Result<bool, AllocError>
-    ensures { IfOk result (λ found. IsTrue found ↔ BeginsWithList (chars source.now)) }
-{
-    let Scanned::Found { lexeme, after, .. } = scan(source) else {
-        return Ok(false);
-    };
-    let mut kinds = Vec::new(alloc);
-    Ok(list_behind(&mut kinds, true, lexeme.kind(), after)?.is_some())
-}
-
-/// The tokens of a text and the fault that ends them, or where memory was refused a beginning of them.
-pub fn lex(alloc: Global, source: &str) -> Result<Collected, AllocError>
-    ensures all { IfOk result (λ found. IsTokenList (chars source.now) (tokens_view found) (ending_view found.error) ⊎ IsOutOfMemory found.error) }
-    ensures beginning { IfOk result (λ found. (us : List grammar.Token) × (e : Ending) × IsTokenList (chars source.now) (tokens_view found ++ us) e) }
-{
-    let lexer = Lexer::new(alloc, source)?;
-    collect_tokens(alloc, lexer)
 }

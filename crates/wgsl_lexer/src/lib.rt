@@ -5,9 +5,11 @@ mod collect;
 pub mod laws;
 mod lexer;
 mod open_lists;
-mod template;
+mod source;
 mod token_iterator;
 
 pub use collect::{Collected, collect_tokens};
-pub use lexer::{Lexer, lex, recognize_template_list};
+pub use lexer::Lexer;
+pub use source::{lex, recognize_template_list};
 pub use token_iterator::{FiniteTokens, TokenItem, TokenIterator};
+pub use wgsl_templates::{Templates, discover};

@@ -1,8 +1,12 @@
-use Rattle.std.proofs.Common.{◌≡◌, sym, ap, chars, length}
+use Rattle.std.proofs.Common.{◌≡◌, sym, ap, chars, length, arith}
 use Rattle.std.proofs.lemmas.Str.{encodes-chars}
 use Rattle.wgsl_model.specs.TokenList.{width}
+use Rattle.wgsl_templates.proofs.Known.{source_known}
 use Rattle.wgsl_lexer.proofs.Lefts.{whole_left}
 use Rattle.wgsl_lexer.proofs.lexer.Lexer.new.Goals as goal
+
+pub invariant_of-result : goal.invariant_of-result
+invariant_of-result c = record { within = omega arith; told = source_known c.args.source.now c.in_ok-templates.templates.lists.spans.items c.utf8.source c.in_ok-templates.ensures.lists }
 
 pub returns : goal.returns
 returns c ts e =

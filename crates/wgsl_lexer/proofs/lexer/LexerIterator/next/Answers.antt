@@ -1,4 +1,6 @@
-use Rattle.std.proofs.Common.{sym, inl, inr, chars}
+use Rattle.std.proofs.Common.{sym, inl, inr, chars, [], arith}
+use Rattle.std.proofs.lemmas.Str.{chars-nil}
+use Rattle.wgsl_templates.proofs.Known.{nothing_known}
 use Rattle.wgsl_lexer.proofs.Lefts.{ended, nothing_left, fault_left, some_token}
 use Rattle.wgsl_lexer.proofs.lexer.LexerIterator.next.Goals as goal
 
@@ -12,3 +14,9 @@ returns-in-Invalid-clause-steps c =
 pub returns-in-Err-clause-steps : goal.returns-in-Err-clause-steps
 returns-in-Err-clause-steps c =
     (inr (c.from.ensures, some_token c.args.self.now _ _ _ (sym c.in-Found.ensures.value)), ended _ _ _)
+
+pub invariant_of-self : goal.invariant_of-self
+invariant_of-self c = record { within = omega arith; told = nothing_known c.args.self.now.total c.args.self.now.templates.lists.spans.items (chars []) chars-nil }
+
+pub invariant_of-self-in-Err : goal.invariant_of-self-in-Err
+invariant_of-self-in-Err c = record { within = omega arith; told = nothing_known c.take.new.self.total c.take.new.self.templates.lists.spans.items (chars []) chars-nil }

@@ -1,0 +1,12 @@
+pub mod Names
+pub mod Turns
+pub mod Pushes
+pub mod Scans
+pub mod Reached
+pub mod Begun
+pub mod Fronts
+pub mod Ends
+pub mod Searched
+pub mod Listed
+pub mod Stepped
+pub mod Known

@@ -1,0 +1,4 @@
+pub mod Roles
+pub mod Spans
+pub mod Lists
+pub mod TemplateEnds
