@@ -20,7 +20,9 @@ pub mod error {
 
 /// Tokens, and what gives them.
 pub mod lexer {
-    pub use wgsl_lexer::{FiniteTokens, Lexer, TokenItem, TokenIterator, recognize_template_list};
+    pub use wgsl_lexer::{
+        FiniteTokens, Lexer, Templates, TokenItem, TokenIterator, discover, recognize_template_list,
+    };
     pub use wgsl_token::kind::TokenKind;
     pub use wgsl_token::token::Token;
 }

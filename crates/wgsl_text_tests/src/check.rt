@@ -1,5 +1,6 @@
 //! What is seen of a row's text, by how it is read.
 
+use crate::discovered::see_lists;
 use crate::facts::Facts;
 use crate::nodes::expressions::see_literal;
 use crate::paths::see_path;
@@ -53,6 +54,7 @@ pub fn facts_of(alloc: Global, row: &Row<'_>) -> Result<Facts, AllocError> {
     match std::str::from_utf8(&read.value) {
         Ok(text) => match word {
             "path" => see_path(text, row, &mut facts)?,
+            "discover" => see_lists(text, &mut facts)?,
             "snippet" => see_snippet(text, argument, &mut facts)?,
             _ => see_text(word, text, &mut facts)?,
         },

@@ -3,6 +3,7 @@
 #![tactic(auto)]
 
 mod check;
+mod discovered;
 mod facts;
 mod nodes;
 mod paths;

@@ -4,8 +4,8 @@ use crate::making::{assert_text, ident, name, text, ty};
 use std::alloc::{AllocError, Global};
 use std::test::Fail;
 use wgsl_attribute::Attribute;
-use wgsl_expression::{Expression, ExpressionNode, FunctionCall, Ident, LiteralExpression};
-use wgsl_span::{Span, Spanned};
+use wgsl_expression::{Expression, FunctionCall, Ident, LiteralExpression};
+use wgsl_span::Spanned;
 use wgsl_statement::{
     CompoundStatement, ConstAssert, Declaration, DeclarationKind, ForStatement,
     FunctionCallStatement, ReturnStatement, Statement, StatementNode, WhileStatement,
@@ -135,20 +135,6 @@ fn a_returned_value_takes_memory(rt: HostRuntime) -> Result<(), Fail> {
     let result = ReturnStatement::from_expression(rt.alloc(), Expression::from(3i32))?;
     let text = "return 3i;";
     assert_text(&rt, rt.alloc(), result, ReturnStatement::clone, text)
-}
-
-fn truth(alloc: Global, span: Span) -> Result<ExpressionNode, AllocError> {
-    Spanned::new(alloc, Expression::from(true), span)
-}
-
-#[test]
-fn spans_are_set_aside_and_copied(rt: HostRuntime) -> Result<(), Fail> {
-    let here = truth(rt.alloc(), Span::new(2..6))?;
-    let there = truth(rt.alloc(), Span::new(7..11))?;
-    assert!(rt; here == there);
-    let copy = here.clone(rt.alloc())?;
-    assert_eq!(rt; copy.span(), Span::new(2..6));
-    Ok(())
 }
 
 #[test]
