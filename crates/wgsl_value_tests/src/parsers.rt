@@ -92,36 +92,53 @@ fn fault_of_expression(alloc: Global, items: &[(usize, Given, usize)]) -> Result
 #[test]
 fn faults_of_expressions(rt: HostRuntime) -> Result<(), Fail> {
     let name = (0, Given::Kind(TokenKind::Ident), 1);
-    let severity = (5, Given::Severity, 9);
-    let invalid = (9, Given::InvalidToken, 4);
     let comma = (0, Given::Kind(TokenKind::SymComma), 1);
-    let block = (1, Given::Kind(TokenKind::BlockComment), 5);
-    let line = (1, Given::Kind(TokenKind::LineComment), 3);
-    let minus = (0, Given::Kind(TokenKind::SymMinus), usize::MAX);
-    for (items, wanted) in [
+    for (first, second, wanted) in [
         (
-            [name, severity].as_slice(),
+            name,
+            (5, Given::Severity, 9),
             "chars 5..9: invalid diagnostic severity",
         ),
-        (&[invalid, name], "chars 9..4: invalid token"),
-        (&[comma, invalid], "chars 0..1: unexpected token `,`"),
         (
-            &[name, block],
+            (9, Given::InvalidToken, 4),
+            name,
+            "chars 9..4: invalid token",
+        ),
+        (
+            comma,
+            (1, Given::InvalidToken, 2),
+            "chars 0..1: unexpected token `,`",
+        ),
+        (
+            name,
+            (1, Given::Kind(TokenKind::BlockComment), 5),
             "chars 1..5: unexpected token `/* block comment */`",
         ),
         (
-            &[name, line],
+            name,
+            (1, Given::Kind(TokenKind::LineComment), 3),
             "chars 1..3: unexpected token `// line comment`",
         ),
-        (&[], "chars 0..1: unexpected end of file"),
-        (
-            &[minus],
-            "chars 18446744073709551615..18446744073709551615: unexpected end of file",
-        ),
     ] {
-        let fault = fault_of_expression(rt.alloc(), items)?;
+        let fault = fault_of_expression(rt.alloc(), &[first, second])?;
         assert_eq!(rt; fault.as_str(), wanted);
     }
+    Ok(())
+}
+
+#[test]
+fn no_tokens_end_too_early(rt: HostRuntime) -> Result<(), Fail> {
+    let fault = fault_of_expression(rt.alloc(), &[])?;
+    assert_eq!(rt; fault.as_str(), "chars 0..1: unexpected end of file");
+    Ok(())
+}
+
+#[test]
+fn an_end_at_the_greatest_place(rt: HostRuntime) -> Result<(), Fail> {
+    let minus = (0, Given::Kind(TokenKind::SymMinus), usize::MAX);
+    let fault = fault_of_expression(rt.alloc(), &[minus])?;
+    let wanted = "chars 18446744073709551615..18446744073709551615: unexpected end of file";
+    assert_eq!(rt; fault.as_str(), wanted);
     Ok(())
 }
 
@@ -233,5 +250,7 @@ fn an_operator_is_no_template_list(rt: HostRuntime) -> Result<(), Fail> {
     let span = TryTemplateListParser::new().parse(rt.alloc(), tokens);
     let fault = told(rt.alloc(), span)?;
     assert_eq!(rt; fault.as_str(), "chars 0..1: unexpected token `<`");
+    let tokens = Listed::new(rt.alloc(), &asked, &items);
+    assert!(rt; recognize_template_list(rt.alloc(), tokens).is_err());
     Ok(())
 }
