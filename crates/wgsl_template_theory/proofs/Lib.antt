@@ -31,3 +31,7 @@ pub mod Nested
 pub mod WrittenShape
 pub mod Swapped
 pub mod SwapRules
+pub mod InsideNested
+pub mod ReadAlike
+pub mod Attempts
+pub mod RefutesAround

@@ -15,7 +15,7 @@ use Rattle.wgsl_template_theory.proofs.Edits.{Edits, at_the_end, kept, no_comma,
 
 -- ---- kinds
 -- behind a token, so many template lists deep
-abbrev nested_role : Role → ℕ → (ℕ → Type 0) → Type 0
+abbrev pub nested_role : Role → ℕ → (ℕ → Type 0) → Type 0
 nested_role template_start k Next = Next (suc k)
 nested_role template_end zero Next = ⊥
 nested_role template_end (suc k) Next = Next k
@@ -27,7 +27,7 @@ Nested k [] = k ≡ 0
 Nested k (t ∷ ts) = nested_role (role t.class) k (λ j. Nested j ts)
 
 -- so many template lists deep within others
-abbrev within : ℕ → ℕ → ℕ
+abbrev pub within : ℕ → ℕ → ℕ
 within zero i = i
 within (suc k) i = suc (within k i)
 
@@ -46,7 +46,7 @@ nested_more stop k i F G f h = f k h
 nested_more other k i F G f h = f k h
 
 -- with more behind them
-nested_behind : (k i : ℕ) (us ts : List Token) → Nested k (kinds us) → Nested i (kinds ts) → Nested (within k i) (kinds (us ++ ts))
+pub nested_behind : (k i : ℕ) (us ts : List Token) → Nested k (kinds us) → Nested i (kinds ts) → Nested (within k i) (kinds (us ++ ts))
 nested_behind k i [] ts h g = subst (λ (n : ℕ). Nested (within n i) (kinds ts)) (sym h) g
 nested_behind k i (u ∷ us) ts h g = nested_more (role u.class) k i (λ j. Nested j (kinds us)) (λ j. Nested j (kinds (us ++ ts))) (λ j f. nested_behind j i us ts f g) h
 
@@ -102,7 +102,7 @@ unmarked c h = go (role c) (role_says c) where
   go template_end s = clash _ (ap (λ (x : ℕ). is_among x template_ends) (class_is c TemplateArgsEnd s)) h
   go r s = refl
 
-unmarked_nested : (r : Role) (k : ℕ) (Next : ℕ → Type 0) → is_mark_role r ≡ false → Next k → nested_role r k Next
+pub unmarked_nested : (r : Role) (k : ℕ) (Next : ℕ → Type 0) → is_mark_role r ≡ false → Next k → nested_role r k Next
 unmarked_nested template_start k Next e h = absurd cc
 unmarked_nested template_end k Next e h = absurd cc
 unmarked_nested r k Next e h = h

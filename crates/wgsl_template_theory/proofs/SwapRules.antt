@@ -19,7 +19,7 @@ use Rattle.wgsl_template_theory.proofs.Reach.{Place.inside, role}
 use Rattle.wgsl_template_theory.proofs.Moves.{kinds}
 use Rattle.wgsl_template_theory.proofs.ClearUnits.{list_clear}
 use Rattle.wgsl_template_theory.proofs.Nested.{Nested, same_tail, same_split, end_role, clear_nested}
-use Rattle.wgsl_template_theory.proofs.Swapped.{IsTemplate, Swapped, unswapped, one_template, both_swapped, none_swapped, with_token, with_template, begins, begins_alike}
+use Rattle.wgsl_template_theory.proofs.Swapped.{Swapped, none_swapped, with_token, with_template, begins, begins_alike}
 
 -- ---- right sides
 -- from the tokens zs something is derived too, before tokens that stand in place of ys
@@ -167,8 +167,3 @@ swapped_derives n e v xs ys d zs s = by_derivation Known rules n v xs ys d e zs 
 -- a list of expressions stays one
 pub swapped_list : (xs ys : List Token) → Swapped xs ys → IsList xs → IsList ys
 swapped_list xs ys s l = let a = swapped_derives expressions refl l.0 xs [] l.1 ys s in (a.0, subst (λ (z : List Token). D expressions a.0 ys z) (none_swapped [] a.1 a.3 refl) a.2)
-
--- with one template list in place of another
-pub template_swapped : (ps us vs qs : List Token) (s e t f : Token) → IsTemplate s us e → IsTemplate t vs f → IsList (ps ++ (s ∷ (us ++ (e ∷ qs)))) → IsList (ps ++ (t ∷ (vs ++ (f ∷ qs))))
-template_swapped ps us vs qs s e t f a b l =
-    swapped_list (ps ++ (s ∷ (us ++ (e ∷ qs)))) (ps ++ (t ∷ (vs ++ (f ∷ qs)))) (both_swapped ps ps (unswapped ps) (s ∷ (us ++ (e ∷ qs))) (t ∷ (vs ++ (f ∷ qs))) (one_template s e t f us vs qs qs a b (unswapped qs))) l
