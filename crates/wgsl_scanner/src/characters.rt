@@ -4,13 +4,13 @@ ghost use Rattle.std.specs.Prelude.{◌≡◌, ◌==◌, ◌||◌};
 ghost use Rattle.unicode_ident.specs.Ident.{is_xid_start, is_xid_continue};
 ghost use Rattle.wgsl_model.specs.Characters.{is_blank, is_line_break};
 
-pub(crate) fn is_blank(c: char) -> bool
+pub fn is_blank(c: char) -> bool
     ensures { result ≡ is_blank c }
 {
     c.is_whitespace() || c == '\u{200E}' || c == '\u{200F}'
 }
 
-pub(crate) fn is_line_break(c: char) -> bool
+pub fn is_line_break(c: char) -> bool
     ensures { result ≡ is_line_break c }
 {
     matches!(

@@ -1,7 +1,7 @@
 //! The token at the front of a text.
 #![tactic(auto)]
 
-mod characters;
+pub mod characters;
 mod digits;
 mod float;
 mod keyword;
@@ -11,6 +11,6 @@ mod number;
 mod reserved;
 pub mod scan;
 mod symbol;
-mod text;
+pub mod text;
 mod trivia;
 mod word;

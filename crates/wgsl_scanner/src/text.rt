@@ -5,7 +5,7 @@ ghost use Rattle.wgsl_model.specs.Numbers.{without_last};
 ghost use Rattle.wgsl_model.specs.Raw.{front};
 
 /// The first character and the text after it.
-pub(crate) fn split_first(text: &str) -> Option<(char, &str)>
+pub fn split_first(text: &str) -> Option<(char, &str)>
     ensures parts { MatchOption result (chars text.now ≡ []) (λ found. chars text.now ≡ found.0 ∷ chars found.1.now) }
     ensures shorter { MatchOption result (length text.now ≡ 0) (λ found. length found.1.now < length text.now) }
 {
