@@ -16,9 +16,9 @@ use Rattle.wgsl_token_theory.proofs.Inside.{at}
 use Rattle.wgsl_token_theory.proofs.Unique.{inside_unique, template_unique}
 use Rattle.wgsl_token_theory.proofs.Decided.{Decided, Begins, template_decided}
 use Rattle.wgsl_token_theory.proofs.Lists.{fault_at, tokens_exist}
-use Rattle.wgsl_templates.specs.TemplateEnds.{EndsAt}
+use Rattle.wgsl_template_theory.specs.Attempts.{EndsAt}
 use Rattle.wgsl_lexer.specs.Left.{IsBeforeEnd, LeftOf, left_nothing, left_fault, left_end, left_start, left_token}
-use Rattle.wgsl_templates.proofs.Reached.{list_front, front_list, no_list_left}
+use Rattle.wgsl_template_theory.proofs.Attempts.{list_front, front_list, none_left_begins}
 
 -- the `<` and the `>` of a list
 abbrev pub start_at : ℕ → List ℕ → List ℕ → Token
@@ -202,8 +202,8 @@ stream_inside total k H depth text vs end ends us e le fits (at_other d t from a
 
 enclosed_stream : (total k : ℕ) → Streams total k → (text : List ℕ) (ts : List Token) (rest ends : List ℕ) (us : List Token) (e : Ending) → length text < suc k → width text ≤ total → Template total text ts rest
     → ((kind : Kind) (from after : List ℕ) → raw text ≡ token kind from after → IsBeforeEnd total ends from) → LeftOf total ends false rest us e → (r : Raw) → raw text ≡ r → LeftOf total ends true text (ts ++ us) e
-enclosed_stream total k H text ts rest ends us e lt fits q b left none_left x = absurd (no_list_left total text none_left x (λ kind from after y. cc) ts rest q)
-enclosed_stream total k H text ts rest ends us e lt fits q b left (invalid from after) x = absurd (no_list_left total text (invalid from after) x (λ kind f a y. cc) ts rest q)
+enclosed_stream total k H text ts rest ends us e lt fits q b left none_left x = absurd (none_left_begins total text none_left x (λ kind from after y. cc) ts rest q)
+enclosed_stream total k H text ts rest ends us e lt fits q b left (invalid from after) x = absurd (none_left_begins total text (invalid from after) x (λ kind f a y. cc) ts rest q)
 enclosed_stream total k H text ts rest ends us e lt fits q b left (token kind from after) x =
     let f = list_front total text from after kind ts rest x q in
     let inner = stream_inside total k H 0 after f.2.0 f.1 ends us e (omega (arith, shorter text from after kind x)) (narrower total text from after kind x fits) f.2.1 (subst (λ y. LeftOf total ends false y us e) f.4 left) in

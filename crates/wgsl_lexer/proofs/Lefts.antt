@@ -14,10 +14,10 @@ use Rattle.wgsl_model.specs.TokenList.{IsTokenList, place, width}
 use Rattle.wgsl_token.specs.declared.token.Token as rust
 use Rattle.wgsl_token.specs.View.{kind_view, token_view}
 use Rattle.wgsl_lexer.specs.declared.lexer.Lexer.{Lexer}
-use Rattle.wgsl_templates.specs.TemplateEnds.{EndsAt, HasNoEnd}
+use Rattle.wgsl_template_theory.specs.Attempts.{EndsAt, HasNoEnd}
 use Rattle.wgsl_lexer.specs.Left.{IsBeforeEnd, LeftOf, left_nothing, left_fault, left_end, left_start, left_token, IsLeft, HasEnded, HasToken, Gives}
 use Rattle.wgsl_lexer.specs.Given.{TokenItem}
-use Rattle.wgsl_templates.proofs.Reached.{no_list}
+use Rattle.wgsl_template_theory.proofs.Attempts.{none_begins}
 use Rattle.wgsl_lexer.proofs.LeftTokens.{left_exists, left_unique, some_left, stream, unstream}
 
 -- a text with nothing in it has no tokens
@@ -52,7 +52,7 @@ pub token_left : (total : ℕ) (ends : List ℕ) (word : Bool) (text from after 
     → (word ≡ true → kind.class ≡ SymLessThan → HasNoEnd total after) → start ≡ place total from → end ≡ place total after → kind_view t ≡ kind → LeftOf total ends (is_word kind.class) after ts e → LeftOf total ends word text (token_view start t end ∷ ts) e
 token_left total ends word text from after kind start t end ts e r b n s d k h =
     subst (λ (x : Token). LeftOf total ends word text (x ∷ ts) e) (same_token total from after kind start t end s d k)
-    (left_token ends word text from after kind ts e r b (λ w. no_list total text from after kind r (n w)) h)
+    (left_token ends word text from after kind ts e r b (λ w. none_begins total text from after kind r (n w)) h)
 
 -- the `<` of a list
 pub start_left : (total : ℕ) (ends : List ℕ) (word : Bool) (text from after list_end : List ℕ) (kind : Kind) (start : ℕ) (end : ℕ) (ts : List Token) (e : Ending) → raw text ≡ token kind from after → IsBeforeEnd total ends from

@@ -12,7 +12,7 @@ use Rattle.wgsl_templates.specs.Spans.{end_from}
 use Rattle.wgsl_templates.specs.Lists.{AreLists}
 use Rattle.wgsl_templates.proofs.Fronts.{raw_again, less_first}
 use Rattle.wgsl_templates.proofs.Ends.{same_place}
-use Rattle.wgsl_templates.proofs.Reached.{list_front, front_list}
+use Rattle.wgsl_template_theory.proofs.Attempts.{list_front, front_list}
 use Rattle.wgsl_lexer.specs.Left.{BeginsWithList}
 
 -- a list that starts where the first token does

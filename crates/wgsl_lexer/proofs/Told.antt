@@ -8,9 +8,10 @@ use Rattle.wgsl_span.specs.declared.Span.{Span}
 use Rattle.wgsl_token_theory.proofs.Cuts.{cut_at}
 use Rattle.wgsl_templates.specs.Spans.{end_from}
 use Rattle.wgsl_templates.specs.Lists.{AreTold}
-use Rattle.wgsl_templates.specs.TemplateEnds.{EndsAt, HasNoEnd}
+use Rattle.wgsl_template_theory.specs.Attempts.{EndsAt, HasNoEnd}
 use Rattle.wgsl_templates.proofs.Fronts.{raw_again, less_first}
-use Rattle.wgsl_templates.proofs.Reached.{list_front, no_end_behind}
+use Rattle.wgsl_template_theory.proofs.Attempts.{list_front}
+use Rattle.wgsl_templates.proofs.Reached.{no_end_behind}
 use Rattle.wgsl_templates.proofs.Known.{known_end, known_some, known_none, end_place}
 
 -- the end that is told is behind the `>` of the list

@@ -13,7 +13,7 @@ use Rattle.wgsl_error.specs.declared.ParseError.TheVariants as parse
 use Rattle.wgsl_lexer.specs.declared.lexer.Lexer.{Lexer}
 use Rattle.wgsl_lexer.specs.Placed.{placed_fault}
 use Rattle.wgsl_lexer.specs.Given.{TokenItem}
-use Rattle.wgsl_templates.specs.TemplateEnds.{EndsAt}
+use Rattle.wgsl_template_theory.specs.Attempts.{EndsAt}
 
 -- the text is not where the innermost template list ends
 abbrev pub IsBeforeEnd : ℕ → List ℕ → List ℕ → Type 0

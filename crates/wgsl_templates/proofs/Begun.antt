@@ -1,26 +1,25 @@
--- Whether a text begins with a template list, by its first token.
-use Rattle.std.proofs.Common.{◌≡◌, ◌↔◌, ◌∙◌, ℕ, List, Option, Some, None, drop, sym, ap}
-use Rattle.wgsl_model.specs.Classes.{SymLessThan}
+-- Whether a list begins a text, and where it ends.
+use Rattle.std.proofs.Common.{◌≡◌, ◌≤◌, ◌∙◌, ℕ, List, sym, ap, subst}
 use Rattle.wgsl_model.specs.Kind.{Kind}
 use Rattle.wgsl_model.specs.Raw.{raw, token}
-use Rattle.wgsl_model.specs.Places.{place}
-use Rattle.wgsl_token_theory.proofs.Unique.{template_unique, marked}
+use Rattle.wgsl_model.specs.Places.{place, width}
+use Rattle.wgsl_token_theory.proofs.Cuts.{EndsWith}
+use Rattle.wgsl_token_theory.proofs.Unique.{template_unique}
+use Rattle.wgsl_templates.specs.declared.kept.Piece.{Piece}
+use Rattle.wgsl_templates.specs.declared.findings.Finding.{Finding}
 use Rattle.wgsl_templates.specs.Lists.{ListEnds}
-use Rattle.wgsl_templates.specs.TemplateEnds.{EndsAt, HasNoEnd}
-use Rattle.wgsl_templates.proofs.Reached.{no_list, front_list}
+use Rattle.wgsl_templates.specs.Findings.{IsFinding, IsRight}
+use Rattle.wgsl_templates.proofs.Ends.{same_place}
 
--- the answer says where the list ends that begins the text
-abbrev pub Tells : ℕ → List ℕ → Option ℕ → Type 0
-Tells total text found = (end : ℕ) → found ≡ Some end ↔ ListEnds total text end
+-- a list has one end
+pub one_end : (total : ℕ) (text : List ℕ) (a b : ℕ) → ListEnds total text a → ListEnds total text b → a ≡ b
+one_end total text a b (ts, rest, q, e) (us, other, r, f) = e ∙ ap (place total) (template_unique total text ts us rest other q r).1 ∙ sym f
 
--- behind a token that begins no list
-pub none_tells : (total : ℕ) (text from after : List ℕ) (kind : Kind) → raw text ≡ token kind from after → (kind.class ≡ SymLessThan → HasNoEnd total after) → Tells total text None
-none_tells total text from after kind e n end = ((λ x. absurd cc), (λ (ts, rest, q, p). absurd (no_list total text from after kind e n ts rest q)))
-
--- behind a `<` whose list ends
-pub end_tells : (total : ℕ) (text from after end : List ℕ) (kind : Kind) (at : ℕ) → raw text ≡ token kind from after → kind.class ≡ SymLessThan → EndsAt total after end → at ≡ place total (drop 1 end) → Tells total text (Some at)
-end_tells total text from after end kind at e c k p place' =
-    let q = front_list total text from after end kind e c k in (
-      (λ x. let same : at ≡ place' = cc in (marked total from after k.0 end, drop 1 end, q, sym same ∙ p)),
-      (λ (ts, rest, r, s). let same = template_unique total text (marked total from after k.0 end) ts (drop 1 end) rest q r in ap Some (p ∙ ap (place total) same.1 ∙ sym s)),
-    )
+-- what was found of the `<` at the front of a text is right
+pub found_right : (total : ℕ) (source : List ℕ) (pieces : List Piece) (text from after : List ℕ) (kind : Kind) (start : ℕ) (r : Finding) → width source ≤ total → EndsWith source text → start ≡ place total text
+    → raw text ≡ token kind from after → IsFinding total pieces after r → IsRight total source pieces (record { start = start; finding = r })
+found_right total source pieces text from after kind start r fits ends s e h from' after' kind' cut t f =
+    let same : text ≡ from' = same_place total source ends.0 cut.0 text from' fits ends.1 cut.1 (sym s ∙ t) in
+    let both : token kind from after ≡ token kind' from' after' = sym e ∙ ap raw same ∙ f in
+    let behind : after ≡ after' = cc in
+    subst (λ (x : List ℕ). IsFinding total pieces x r) behind h

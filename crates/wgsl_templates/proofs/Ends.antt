@@ -93,6 +93,15 @@ list_narrower total text ts rest q = go text ts rest ((template_is total text ts
       omega (arith, within text from cut.0, past from after cut.1, within after end (inside_leaves total (Template total) (template_leaves total) 0 after us end i), within end (drop 1 end) (behind_first end))
 
 -- what `get` gives from there on
+gets_bytes : (bs : List ℕ) (n : ℕ) (rest : List ℕ) (x : Bor (List ℕ)) → IsUtf8 bs → EndsWith (chars bs) rest → n ≡ place (length bs) rest → GetsRange bs n (length bs) (Some x) → x.now ≡ encode_utf8_all rest
+gets_bytes bs n rest x u e at gets =
+    let cut = cut_end bs e.0 rest u e.1 in
+    let start : n ≡ width e.0 = omega (arith, at, cut.3) in
+    gets.0 ∙ ap (λ m. take m (drop n bs)) (sym (length-drop n bs)) ∙ take-length (drop n bs) ∙ ap (λ m. drop m bs) start ∙ cut.0
+
+pub gets_end : (bs : List ℕ) (n : ℕ) (rest : List ℕ) (x : Bor (List ℕ)) → IsUtf8 bs → EndsWith (chars bs) rest → n ≡ place (length bs) rest → GetsRange bs n (length bs) (Some x) → chars x.now ≡ rest
+gets_end bs n rest x u e at gets = ap chars (gets_bytes bs n rest x u e at gets) ∙ (cut_end bs e.0 rest u e.1).1
+
 skipped_at : (total : ℕ) (bs : List ℕ) (n : ℕ) (before rest : List ℕ) (ts : List Token) (r : Option (Bor (List ℕ))) → IsUtf8 bs → chars bs ≡ before ++ rest → Template total (chars bs) ts rest → n ≡ width before → GetsRange bs n (length bs) r
     → SkipsList total (chars bs) r × MatchOption r ⊤ (λ x. length x.now < length bs)
 skipped_at total bs n before rest ts None u e q at gets =
@@ -100,8 +109,8 @@ skipped_at total bs n before rest ts None u e q at gets =
     absurd (gets (omega (arith, at, cut.3)) (subst (IsCharBoundary bs) (sym at) cut.2) (IsCharBoundary-end bs))
 skipped_at total bs n before rest ts (Some x) u e q at gets =
     let cut = cut_end bs before rest u e in
-    let same : x.now ≡ encode_utf8_all rest = gets.0 ∙ ap (λ m. take m (drop n bs)) (sym (length-drop n bs)) ∙ take-length (drop n bs) ∙ ap (λ m. drop m bs) at ∙ cut.0 in
-    ((ts, subst (λ y. Template total (chars bs) ts y) (sym (ap chars same ∙ cut.1)) q), omega (arith, ap length same, list_narrower total (chars bs) ts rest q, bytes_width bs u))
+    let same : chars x.now ≡ rest = gets_end bs n rest x u (before, e) (omega (arith, at, cut.3)) gets in
+    ((ts, subst (λ y. Template total (chars bs) ts y) (sym same) q), omega (arith, ap length (gets_bytes bs n rest x u (before, e) (omega (arith, at, cut.3)) gets), list_narrower total (chars bs) ts rest q, bytes_width bs u))
 
 pub skipped : (total : ℕ) (bs : List ℕ) (start end : ℕ) (r : Option (Bor (List ℕ))) → IsUtf8 bs → length bs ≤ total → start ≡ place total (chars bs) → ListEnds total (chars bs) end → GetsRange bs (end - start) (length bs) r
     → SkipsList total (chars bs) r × MatchOption r ⊤ (λ x. length x.now < length bs)

@@ -23,7 +23,7 @@ use Rattle.wgsl_model.specs.Raw.{Raw, none_left, invalid, token, front, keyword_
 
 -- ---- trivia
 -- no trivia stands at the front
-abbrev IsBare : List ℕ → Type 0
+abbrev pub IsBare : List ℕ → Type 0
 IsBare text = after_trivia outside text ≡ text
 
 -- whichever of two texts is chosen
@@ -37,7 +37,7 @@ unfolding after_trivia
 bare_at c cs b l k = rw (b, l, k) refl
 
 -- behind trivia stands none
-behind_trivia : (p : Place) (text : List ℕ) → IsBare (after_trivia p text)
+pub behind_trivia : (p : Place) (text : List ℕ) → IsBare (after_trivia p text)
 unfolding after_trivia
 behind_trivia p [] = refl
 behind_trivia outside (c ∷ cs) =

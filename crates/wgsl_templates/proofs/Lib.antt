@@ -1,7 +1,13 @@
+pub mod Commented
+pub mod CommentSteps
 pub mod Names
 pub mod Turns
 pub mod Pushes
 pub mod Scans
+pub mod Held
+pub mod Rests
+pub mod Found
+pub mod Pieces
 pub mod Reached
 pub mod Begun
 pub mod Fronts

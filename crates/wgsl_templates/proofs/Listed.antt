@@ -155,9 +155,6 @@ one_sign_more back done =
     let first : less_than_signs (60 ∷ (back ++ done)) ≡ 1 + less_than_signs (back ++ done) = sum_by-append (λ c. cond (c == 60) 1 0) (60 ∷ []) (back ++ done) in
     omega (arith, all, first)
 
-pub more_signs : (left done : List ℕ) → less_than_signs done ≤ less_than_signs (left ++ done)
-more_signs left done = omega (arith, sum_by-append (λ c. cond (c == 60) 1 0) left done)
-
 -- ---- what is left, and what is done
 -- the lists behind what is left of a source are known, with at most as many attempts as there are `<`
 pub record Done (total : ℕ) (source left : List ℕ) (spans : List Span) (attempts : ℕ) : Type 0 where

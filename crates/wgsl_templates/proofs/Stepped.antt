@@ -1,17 +1,31 @@
 -- What one more `<` from the right leaves of a source.
-use Rattle.std.proofs.Common.{◌≡◌, ℕ, ◌+◌, ◌*◌, ◌<◌, ◌≤◌, false, List, [], ◌∷◌, ◌++◌, Option, Some, None, take, drop, chars, length, refl, sym, ap, subst, ◌∙◌, append_assoc, arith, mul-le-mul_left}
+use Rattle.std.proofs.Common.{◌≡◌, ℕ, ◌+◌, ◌*◌, ◌<◌, ◌≤◌, false, List, [], ◌∷◌, ◌++◌, Some, take, drop, chars, length, refl, sym, ap, subst, ◌∙◌, append-nil, append_assoc, arith, mul-le-mul_left}
 use Rattle.std.specs.Prelude.{◌==◌, ◌^◌}
 use Rattle.std.specs.Str.{IsUtf8, IsCharBoundary, NonePass, NoCharPasses}
 use Rattle.std.specs.Str.Pattern.{RFindsChar, SplitsAroundMatch}
 use Rattle.std.proofs.lemmas.List.{take-append-drop}
 use Rattle.std.proofs.lemmas.List.Sums.{count_by-le-length}
 use Rattle.std.proofs.lemmas.Str.{IsUtf8-take, IsUtf8-drop, IsUtf8-past_char, IsCharBoundary-before_ascii, chars-append, chars_past_char, chars_from_encodes, length-le-encodes}
+use Rattle.wgsl_model.specs.Classes.{SymLessThan}
+use Rattle.wgsl_model.specs.Kind.{Kind}
+use Rattle.wgsl_model.specs.Raw.{raw, token}
 use Rattle.wgsl_model.specs.Places.{place, width}
 use Rattle.wgsl_span.specs.declared.Span.{Span}
+use Rattle.wgsl_model.specs.Templates.{NoTemplate, Template}
+use Rattle.wgsl_token_theory.proofs.Cuts.{EndsWith}
 use Rattle.wgsl_token_theory.proofs.Widths.{within}
+use Rattle.wgsl_token_theory.proofs.Unique.{marked}
+use Rattle.wgsl_template_theory.specs.Attempts.{EndsAt}
+use Rattle.wgsl_template_theory.proofs.Attempts.{none_begins, front_list}
+use Rattle.wgsl_templates.specs.declared.findings.Finding.{Finding}
+use Rattle.wgsl_templates.specs.declared.findings.Finding.TheVariants.{Around, Within, List as Listed}
+use Rattle.wgsl_templates.specs.declared.kept.Piece.{Piece}
+use Rattle.wgsl_templates.specs.Findings.{IsFinding, listed, greater_place}
+use Rattle.wgsl_templates.specs.Readings.{costs}
 use Rattle.wgsl_templates.specs.Lists.{ListEnds, TellLists, AreLists, less_than_signs}
 use Rattle.wgsl_templates.proofs.Ends.{bytes_width, cut_end}
-use Rattle.wgsl_templates.proofs.Begun.{Tells}
+use Rattle.wgsl_templates.proofs.Begun.{one_end}
+use Rattle.wgsl_templates.proofs.Known.{end_place}
 use Rattle.wgsl_templates.proofs.Listed.{HasNoLess, Done, told, told_more, none_more, one_more, one_sign_more, all_lists}
 
 -- ---- no `<`
@@ -98,26 +112,30 @@ reads_fit reads attempts n text small few some less =
 pub reads_more : (reads now attempts n text : ℕ) → reads ≤ attempts * (n + 1) → text ≤ n → now ≤ reads + text + 1 → now ≤ (attempts + 1) * (n + 1)
 reads_more reads now attempts n text some less more = grind arith
 
+-- the source ends with the text from there on
+pub ends_source : (source before text : List ℕ) (spans : List Span) (attempts : ℕ) → Cut source before spans attempts → text ≡ drop (length before) source → EndsWith (chars source) (chars text)
+ends_source source before text spans attempts k e = (chars before, k.parts ∙ ap (λ x. chars before ++ x) (sym (ap chars e ∙ k.text)))
+
 -- what was tried, where no list begins
-pub tried_none : (source before text : List ℕ) (spans : List Span) (attempts : ℕ) (found : Option ℕ) → Cut source before spans attempts → text ≡ drop (length before) source → found ≡ None → Tells (length source) (chars text) found
+pub tried_none : (source before text : List ℕ) (spans : List Span) (attempts : ℕ) → Cut source before spans attempts → text ≡ drop (length before) source → NoTemplate (Template (length source)) (chars text)
     → Done (length source) (chars source) (chars before) spans (attempts + 1)
-tried_none source before text spans attempts found k e none tells = record {
+tried_none source before text spans attempts k e none = record {
   behind = 60 ∷ (k.back ++ k.done);
   parts = k.parts;
   lists = none_more (length source) spans k.back k.done k.clear
-      (λ end ends. let some = (tells end).1 (subst (λ x. ListEnds (length source) x end) (sym (ap chars e ∙ k.text)) ends) in let no : None ≡ Some end = sym none ∙ some in absurd cc) k.lists;
+      (λ end ends. let list = subst (λ x. ListEnds (length source) x end) (sym (ap chars e ∙ k.text)) ends in none list.0 list.1 list.2) k.lists;
   few = omega (arith, k.few, one_sign_more k.back k.done);
 }
 
 -- and where one does
-pub tried_one : (source before text : List ℕ) (spans now : List Span) (attempts start at : ℕ) (found : Option ℕ) → Cut source before spans attempts → text ≡ drop (length before) source → found ≡ Some at → Tells (length source) (chars text) found → start ≡ length before
+pub tried_one : (source before text : List ℕ) (spans now : List Span) (attempts start at : ℕ) → Cut source before spans attempts → text ≡ drop (length before) source → ListEnds (length source) (chars text) at → start ≡ length before
     → now ≡ spans ++ record { start = start; end = at } ∷ [] → Done (length source) (chars source) (chars before) now (attempts + 1)
-tried_one source before text spans now attempts start at found k e some tells s more =
+tried_one source before text spans now attempts start at k e one s more =
     let first : start ≡ place (length source) (60 ∷ (k.back ++ k.done)) = s ∙ k.at in
-    let same : chars text ≡ 60 ∷ (k.back ++ k.done) = ap chars e ∙ k.text in
+    let list = subst (λ x. ListEnds (length source) x at) (ap chars e ∙ k.text) one in
     let all = one_more (length source) spans k.back k.done at k.clear k.fits (λ end. (
-      (λ q. subst (λ x. ListEnds (length source) x end) same ((tells end).0 (some ∙ ap Some q))),
-      (λ ends. one_end at end (sym some ∙ (tells end).1 (subst (λ x. ListEnds (length source) x end) (sym same) ends))),
+      (λ q. subst (ListEnds (length source) (60 ∷ (k.back ++ k.done))) q list),
+      (λ ends. one_end (length source) (60 ∷ (k.back ++ k.done)) at end list ends),
     )) k.lists in
     record {
       behind = 60 ∷ (k.back ++ k.done);
@@ -125,9 +143,33 @@ tried_one source before text spans now attempts start at found k e some tells s 
       lists = subst (λ x. AreLists (length source) x (60 ∷ (k.back ++ k.done))) (sym (more ∙ ap (λ x. spans ++ record { start = x; end = at } ∷ []) first)) all;
       few = omega (arith, k.few, one_sign_more k.back k.done);
     }
-  where
-    one_end : (a b : ℕ) → Some a ≡ Some b → a ≡ b
-    one_end a b e = cc
+
+-- what a list begins with, and where the text behind it does
+list_place : (total : ℕ) (text from after end : List ℕ) (kind : Kind) (at : ℕ) → width after ≤ total → raw text ≡ token kind from after → kind.class ≡ SymLessThan → EndsAt total after end → at ≡ place total end → ListEnds total text (at + 1)
+list_place total text from after end kind at fits e less k p =
+    (marked total from after k.0 end, drop 1 end, front_list total text from after end kind e less k, omega (arith, p, end_place total after k.0 end fits k.1))
+
+-- what was found of the `<`
+pub tried_found : (source before text : List ℕ) (spans now : List Span) (attempts start : ℕ) (pieces : List Piece) (from after : List ℕ) (kind : Kind) (f : Finding) → Cut source before spans attempts → text ≡ drop (length before) source
+    → raw (chars text) ≡ token kind from after → kind.class ≡ SymLessThan → width after ≤ length source → IsFinding (length source) pieces after f → start ≡ length before → now ≡ spans ++ listed start f → Done (length source) (chars source) (chars before) now (attempts + 1)
+tried_found source before text spans now attempts start pieces from after kind Around k e r less fits h s more =
+    subst (λ (x : List Span). Done (length source) (chars source) (chars before) x (attempts + 1)) (sym (more ∙ append-nil spans)) (tried_none source before text spans attempts k e (none_begins (length source) (chars text) from after kind r (λ l. h.0)))
+tried_found source before text spans now attempts start pieces from after kind (Within at b c) k e r less fits h s more =
+    subst (λ (x : List Span). Done (length source) (chars source) (chars before) x (attempts + 1)) (sym (more ∙ append-nil spans)) (tried_none source before text spans attempts k e (none_begins (length source) (chars text) from after kind r (λ l. h.0)))
+tried_found source before text spans now attempts start pieces from after kind (Listed at b c) k e r less fits (end, p, list, g) s more =
+    tried_one source before text spans now attempts start (at + 1) k e (list_place (length source) (chars text) from after end kind at fits r less list p) s more
+
+-- its `>` stands in the source
+pub greater_fits : (total : ℕ) (pieces : List Piece) (after : List ℕ) (f : Finding) → width after ≤ total → IsFinding total pieces after f → 0 < total → greater_place f + 1 ≤ total
+greater_fits total pieces after Around fits h some = omega (arith, some)
+greater_fits total pieces after (Within at b c) fits h some = omega (arith, some)
+greater_fits total pieces after (Listed at b c) fits (end, p, (ts, i, l), g) some = omega (arith, p, end_place total after ts end fits i)
+
+-- how many lists that are
+pub listed_costs : (start : ℕ) (f : Finding) → (costs (Some f) ≡ 2 * length (listed start f)) × (length (listed start f) ≤ 1)
+listed_costs start Around = (refl, omega arith)
+listed_costs start (Within at b c) = (refl, omega arith)
+listed_costs start (Listed at b c) = (refl, omega arith)
 
 -- behind what has no `<`, all lists are known
 pub all_done : (source left : List ℕ) (spans : List Span) (attempts : ℕ) → IsUtf8 source → IsUtf8 left → NoCharPasses (λ d. d == 60) left → Done (length source) (chars source) (chars left) spans attempts → AreLists (width (chars source)) spans (chars source)

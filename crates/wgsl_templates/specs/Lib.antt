@@ -1,4 +1,9 @@
 pub mod Roles
 pub mod Spans
 pub mod Lists
+pub mod Comments
+pub mod Kept
+pub mod Reached
+pub mod Findings
 pub mod TemplateEnds
+pub mod Readings

@@ -6,7 +6,7 @@ use Rattle.wgsl_token_theory.specs.Refuted.{in_no_expression}
 use Rattle.wgsl_templates.specs.declared.roles.Role.{Role}
 use Rattle.wgsl_templates.specs.declared.roles.Role.TheVariants.{Opening, Closing, Greater, ShortCircuit, Stranger, Other}
 use Rattle.wgsl_templates.specs.declared.roles.Turn.{Turn}
-use Rattle.wgsl_templates.specs.declared.roles.Turn.TheVariants.{Ends, Refutes, Takes}
+use Rattle.wgsl_templates.specs.declared.roles.Turn.TheVariants.{Ends, Stops, Refutes, Takes}
 
 -- its role
 abbrev pub role : ℕ → Role
@@ -21,11 +21,11 @@ role class =
 -- what a token of a role does with so many brackets open
 abbrev pub turn_by : ℕ → Role → Turn
 turn_by depth Opening = Takes (suc depth)
-turn_by zero Closing = Refutes
+turn_by zero Closing = Stops
 turn_by (suc depth) Closing = Takes depth
 turn_by zero Greater = Ends
 turn_by (suc depth) Greater = Takes (suc depth)
-turn_by zero ShortCircuit = Refutes
+turn_by zero ShortCircuit = Stops
 turn_by (suc depth) ShortCircuit = Takes (suc depth)
 turn_by depth Stranger = Refutes
 turn_by depth Other = Takes depth

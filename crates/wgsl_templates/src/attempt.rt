@@ -1,146 +1,95 @@
-//! One try at a `<`: whether a template list begins there, where the lists behind it are known.
+//! One try at a `<`: whether a template list begins there, where what stands behind it is known.
 
-ghost use Rattle.std.specs.Prelude.{◌≡◌, ◌↔◌, ◌+◌, ◌<◌, ◌≤◌, ◌^◌, ⊤, ℕ, List, [], ◌∷◌, ◌++◌, chars, drop, length, IfOk, MatchOption, Some};
-ghost use Rattle.wgsl_model.specs.Classes.{SymLessThan, TemplateArgsStart, TemplateArgsEnd, Ident};
-ghost use Rattle.wgsl_model.specs.Raw.{raw};
-ghost use Rattle.wgsl_token.specs.View.{class_of_kind};
-ghost use Rattle.wgsl_scanner.specs.View.{scanned_view, IsShorter};
-ghost use Rattle.wgsl_recognizer.specs.ExpressionLists.{classes};
-ghost use Rattle.wgsl_templates.specs.Lists.{ListEnds, TellLists};
-ghost use Rattle.wgsl_templates.specs.TemplateEnds.{ReadsInside, SkipsList, SkipsBehind};
+ghost use Rattle.std.specs.Prelude.{◌≡◌, ◌↔◌, ◌+◌, ◌<◌, ◌≤◌, ◌^◌, List, chars, drop, length, IfOk, IsTrue};
+ghost use Rattle.grammar.specs.Tokens.{Token};
+ghost use Rattle.wgsl_token_theory.proofs.Cuts.{EndsWith};
+ghost use Rattle.wgsl_recognizer.specs.ExpressionLists.{classes_of, IsExpressionList};
+ghost use Rattle.wgsl_templates.specs.Comments.{AreComments};
+ghost use Rattle.wgsl_templates.specs.Kept.{held};
+ghost use Rattle.wgsl_templates.specs.Lists.{TellLists};
+ghost use Rattle.wgsl_templates.specs.Findings.{AreRight};
+ghost use Rattle.wgsl_templates.specs.Readings.{IsOutcome, costs};
 
-use crate::lists::Lists;
-use crate::roles::{Turn, is_less_than, is_word, turn_of};
-use crate::text::behind_first;
-use std::alloc::AllocError;
+use crate::comments::Comments;
+use crate::findings::Finding;
+use crate::kept::{Kept, Rest};
+use crate::reading::{Reading, read, take};
+use crate::roles::is_less_than;
+use crate::tried::Tried;
+use std::alloc::{AllocError, Global};
 use wgsl_recognizer::is_expression_list;
-use wgsl_scanner::scan::{Scanned, place, scan};
+use wgsl_scanner::scan::{Scanned, place};
 use wgsl_token::kind::TokenKind;
 
-/// Takes the token at the front of a text, which is one read.
-fn take<'s>(reads: &mut u128, text: &'s str) -> Scanned<'s>
-    requires { reads.old + 1 < 2 ^ 128 }
-    ensures value { scanned_view result ≡ raw (chars text.now) }
-    ensures shorter { IsShorter (length text.now) result }
-    ensures reads { reads.new ≡ reads.old + 1 }
-{
-    *reads += 1;
-    scan(text)
+/// Space for the kinds of one list, used again at each.
+#[derive(Drop)]
+pub(crate) struct Scratch {
+    kinds: Vec<TokenKind>,
+    rests: Vec<Rest>,
 }
 
-/// The text behind the known list that begins the text.
-fn behind_list<'s>(lists: &Lists, total: usize, text: &'s str) -> Option<&'s str>
-    requires fits { length text.now ≤ total }
-    requires first { (behind : List ℕ) × (chars text.now ≡ 60 ∷ behind) }
-    requires lists { TellLists total lists.now.spans.items (chars text.now) }
-    ensures value { SkipsList total (chars text.now) result }
-    ensures shorter { MatchOption result ⊤ (λ rest. length rest.now < length text.now) }
-{
-    let start = place(total, text);
-    let end = lists.end_of(start)?;
-    text.get(end - start..)
-}
-
-/// The same where a token of a kind begins the text, which begins a list only if it is a `<` behind a word.
-fn list_behind<'s>(
-    lists: &Lists,
-    total: usize,
-    behind_word: bool,
-    kind: TokenKind,
-    text: &'s str,
-) -> Option<&'s str>
-    requires fits { length text.now ≤ total }
-    requires first { class_of_kind kind ≡ SymLessThan → (behind : List ℕ) × (chars text.now ≡ 60 ∷ behind) }
-    requires lists { TellLists total lists.now.spans.items (chars text.now) }
-    ensures value { SkipsBehind behind_word (class_of_kind kind) total (chars text.now) result }
-    ensures shorter { MatchOption result ⊤ (λ rest. length rest.now < length text.now) }
-{
-    if behind_word && is_less_than(kind) {
-        return behind_list(lists, total, text);
-    }
-    None
-}
-
-/// Puts the kinds of a list of one name behind the others: they stand for those of any other list.
-fn push_list(kinds: &mut Vec<TokenKind>) -> Result<(), AllocError>
-    ensures { IfOk result (λ _. classes kinds.new.items ≡ classes kinds.old.items ++ (TemplateArgsStart ∷ Ident ∷ TemplateArgsEnd ∷ [])) }
-{
-    kinds.push(TokenKind::TemplateArgsStart)?;
-    kinds.push(TokenKind::Ident)?;
-    kinds.push(TokenKind::TemplateArgsEnd)?;
-    Ok(())
-}
-
-/// The text from the `>` on that ends the list whose `<` stands before the text; the kinds become those of what stands inside.
-fn inside<'s>(
-    lists: &Lists,
-    total: usize,
-    kinds: &mut Vec<TokenKind>,
-    reads: &mut u128,
-    text: &'s str,
-) -> Result<Option<&'s str>, AllocError>
-    requires fits { length text.now ≤ total }
-    requires reads { reads.old + length text.now + 1 < 2 ^ 128 }
-    requires lists { TellLists total lists.now.spans.items (chars text.now) }
-    ensures value { IfOk result (λ found. ReadsInside total (chars text.now) (classes kinds.new.items) found) }
-    ensures some { reads.old < reads.new }
-    ensures few { reads.new ≤ reads.old + length text.now + 1 }
-{
-    kinds.clear();
-    let mut rest = text;
-    let mut depth = 0usize;
-    let mut behind_word = false;
-    'tokens: while let Scanned::Found {
-        lexeme,
-        from,
-        after,
-    } = take(reads, rest)
-    {
-        let kind = lexeme.kind();
-        if let Some(behind) = list_behind(lists, total, behind_word, kind, from) {
-            push_list(kinds)?;
-            rest = behind;
-            behind_word = false;
-            continue;
+impl Scratch {
+    pub(crate) fn new(alloc: Global) -> Scratch {
+        Scratch {
+            kinds: Vec::new(alloc),
+            rests: Vec::new(alloc),
         }
-        match turn_of(depth, kind) {
-            Turn::Ends => return Ok(Some(from)),
-            Turn::Refutes => return Ok(None),
-            Turn::Takes(open) => depth = open,
-        }
-        kinds.push(kind)?;
-        behind_word = is_word(kind);
-        rest = after;
     }
-    Ok(None)
 }
 
-/// Where the template list ends that begins the text; the kinds are overwritten.
+/// Whether the kinds of what was read from a place on are a list of expressions.
+fn is_list(kept: &Kept, start: usize, scratch: &mut Scratch) -> Result<bool, AllocError>
+    ensures { IfOk result (λ list. (ts : List Token) → classes_of ts ≡ held kept.now.pieces.items start (length kept.now.pieces.items) → IsTrue list ↔ IsExpressionList ts) }
+{
+    scratch.kinds.clear();
+    kept.push_kinds(start, kept.len(), &mut scratch.kinds, &mut scratch.rests)?;
+    Ok(is_expression_list(&scratch.kinds))
+}
+
+/// Tries the `<` at the front of a text that ends the source: nothing is found where `<` is not its first token.
 pub(crate) fn attempt(
-    lists: &Lists,
-    total: usize,
-    kinds: &mut Vec<TokenKind>,
+    tried: &Tried,
+    comments: &mut Comments,
+    kept: &mut Kept,
+    scratch: &mut Scratch,
     reads: &mut u128,
+    source: &str,
     text: &str,
-) -> Result<Option<usize>, AllocError>
-    requires fits { length text.now ≤ total }
+) -> Result<Option<Finding>, AllocError>
+    requires ends { EndsWith (chars source.now) (chars text.now) }
     requires reads { reads.old + length text.now + 1 < 2 ^ 128 }
-    requires lists { TellLists total lists.now.spans.items (drop 1 (chars text.now)) }
-    ensures value { IfOk result (λ found. (end : ℕ) → found ≡ Some end ↔ ListEnds total (chars text.now) end) }
-    ensures some { IfOk result (λ found. MatchOption found (reads.old ≤ reads.new) (λ _. reads.old + 2 ≤ reads.new)) }
+    requires lists { TellLists (length source.now) tried.now.lists.spans.items (drop 1 (chars text.now)) }
+    requires known { AreComments (chars source.now) comments.old.found.items }
+    requires right { AreRight (length source.now) (chars source.now) kept.old.pieces.items tried.now.findings.entries.items }
+    ensures value { IfOk result (λ found. IsOutcome (length source.now) (chars text.now) kept.new.pieces.items found) }
+    ensures right { IfOk result (λ _. AreRight (length source.now) (chars source.now) kept.new.pieces.items tried.now.findings.entries.items) }
+    ensures known { IfOk result (λ _. AreComments (chars source.now) comments.new.found.items) }
+    ensures some { IfOk result (λ found. reads.old + costs found ≤ reads.new) }
     ensures few { reads.new ≤ reads.old + length text.now + 1 }
 {
-    let Scanned::Found { lexeme, after, .. } = take(reads, text) else {
+    let Scanned::Found { lexeme, after, .. } = take(comments, reads, source, text)? else {
         return Ok(None);
     };
     if !is_less_than(lexeme.kind()) {
         return Ok(None);
     }
-    let Some(end) = inside(lists, total, kinds, reads, after)? else {
-        return Ok(None);
-    };
-    if !is_expression_list(kinds) {
-        return Ok(None);
+    let start = kept.len();
+    match read(tried, comments, kept, reads, source, after)? {
+        Reading::Around => Ok(Some(Finding::Around)),
+        Reading::Within(rest) => Ok(Some(Finding::Within {
+            place: place(source.len(), rest),
+            start,
+            end: kept.len(),
+        })),
+        Reading::Ends(greater) => {
+            if !is_list(kept, start, scratch)? {
+                return Ok(Some(Finding::Around));
+            }
+            Ok(Some(Finding::List {
+                place: place(source.len(), greater),
+                start,
+                end: kept.len(),
+            }))
+        }
     }
-    Ok(Some(place(total, behind_first(end))))
 }

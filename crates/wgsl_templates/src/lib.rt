@@ -2,9 +2,15 @@
 #![tactic(auto)]
 
 mod attempt;
+mod comments;
+mod findings;
+mod kept;
 mod lists;
+mod reading;
 pub mod roles;
 mod templates;
 pub mod text;
+mod tried;
+mod trivia;
 
 pub use templates::{Templates, discover};

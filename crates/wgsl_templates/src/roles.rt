@@ -114,7 +114,9 @@ fn role_of(kind: TokenKind) -> Role
 #[derive(Clone, Copy)]
 pub(crate) enum Turn {
     Ends,
-    /// Shows that there is no list.
+    /// Shows that there is no list, if none in whose brackets it stands.
+    Stops,
+    /// Shows that there is no list, and none around it.
     Refutes,
     /// Stands inside; so many brackets are open behind it.
     Takes(usize),
@@ -127,11 +129,11 @@ pub(crate) fn turn_of(depth: usize, kind: TokenKind) -> Turn
 {
     match role_of(kind) {
         Role::Opening => Turn::Takes(depth + 1),
-        Role::Closing if depth == 0 => Turn::Refutes,
+        Role::Closing if depth == 0 => Turn::Stops,
         Role::Closing => Turn::Takes(depth - 1),
         Role::Greater if depth == 0 => Turn::Ends,
         Role::Greater => Turn::Takes(depth),
-        Role::ShortCircuit if depth == 0 => Turn::Refutes,
+        Role::ShortCircuit if depth == 0 => Turn::Stops,
         Role::ShortCircuit => Turn::Takes(depth),
         Role::Stranger => Turn::Refutes,
         Role::Other => Turn::Takes(depth),

@@ -5,10 +5,12 @@ ghost use Rattle.wgsl_model.specs.Places.{width};
 ghost use Rattle.wgsl_templates.specs.Spans.{end_from};
 ghost use Rattle.wgsl_templates.specs.Lists.{AreLists, less_than_signs};
 
-use crate::attempt::attempt;
+use crate::attempt::{Scratch, attempt};
+use crate::comments::Comments;
+use crate::kept::Kept;
 use crate::lists::Lists;
+use crate::tried::Tried;
 use std::alloc::{AllocError, Global};
-use wgsl_span::Span;
 
 /// The template lists of a text, and what it took to find them. Places are byte offsets; a start is inclusive, an end exclusive.
 #[derive(Debug, PartialEq, Drop)]
@@ -62,28 +64,35 @@ pub fn discover(alloc: Global, source: &str) -> Result<Templates, AllocError>
     ensures reads { IfOk result (λ found. found.reads ≤ found.attempts * (length source.now + 1)) }
     ensures each { IfOk result (λ found. 2 * length found.lists.spans.items ≤ found.reads) }
 {
-    let mut found = Templates {
-        lists: Lists::new(alloc),
-        attempts: 0,
-        reads: 0,
-    };
-    let mut kinds = Vec::new(alloc);
+    let mut tried = Tried::new(alloc);
+    let mut comments = Comments::new(alloc);
+    let mut kept = Kept::new(alloc);
+    let mut scratch = Scratch::new(alloc);
+    let mut attempts = 0usize;
+    let mut reads = 0u128;
     let mut left = source;
     'characters: while let Some((before, _)) = left.rsplit_once('<') {
         let start = before.len();
         let (_, text) = source.split_at(start);
-        let end = attempt(
-            &found.lists,
-            source.len(),
-            &mut kinds,
-            &mut found.reads,
+        let found = attempt(
+            &tried,
+            &mut comments,
+            &mut kept,
+            &mut scratch,
+            &mut reads,
+            source,
             text,
         )?;
-        found.attempts += 1;
-        if let Some(end) = end {
-            found.lists.add(Span { start, end })?;
+        attempts += 1;
+        if let Some(found) = found {
+            tried.add(start, found)?;
         }
         left = before;
     }
-    Ok(found)
+    let Tried { lists, .. } = tried;
+    Ok(Templates {
+        lists,
+        attempts,
+        reads,
+    })
 }

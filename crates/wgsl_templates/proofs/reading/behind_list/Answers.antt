@@ -1,7 +1,7 @@
 use Rattle.std.proofs.Common.{chars, sym, subst, ◌∙◌, arith}
 use Rattle.wgsl_templates.specs.TemplateEnds.{SkipsList}
 use Rattle.wgsl_templates.proofs.Ends.{found_ends, none_found, ends_behind, skipped}
-use Rattle.wgsl_templates.proofs.attempt.behind_list.Goals as goal
+use Rattle.wgsl_templates.proofs.reading.behind_list.Goals as goal
 
 pub returns-in_err-end-clause-value : goal.returns-in_err-end-clause-value
 returns-in_err-end-clause-value c =
