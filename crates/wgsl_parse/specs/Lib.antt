@@ -89,6 +89,9 @@ pub use Rattle.wgsl_dialect.specs.Recognized
 pub use Rattle.wgsl_lexer.specs.Given
 pub use Rattle.wgsl_lexer.specs.Left
 pub use Rattle.wgsl_lexer.specs.InOrder
+-- the template lists of a text
+pub use Rattle.wgsl_templates.specs.Lists as TemplateLists
+pub use Rattle.wgsl_templates.specs.Spans as FoundSpans
 -- nodes and their attributes
 pub use Rattle.wgsl_syntax_node.specs.Attributed
 pub use Rattle.wgsl_syntax_node.specs.Keeps
