@@ -11,7 +11,7 @@ use Rattle.wgsl_token_theory.proofs.Unique.{marked}
 use Rattle.wgsl_templates.specs.Spans.{end_from}
 use Rattle.wgsl_templates.specs.Lists.{AreLists}
 use Rattle.wgsl_templates.proofs.Fronts.{raw_again, less_first}
-use Rattle.wgsl_templates.proofs.Ends.{same_place}
+use Rattle.wgsl_token_theory.proofs.Places.{same_place}
 use Rattle.wgsl_template_theory.proofs.Attempts.{list_front, front_list}
 use Rattle.wgsl_lexer.specs.Left.{BeginsWithList}
 

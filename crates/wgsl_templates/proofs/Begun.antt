@@ -9,7 +9,7 @@ use Rattle.wgsl_templates.specs.declared.kept.Piece.{Piece}
 use Rattle.wgsl_templates.specs.declared.findings.Finding.{Finding}
 use Rattle.wgsl_templates.specs.Lists.{ListEnds}
 use Rattle.wgsl_templates.specs.Findings.{IsFinding, IsRight}
-use Rattle.wgsl_templates.proofs.Ends.{same_place}
+use Rattle.wgsl_token_theory.proofs.Places.{same_place}
 
 -- a list has one end
 pub one_end : (total : ℕ) (text : List ℕ) (a b : ℕ) → ListEnds total text a → ListEnds total text b → a ≡ b

@@ -1,38 +1,24 @@
 -- Where the ends of a text stand, and the lists at them.
-use Rattle.std.proofs.Common.{◌≡◌, ℕ, ◌+◌, ◌-◌, ◌<◌, ◌≤◌, List, [], ◌∷◌, ◌++◌, Option, Some, None, take, drop, length, length-drop, chars, Bor, true, refl, sym, ap, subst, ◌∙◌, append_assoc, arith}
-use Rattle.std.proofs.lemmas.Str.{encodes-chars, encodes-append, chars-encodes, IsCharBoundary-at_seam, scalars-chars, IsCharBoundary-end}
-use Rattle.std.proofs.Math.Seq.{drop-append_seam, take-length}
+use Rattle.std.proofs.Common.{◌≡◌, ℕ, ◌-◌, ◌<◌, ◌≤◌, List, [], ◌∷◌, ◌++◌, Option, Some, None, drop, length, chars, Bor, refl, sym, ap, subst, ◌∙◌, append_assoc, arith}
+use Rattle.std.proofs.lemmas.Str.{IsCharBoundary-end}
 use Rattle.std.proofs.lemmas.List.{length-append}
 use Rattle.std.specs.Bool.{⊤}
 use Rattle.std.specs.Option.{MatchOption}
 use Rattle.std.specs.Str.Pattern.{GetsRange}
-use Rattle.std.specs.Str.{IsUtf8, IsCharBoundary, encode_utf8_all}
-use Rattle.std.proofs.Math.Utf8.{scalars}
+use Rattle.std.specs.Str.{IsUtf8, IsCharBoundary}
 use Rattle.grammar.specs.Tokens.{Token}
-use Rattle.grammar.proofs.Sets.{and_true}
 use Rattle.wgsl_model.specs.Kind.{Kind}
 use Rattle.wgsl_model.specs.Raw.{raw, token}
 use Rattle.wgsl_model.specs.Places.{place, width}
 use Rattle.wgsl_model.specs.Templates.{Template, NoTemplate, Enclosed, enclosed}
 use Rattle.wgsl_span.specs.declared.Span.{Span}
 use Rattle.wgsl_token_theory.proofs.Cuts.{EndsWith, EndsPast, cut_at, behind_first}
+use Rattle.wgsl_token_theory.proofs.Places.{bytes_width, cut_end, gets_bytes, gets_end}
 use Rattle.wgsl_token_theory.proofs.Widths.{within, past}
 use Rattle.wgsl_token_theory.proofs.Bounds.{template_is, template_leaves, inside_leaves}
 use Rattle.wgsl_templates.specs.Spans.{end_from}
 use Rattle.wgsl_templates.specs.TemplateEnds.{SkipsList}
 use Rattle.wgsl_templates.specs.Lists.{ListEnds, TellLists}
-
--- ends of a text that are as wide are the same
-pub same_end : (xs ys t u : List ℕ) → xs ++ t ≡ ys ++ u → width t ≡ width u → t ≡ u
-same_end [] [] t u e w = e
-same_end [] (y ∷ ys) t u e w = absurd (omega (arith, past t u (y, ys, e)))
-same_end (x ∷ xs) [] t u e w = absurd (omega (arith, past u t (x, xs, sym e)))
-same_end (x ∷ xs) (y ∷ ys) t u e w = let tails : xs ++ t ≡ ys ++ u = cc in same_end xs ys t u tails w
-
--- so are those that stand at the same place
-pub same_place : (total : ℕ) (text xs ys t u : List ℕ) → width text ≤ total → text ≡ xs ++ t → text ≡ ys ++ u → place total t ≡ place total u → t ≡ u
-same_place total text xs ys t u fits e f p =
-    same_end xs ys t u (sym e ∙ f) (omega (arith, p, fits, within text t (xs, e), within text u (ys, f)))
 
 -- what tells of a text tells of its ends
 pub tell_end : (total : ℕ) (spans : List Span) (text rest : List ℕ) → EndsWith text rest → TellLists total spans text → TellLists total spans rest
@@ -45,10 +31,6 @@ behind_past text from after kind e = let cut = cut_at text from after kind e in 
   go [] (before, h) (c, more, k) = let none : [] ≡ before ++ ((c ∷ more) ++ after) = h ∙ ap (λ x. before ++ x) k in absurd (omega (arith, ap length none, length-append before ((c ∷ more) ++ after)))
   go (b ∷ text) ([], h) (c, more, k) = let tails : text ≡ more ++ after = cc in (more, tails)
   go (b ∷ text) (d ∷ before, h) (c, more, k) = let tails : text ≡ before ++ from = cc in (before ++ (c ∷ more), tails ∙ ap (λ x. before ++ x) k ∙ sym (append_assoc before (c ∷ more) after))
-
--- a text has as many bytes as it is wide
-pub bytes_width : (bs : List ℕ) → IsUtf8 bs → width (chars bs) ≡ length bs
-bytes_width bs u = ap length (encodes-chars bs u)
 
 -- ---- what is found of the text itself
 -- the list that was found
@@ -63,22 +45,6 @@ none_found total spans text behind start tell first s e ts rest q =
     let at : end_from spans start ≡ Some (place total rest) = ap (end_from spans) (s ∙ ap (place total) first) ∙ some in
     let no : Some (place total rest) ≡ None = sym at ∙ sym e in cc
 
--- ---- a text cut at an end of it
-scalar_end : (xs ys : List ℕ) → scalars (xs ++ ys) ≡ true → scalars ys ≡ true
-scalar_end [] ys e = e
-scalar_end (x ∷ xs) ys e = scalar_end xs ys (and_true _ (scalars (xs ++ ys)) e).1
-
--- an end of a text is a text, and what the text has from there on
-pub cut_end : (bs xs ys : List ℕ) → IsUtf8 bs → chars bs ≡ xs ++ ys → (drop (width xs) bs ≡ encode_utf8_all ys) × (chars (encode_utf8_all ys) ≡ ys) × IsCharBoundary bs (width xs) × (length bs ≡ width xs + width ys)
-cut_end bs xs ys u e =
-    let all = scalar_end xs ys (ap scalars (sym e) ∙ scalars-chars bs u) in
-    let parts : bs ≡ encode_utf8_all xs ++ encode_utf8_all ys = sym (encodes-chars bs u) ∙ ap encode_utf8_all e ∙ encodes-append xs ys in (
-      ap (drop (width xs)) parts ∙ drop-append_seam (encode_utf8_all xs) (encode_utf8_all ys),
-      chars-encodes ys all,
-      IsCharBoundary-at_seam bs (encode_utf8_all xs) (encode_utf8_all ys) parts (ys, (all, refl)),
-      ap length parts ∙ length-append _ _,
-    )
-
 -- ---- the text behind a list that was found
 -- the list ends behind its start
 pub ends_behind : (total : ℕ) (text : List ℕ) (end : ℕ) → ListEnds total text end → place total text ≤ end
@@ -91,16 +57,6 @@ list_narrower total text ts rest q = go text ts rest ((template_is total text ts
   go text ts rest (enclosed t from after end kind us v r c i d) =
       let cut = cut_at text from after kind r in
       omega (arith, within text from cut.0, past from after cut.1, within after end (inside_leaves total (Template total) (template_leaves total) 0 after us end i), within end (drop 1 end) (behind_first end))
-
--- what `get` gives from there on
-gets_bytes : (bs : List ℕ) (n : ℕ) (rest : List ℕ) (x : Bor (List ℕ)) → IsUtf8 bs → EndsWith (chars bs) rest → n ≡ place (length bs) rest → GetsRange bs n (length bs) (Some x) → x.now ≡ encode_utf8_all rest
-gets_bytes bs n rest x u e at gets =
-    let cut = cut_end bs e.0 rest u e.1 in
-    let start : n ≡ width e.0 = omega (arith, at, cut.3) in
-    gets.0 ∙ ap (λ m. take m (drop n bs)) (sym (length-drop n bs)) ∙ take-length (drop n bs) ∙ ap (λ m. drop m bs) start ∙ cut.0
-
-pub gets_end : (bs : List ℕ) (n : ℕ) (rest : List ℕ) (x : Bor (List ℕ)) → IsUtf8 bs → EndsWith (chars bs) rest → n ≡ place (length bs) rest → GetsRange bs n (length bs) (Some x) → chars x.now ≡ rest
-gets_end bs n rest x u e at gets = ap chars (gets_bytes bs n rest x u e at gets) ∙ (cut_end bs e.0 rest u e.1).1
 
 skipped_at : (total : ℕ) (bs : List ℕ) (n : ℕ) (before rest : List ℕ) (ts : List Token) (r : Option (Bor (List ℕ))) → IsUtf8 bs → chars bs ≡ before ++ rest → Template total (chars bs) ts rest → n ≡ width before → GetsRange bs n (length bs) r
     → SkipsList total (chars bs) r × MatchOption r ⊤ (λ x. length x.now < length bs)

@@ -18,7 +18,8 @@ use Rattle.wgsl_token_theory.proofs.Unique.{template_unique}
 use Rattle.wgsl_templates.specs.Spans.{end_from}
 use Rattle.wgsl_templates.specs.Lists.{ListEnds, AreLists, AreTold}
 use Rattle.wgsl_templates.proofs.Fronts.{greater_first}
-use Rattle.wgsl_templates.proofs.Ends.{bytes_width, tell_end, found_ends, none_found}
+use Rattle.wgsl_token_theory.proofs.Places.{bytes_width}
+use Rattle.wgsl_templates.proofs.Ends.{tell_end, found_ends, none_found}
 use Rattle.wgsl_templates.proofs.Listed.{told}
 
 -- ---- where a list ends

@@ -1,5 +1,12 @@
-pub mod Commented
-pub mod CommentSteps
+pub mod Among
+pub mod Rules
+pub mod Walks
+pub mod Repeats
+pub mod Advances
+pub mod Parts
+pub mod Equations
+pub mod Operands
+pub mod Decided
 pub mod Names
 pub mod Turns
 pub mod Pushes

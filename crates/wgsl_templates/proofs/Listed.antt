@@ -11,7 +11,7 @@ use Rattle.wgsl_span.specs.declared.Span.{Span}
 use Rattle.wgsl_token_theory.proofs.Widths.{past}
 use Rattle.wgsl_templates.specs.Spans.{end_from, is_before_all}
 use Rattle.wgsl_templates.specs.Lists.{ListEnds, IsListIn, TellLists, AreLists, less_than_signs}
-use Rattle.wgsl_templates.proofs.Ends.{same_place}
+use Rattle.wgsl_token_theory.proofs.Places.{same_place}
 
 -- no `<` stands in a text
 abbrev pub HasNoLess : List ℕ → Type 0

@@ -3,7 +3,7 @@ use Rattle.std.proofs.Common.{◌≡◌, List, [], ◌∷◌, ◌++◌, ap, ◌�
 use Rattle.std.proofs.lemmas.List.{map-append}
 use Rattle.wgsl_token.specs.declared.kind.TokenKind.{TokenKind}
 use Rattle.wgsl_token.specs.View.{class_of_kind}
-use Rattle.wgsl_recognizer.specs.ExpressionLists.{classes}
+use Rattle.wgsl_templates.specs.ExpressionLists.{classes}
 
 -- behind one kind more stands its class
 pub pushed : (kinds now : List TokenKind) (kind : TokenKind) → now ≡ kinds ++ kind ∷ [] → classes now ≡ classes kinds ++ class_of_kind kind ∷ []

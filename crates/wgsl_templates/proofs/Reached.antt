@@ -11,7 +11,7 @@ use Rattle.wgsl_token.specs.View.{class_of_kind}
 use Rattle.wgsl_token_theory.proofs.Cuts.{EndsWith, joined, behind_token}
 use Rattle.wgsl_token_theory.proofs.Inside.{at}
 use Rattle.wgsl_token_theory.proofs.Unique.{marked}
-use Rattle.wgsl_recognizer.specs.ExpressionLists.{classes_of, IsExpressionList}
+use Rattle.wgsl_templates.specs.ExpressionLists.{classes_of, IsExpressionList}
 use Rattle.wgsl_template_theory.specs.Attempts.{EndsAt, HasNoEnd, ReadsTo}
 use Rattle.wgsl_template_theory.proofs.Attempts.{IsTaken, front_list, goes_by_less}
 use Rattle.wgsl_template_theory.proofs.Attempts as attempt

@@ -23,7 +23,7 @@ use Rattle.wgsl_templates.specs.declared.kept.Piece.{Piece}
 use Rattle.wgsl_templates.specs.Findings.{IsFinding, listed, greater_place}
 use Rattle.wgsl_templates.specs.Readings.{costs}
 use Rattle.wgsl_templates.specs.Lists.{ListEnds, TellLists, AreLists, less_than_signs}
-use Rattle.wgsl_templates.proofs.Ends.{bytes_width, cut_end}
+use Rattle.wgsl_token_theory.proofs.Places.{bytes_width, cut_end}
 use Rattle.wgsl_templates.proofs.Begun.{one_end}
 use Rattle.wgsl_templates.proofs.Known.{end_place}
 use Rattle.wgsl_templates.proofs.Listed.{HasNoLess, Done, told, told_more, none_more, one_more, one_sign_more, all_lists}

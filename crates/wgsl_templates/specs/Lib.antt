@@ -1,7 +1,8 @@
+pub mod ExpressionLists
+pub mod Advancing
 pub mod Roles
 pub mod Spans
 pub mod Lists
-pub mod Comments
 pub mod Kept
 pub mod Reached
 pub mod Findings

@@ -4,7 +4,7 @@ use Rattle.grammar.specs.Tokens.{Token}
 use Rattle.wgsl_token_theory.proofs.Cuts.{EndsWith}
 use Rattle.wgsl_template_theory.specs.Attempts.{ReadsTo}
 use Rattle.wgsl_template_theory.proofs.Swapped.{Swapped}
-use Rattle.wgsl_recognizer.specs.ExpressionLists.{classes_of}
+use Rattle.wgsl_templates.specs.ExpressionLists.{classes_of}
 use Rattle.wgsl_templates.specs.declared.kept.Piece.{Piece}
 use Rattle.wgsl_templates.specs.Kept.{held}
 

@@ -6,7 +6,7 @@ use Rattle.wgsl_model.specs.Kind.{Kind}
 use Rattle.wgsl_model.specs.Raw.{raw, token}
 use Rattle.wgsl_model.specs.Templates.{Inside, NoTemplate, Template}
 use Rattle.wgsl_template_theory.specs.Attempts.{HasNoEnd, NoneAround}
-use Rattle.wgsl_recognizer.specs.ExpressionLists.{classes_of, IsExpressionList}
+use Rattle.wgsl_templates.specs.ExpressionLists.{classes_of, IsExpressionList}
 use Rattle.wgsl_templates.specs.declared.kept.Piece.{Piece}
 use Rattle.wgsl_templates.specs.declared.reading.Met.{Met}
 use Rattle.wgsl_templates.specs.declared.reading.Met.TheVariants as met

@@ -3,21 +3,21 @@
 ghost use Rattle.std.specs.Prelude.{◌≡◌, ◌↔◌, ◌+◌, ◌<◌, ◌≤◌, ◌^◌, List, chars, drop, length, IfOk, IsTrue};
 ghost use Rattle.grammar.specs.Tokens.{Token};
 ghost use Rattle.wgsl_token_theory.proofs.Cuts.{EndsWith};
-ghost use Rattle.wgsl_recognizer.specs.ExpressionLists.{classes_of, IsExpressionList};
-ghost use Rattle.wgsl_templates.specs.Comments.{AreComments};
+ghost use Rattle.wgsl_templates.specs.ExpressionLists.{classes_of, IsExpressionList};
+ghost use Rattle.wgsl_comments.specs.Comments.{AreComments};
 ghost use Rattle.wgsl_templates.specs.Kept.{held};
 ghost use Rattle.wgsl_templates.specs.Lists.{TellLists};
 ghost use Rattle.wgsl_templates.specs.Findings.{AreRight};
 ghost use Rattle.wgsl_templates.specs.Readings.{IsOutcome, costs};
 
-use crate::comments::Comments;
+use crate::expression_list::is_expression_list;
 use crate::findings::Finding;
 use crate::kept::{Kept, Rest};
 use crate::reading::{Reading, read, take};
 use crate::roles::is_less_than;
 use crate::tried::Tried;
 use std::alloc::{AllocError, Global};
-use wgsl_recognizer::is_expression_list;
+use wgsl_comments::Comments;
 use wgsl_scanner::scan::{Scanned, place};
 use wgsl_token::kind::TokenKind;
 

@@ -1,7 +1,7 @@
 //! The kinds of tokens that were read, in which a stretch that was read before may stand again.
 
 ghost use Rattle.std.specs.Prelude.{◌≡◌, ◌≤◌, [], ◌∷◌, ◌++◌, length, IfOk, IsTrue};
-ghost use Rattle.wgsl_recognizer.specs.ExpressionLists.{classes};
+ghost use Rattle.wgsl_templates.specs.ExpressionLists.{classes};
 ghost use Rattle.wgsl_templates.specs.Kept.{are_earlier, held};
 ghost use Rattle.wgsl_templates.specs.declared.kept.Piece.TheVariants.{Token, Stretch};
 

@@ -2,15 +2,17 @@
 #![tactic(auto)]
 
 mod attempt;
-mod comments;
+mod expression;
+mod expression_list;
 mod findings;
 mod kept;
 mod lists;
+mod next;
 mod reading;
 pub mod roles;
 mod templates;
 pub mod text;
 mod tried;
-mod trivia;
 
+pub use expression_list::is_expression_list;
 pub use templates::{Templates, discover};

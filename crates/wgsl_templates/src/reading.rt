@@ -9,19 +9,19 @@ ghost use Rattle.wgsl_token_theory.proofs.Cuts.{EndsWith};
 ghost use Rattle.wgsl_token.specs.declared.kind.TokenKind.TheVariants.{TemplateArgsStart, TemplateArgsEnd, Ident};
 ghost use Rattle.wgsl_templates.specs.declared.kept.Piece.{Piece};
 ghost use Rattle.wgsl_templates.specs.declared.kept.Piece.TheVariants.{Token};
-ghost use Rattle.wgsl_templates.specs.Comments.{AreComments};
+ghost use Rattle.wgsl_comments.specs.Comments.{AreComments};
 ghost use Rattle.wgsl_templates.specs.Lists.{TellLists};
 ghost use Rattle.wgsl_templates.specs.TemplateEnds.{SkipsList, SkipsBehind};
 ghost use Rattle.wgsl_templates.specs.Findings.{AreRight};
 ghost use Rattle.wgsl_templates.specs.Readings.{IsReading, IsMet};
 
-use crate::comments::Comments;
 use crate::findings::{Finding, Findings};
 use crate::kept::Kept;
 use crate::lists::Lists;
 use crate::roles::{Turn, is_less_than, is_word, turn_of};
 use crate::tried::Tried;
 use std::alloc::AllocError;
+use wgsl_comments::Comments;
 use wgsl_scanner::scan::{Scanned, place, scan};
 use wgsl_token::kind::TokenKind;
 

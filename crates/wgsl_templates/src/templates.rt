@@ -6,11 +6,11 @@ ghost use Rattle.wgsl_templates.specs.Spans.{end_from};
 ghost use Rattle.wgsl_templates.specs.Lists.{AreLists, less_than_signs};
 
 use crate::attempt::{Scratch, attempt};
-use crate::comments::Comments;
 use crate::kept::Kept;
 use crate::lists::Lists;
 use crate::tried::Tried;
 use std::alloc::{AllocError, Global};
+use wgsl_comments::Comments;
 
 /// The template lists of a text, and what it took to find them. Places are byte offsets; a start is inclusive, an end exclusive.
 #[derive(Debug, PartialEq, Drop)]

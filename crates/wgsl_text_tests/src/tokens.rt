@@ -4,7 +4,7 @@ use crate::facts::Facts;
 use std::alloc::{AllocError, Global};
 use wgsl_parse::error::ErrorKind;
 use wgsl_parse::lexer::{Lexer, TokenItem, recognize_template_list};
-use wgsl_recognizer::is_expression_list;
+use wgsl_templates::is_expression_list;
 
 /// A token with its place, or the fault that ends the tokens.
 fn line_of(alloc: Global, item: TokenItem) -> Result<String, AllocError> {

@@ -95,7 +95,7 @@ chosen true text x y h k = h
 chosen false text x y h k = k
 
 -- what follows trivia ends the text
-trivia-ends : (p : Place) (text : List ℕ) → EndsWith text (after_trivia p text)
+pub trivia-ends : (p : Place) (text : List ℕ) → EndsWith text (after_trivia p text)
 unfolding after_trivia
 trivia-ends p [] = ([], refl)
 trivia-ends outside (c ∷ cs) =

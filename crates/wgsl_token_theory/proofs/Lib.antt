@@ -7,3 +7,4 @@ pub mod Decided
 pub mod Lists
 pub mod Refuted
 pub mod Widths
+pub mod Places

@@ -5,7 +5,7 @@ use Rattle.wgsl_model.specs.Places.{width}
 use Rattle.wgsl_token_theory.proofs.Cuts.{EndsWith, EndsPast}
 
 -- a text is as wide as its parts
-width-append : (xs ys : List ℕ) → width (xs ++ ys) ≡ width xs + width ys
+pub width-append : (xs ys : List ℕ) → width (xs ++ ys) ≡ width xs + width ys
 width-append xs ys = ap length (encodes-append xs ys) ∙ length-append _ _
 
 -- an end of a text is no wider

@@ -3,8 +3,8 @@
 use std::test::Fail;
 use wgsl_error::ParseError;
 use wgsl_lexer::{TokenItem, collect_tokens, lex};
-use wgsl_recognizer::is_expression_list;
 use wgsl_span::Span;
+use wgsl_templates::is_expression_list;
 use wgsl_token::kind::TokenKind;
 use wgsl_token::token::Token;
 

@@ -1,6 +1,6 @@
 use Rattle.std.proofs.Common.{◌∙◌, ◌++◌, List, sym, ap}
 use Rattle.wgsl_token.specs.declared.kind.TokenKind.{TokenKind}
-use Rattle.wgsl_recognizer.specs.ExpressionLists.{classes}
+use Rattle.wgsl_templates.specs.ExpressionLists.{classes}
 use Rattle.wgsl_templates.specs.Kept.{held}
 use Rattle.wgsl_templates.proofs.attempt.is_list.Goals as goal
 

@@ -5,7 +5,7 @@ use Rattle.wgsl_token_theory.proofs.Cuts.{joined, behind_token}
 use Rattle.wgsl_templates.specs.declared.findings.Finding.{Finding}
 use Rattle.wgsl_templates.specs.Reached.{GoesOn}
 use Rattle.wgsl_templates.specs.Findings.{IsFinding}
-use Rattle.wgsl_templates.proofs.Ends.{gets_end}
+use Rattle.wgsl_token_theory.proofs.Places.{gets_end}
 use Rattle.wgsl_templates.proofs.Found.{entry_right}
 use Rattle.wgsl_templates.proofs.reading.look_up.Goals as goal
 

@@ -14,7 +14,8 @@ use Rattle.wgsl_template_theory.proofs.RefutesAround as refutes
 use Rattle.wgsl_templates.specs.declared.kept.Piece.TheVariants.{Token}
 use Rattle.wgsl_templates.specs.declared.roles.Turn.TheVariants as turn
 use Rattle.wgsl_templates.specs.Reached.{Reaches}
-use Rattle.wgsl_templates.proofs.Ends.{tell_end, bytes_width}
+use Rattle.wgsl_token_theory.proofs.Places.{bytes_width}
+use Rattle.wgsl_templates.proofs.Ends.{tell_end}
 use Rattle.wgsl_templates.proofs.Fronts.{raw_again, less_first}
 use Rattle.wgsl_templates.proofs.Pieces.{held_from, nothing_held, token_held, list_held, right_pushed, right_list}
 use Rattle.wgsl_templates.proofs.Reached.{starts, takes, takes_list, goes_on_by, ends, forget_word, reached_alike, moved, taken_within, no_end_behind}

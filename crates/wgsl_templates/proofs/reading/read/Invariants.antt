@@ -2,7 +2,7 @@ use Rattle.std.proofs.Common.{◌≤◌, ◌+◌, chars, length}
 use denote.Text.{Utf8}
 use denote.Shadow.{shadow}
 use Rattle.wgsl_token_theory.proofs.Cuts.{EndsWith}
-use Rattle.wgsl_templates.specs.Comments.{AreComments}
+use Rattle.wgsl_comments.specs.Comments.{AreComments}
 use Rattle.wgsl_templates.specs.Kept.{held}
 use Rattle.wgsl_templates.specs.Lists.{TellLists}
 use Rattle.wgsl_templates.specs.Reached.{Reaches}

@@ -9,8 +9,8 @@ use Rattle.wgsl_templates.specs.Readings.{IsOutcome}
 use Rattle.wgsl_templates.specs.Findings.{AreRight, listed}
 use Rattle.wgsl_templates.specs.Spans.{is_before_all}
 use Rattle.wgsl_templates.proofs.Begun.{found_right}
-use Rattle.wgsl_templates.proofs.Commented.{no_comments}
-use Rattle.wgsl_templates.proofs.Ends.{bytes_width}
+use Rattle.wgsl_comments.proofs.Commented.{no_comments}
+use Rattle.wgsl_token_theory.proofs.Places.{bytes_width}
 use Rattle.wgsl_templates.proofs.Listed.{before_all, no_lists}
 use Rattle.wgsl_templates.proofs.Found.{none_right, one_more_right}
 use Rattle.wgsl_templates.proofs.Stepped.{cut, ends_source, told_behind, attempts_fit, reads_fit, reads_more, tried_none, tried_found, greater_fits, listed_costs, all_done}

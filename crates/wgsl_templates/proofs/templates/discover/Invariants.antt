@@ -1,7 +1,7 @@
 use Rattle.std.proofs.Common.{◌≤◌, ◌+◌, ◌*◌, chars, length}
 use denote.Text.{Utf8}
 use denote.Shadow.{shadow}
-use Rattle.wgsl_templates.specs.Comments.{AreComments}
+use Rattle.wgsl_comments.specs.Comments.{AreComments}
 use Rattle.wgsl_templates.specs.Findings.{AreRight}
 use Rattle.wgsl_templates.proofs.Listed.{Done}
 use Rattle.wgsl_templates.proofs.templates.discover.Given as goal

@@ -3,7 +3,7 @@ use Rattle.wgsl_model.specs.Templates.{is_word}
 use Rattle.wgsl_model.specs.TokenList.{place, width}
 use Rattle.wgsl_scanner.specs.View.{lexeme_view}
 use Rattle.wgsl_token_theory.proofs.Cuts.{cut_at, joined, behind_first, behind_token}
-use Rattle.wgsl_templates.proofs.Ends.{bytes_width}
+use Rattle.wgsl_token_theory.proofs.Places.{bytes_width}
 use Rattle.wgsl_templates.proofs.Known.{known_end}
 use Rattle.wgsl_templates.specs.Lists.{AreTold}
 use Rattle.wgsl_lexer.specs.OpenLists.{Leaves}

@@ -1,7 +1,7 @@
 use Rattle.std.proofs.Common.{◌<◌, ◌≤◌, ◌+◌, [], ◌∷◌, ◌++◌, length, Some, sym, ap, ◌∙◌, arith}
 use Rattle.std.proofs.lemmas.List.Elements.{All-pop, All-push, All-same}
 use Rattle.wgsl_token.specs.View.{class_of_kind}
-use Rattle.wgsl_recognizer.specs.ExpressionLists.{classes}
+use Rattle.wgsl_templates.specs.ExpressionLists.{classes}
 use Rattle.wgsl_templates.proofs.Pushes.{pushed}
 use Rattle.wgsl_templates.proofs.Held.{gone_through, ends_before}
 use Rattle.wgsl_templates.proofs.Rests.{held_left, rest_begun, token_taken, last_begun, stretch_begun, less_at_rest, less_behind, less_at_last, less_at_stretch}

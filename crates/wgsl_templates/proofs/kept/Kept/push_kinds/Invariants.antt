@@ -1,6 +1,6 @@
 use Rattle.std.proofs.Common.{◌≡◌, ◌≤◌, ◌++◌, length}
 use Rattle.std.specs.List.{All}
-use Rattle.wgsl_recognizer.specs.ExpressionLists.{classes}
+use Rattle.wgsl_templates.specs.ExpressionLists.{classes}
 use Rattle.wgsl_templates.specs.Kept.{held}
 use Rattle.wgsl_templates.proofs.Rests.{held_left, left_to_do}
 use Rattle.wgsl_templates.proofs.kept.Kept.push_kinds.Given as goal

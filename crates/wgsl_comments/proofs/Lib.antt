@@ -1,0 +1,2 @@
+pub mod Commented
+pub mod CommentSteps

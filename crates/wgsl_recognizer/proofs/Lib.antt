@@ -1,9 +1,0 @@
-pub mod Among
-pub mod Rules
-pub mod Walks
-pub mod Turns
-pub mod Advances
-pub mod Parts
-pub mod Equations
-pub mod Operands
-pub mod Decided

@@ -1,2 +1,0 @@
-pub mod ExpressionLists
-pub mod Advancing
