@@ -51,4 +51,3 @@ gets_bytes bs n rest x u e at gets =
 
 pub gets_end : (bs : List ℕ) (n : ℕ) (rest : List ℕ) (x : Bor (List ℕ)) → IsUtf8 bs → EndsWith (chars bs) rest → n ≡ place (length bs) rest → GetsRange bs n (length bs) (Some x) → chars x.now ≡ rest
 gets_end bs n rest x u e at gets = ap chars (gets_bytes bs n rest x u e at gets) ∙ (cut_end bs e.0 rest u e.1).1
-
