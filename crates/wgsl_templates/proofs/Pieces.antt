@@ -1,6 +1,6 @@
 -- What pieces stand for, as tokens and stretches are pushed behind them.
-use Rattle.std.proofs.Common.{◌≡◌, ℕ, suc, ◌≤◌, List, [], ◌∷◌, ◌++◌, length, refl, sym, ap, subst, ◌∙◌, append_assoc, arith}
-use Rattle.std.proofs.lemmas.List.{length-append}
+use Rattle.std.proofs.Common.{◌≡◌, ℕ, suc, ◌≤◌, List, [], ◌∷◌, ◌++◌, length, refl, sym, ap, subst, ◌∙◌, take, append-nil, append_assoc, arith}
+use Rattle.std.proofs.lemmas.List.{length-append, take-append-le, take_all}
 use Rattle.wgsl_token.specs.declared.kind.TokenKind.{TokenKind}
 use Rattle.wgsl_token.specs.declared.kind.TokenKind.TheVariants as kind
 use Rattle.wgsl_token.specs.View.{class_of_kind}
@@ -54,3 +54,20 @@ right_pushed total source ps now p entries e are = subst (λ (x : List Piece). A
 pub right_list : (total : ℕ) (source : List ℕ) (ps now : List Piece) (p q r : Piece) (entries : List Entry) → now ≡ ((ps ++ p ∷ []) ++ q ∷ []) ++ r ∷ [] → AreRight total source ps entries → AreRight total source now entries
 right_list total source ps now p q r entries e are =
     right_pushed total source ((ps ++ p ∷ []) ++ q ∷ []) now r entries e (right_more total source (ps ++ p ∷ []) (q ∷ []) entries (right_more total source ps (p ∷ []) entries are))
+
+-- pieces that begin with others
+abbrev pub Grown : List Piece → List Piece → Type 0
+Grown ps now = (more : List Piece) × (now ≡ ps ++ more)
+
+pub grown_none : (ps : List Piece) → Grown ps ps
+grown_none ps = ([], sym (append-nil ps))
+
+pub grown_one : (first ps now : List Piece) (p : Piece) → now ≡ ps ++ p ∷ [] → Grown first ps → Grown first now
+grown_one first ps now p e (more, f) = (more ++ p ∷ [], e ∙ ap (λ (x : List Piece). x ++ p ∷ []) f ∙ append_assoc first more (p ∷ []))
+
+pub grown_list : (first ps now : List Piece) (p q r : Piece) → now ≡ ((ps ++ p ∷ []) ++ q ∷ []) ++ r ∷ [] → Grown first ps → Grown first now
+grown_list first ps now p q r e g = grown_one first ((ps ++ p ∷ []) ++ q ∷ []) now r e (grown_one first (ps ++ p ∷ []) ((ps ++ p ∷ []) ++ q ∷ []) q refl (grown_one first ps (ps ++ p ∷ []) p refl g))
+
+-- cut back to those they begin with
+pub cut_back : (ps now : List Piece) → Grown ps now → take (length ps) now ≡ ps
+cut_back ps now (more, e) = ap (take (length ps)) e ∙ (take-append-le (length ps) ps more (omega arith) ∙ take_all (length ps) ps (omega arith))

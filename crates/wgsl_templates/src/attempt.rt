@@ -75,7 +75,10 @@ pub(crate) fn attempt(
     }
     let start = kept.len();
     match read(tried, comments, kept, reads, source, after)? {
-        Reading::Around => Ok(Some(Finding::Around)),
+        Reading::Around => {
+            kept.truncate(start);
+            Ok(Some(Finding::Around))
+        }
         Reading::Within(rest) => Ok(Some(Finding::Within {
             place: place(source.len(), rest),
             start,
@@ -83,6 +86,7 @@ pub(crate) fn attempt(
         })),
         Reading::Ends(greater) => {
             if !is_list(kept, start, scratch)? {
+                kept.truncate(start);
                 return Ok(Some(Finding::Around));
             }
             Ok(Some(Finding::List {

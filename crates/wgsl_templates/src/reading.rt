@@ -161,6 +161,7 @@ pub(crate) fn read<'s>(
     ensures value { IfOk result (λ reading. IsReading (length source.now) (chars text.now) kept.new.pieces.items (length kept.old.pieces.items) reading) }
     ensures right { IfOk result (λ _. AreRight (length source.now) (chars source.now) kept.new.pieces.items tried.now.findings.entries.items) }
     ensures known { IfOk result (λ _. AreComments (chars source.now) comments.new.found.items) }
+    ensures grown { IfOk result (λ _. (more : List Piece) × (kept.new.pieces.items ≡ kept.old.pieces.items ++ more)) }
     ensures some { reads.old < reads.new }
     ensures few { reads.new ≤ reads.old + length text.now + 1 }
 {

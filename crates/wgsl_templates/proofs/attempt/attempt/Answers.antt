@@ -1,4 +1,4 @@
-use Rattle.std.proofs.Common.{◌≡◌, ◌==◌, ℕ, false, drop, sym, subst, chars, length, ◌∙◌, ap, eqb-true}
+use Rattle.std.proofs.Common.{◌≡◌, ◌==◌, ℕ, false, drop, sym, subst, chars, length, ◌∙◌, ap, eqb-true, take, List}
 use Rattle.grammar.proofs.Sets.{clash}
 use Rattle.wgsl_model.specs.Classes.{SymLessThan}
 use Rattle.wgsl_model.specs.Raw.{raw}
@@ -8,9 +8,12 @@ use Rattle.wgsl_token_theory.proofs.Cuts.{joined, behind_token}
 use Rattle.wgsl_template_theory.proofs.Attempts.{none_begins}
 use Rattle.wgsl_template_theory.proofs.RefutesAround.{closed_refutes}
 use Rattle.wgsl_templates.specs.Kept.{held}
+use Rattle.wgsl_templates.specs.declared.kept.Piece.{Piece}
+use Rattle.wgsl_templates.specs.Findings.{AreRight}
 use Rattle.wgsl_templates.specs.Reached.{GoesOn}
 use Rattle.wgsl_templates.specs.Readings.{IsReading}
 use Rattle.wgsl_templates.proofs.Ends.{tell_end, behind_past}
+use Rattle.wgsl_templates.proofs.Pieces.{cut_back}
 use Rattle.wgsl_templates.proofs.attempt.attempt.Goals as goal
 
 pub returns-then-not-is_less_than-clause-value : goal.returns-then-not-is_less_than-clause-value
@@ -46,6 +49,16 @@ returns-then-not-branch-clause-value c =
       less,
       closed_refutes total after read.0 (chars c.in-Ends.greater.now) read.2 (λ list. let yes' = test.1 (read.4.1 list) in clash _ yes' c.if-not-branch.true),
     )
+
+pub returns-then-not-branch-clause-right : goal.returns-then-not-branch-clause-right
+returns-then-not-branch-clause-right c =
+    let back = c.truncate-then-not-branch.ensures ∙ ap (λ n. take n c.read.new.kept.pieces.items) c.len-start.ensures ∙ cut_back c.args.kept.now.pieces.items c.read.new.kept.pieces.items c.in_ok-read.ensures.grown in
+    subst (λ (x : List Piece). AreRight (length c.args.source.now) (chars c.args.source.now) x c.args.tried.now.findings.entries.items) (sym back) c.requires.right
+
+pub returns-in-Around-clause-right : goal.returns-in-Around-clause-right
+returns-in-Around-clause-right c =
+    let back = c.truncate.ensures ∙ ap (λ n. take n c.read.new.kept.pieces.items) c.len-start.ensures ∙ cut_back c.args.kept.now.pieces.items c.read.new.kept.pieces.items c.in_ok-read.ensures.grown in
+    subst (λ (x : List Piece). AreRight (length c.args.source.now) (chars c.args.source.now) x c.args.tried.now.findings.entries.items) (sym back) c.requires.right
 
 pub returns-else-not-branch-clause-value : goal.returns-else-not-branch-clause-value
 returns-else-not-branch-clause-value c =

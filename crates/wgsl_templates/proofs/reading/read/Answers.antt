@@ -17,7 +17,7 @@ use Rattle.wgsl_templates.specs.Reached.{Reaches}
 use Rattle.wgsl_token_theory.proofs.Places.{bytes_width}
 use Rattle.wgsl_templates.proofs.Ends.{tell_end}
 use Rattle.wgsl_templates.proofs.Fronts.{raw_again, less_first}
-use Rattle.wgsl_templates.proofs.Pieces.{held_from, nothing_held, token_held, list_held, right_pushed, right_list}
+use Rattle.wgsl_templates.proofs.Pieces.{held_from, nothing_held, token_held, list_held, right_pushed, right_list, grown_none, grown_one, grown_list}
 use Rattle.wgsl_templates.proofs.Reached.{starts, takes, takes_list, goes_on_by, ends, forget_word, reached_alike, moved, taken_within, no_end_behind}
 use Rattle.wgsl_templates.proofs.Turns.{IsTurn, turn_is}
 use Rattle.wgsl_templates.proofs.Scans.{no_token}
@@ -34,6 +34,7 @@ tokens-init c = record {
   lists = c.requires.lists;
   right = c.requires.right;
   longer = omega arith;
+  grown = grown_none c.args.kept.now.pieces.items;
   reached = starts (length c.args.source.now) (chars c.args.text.now) (held_from c.args.kept.now.pieces.items (length c.args.kept.now.pieces.items)) (nothing_held c.args.kept.now.pieces.items);
 }
 
@@ -80,6 +81,7 @@ tokens-preserved-in-Some c =
       known = c.in_ok-lexeme.ensures.known;
       right = right_list total (chars c.args.source.now) c.tokens.kept.pieces.items c.push_list.new.kept.pieces.items _ _ _ c.args.tried.now.findings.entries.items c.in_ok-push_list.ensures c.tokens.invariant.right;
       longer = held.1;
+      grown = grown_list c.args.kept.now.pieces.items c.tokens.kept.pieces.items c.push_list.new.kept.pieces.items _ _ _ c.in_ok-push_list.ensures c.tokens.invariant.grown;
       reached = moved total _ _ _ _ _ _ _ _ held.0 refl list.4
           (takes_list total (chars c.args.text.now) (held_from c.tokens.kept.pieces.items start) c.tokens.behind_word c.tokens.depth rest from after list.1 k c.tokens.invariant.reached front found.0 list.0 list.2);
     }
@@ -184,6 +186,7 @@ tokens-preserved-in-GoesOn c =
       right = right_pushed total (chars c.args.source.now) c.push.new.self.pieces.items c.push_stretch.new.self.pieces.items _ c.args.tried.now.findings.entries.items c.in_ok-push_stretch-in-GoesOn.ensures
           (right_pushed total (chars c.args.source.now) c.tokens.kept.pieces.items c.push.new.self.pieces.items _ c.args.tried.now.findings.entries.items c.in_ok-push-in-GoesOn.ensures c.tokens.invariant.right);
       longer = on.1;
+      grown = grown_one c.args.kept.now.pieces.items c.push.new.self.pieces.items c.push_stretch.new.self.pieces.items _ c.in_ok-push_stretch-in-GoesOn.ensures (grown_one c.args.kept.now.pieces.items c.tokens.kept.pieces.items c.push.new.self.pieces.items _ c.in_ok-push-in-GoesOn.ensures c.tokens.invariant.grown);
       reached = on.2;
     }
 
@@ -265,6 +268,7 @@ tokens-preserved c =
       known = c.in_ok-lexeme.ensures.known;
       right = right_pushed total (chars c.args.source.now) c.tokens.kept.pieces.items c.push-in-Found.new.self.pieces.items _ c.args.tried.now.findings.entries.items c.in_ok-push.ensures c.tokens.invariant.right;
       longer = held.1;
+      grown = grown_one c.args.kept.now.pieces.items c.tokens.kept.pieces.items c.push-in-Found.new.self.pieces.items _ c.in_ok-push.ensures c.tokens.invariant.grown;
       reached = moved total _ _ _ _ _ _ _ _ (held.0 ∙ ap (λ x. held_from c.tokens.kept.pieces.items start ++ x ∷ []) same) (c.is_word-behind_word.ensures ∙ ap is_word same) refl
           (takes total (chars c.args.text.now) (held_from c.tokens.kept.pieces.items start) c.tokens.behind_word c.tokens.depth c.in-Takes.open rest from after k
           c.tokens.invariant.reached front (λ w less. no_end_behind total from after k again less (none w (same ∙ less))) does);
@@ -278,6 +282,7 @@ returns c =
           (λ kind from after e. no_token c.in_ok-lexeme.field-0 c.in_default.not-Found kind from after e);
       known = c.in_ok-lexeme.ensures.known;
       right = c.tokens.invariant.right;
+      grown = c.tokens.invariant.grown;
       some = omega (arith, c.tokens.invariant.some, c.take.ensures.reads);
       few = omega (arith, c.tokens.invariant.few, c.take.ensures.reads);
     }

@@ -7,6 +7,7 @@ use Rattle.wgsl_templates.specs.Kept.{held}
 use Rattle.wgsl_templates.specs.Lists.{TellLists}
 use Rattle.wgsl_templates.specs.Reached.{Reaches}
 use Rattle.wgsl_templates.specs.Findings.{AreRight}
+use Rattle.wgsl_templates.proofs.Pieces.{Grown}
 use Rattle.wgsl_templates.proofs.reading.read.Given as goal
 
 abbrev pub invariant-tokens : goal.invariant-tokens
@@ -20,6 +21,7 @@ invariant-tokens l = record {
   known : AreComments (chars l.source) l.comments.found.items;
   right : AreRight (length l.source) (chars l.source) l.kept.pieces.items l.tried.findings.entries.items;
   longer : length l.initial.kept.pieces.items ≤ length l.kept.pieces.items;
+  grown : Grown l.initial.kept.pieces.items l.kept.pieces.items;
   reached : Reaches (length l.source) (chars l.text) (held l.kept.pieces.items (length l.initial.kept.pieces.items) (length l.kept.pieces.items)) l.behind_word l.depth (chars l.rest);
 }
 
