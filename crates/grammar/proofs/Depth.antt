@@ -8,7 +8,7 @@ use Rattle.grammar.specs.Grammar.{Grammar, Grammar.empty, Grammar.token, Grammar
 abbrev pub Kept : {A : Type 0} → (A → List Token → List Token → Type 0) → (A → List Token → List Token → Type 0) → Type 0
 Kept {A} P P' = (v : A) (xs ys : List Token) → P v xs ys → P' v xs ys
 
-chain_mono : {A B : Type 0} (f : A → B → Span → A) (P P' : A → List Token → List Token → Type 0) (Q Q' : B → List Token → List Token → Type 0)
+pub chain_mono : {A B : Type 0} (f : A → B → Span → A) (P P' : A → List Token → List Token → Type 0) (Q Q' : B → List Token → List Token → Type 0)
     → Kept P P' → Kept Q Q' → (xs : List Token) (v : A) (ys : List Token) → Chain f P Q xs v ys → Chain f P' Q' xs v ys
 chain_mono f P P' Q Q' p q xs _ _ (base v ys h) = base v ys (p v xs ys h)
 chain_mono f P P' Q Q' p q xs _ _ (more a b ys zs c h) = more a b ys zs (chain_mono f P P' Q Q' p q xs a ys c) (q b ys zs h)

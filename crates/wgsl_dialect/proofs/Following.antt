@@ -8,8 +8,7 @@ use Rattle.grammar.proofs.Sets.{and_true}
 use Rattle.grammar.proofs.Beginnings.{pick}
 use Rattle.grammar.proofs.States.{reads_is}
 use Rattle.wgsl_model.specs.Symbols.{Symbol.ident}
-use Rattle.wgsl_grammar_theory.specs.Factored.{Further.components, FactoredSymbol, FactoredSymbol.of, FactoredSymbol.further, FactoredValue, FactoredRule}
-use Rattle.wgsl_grammar_theory.specs.FactoredSmall.{small_body}
+use Rattle.wgsl_grammar_theory.specs.Factored.{Further.components, FactoredSymbol, FactoredSymbol.of, FactoredSymbol.further, FactoredValue, FactoredRule, small_body}
 use Rattle.wgsl_grammar_theory.specs.Tables.{rank_limit, tables}
 use Rattle.wgsl_grammar_theory.proofs.Passes.{small_passes}
 use Rattle.wgsl_dialect.specs.Steps.{Steps, Steps.no_step, Steps.items, steps_of, rule_steps}

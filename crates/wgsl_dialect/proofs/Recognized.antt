@@ -12,8 +12,7 @@ use Rattle.wgsl_model.specs.Units.{TranslationUnit}
 use Rattle.wgsl_model.specs.Symbols.{Symbol.unit}
 use Rattle.wgsl_model.specs.TokenList.{IsTokenList}
 use Rattle.wgsl_model.specs.Named.{IsNamedSmall}
-use Rattle.wgsl_grammar_theory.specs.Factored.{FactoredSymbol.of}
-use Rattle.wgsl_grammar_theory.specs.FactoredSmall.{small_body}
+use Rattle.wgsl_grammar_theory.specs.Factored.{FactoredSymbol.of, small_body}
 use Rattle.wgsl_grammar_theory.specs.Tables.{rank_limit, tables}
 use Rattle.wgsl_grammar_theory.specs.Answers.{answer_said, opening, small_answer_of, IsSmallAnswer}
 use Rattle.wgsl_grammar_theory.proofs.SmallAnswers.{small_answers_are_true}

@@ -8,8 +8,7 @@ use Rattle.grammar.proofs.Beginnings.{pick}
 use Rattle.grammar.proofs.Exact.{part_front}
 use Rattle.grammar.proofs.States.{turns_are, shortens, read_is_part}
 use Rattle.wgsl_model.specs.Symbols.{Symbol.ident}
-use Rattle.wgsl_grammar_theory.specs.Factored.{Further.components, FactoredSymbol, FactoredSymbol.of, FactoredSymbol.further, FactoredValue}
-use Rattle.wgsl_grammar_theory.specs.FactoredSmall.{small_body}
+use Rattle.wgsl_grammar_theory.specs.Factored.{Further.components, FactoredSymbol, FactoredSymbol.of, FactoredSymbol.further, FactoredValue, small_body}
 use Rattle.wgsl_grammar_theory.specs.Tables.{rank_limit, empties, tables}
 use Rattle.wgsl_grammar_theory.proofs.Passes.{small_passes}
 use Rattle.wgsl_dialect.specs.Steps.{Steps, Steps.no_step, Steps.a_token, Steps.a_symbol, Steps.a_choice, Steps.items, rule_steps}

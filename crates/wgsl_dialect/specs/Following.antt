@@ -1,8 +1,7 @@
 -- Following steps over the tokens that are left.
 use Rattle.std.specs.Prelude.{ℕ, List, cond}
 use Rattle.grammar.specs.States.{State, Read, Read.done, Read.stop, ◌>>=◌, is_any, take_any, turns, reads}
-use Rattle.wgsl_grammar_theory.specs.Factored.{FactoredSymbol}
-use Rattle.wgsl_grammar_theory.specs.FactoredSmall.{small_body}
+use Rattle.wgsl_grammar_theory.specs.Factored.{FactoredSymbol, small_body}
 use Rattle.wgsl_grammar_theory.specs.Tables.{rank_limit, tables}
 use Rattle.wgsl_dialect.specs.Steps.{Steps, Steps.no_step, Steps.a_token, Steps.a_symbol, Steps.a_choice, Steps.items}
 

@@ -2,8 +2,7 @@
 use Rattle.std.specs.Prelude.{ℕ, List}
 use Rattle.grammar.specs.Grammar.{Grammar.empty, Grammar.token, Grammar.sequence, Grammar.choice, Grammar.mapped, Grammar.node, Grammar.checked, Grammar.symbol, Grammar.left_chain}
 use Rattle.grammar.specs.Tables.{first}
-use Rattle.wgsl_grammar_theory.specs.Factored.{FactoredSymbol, FactoredRule}
-use Rattle.wgsl_grammar_theory.specs.FactoredSmall.{small_body}
+use Rattle.wgsl_grammar_theory.specs.Factored.{FactoredSymbol, FactoredRule, small_body}
 use Rattle.wgsl_grammar_theory.specs.Tables.{tables}
 
 -- steps, each before the others: a token of one of some classes; a symbol; one of two, the first where the next token is of one of some classes; and items, as long as it is

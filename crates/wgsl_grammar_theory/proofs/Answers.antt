@@ -3,17 +3,16 @@ use Rattle.grammar.specs.Faults as engine
 use Rattle.std.proofs.Common.{◌≡◌, ◌↔◌, ℕ, suc, true, false, List, [], ◌∷◌, ◌++◌, length, inl, inr, refl, sym, ap, ap₂, subst, ◌∙◌, append_assoc, append-nil, arith, length-append}
 use Rattle.std.specs.Prelude.{◌==◌, Some, None}
 use Rattle.grammar.specs.Tokens.{Token, Fault}
-use Rattle.grammar.specs.Grammar.{Mode.full, Mode.unchecked, Derives, IsViable}
+use Rattle.grammar.specs.Grammar.{Mode.full, IsViable}
 use Rattle.grammar.specs.Faults.{FaultIn, IsFirstFault, IsUnexpected, Ending, Ending.finished, Ending.carried}
 use Rattle.grammar.specs.Reading.{Outcome, Outcome.ok, Outcome.stuck, Outcome.bad, Outcome.out, read_all, Says}
 use Rattle.grammar.proofs.Sets.{clash, cases}
-use Rattle.grammar.proofs.Depth.{loosen}
 use Rattle.grammar.proofs.Exact.{same_front}
 use Rattle.grammar.proofs.Outcomes.{outcomes}
 use Rattle.grammar.proofs.Beginnings.{cond_yes, cond_no}
 use Rattle.wgsl_model.specs.Faults.{unexpected_token, out_of_memory_kind}
 use Rattle.wgsl_model.specs.Checks.{Arguments}
-use Rattle.wgsl_model.specs.Symbols.{Symbol, Value}
+use Rattle.wgsl_model.specs.Symbols.{Dialect.whole, Symbol, Value}
 use Rattle.wgsl_model.specs.Written.{written}
 use Rattle.wgsl_model.specs.CheckedFaults.{wants_memory, IsUnopened, IsWhole, IsCheckedFault, IsCheckedFault.reserved_fault, IsCheckedFault.severity_fault_at, IsCheckedFault.attribute_fault_at, IsCheckedFault.var_template_fault}
 use Rattle.wgsl_model.specs.Named.{NoFaultBefore, IsNamed, IsNamed.checked_first, IsNamed.unexpected_first, IsNamed.carried_last, IsNamed.missing_last}
@@ -22,20 +21,10 @@ use Rattle.wgsl_grammar_theory.specs.Tables.{rank_limit, tables}
 use Rattle.wgsl_grammar_theory.specs.Apart.{apart}
 use Rattle.wgsl_grammar_theory.specs.Answers.{answer_said, opening, answer_in_want, answer_of, IsAnswer}
 use Rattle.wgsl_grammar_theory.proofs.Outcomes.{tested}
-use Rattle.wgsl_grammar_theory.proofs.SameTrees.{read_is_written}
+use Rattle.wgsl_grammar_theory.proofs.Links.{factored_is_written}
 use Rattle.wgsl_grammar_theory.proofs.PlainFaults.{fault_is_plain, plain_is_fault}
 use Rattle.wgsl_grammar_theory.proofs.FaultEnds.{no_fault_opens}
-use Rattle.wgsl_grammar_theory.proofs.WrittenTree.{sentence_in, viable_in, viable_out}
-
--- what begins so, begins with each front of it
-pub viable_front : (n : Symbol) (p q : List Token) → IsViable written n (p ++ q) → IsViable written n p
-viable_front n p q (zs, (v, d)) = (q ++ zs, (v, subst (λ (x : List Token). Derives unchecked written n v x) (append_assoc p q zs) d))
-
-pub sentence_is_viable : (n : Symbol) (v : Value n) (ts : List Token) → Derives unchecked written n v ts → IsViable written n ts
-sentence_is_viable n v ts d = ([], (v, subst (λ (x : List Token). Derives unchecked written n v x) (sym (append-nil ts)) d))
-
-pub full_is_viable : (n : Symbol) (v : Value n) (ts : List Token) → Derives full written n v ts → IsViable written n ts
-full_is_viable n v ts d = sentence_is_viable n v ts (loosen full written n v ts [] d)
+use Rattle.wgsl_grammar_theory.proofs.WrittenTree.{sentence_in, viable_in, viable_out, viable_front, full_is_viable}
 
 -- where the checks find no fault, there is none of the four kinds
 none_plain : (ts : List Token) (ending : Ending) (k : ℕ) → engine.NoFaultBefore body apart ts k → NoFaultBefore ts ending k
@@ -43,13 +32,13 @@ none_plain ts ending k h x ys f l = h x ys (plain_is_fault ts ending x ys f) l
 
 -- ---- tokens that did not end because memory was refused
 said_is : (n : Symbol) (ts : List Token) (ending : Ending) → wants_memory ending ≡ false → (o : Outcome (Value n)) → Says body apart (of n) ts o → IsAnswer n ts ending (answer_said ts ending o)
-said_is n ts finished m (ok v []) h = (refl, read_is_written full n v ts [] h.0)
-said_is n ts (carried x) m (ok v []) h = carried_last x (full_is_viable n v ts (read_is_written full n v ts [] h.0)) (none_plain ts (carried x) 0 h.1) refl
-said_is n ts ending m (ok v (t ∷ us)) (p, w, i, j, k) = unexpected_first p us t w (viable_out n p i) (λ z. j (viable_in n (p ++ (t ∷ [])) z)) (none_plain ts ending (suc (length us)) k)
-said_is n ts ending m (stuck (t ∷ us)) (p, w, i, j, k) = unexpected_first p us t w (viable_out n p i) (λ z. j (viable_in n (p ++ (t ∷ [])) z)) (none_plain ts ending (suc (length us)) k)
-said_is n ts finished m (stuck []) (i, j, k) = missing_last (viable_out n ts i) (λ z. j (sentence_in n ts z)) (none_plain ts finished 0 k) refl
-said_is n ts (carried x) m (stuck []) (i, j, k) = carried_last x (viable_out n ts i) (none_plain ts (carried x) 0 k) refl
-said_is n ts ending m (bad x us) (p, w, i, f, k) = checked_first p us x w (viable_out n p i) (fault_is_plain ts ending m x us f) (none_plain ts ending (suc (length us)) k)
+said_is n ts finished m (ok v []) h = (refl, factored_is_written whole full n v ts [] h.0)
+said_is n ts (carried x) m (ok v []) h = carried_last x (full_is_viable whole n v ts (factored_is_written whole full n v ts [] h.0)) (none_plain ts (carried x) 0 h.1) refl
+said_is n ts ending m (ok v (t ∷ us)) (p, w, i, j, k) = unexpected_first p us t w (viable_out whole n p i) (λ z. j (viable_in whole n (p ++ (t ∷ [])) z)) (none_plain ts ending (suc (length us)) k)
+said_is n ts ending m (stuck (t ∷ us)) (p, w, i, j, k) = unexpected_first p us t w (viable_out whole n p i) (λ z. j (viable_in whole n (p ++ (t ∷ [])) z)) (none_plain ts ending (suc (length us)) k)
+said_is n ts finished m (stuck []) (i, j, k) = missing_last (viable_out whole n ts i) (λ z. j (sentence_in whole n ts z)) (none_plain ts finished 0 k) refl
+said_is n ts (carried x) m (stuck []) (i, j, k) = carried_last x (viable_out whole n ts i) (none_plain ts (carried x) 0 k) refl
+said_is n ts ending m (bad x us) (p, w, i, f, k) = checked_first p us x w (viable_out whole n p i) (fault_is_plain ts ending m x us f) (none_plain ts ending (suc (length us)) k)
 said_is n ts ending m out h = absurd h
 
 -- ---- tokens that ended because memory was refused: as if a `(` followed
@@ -119,7 +108,7 @@ last_left n ts x m t (p, w, i, j, k) =
     let s = split ts p t [] w in
     let e : s.0 ≡ [] = empty_end s.0 s.1 in
     let all : ts ≡ p = s.2 ∙ (ap (λ (z : List Token). p ++ z) e ∙ append-nil p) in
-    carried_last x (subst (IsViable written n) (sym all) (viable_out n p i)) (none_in_want ts (carried x) m 0 k) refl
+    carried_last x (subst (IsViable written n) (sym all) (viable_out whole n p i)) (none_in_want ts (carried x) m 0 k) refl
   where
     empty_end : (vs : List Token) → (t ∷ []) ≡ followed vs → vs ≡ []
     empty_end [] e = refl
@@ -135,7 +124,7 @@ other_left n ts x m t u us (p, w, i, j, k) = let s = split ts p t (u ∷ us) w i
         let h : t ≡ y = cc in let r : (u ∷ us) ≡ followed vs = cc in
         let l : suc (length us) ≡ suc (length vs) = ap length r ∙ (let q = length-append vs (opening ∷ []) in omega (arith, q)) in
         let same : ts ≡ p ++ (t ∷ vs) = f ∙ ap (λ (z : Token). p ++ (z ∷ vs)) (sym h) in
-        unexpected_first p vs t same (viable_out n p i) (λ z. j (viable_in n (p ++ (t ∷ [])) z))
+        unexpected_first p vs t same (viable_out whole n p i) (λ z. j (viable_in whole n (p ++ (t ∷ [])) z))
         (none_in_want ts (carried x) m (suc (length vs)) (subst (λ (z : ℕ). engine.NoFaultBefore body apart (followed ts) (suc z)) l k))
 
 faulty_left : (n : Symbol) (ts : List Token) (x : Fault) → wants_memory (carried x) ≡ true → (y : Fault) (us : List Token) → IsFirstFault body apart (of n) (followed ts) y us → IsNamed n ts (carried x) y
@@ -143,16 +132,16 @@ faulty_left n ts x m y [] (p, w, i, f, k) = absurd (no_fault_opens ts finished y
 faulty_left n ts x m y (u ∷ us) (p, w, i, f, k) =
     let s = split ts p u us w in
     let l : suc (length us) ≡ suc (length s.0) = ap length s.1 ∙ (let q = length-append s.0 (opening ∷ []) in omega (arith, q)) in
-    checked_first p s.0 y s.2 (viable_out n p i)
+    checked_first p s.0 y s.2 (viable_out whole n p i)
     (followed_fault ts (carried x) y s.0 (subst (λ (z : List Token). IsCheckedFault (followed ts) finished y z) s.1 (fault_is_plain (followed ts) finished refl y (u ∷ us) f)))
     (none_in_want ts (carried x) m (suc (length s.0)) (subst (λ (z : ℕ). engine.NoFaultBefore body apart (followed ts) (suc z)) l k))
 
 want_is : (n : Symbol) (ts : List Token) (x : Fault) → wants_memory (carried x) ≡ true → (o : Outcome (Value n)) → Says body apart (of n) (followed ts) o → IsAnswer n ts (carried x) (answer_in_want x o)
 want_is n ts x m (ok v []) h =
-    carried_last x (viable_front n ts (opening ∷ []) (full_is_viable n v (followed ts) (read_is_written full n v (followed ts) [] h.0))) (none_in_want ts (carried x) m 0 (weaker (followed ts) 1 h.1)) refl
+    carried_last x (viable_front whole n ts (opening ∷ []) (full_is_viable whole n v (followed ts) (factored_is_written whole full n v (followed ts) [] h.0))) (none_in_want ts (carried x) m 0 (weaker (followed ts) 1 h.1)) refl
 want_is n ts x m (ok v (t ∷ [])) h = last_left n ts x m t h
 want_is n ts x m (ok v (t ∷ (u ∷ us))) h = other_left n ts x m t u us h
-want_is n ts x m (stuck []) (i, j, k) = carried_last x (viable_front n ts (opening ∷ []) (viable_out n (followed ts) i)) (none_in_want ts (carried x) m 0 (weaker (followed ts) 1 k)) refl
+want_is n ts x m (stuck []) (i, j, k) = carried_last x (viable_front whole n ts (opening ∷ []) (viable_out whole n (followed ts) i)) (none_in_want ts (carried x) m 0 (weaker (followed ts) 1 k)) refl
 want_is n ts x m (stuck (t ∷ [])) h = last_left n ts x m t h
 want_is n ts x m (stuck (t ∷ (u ∷ us))) h = other_left n ts x m t u us h
 want_is n ts x m (bad y us) h = faulty_left n ts x m y us h

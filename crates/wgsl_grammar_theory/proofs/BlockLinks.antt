@@ -11,14 +11,14 @@ use Rattle.wgsl_model.specs.Expressions.{ExpressionNode}
 use Rattle.wgsl_model.specs.Attributes.{Attributes}
 use Rattle.wgsl_model.specs.Statements.{BreakIfStatement, StatementNode, Statement, CompoundStatement, ElseIfClause, ElseClause, SwitchClause, ContinuingStatement}
 use Rattle.wgsl_model.specs.StatementParts.{placed_statement, else_if, else_block, switch_of, break_if}
-use Rattle.wgsl_model.specs.Symbols.{Symbol.statement, Symbol.break_statement, Symbol.switch_clause, Symbol.continuing_statement, Rule}
-use Rattle.wgsl_grammar_theory.specs.Factored.{Further.attribute_list, Further.loop_rest, Further.continuing_rest, Further.clause_rest, Further.else_rest, Further.switch_part, FactoredSymbol.of, FactoredSymbol.further, AttributedStatement, with_break}
+use Rattle.wgsl_model.specs.Symbols.{Dialect, Symbol.statement, Symbol.break_statement, Symbol.switch_clause, Symbol.continuing_statement, Rule}
+use Rattle.wgsl_model.specs.Written.{rules}
+use Rattle.wgsl_grammar_theory.specs.Factored.{Further.attribute_list, Further.loop_rest, Further.continuing_rest, Further.clause_rest, Further.else_rest, Further.switch_part, FactoredSymbol.of, FactoredSymbol.further, AttributedStatement, with_break, factored}
 use Rattle.wgsl_grammar_theory.specs.Meaning.{elses}
 use Rattle.wgsl_grammar_theory.proofs.ListLinks.{IsToken, many_back, many_front, many_none, several_in, several_out}
 use Rattle.wgsl_grammar_theory.proofs.Shifts.{Meant}
 use Rattle.wgsl_grammar_theory.proofs.LevelLinks.{WrittenPart, ReadPart}
 use Rattle.wgsl_grammar_theory.proofs.StatementLinks.{statement_out}
-use Rattle.wgsl_grammar_theory.specs.Dialects.{Dialect, written_in, factored_in}
 
 -- ---- the clauses of a `switch`
 abbrev clauses_in_braces : Rule (List SwitchClause)
@@ -33,17 +33,17 @@ switch_from p a = switch_of a p.0 p.1.0 p.1.1
 abbrev switch_with : ExpressionNode → Attributes → List SwitchClause → AttributedStatement
 switch_with s b cs a = switch_of a s b cs
 
-pub switch_part_in : (L : Dialect) (M : Mode) (v : AttributedStatement) (xs ys : List Token) → Meant L M (ReadPart L M) (further switch_part) v xs ys → Part M (factored_in L) (further switch_part) v xs ys
+pub switch_part_in : (L : Dialect) (M : Mode) (v : AttributedStatement) (xs ys : List Token) → Meant L M (ReadPart L M) (further switch_part) v xs ys → Part M (factored L) (further switch_part) v xs ys
 switch_part_in L M v xs ys (p, e, (q, g, (ms, k, (us, dx, (vs, da, (r, h, (ws, kb, dc))))))) =
-    let c = several_in M (Part M (factored_in L)) SymBraceRight (symbol (of switch_clause)) (symbol (further clause_rest)) (roll M (factored_in L) (further clause_rest)) r.1 ws ys dc in
+    let c = several_in M (Part M (factored L)) SymBraceRight (symbol (of switch_clause)) (symbol (further clause_rest)) (roll M (factored L) (further clause_rest)) r.1 ws ys dc in
     let i : SwitchClause × List SwitchClause = c.0 in
     let r' : Token × (SwitchClause × List SwitchClause) = (r.0, i) in
     let p' : ExpressionNode × (Attributes × (SwitchClause × List SwitchClause)) = (q.1.0, (q.1.1.0, i)) in
     let q' : Token × (ExpressionNode × (Attributes × (SwitchClause × List SwitchClause))) = (q.0, p') in
-    roll M (factored_in L) (further switch_part) v xs ys
-    (p', ap (λ (z : List SwitchClause). switch_with q.1.0 q.1.1.0 z) (c.1 ∙ h) ∙ (ap switch_from g ∙ e), (q', refl, (ms, k, (us, dx, (vs, roll M (factored_in L) (further attribute_list) q.1.1.0 us vs da, (r', refl, (ws, kb, c.2)))))))
+    roll M (factored L) (further switch_part) v xs ys
+    (p', ap (λ (z : List SwitchClause). switch_with q.1.0 q.1.1.0 z) (c.1 ∙ h) ∙ (ap switch_from g ∙ e), (q', refl, (ms, k, (us, dx, (vs, roll M (factored L) (further attribute_list) q.1.1.0 us vs da, (r', refl, (ws, kb, c.2)))))))
 
-pub switch_part_out : (L : Dialect) (M : Mode) (v : AttributedStatement) (xs ys : List Token) → Means M (Meant L M (WrittenPart L M)) (factored_in L (further switch_part)) v xs ys → Meant L M (WrittenPart L M) (further switch_part) v xs ys
+pub switch_part_out : (L : Dialect) (M : Mode) (v : AttributedStatement) (xs ys : List Token) → Means M (Meant L M (WrittenPart L M)) (factored L (further switch_part)) v xs ys → Meant L M (WrittenPart L M) (further switch_part) v xs ys
 switch_part_out L M v xs ys (p, e, (q, g, (ms, k, (us, dx, (vs, da, (r, h, (ws, kb, dc))))))) =
     let c : Means M (WrittenPart L M) clauses_in_braces (r.1.0 ∷ r.1.1) ws ys = several_out M (Meant L M (WrittenPart L M)) SymBraceRight (symbol (of switch_clause)) (symbol (further clause_rest)) (λ v xs ys d. d) (r.1.0 ∷ r.1.1) ws ys (r.1, refl, dc) in
     let cs : List SwitchClause = r.1.0 ∷ r.1.1 in
@@ -59,35 +59,35 @@ switch_part_out L M v xs ys (p, e, (q, g, (ms, k, (us, dx, (vs, da, (r, h, (ws, 
 abbrev LoopInside : Type 0
 LoopInside = List StatementNode × Option ContinuingStatement
 
-loop_last : (L : Dialect) (M : Mode) (o : Option ContinuingStatement) (t : Token) (us ms ys : List Token) → Means M (ReadPart L M) (optional (symbol continuing_statement)) o us ms → IsToken SymBraceRight t ms ys → Part M (factored_in L) (further loop_rest) ([], o) us ys
+loop_last : (L : Dialect) (M : Mode) (o : Option ContinuingStatement) (t : Token) (us ms ys : List Token) → Means M (ReadPart L M) (optional (symbol continuing_statement)) o us ms → IsToken SymBraceRight t ms ys → Part M (factored L) (further loop_rest) ([], o) us ys
 loop_last L M o t us ms ys (inl (c, f, d)) k =
     let i : ContinuingStatement × Token = (c, t) in
     let v : LoopInside = ([], o) in
-    roll M (factored_in L) (further loop_rest) v us ys (inr (inl (c, ap (λ (z : Option ContinuingStatement). loop_inside z) f, (i, refl, (ms, d, k)))))
+    roll M (factored L) (further loop_rest) v us ys (inr (inl (c, ap (λ (z : Option ContinuingStatement). loop_inside z) f, (i, refl, (ms, d, k)))))
   where
     loop_inside : Option ContinuingStatement → LoopInside
     loop_inside z = ([], z)
 loop_last L M o t us ms ys (inr d) k =
     let v : LoopInside = ([], o) in
-    roll M (factored_in L) (further loop_rest) v us ys (inl (t, ap (λ (z : Option ContinuingStatement). loop_inside z) d.0, subst (λ (z : List Token). IsToken SymBraceRight t z ys) (sym d.1) k))
+    roll M (factored L) (further loop_rest) v us ys (inl (t, ap (λ (z : Option ContinuingStatement). loop_inside z) d.0, subst (λ (z : List Token). IsToken SymBraceRight t z ys) (sym d.1) k))
   where
     loop_inside : Option ContinuingStatement → LoopInside
     loop_inside z = ([], z)
 
 loop_step : (L : Dialect) (M : Mode) (o : Option ContinuingStatement) (ys : List Token) (x : StatementNode) (us ms : List Token) → ReadPart L M statement x us ms → (tl : List StatementNode)
-    → Part M (factored_in L) (further loop_rest) (tl, o) ms ys → Part M (factored_in L) (further loop_rest) (x ∷ tl, o) us ys
+    → Part M (factored L) (further loop_rest) (tl, o) ms ys → Part M (factored L) (further loop_rest) (x ∷ tl, o) us ys
 loop_step L M o ys x us ms d tl r =
     let i : StatementNode × LoopInside = (x, (tl, o)) in
     let v : LoopInside = (x ∷ tl, o) in
-    roll M (factored_in L) (further loop_rest) v us ys (inr (inr (i, refl, (ms, d, r))))
+    roll M (factored L) (further loop_rest) v us ys (inr (inr (i, refl, (ms, d, r))))
 
-pub loop_rest_in : (L : Dialect) (M : Mode) (v : LoopInside) (xs ys : List Token) → Meant L M (ReadPart L M) (further loop_rest) v xs ys → Part M (factored_in L) (further loop_rest) v xs ys
+pub loop_rest_in : (L : Dialect) (M : Mode) (v : LoopInside) (xs ys : List Token) → Meant L M (ReadPart L M) (further loop_rest) v xs ys → Part M (factored L) (further loop_rest) v xs ys
 loop_rest_in L M v xs ys (p, e, (ms, (us, dm, dl), k)) =
-    subst (λ (z : LoopInside). Part M (factored_in L) (further loop_rest) z xs ys) e
-    (subst (λ (z : List StatementNode). Part M (factored_in L) (further loop_rest) (z, p.0.1) xs ys) (append-nil p.0.0)
-    (many_back M (ReadPart L M) (symbol statement) (λ tl zs. Part M (factored_in L) (further loop_rest) (tl, p.0.1) zs ys) (λ x es bs d tl r. loop_step L M p.0.1 ys x es bs d tl r) xs p.0.0 us dm [] (loop_last L M p.0.1 p.1 us ms ys dl k)))
+    subst (λ (z : LoopInside). Part M (factored L) (further loop_rest) z xs ys) e
+    (subst (λ (z : List StatementNode). Part M (factored L) (further loop_rest) (z, p.0.1) xs ys) (append-nil p.0.0)
+    (many_back M (ReadPart L M) (symbol statement) (λ tl zs. Part M (factored L) (further loop_rest) (tl, p.0.1) zs ys) (λ x es bs d tl r. loop_step L M p.0.1 ys x es bs d tl r) xs p.0.0 us dm [] (loop_last L M p.0.1 p.1 us ms ys dl k)))
 
-pub loop_rest_out : (L : Dialect) (M : Mode) (v : LoopInside) (xs ys : List Token) → Means M (Meant L M (WrittenPart L M)) (factored_in L (further loop_rest)) v xs ys → Meant L M (WrittenPart L M) (further loop_rest) v xs ys
+pub loop_rest_out : (L : Dialect) (M : Mode) (v : LoopInside) (xs ys : List Token) → Means M (Meant L M (WrittenPart L M)) (factored L (further loop_rest)) v xs ys → Meant L M (WrittenPart L M) (further loop_rest) v xs ys
 loop_rest_out L M v xs ys (inl (t, e, k)) =
     let w : LoopInside = ([], None) in let p : LoopInside × Token = (w, t) in
     (p, e, (xs, (xs, many_none M (WrittenPart L M) (symbol statement) xs, inr (refl, refl)), k))
@@ -117,7 +117,7 @@ statement_first s z = (s ∷ z.0, z.1)
 abbrev break_condition : ExpressionNode → BreakIfStatement
 break_condition e = record { expression = e }
 
-continuing_last : (L : Dialect) (M : Mode) (o : Option BreakIfStatement) (t : Token) (us ms ys : List Token) → Means M (ReadPart L M) (optional break_if) o us ms → IsToken SymBraceRight t ms ys → Part M (factored_in L) (further continuing_rest) ([], o) us ys
+continuing_last : (L : Dialect) (M : Mode) (o : Option BreakIfStatement) (t : Token) (us ms ys : List Token) → Means M (ReadPart L M) (optional break_if) o us ms → IsToken SymBraceRight t ms ys → Part M (factored L) (further continuing_rest) ([], o) us ys
 continuing_last L M o t us ms ys (inl (b, f, (x, h, (q, g, (es, k1, (r, g2, (bs, k2, (w, g3, (cs, dx, k3))))))))) k =
     let i : ExpressionNode × Token = (w.0, w.1) in
     let j : ExpressionNode × Token = (w.0, t) in
@@ -125,7 +125,7 @@ continuing_last L M o t us ms ys (inl (b, f, (x, h, (q, g, (es, k1, (r, g2, (bs,
     let c : Token → ContinuingInside = λ b. only_condition (Some (break_condition w.0)) in
     let n : Token × (Token → ContinuingInside) = (q.0, c) in
     let v : ContinuingInside = ([], o) in
-    roll M (factored_in L) (further continuing_rest) v us ys
+    roll M (factored L) (further continuing_rest) v us ys
     (inr (inl (
       n,
       ap (λ (z : ExpressionNode). only_condition (Some (break_condition z))) (g3 ∙ (g2 ∙ g)) ∙ (ap (λ (z : BreakIfStatement). only_condition (Some z)) h ∙ ap only_condition f),
@@ -133,15 +133,15 @@ continuing_last L M o t us ms ys (inl (b, f, (x, h, (q, g, (es, k1, (r, g2, (bs,
     )))
 continuing_last L M o t us ms ys (inr d) k =
     let v : ContinuingInside = ([], o) in
-    roll M (factored_in L) (further continuing_rest) v us ys (inl (t, ap only_condition d.0, subst (λ (z : List Token). IsToken SymBraceRight t z ys) (sym d.1) k))
+    roll M (factored L) (further continuing_rest) v us ys (inl (t, ap only_condition d.0, subst (λ (z : List Token). IsToken SymBraceRight t z ys) (sym d.1) k))
 
 continuing_step : (L : Dialect) (M : Mode) (o : Option BreakIfStatement) (ys : List Token) (x : StatementNode) (us ms : List Token) → ReadPart L M statement x us ms → (tl : List StatementNode)
-    → Part M (factored_in L) (further continuing_rest) (tl, o) ms ys → Part M (factored_in L) (further continuing_rest) (x ∷ tl, o) us ys
-continuing_step L M o ys x us ms d tl r = go (unroll M (factored_in L) (of statement) x us ms d)
+    → Part M (factored L) (further continuing_rest) (tl, o) ms ys → Part M (factored L) (further continuing_rest) (x ∷ tl, o) us ys
+continuing_step L M o ys x us ms d tl r = go (unroll M (factored L) (of statement) x us ms d)
   where
-    go : Means M (Part M (factored_in L)) (factored_in L (of statement)) x us ms → Part M (factored_in L) (further continuing_rest) (x ∷ tl, o) us ys
+    go : Means M (Part M (factored L)) (factored L (of statement)) x us ms → Part M (factored L) (further continuing_rest) (x ∷ tl, o) us ys
     go (inl (n, e, (p, f, (vs, b, k)))) =
-        let s = unroll M (factored_in L) (of break_statement) p.0 us vs b in
+        let s = unroll M (factored L) (of break_statement) p.0 us vs b in
         let whole : us ≡ s.0 ∷ p.1 ∷ ms = s.2.1 ∙ ap (λ (z : List Token). s.0 ∷ z) k.1 in
         let here : span_between us ms ≡ record { start = s.0.start; end = p.1.end } = ap (λ (z : List Token). span_between z ms) whole ∙ span_append (s.0 ∷ p.1 ∷ []) ms in
         let i : Token × ContinuingInside = (p.1, (tl, o)) in
@@ -150,17 +150,17 @@ continuing_step L M o ys x us ms d tl r = go (unroll M (factored_in L) (of state
         let v : ContinuingInside = (x ∷ tl, o) in
         let same : placed_statement Statement.break_statement (record { start = s.0.start; end = p.1.end }) ≡ x =
         ap (λ (z : Span). placed_statement Statement.break_statement z) (sym here) ∙ (ap (λ (z : Statement). placed_statement z (span_between us ms)) (s.1 ∙ f) ∙ e) in
-        roll M (factored_in L) (further continuing_rest) v us ys (inr (inl (q, ap (λ (z : StatementNode). statement_first z (tl, o)) same, (vs, s.2, inl (i, refl, (ms, k, r))))))
+        roll M (factored L) (further continuing_rest) v us ys (inr (inl (q, ap (λ (z : StatementNode). statement_first z (tl, o)) same, (vs, s.2, inl (i, refl, (ms, k, r))))))
     go (inr h) =
         let i : StatementNode × ContinuingInside = (x, (tl, o)) in
         let v : ContinuingInside = (x ∷ tl, o) in
-        roll M (factored_in L) (further continuing_rest) v us ys (inr (inr (i, refl, (ms, h, r))))
+        roll M (factored L) (further continuing_rest) v us ys (inr (inr (i, refl, (ms, h, r))))
 
-pub continuing_rest_in : (L : Dialect) (M : Mode) (v : ContinuingInside) (xs ys : List Token) → Meant L M (ReadPart L M) (further continuing_rest) v xs ys → Part M (factored_in L) (further continuing_rest) v xs ys
+pub continuing_rest_in : (L : Dialect) (M : Mode) (v : ContinuingInside) (xs ys : List Token) → Meant L M (ReadPart L M) (further continuing_rest) v xs ys → Part M (factored L) (further continuing_rest) v xs ys
 continuing_rest_in L M v xs ys (p, e, (ms, (us, dm, dl), k)) =
-    subst (λ (z : ContinuingInside). Part M (factored_in L) (further continuing_rest) z xs ys) e
-    (subst (λ (z : List StatementNode). Part M (factored_in L) (further continuing_rest) (z, p.0.1) xs ys) (append-nil p.0.0)
-    (many_back M (ReadPart L M) (symbol statement) (λ tl zs. Part M (factored_in L) (further continuing_rest) (tl, p.0.1) zs ys) (λ x es bs d tl r. continuing_step L M p.0.1 ys x es bs d tl r) xs p.0.0 us dm [] (continuing_last L M p.0.1 p.1 us ms ys dl k)))
+    subst (λ (z : ContinuingInside). Part M (factored L) (further continuing_rest) z xs ys) e
+    (subst (λ (z : List StatementNode). Part M (factored L) (further continuing_rest) (z, p.0.1) xs ys) (append-nil p.0.0)
+    (many_back M (ReadPart L M) (symbol statement) (λ tl zs. Part M (factored L) (further continuing_rest) (tl, p.0.1) zs ys) (λ x es bs d tl r. continuing_step L M p.0.1 ys x es bs d tl r) xs p.0.0 us dm [] (continuing_last L M p.0.1 p.1 us ms ys dl k)))
 
 -- a statement before the inside of `continuing`
 continuing_front : (L : Dialect) (M : Mode) (x : StatementNode) (xs ms : List Token) → WrittenPart L M statement x xs ms → (v : ContinuingInside) (ys : List Token) → Meant L M (WrittenPart L M) (further continuing_rest) v ms ys
@@ -169,7 +169,7 @@ continuing_front L M x xs ms d v ys (p, f, (us, (vs, dm, dl), k)) =
     let w : ContinuingInside = (x ∷ p.0.0, p.0.1) in let q : ContinuingInside × Token = (w, p.1) in
     (q, ap (λ (z : ContinuingInside). statement_first x z) f, (us, (vs, many_front M (WrittenPart L M) (symbol statement) x xs ms d p.0.0 vs dm, dl), k))
 
-pub continuing_rest_out : (L : Dialect) (M : Mode) (v : ContinuingInside) (xs ys : List Token) → Means M (Meant L M (WrittenPart L M)) (factored_in L (further continuing_rest)) v xs ys → Meant L M (WrittenPart L M) (further continuing_rest) v xs ys
+pub continuing_rest_out : (L : Dialect) (M : Mode) (v : ContinuingInside) (xs ys : List Token) → Means M (Meant L M (WrittenPart L M)) (factored L (further continuing_rest)) v xs ys → Meant L M (WrittenPart L M) (further continuing_rest) v xs ys
 continuing_rest_out L M v xs ys (inl (t, e, k)) =
     let w : ContinuingInside = ([], None) in let p : ContinuingInside × Token = (w, t) in
     (p, e, (xs, (xs, many_none M (WrittenPart L M) (symbol statement) xs, inr (refl, refl)), k))
@@ -179,7 +179,7 @@ continuing_rest_out L M v xs ys (inr (inl (n, e, (es, k1, inl (i, f, (bs, k2, r)
     let here : span_between xs bs ≡ record { start = n.0.start; end = i.0.end } = ap (λ (z : List Token). span_between z bs) whole ∙ span_append (n.0 ∷ i.0 ∷ []) bs in
     let j : Statement × Token = (Statement.break_statement, i.0) in
     let d : WrittenPart L M statement x xs bs = statement_out L M x xs bs
-    (inl (Statement.break_statement, ap (λ (z : Span). placed_statement Statement.break_statement z) here, (j, refl, (es, roll M (written_in L) break_statement Statement.break_statement xs es (n.0, refl, k1), k2)))) in
+    (inl (Statement.break_statement, ap (λ (z : Span). placed_statement Statement.break_statement z) here, (j, refl, (es, roll M (rules L) break_statement Statement.break_statement xs es (n.0, refl, k1), k2)))) in
     subst (λ (z : ContinuingInside). Meant L M (WrittenPart L M) (further continuing_rest) z xs ys) (ap (λ (g : Token → ContinuingInside). g n.0) f ∙ e) (continuing_front L M x xs bs d i.1 ys r)
 continuing_rest_out L M v xs ys (inr (inl (n, e, (es, k1, inr (x, f, (l, g, (bs, k2, (j, h, (ms, (i, h2, (cs, dx, k3)), k))))))))) =
     let r : Token × ExpressionNode = (l.0, i.0) in
@@ -209,28 +209,28 @@ abbrev else_if_from : ElseIfParts → ElseIfClause
 else_if_from p = ElseIfClause.else_if_clause p.0 p.1
 
 else_step : (L : Dialect) (M : Mode) (o : Option ElseClause) (ys : List Token) (x : ElseIfClause) (us ms : List Token) → Means M (ReadPart L M) else_if x us ms → (tl : List ElseIfClause)
-    → Part M (factored_in L) (further else_rest) (tl, o) ms ys → Part M (factored_in L) (further else_rest) (x ∷ tl, o) us ys
+    → Part M (factored L) (further else_rest) (tl, o) ms ys → Part M (factored L) (further else_rest) (x ∷ tl, o) us ys
 else_step L M o ys x us ms (p, e, (q, g, (es, k1, (r, g2, (bs, k2, (cs, dx, db)))))) tl rest =
     let v : Elses = (x ∷ tl, o) in
     let t : CompoundStatement × Elses = (r.1.1, (tl, o)) in
     let i : ExpressionNode × (CompoundStatement × Elses) = (r.1.0, t) in
     let j : Token × (ExpressionNode × (CompoundStatement × Elses)) = (r.0, i) in
     let w : Token × Elses = (q.0, v) in
-    roll M (factored_in L) (further else_rest) v us ys (inl (w, refl, (es, k1, inl (i, ap (λ (z : ElseIfClause). clause_first z (tl, o)) (ap else_if_from (g2 ∙ g) ∙ e), (j, refl, (bs, k2, (cs, dx, (ms, db, rest))))))))
+    roll M (factored L) (further else_rest) v us ys (inl (w, refl, (es, k1, inl (i, ap (λ (z : ElseIfClause). clause_first z (tl, o)) (ap else_if_from (g2 ∙ g) ∙ e), (j, refl, (bs, k2, (cs, dx, (ms, db, rest))))))))
 
-else_last : (L : Dialect) (M : Mode) (o : Option ElseClause) (us ys : List Token) → Means M (ReadPart L M) (optional else_block) o us ys → Part M (factored_in L) (further else_rest) ([], o) us ys
+else_last : (L : Dialect) (M : Mode) (o : Option ElseClause) (us ys : List Token) → Means M (ReadPart L M) (optional else_block) o us ys → Part M (factored L) (further else_rest) ([], o) us ys
 else_last L M o us ys (inl (c, f, (b, h, (q, g, (es, k, d))))) =
     let v : Elses = ([], o) in
     let w : Token × Elses = (q.0, v) in
-    roll M (factored_in L) (further else_rest) v us ys (inl (w, refl, (es, k, inr (q.1, ap (λ (z : CompoundStatement). only_else (Some (ElseClause.else_clause z))) g ∙ (ap (λ (z : ElseClause). only_else (Some z)) h ∙ ap only_else f), d))))
-else_last L M o us ys (inr d) = let v : Elses = ([], o) in roll M (factored_in L) (further else_rest) v us ys (inr (ap only_else d.0, d.1))
+    roll M (factored L) (further else_rest) v us ys (inl (w, refl, (es, k, inr (q.1, ap (λ (z : CompoundStatement). only_else (Some (ElseClause.else_clause z))) g ∙ (ap (λ (z : ElseClause). only_else (Some z)) h ∙ ap only_else f), d))))
+else_last L M o us ys (inr d) = let v : Elses = ([], o) in roll M (factored L) (further else_rest) v us ys (inr (ap only_else d.0, d.1))
 
-pub else_rest_in : (L : Dialect) (M : Mode) (v : Elses) (xs ys : List Token) → Meant L M (ReadPart L M) (further else_rest) v xs ys → Part M (factored_in L) (further else_rest) v xs ys
+pub else_rest_in : (L : Dialect) (M : Mode) (v : Elses) (xs ys : List Token) → Meant L M (ReadPart L M) (further else_rest) v xs ys → Part M (factored L) (further else_rest) v xs ys
 else_rest_in L M v xs ys (us, dm, dl) =
-    subst (λ (z : List ElseIfClause). Part M (factored_in L) (further else_rest) (z, v.1) xs ys) (append-nil v.0)
-    (many_back M (ReadPart L M) else_if (λ tl zs. Part M (factored_in L) (further else_rest) (tl, v.1) zs ys) (λ x es bs d tl r. else_step L M v.1 ys x es bs d tl r) xs v.0 us dm [] (else_last L M v.1 us ys dl))
+    subst (λ (z : List ElseIfClause). Part M (factored L) (further else_rest) (z, v.1) xs ys) (append-nil v.0)
+    (many_back M (ReadPart L M) else_if (λ tl zs. Part M (factored L) (further else_rest) (tl, v.1) zs ys) (λ x es bs d tl r. else_step L M v.1 ys x es bs d tl r) xs v.0 us dm [] (else_last L M v.1 us ys dl))
 
-pub else_rest_out : (L : Dialect) (M : Mode) (v : Elses) (xs ys : List Token) → Means M (Meant L M (WrittenPart L M)) (factored_in L (further else_rest)) v xs ys → Meant L M (WrittenPart L M) (further else_rest) v xs ys
+pub else_rest_out : (L : Dialect) (M : Mode) (v : Elses) (xs ys : List Token) → Means M (Meant L M (WrittenPart L M)) (factored L (further else_rest)) v xs ys → Meant L M (WrittenPart L M) (further else_rest) v xs ys
 else_rest_out L M v xs ys (inl (w, e, (es, k1, inl (i, f, (j, g, (bs, k2, (cs, dx, (ms, db, (us, dm, dl))))))))) =
     let p : ElseIfParts = (j.1.0, j.1.1.0) in
     let r : Token × ElseIfParts = (j.0, p) in

@@ -13,14 +13,14 @@ use Rattle.grammar.proofs.Outcomes.{faultless}
 use Rattle.wgsl_model.specs.Classes.{SymAttr, Ident, ReservedWord}
 use Rattle.wgsl_model.specs.Spanned.{Spanned}
 use Rattle.wgsl_model.specs.Checks.{Arguments, AttributeParts}
-use Rattle.wgsl_model.specs.Symbols.{Symbol, Symbol.template_list, Symbol.literal, Symbol.expression, Symbol.attribute, Symbol.statement, Symbol.global_declaration, Symbol.global_directive, Symbol.unit, Value, is_read_alone}
+use Rattle.wgsl_model.specs.Symbols.{Dialect.whole, Symbol, Symbol.template_list, Symbol.literal, Symbol.expression, Symbol.attribute, Symbol.statement, Symbol.global_declaration, Symbol.global_directive, Symbol.unit, Value, is_read_alone}
 use Rattle.wgsl_model.specs.Written.{keyword_classes, written}
 use Rattle.wgsl_model.specs.CheckedFaults.{IsUnopened, IsWhole, IsCheckedFault, IsCheckedFault.reserved_fault, IsCheckedFault.severity_fault_at, IsCheckedFault.attribute_fault_at, IsCheckedFault.var_template_fault}
 use Rattle.wgsl_grammar_theory.specs.Factored.{FactoredSymbol.of, body}
 use Rattle.wgsl_grammar_theory.specs.Tables.{rank_limit, tables}
 use Rattle.wgsl_grammar_theory.specs.Apart.{apart}
 use Rattle.wgsl_grammar_theory.proofs.Outcomes.{tested}
-use Rattle.wgsl_grammar_theory.proofs.SameTrees.{read_is_written}
+use Rattle.wgsl_grammar_theory.proofs.Links.{factored_is_written}
 use Rattle.wgsl_grammar_theory.proofs.PlainFaults.{one_class, fault_is_plain}
 use Rattle.wgsl_grammar_theory.proofs.Avoids.{NoneOf, EndsWith}
 use Rattle.wgsl_grammar_theory.proofs.WrittenEnds.{in_expression, attribute_or_var, expression_holds_none, closing, closers, sentence_closes}
@@ -108,6 +108,6 @@ any_fault ts ending x ys b (var_template_fault r) = var_template_fault r
 pub checked_sentence_is_full : (n : Symbol) → is_read_alone n ≡ true → (ts : List Token) (ending : Ending) → IsSentence written n ts
     → ((x : Fault) (ys : List Token) → IsCheckedFault ts ending x ys → ⊥) → (v : Value n) × Derives full written n v ts
 checked_sentence_is_full n k ts ending s none =
-    let r = faultless tables body rank_limit apart tested (of n) ts (sentence_in n ts s)
+    let r = faultless tables body rank_limit apart tested (of n) ts (sentence_in whole n ts s)
     (λ x ys f. none x ys (any_fault ts ending x ys (not_bare n k s.0 ts s.1) (fault_is_plain ts finished refl x ys f))) in
-    (r.0, read_is_written full n r.0 ts [] r.1)
+    (r.0, factored_is_written whole full n r.0 ts [] r.1)

@@ -5,13 +5,13 @@ pub mod Outcomes
 pub mod ListLinks
 pub mod Levels
 pub mod Taking
+pub mod Lifted
 pub mod Shifts
 pub mod LevelLinks
 pub mod LeftSides
 pub mod StatementLinks
 pub mod BlockLinks
 pub mod Links
-pub mod SameTrees
 pub mod WrittenTree
 pub mod PlainFaults
 pub mod Avoids

@@ -6,8 +6,8 @@ use Rattle.grammar.specs.Faults.{Ending, Ending.finished, Ending.carried}
 use Rattle.grammar.proofs.Depth.{loosen}
 use Rattle.grammar.proofs.Outcomes.{no_fault}
 use Rattle.wgsl_model.specs.Faults.{unexpected_token}
-use Rattle.wgsl_model.specs.Symbols.{Symbol, Value}
-use Rattle.wgsl_model.specs.Written.{written}
+use Rattle.wgsl_model.specs.Symbols.{Dialect, Dialect.whole, Dialect.alone, Symbol, Value}
+use Rattle.wgsl_model.specs.Written.{rules, written}
 use Rattle.wgsl_model.specs.Small.{small}
 use Rattle.wgsl_model.specs.CheckedFaults.{IsCheckedFault}
 use Rattle.wgsl_model.specs.Named.{NoFaultBefore, IsNamed, IsNamed.checked_first, IsNamed.unexpected_first, IsNamed.carried_last, IsNamed.missing_last, IsNamedSmall, IsNamedSmall.unexpected_first_small, IsNamedSmall.carried_last_small, IsNamedSmall.missing_last_small}
@@ -17,9 +17,8 @@ use Rattle.wgsl_grammar_theory.specs.Apart.{apart}
 use Rattle.wgsl_grammar_theory.proofs.Outcomes.{tested}
 use Rattle.wgsl_grammar_theory.proofs.PlainFaults.{plain_is_fault}
 use Rattle.wgsl_grammar_theory.proofs.FaultEnds.{one_fault}
-use Rattle.wgsl_grammar_theory.proofs.SameTrees.{written_is_read}
-use Rattle.wgsl_grammar_theory.proofs.Answers.{viable_front, full_is_viable}
-use Rattle.wgsl_grammar_theory.proofs.SmallAnswers.{derived_is_viable, viable_front_alone}
+use Rattle.wgsl_grammar_theory.proofs.Links.{written_is_factored}
+use Rattle.wgsl_grammar_theory.proofs.WrittenTree.{viable_front, full_is_viable}
 
 -- two ends of a list that are equally long
 same_end : (p q us vs : List Token) → p ++ us ≡ q ++ vs → length us ≡ length vs → us ≡ vs
@@ -38,10 +37,9 @@ past (x ∷ q) t vs (u ∷ p) us e l =
     let w = past q t vs p us r l in (w.0, ap₂ (λ (y : Token) (z : List Token). y ∷ z) f w.1)
 
 -- no front that begins a sentence goes past a token with which none goes on
-not_past : (Begins : List Token → Type 0) → ((p q : List Token) → Begins (p ++ q) → Begins p)
-    → (ts q : List Token) (t : Token) (vs p us : List Token) → ts ≡ q ++ (t ∷ vs) → (Begins (q ++ (t ∷ [])) → ⊥) → ts ≡ p ++ us → Begins p → length us ≤ length vs → ⊥
-not_past Begins front ts q t vs p us e none f v l =
-    let w = past q t vs p us (sym e ∙ f) l in none (front (q ++ (t ∷ [])) w.0 (subst Begins w.1 v))
+not_past : (L : Dialect) (n : Symbol) (ts q : List Token) (t : Token) (vs p us : List Token) → ts ≡ q ++ (t ∷ vs) → (IsViable (rules L) n (q ++ (t ∷ [])) → ⊥) → ts ≡ p ++ us → IsViable (rules L) n p → length us ≤ length vs → ⊥
+not_past L n ts q t vs p us e none f v l =
+    let w = past q t vs p us (sym e ∙ f) l in none (viable_front L n (q ++ (t ∷ [])) w.0 (subst (IsViable (rules L) n) w.1 v))
 
 order : (m n : ℕ) → (m ≡ n) ⊎ ((m < n) ⊎ (n < m))
 order zero zero = inl refl
@@ -62,23 +60,21 @@ not_both x e p q = let r : finished ≡ carried x = sym q ∙ p in cc
 first_or_unexpected : (n : Symbol) (ts : List Token) (ending : Ending) (p us : List Token) (x : Fault) → ts ≡ p ++ us → IsViable written n p → IsCheckedFault ts ending x us
     → (q vs : List Token) (t : Token) → ts ≡ q ++ (t ∷ vs) → (IsViable written n (q ++ (t ∷ [])) → ⊥) → NoFaultBefore ts ending (suc (length vs)) → ⊥
 first_or_unexpected n ts ending p us x e v f q vs t g none m = elim (order (length us) (length vs)) [
-  | inl l ↦ not_past (IsViable written n) (viable_front n) ts q t vs p us g none e v (omega (arith, l))
-  | inr h ↦ elim h [ inl l ↦ not_past (IsViable written n) (viable_front n) ts q t vs p us g none e v (omega (arith, l)) | inr l ↦ m x us f l ]
+  | inl l ↦ not_past whole n ts q t vs p us g none e v (omega (arith, l))
+  | inr h ↦ elim h [ inl l ↦ not_past whole n ts q t vs p us g none e v (omega (arith, l)) | inr l ↦ m x us f l ]
 ]
 
 -- not all tokens begin a sentence where none goes on with one of them
-all_or_unexpected : (Begins : List Token → Type 0) → ((p q : List Token) → Begins (p ++ q) → Begins p)
-    → (ts : List Token) → Begins ts → (q vs : List Token) (t : Token) → ts ≡ q ++ (t ∷ vs) → (Begins (q ++ (t ∷ [])) → ⊥) → ⊥
-all_or_unexpected Begins front ts v q vs t e none = not_past Begins front ts q t vs ts [] e none (sym (append-nil ts)) v (omega arith)
+all_or_unexpected : (L : Dialect) (n : Symbol) (ts : List Token) → IsViable (rules L) n ts → (q vs : List Token) (t : Token) → ts ≡ q ++ (t ∷ vs) → (IsViable (rules L) n (q ++ (t ∷ [])) → ⊥) → ⊥
+all_or_unexpected L n ts v q vs t e none = not_past L n ts q t vs ts [] e none (sym (append-nil ts)) v (omega arith)
 
 -- one token alone is the first with which none goes on
-one_unexpected : (Begins : List Token → Type 0) → ((p q : List Token) → Begins (p ++ q) → Begins p)
-    → (ts p us q vs : List Token) (t u : Token) → ts ≡ p ++ (t ∷ us) → Begins p → (Begins (p ++ (t ∷ [])) → ⊥) → ts ≡ q ++ (u ∷ vs) → Begins q → (Begins (q ++ (u ∷ [])) → ⊥) → t ≡ u
-one_unexpected Begins front ts p us q vs t u e v none e' v' none' = elim (order (length us) (length vs)) [
+one_unexpected : (L : Dialect) (n : Symbol) (ts p us q vs : List Token) (t u : Token) → ts ≡ p ++ (t ∷ us) → IsViable (rules L) n p → (IsViable (rules L) n (p ++ (t ∷ [])) → ⊥) → ts ≡ q ++ (u ∷ vs) → IsViable (rules L) n q → (IsViable (rules L) n (q ++ (u ∷ [])) → ⊥) → t ≡ u
+one_unexpected L n ts p us q vs t u e v none e' v' none' = elim (order (length us) (length vs)) [
   | inl l ↦ let r : t ∷ us ≡ u ∷ vs = same_end p q (t ∷ us) (u ∷ vs) (sym e ∙ e') (ap suc l) in let h : t ≡ u = cc in h
   | inr h ↦ elim h [
-    | inl l ↦ absurd (not_past Begins front ts q u vs p (t ∷ us) e' none' e v l)
-    | inr l ↦ absurd (not_past Begins front ts p t us q (u ∷ vs) e none e' v' l)
+    | inl l ↦ absurd (not_past L n ts q u vs p (t ∷ us) e' none' e v l)
+    | inr l ↦ absurd (not_past L n ts p t us q (u ∷ vs) e none e' v' l)
   ]
 ]
 
@@ -93,40 +89,40 @@ named_once n ts ending _ _ (checked_first p us x e v f m) (carried_last y v' k c
 named_once n ts ending _ _ (checked_first p us x e v f m) (missing_last v' s k c) = absurd (k x us f (omega arith))
 named_once n ts ending _ _ (unexpected_first q vs t e' v' none k) (checked_first p us x e v f m) = absurd (first_or_unexpected n ts ending p us x e v f q vs t e' none k)
 named_once n ts ending _ _ (unexpected_first p us t e v none m) (unexpected_first q vs u e' v' none' k) =
-    ap unexpected_token (one_unexpected (IsViable written n) (viable_front n) ts p us q vs t u e v none e' v' none')
-named_once n ts ending _ _ (unexpected_first q vs t e' v' none k) (carried_last y v m c) = absurd (all_or_unexpected (IsViable written n) (viable_front n) ts v q vs t e' none)
-named_once n ts ending _ _ (unexpected_first q vs t e' v' none k) (missing_last v s m c) = absurd (all_or_unexpected (IsViable written n) (viable_front n) ts v q vs t e' none)
+    ap unexpected_token (one_unexpected whole n ts p us q vs t u e v none e' v' none')
+named_once n ts ending _ _ (unexpected_first q vs t e' v' none k) (carried_last y v m c) = absurd (all_or_unexpected whole n ts v q vs t e' none)
+named_once n ts ending _ _ (unexpected_first q vs t e' v' none k) (missing_last v s m c) = absurd (all_or_unexpected whole n ts v q vs t e' none)
 named_once n ts ending _ _ (carried_last y v' k c) (checked_first p us x e v f m) = absurd (k x us f (omega arith))
-named_once n ts ending _ _ (carried_last y v m c) (unexpected_first q vs t e' v' none k) = absurd (all_or_unexpected (IsViable written n) (viable_front n) ts v q vs t e' none)
+named_once n ts ending _ _ (carried_last y v m c) (unexpected_first q vs t e' v' none k) = absurd (all_or_unexpected whole n ts v q vs t e' none)
 named_once n ts ending _ _ (carried_last x v m c) (carried_last y v' k d) = same_carried x y ending c d
 named_once n ts ending _ _ (carried_last x v m c) (missing_last v' s k d) = absurd (not_both x ending c d)
 named_once n ts ending _ _ (missing_last v' s k c) (checked_first p us x e v f m) = absurd (k x us f (omega arith))
-named_once n ts ending _ _ (missing_last v s m c) (unexpected_first q vs t e' v' none k) = absurd (all_or_unexpected (IsViable written n) (viable_front n) ts v q vs t e' none)
+named_once n ts ending _ _ (missing_last v s m c) (unexpected_first q vs t e' v' none k) = absurd (all_or_unexpected whole n ts v q vs t e' none)
 named_once n ts ending _ _ (missing_last v' s k d) (carried_last x v m c) = absurd (not_both x ending c d)
 named_once n ts ending _ _ (missing_last v s k c) (missing_last v' s' m d) = refl
 
 -- tokens that ended of themselves and derive a tree have no fault that is named
 pub named_excludes : (n : Symbol) (ts : List Token) (x : Fault) → IsNamed n ts finished x → (v : Value n) → Derives full written n v ts → ⊥
-named_excludes n ts _ (checked_first p us x e w f m) v d = no_fault tables body rank_limit apart tested (of n) v ts (written_is_read full n v ts [] d) x us (plain_is_fault ts finished x us f)
-named_excludes n ts _ (unexpected_first q vs t e w none k) v d = all_or_unexpected (IsViable written n) (viable_front n) ts (full_is_viable n v ts d) q vs t e none
+named_excludes n ts _ (checked_first p us x e w f m) v d = no_fault tables body rank_limit apart tested (of n) v ts (written_is_factored whole full n v ts [] d) x us (plain_is_fault ts finished x us f)
+named_excludes n ts _ (unexpected_first q vs t e w none k) v d = all_or_unexpected whole n ts (full_is_viable whole n v ts d) q vs t e none
 named_excludes n ts _ (carried_last x w m c) v d = not_both x finished c refl
 named_excludes n ts _ (missing_last w s m c) v d = s (v, loosen full written n v ts [] d)
 
 -- at most one fault is named of a text that is recognised alone
 pub named_alone_once : (n : Symbol) (ts : List Token) (ending : Ending) (x y : Fault) → IsNamedSmall n ts ending x → IsNamedSmall n ts ending y → x ≡ y
 named_alone_once n ts ending _ _ (unexpected_first_small p us t e v none) (unexpected_first_small q vs u e' v' none') =
-    ap unexpected_token (one_unexpected (IsViable small n) (viable_front_alone n) ts p us q vs t u e v none e' v' none')
-named_alone_once n ts ending _ _ (unexpected_first_small q vs t e v' none) (carried_last_small y v c) = absurd (all_or_unexpected (IsViable small n) (viable_front_alone n) ts v q vs t e none)
-named_alone_once n ts ending _ _ (unexpected_first_small q vs t e v' none) (missing_last_small v s c) = absurd (all_or_unexpected (IsViable small n) (viable_front_alone n) ts v q vs t e none)
-named_alone_once n ts ending _ _ (carried_last_small y v c) (unexpected_first_small q vs t e v' none) = absurd (all_or_unexpected (IsViable small n) (viable_front_alone n) ts v q vs t e none)
+    ap unexpected_token (one_unexpected alone n ts p us q vs t u e v none e' v' none')
+named_alone_once n ts ending _ _ (unexpected_first_small q vs t e v' none) (carried_last_small y v c) = absurd (all_or_unexpected alone n ts v q vs t e none)
+named_alone_once n ts ending _ _ (unexpected_first_small q vs t e v' none) (missing_last_small v s c) = absurd (all_or_unexpected alone n ts v q vs t e none)
+named_alone_once n ts ending _ _ (carried_last_small y v c) (unexpected_first_small q vs t e v' none) = absurd (all_or_unexpected alone n ts v q vs t e none)
 named_alone_once n ts ending _ _ (carried_last_small x v c) (carried_last_small y v' d) = same_carried x y ending c d
 named_alone_once n ts ending _ _ (carried_last_small x v c) (missing_last_small v' s d) = absurd (not_both x ending c d)
-named_alone_once n ts ending _ _ (missing_last_small v s c) (unexpected_first_small q vs t e v' none) = absurd (all_or_unexpected (IsViable small n) (viable_front_alone n) ts v q vs t e none)
+named_alone_once n ts ending _ _ (missing_last_small v s c) (unexpected_first_small q vs t e v' none) = absurd (all_or_unexpected alone n ts v q vs t e none)
 named_alone_once n ts ending _ _ (missing_last_small v' s d) (carried_last_small x v c) = absurd (not_both x ending c d)
 named_alone_once n ts ending _ _ (missing_last_small v s c) (missing_last_small v' s' d) = refl
 
 -- tokens that are a unit where they are recognised alone have no fault that is named there
 pub named_alone_excludes : (n : Symbol) (ts : List Token) (x : Fault) → IsNamedSmall n ts finished x → (v : Value n) → Derives full small n v ts → ⊥
-named_alone_excludes n ts _ (unexpected_first_small q vs t e w none) v d = all_or_unexpected (IsViable small n) (viable_front_alone n) ts (derived_is_viable n v ts d) q vs t e none
+named_alone_excludes n ts _ (unexpected_first_small q vs t e w none) v d = all_or_unexpected alone n ts (full_is_viable alone n v ts d) q vs t e none
 named_alone_excludes n ts _ (carried_last_small x w c) v d = not_both x finished c refl
 named_alone_excludes n ts _ (missing_last_small w s c) v d = s (v, loosen full small n v ts [] d)

@@ -3,15 +3,15 @@ use Rattle.std.proofs.Common.{[], ◌∷◌, refl}
 use Rattle.grammar.proofs.Outcomes.{IsTested}
 use Rattle.grammar.proofs.Words.{all_sentences}
 use Rattle.wgsl_model.specs.Classes.{SymAttr}
-use Rattle.wgsl_grammar_theory.specs.Factored.{body}
-use Rattle.wgsl_grammar_theory.specs.FactoredSmall.{small_body}
+use Rattle.wgsl_model.specs.Symbols.{Dialect.whole, Dialect.alone}
+use Rattle.wgsl_grammar_theory.specs.Factored.{body, small_body}
 use Rattle.wgsl_grammar_theory.specs.Apart.{apart, nowhere}
 use Rattle.wgsl_grammar_theory.specs.Tables.{heights, rank_limit, tables}
-use Rattle.wgsl_grammar_theory.proofs.Passes.{builds_hold, keeps_hold, passes, small_builds_hold, small_keeps_hold, small_passes, within_hold}
+use Rattle.wgsl_grammar_theory.proofs.Passes.{builds_hold, keeps_hold, passes, small_passes, within_hold}
 use Rattle.wgsl_grammar_theory.proofs.Guards.{guarded, small_guarded}
 
 pub tested : IsTested tables body rank_limit apart
-tested = record { passes = passes; sentences = all_sentences heights body builds_hold; guarded = guarded; behind = SymAttr ∷ []; within = within_hold; keeps = keeps_hold; no_token = refl }
+tested = record { passes = passes; sentences = all_sentences heights body (builds_hold whole); guarded = guarded; behind = SymAttr ∷ []; within = within_hold; keeps = keeps_hold whole; no_token = refl }
 
 pub small_tested : IsTested tables small_body rank_limit nowhere
-small_tested = record { passes = small_passes; sentences = all_sentences heights small_body small_builds_hold; guarded = small_guarded; behind = []; within = λ n. refl; keeps = small_keeps_hold; no_token = refl }
+small_tested = record { passes = small_passes; sentences = all_sentences heights small_body (builds_hold alone); guarded = small_guarded; behind = SymAttr ∷ []; within = λ n. refl; keeps = keeps_hold alone; no_token = refl }

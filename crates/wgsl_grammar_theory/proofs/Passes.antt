@@ -3,126 +3,92 @@ use Rattle.std.proofs.Common.{◌≡◌, ◌≤◌, true, [], ◌∷◌, inl, in
 use Rattle.grammar.specs.Tables.{subset, nullable, first, goes_on, decides, spans_tokens, left_rank, all_ranks, Passes}
 use Rattle.grammar.specs.Anchors.{IsAnchored, keeps_body_apart}
 use Rattle.wgsl_model.specs.Classes.{SymAttr, KwDiagnostic, KwVar, ReservedWord}
-use Rattle.wgsl_model.specs.Symbols.{Symbol.ident, Symbol.attribute, Symbol.var_template, Symbol.diagnostic_severity}
-use Rattle.wgsl_grammar_theory.specs.Factored.{Further.components, FactoredSymbol, FactoredSymbol.of, FactoredSymbol.further, body}
-use Rattle.wgsl_grammar_theory.specs.FactoredSmall.{small_body}
+use Rattle.wgsl_model.specs.Symbols.{Dialect, Dialect.whole, Dialect.alone, Symbol.ident, Symbol.attribute, Symbol.var_template, Symbol.diagnostic_severity}
+use Rattle.wgsl_grammar_theory.specs.Factored.{Further.components, Further.summands, FactoredSymbol, FactoredSymbol.of, FactoredSymbol.further, factored, body, small_body}
 use Rattle.wgsl_grammar_theory.specs.Apart.{apart}
 use Rattle.wgsl_grammar_theory.specs.Tables.{firsts, empties, mores, ranks, heights, rank_limit, tables}
 use Rattle.grammar.proofs.Words.{builds}
 
-begins_hold : (n : FactoredSymbol) → subset (first tables (body n)) (firsts n) ≡ true
-begins_hold (of ident) = refl
-begins_hold (of n) = refl
-begins_hold (further components) = refl
-begins_hold (further x) = refl
+begins_hold : (L : Dialect) (n : FactoredSymbol) → subset (first tables (factored L n)) (firsts n) ≡ true
+begins_hold whole (of ident) = refl
+begins_hold alone (of ident) = refl
+begins_hold L (of n) = refl
+begins_hold whole (further summands) = refl
+begins_hold alone (further summands) = refl
+begins_hold L (further x) = refl
 
-empty_hold : (n : FactoredSymbol) → nullable tables (body n) ≡ empties n
-empty_hold (of ident) = refl
-empty_hold (of n) = refl
-empty_hold (further components) = refl
-empty_hold (further x) = refl
+empty_hold : (L : Dialect) (n : FactoredSymbol) → nullable tables (factored L n) ≡ empties n
+empty_hold whole (of ident) = refl
+empty_hold alone (of ident) = refl
+empty_hold L (of n) = refl
+empty_hold whole (further summands) = refl
+empty_hold alone (further summands) = refl
+empty_hold L (further x) = refl
 
-more_hold : (n : FactoredSymbol) → subset (goes_on tables (body n)) (mores n) ≡ true
-more_hold (of ident) = refl
-more_hold (of n) = refl
-more_hold (further components) = refl
-more_hold (further x) = refl
+more_hold : (L : Dialect) (n : FactoredSymbol) → subset (goes_on tables (factored L n)) (mores n) ≡ true
+more_hold whole (of ident) = refl
+more_hold alone (of ident) = refl
+more_hold L (of n) = refl
+more_hold whole (further summands) = refl
+more_hold alone (further summands) = refl
+more_hold L (further x) = refl
 
-one_hold : (n : FactoredSymbol) → decides tables (body n) ≡ true
-one_hold (of ident) = refl
-one_hold (of n) = refl
-one_hold (further components) = refl
-one_hold (further x) = refl
+one_hold : (L : Dialect) (n : FactoredSymbol) → decides tables (factored L n) ≡ true
+one_hold whole (of ident) = refl
+one_hold alone (of ident) = refl
+one_hold L (of n) = refl
+one_hold whole (further summands) = refl
+one_hold alone (further summands) = refl
+one_hold L (further x) = refl
 
-spans_hold : (n : FactoredSymbol) → spans_tokens tables (body n) ≡ true
-spans_hold (of ident) = refl
-spans_hold (of n) = refl
-spans_hold (further components) = refl
-spans_hold (further x) = refl
+spans_hold : (L : Dialect) (n : FactoredSymbol) → spans_tokens tables (factored L n) ≡ true
+spans_hold whole (of ident) = refl
+spans_hold alone (of ident) = refl
+spans_hold L (of n) = refl
+spans_hold whole (further summands) = refl
+spans_hold alone (further summands) = refl
+spans_hold L (further x) = refl
 
-rank_hold : (n : FactoredSymbol) → left_rank tables (body n) ≤ ranks n
-rank_hold (of ident) = omega arith
-rank_hold (of n) = omega arith
-rank_hold (further components) = omega arith
-rank_hold (further x) = omega arith
+rank_hold : (L : Dialect) (n : FactoredSymbol) → left_rank tables (factored L n) ≤ ranks n
+rank_hold whole (of ident) = omega arith
+rank_hold alone (of ident) = omega arith
+rank_hold L (of n) = omega arith
+rank_hold whole (further summands) = omega arith
+rank_hold alone (further summands) = omega arith
+rank_hold L (further x) = omega arith
 
-ranks_hold : (n : FactoredSymbol) → all_ranks tables (body n) ≤ rank_limit
-ranks_hold (of ident) = omega arith
-ranks_hold (of n) = omega arith
-ranks_hold (further components) = omega arith
-ranks_hold (further x) = omega arith
+ranks_hold : (L : Dialect) (n : FactoredSymbol) → all_ranks tables (factored L n) ≤ rank_limit
+ranks_hold whole (of ident) = omega arith
+ranks_hold alone (of ident) = omega arith
+ranks_hold L (of n) = omega arith
+ranks_hold whole (further summands) = omega arith
+ranks_hold alone (further summands) = omega arith
+ranks_hold L (further x) = omega arith
 
-pub builds_hold : (n : FactoredSymbol) → builds heights (heights n) (body n) ≡ true
-builds_hold (of ident) = refl
-builds_hold (of n) = refl
-builds_hold (further components) = refl
-builds_hold (further x) = refl
+pub builds_hold : (L : Dialect) (n : FactoredSymbol) → builds heights (heights n) (factored L n) ≡ true
+builds_hold whole (of ident) = refl
+builds_hold alone (of ident) = refl
+builds_hold L (of n) = refl
+builds_hold whole (further summands) = refl
+builds_hold alone (further summands) = refl
+builds_hold L (further x) = refl
 
-pub keeps_hold : (n : FactoredSymbol) → keeps_body_apart (SymAttr ∷ []) (body n) ≡ true
-keeps_hold (of ident) = refl
-keeps_hold (of n) = refl
-keeps_hold (further components) = refl
-keeps_hold (further x) = refl
+pub keeps_hold : (L : Dialect) (n : FactoredSymbol) → keeps_body_apart (SymAttr ∷ []) (factored L n) ≡ true
+keeps_hold whole (of ident) = refl
+keeps_hold alone (of ident) = refl
+keeps_hold L (of n) = refl
+keeps_hold whole (further summands) = refl
+keeps_hold alone (further summands) = refl
+keeps_hold L (further x) = refl
+
+pub dialect_passes : (L : Dialect) → Passes tables (factored L) rank_limit
+dialect_passes L = record { begins = begins_hold L; empty = empty_hold L; more = more_hold L; one = one_hold L; spans = spans_hold L; rank = rank_hold L; ranks = ranks_hold L }
 
 pub passes : Passes tables body rank_limit
-passes = record { begins = begins_hold; empty = empty_hold; more = more_hold; one = one_hold; spans = spans_hold; rank = rank_hold; ranks = ranks_hold }
-
-small_begins_hold : (n : FactoredSymbol) → subset (first tables (small_body n)) (firsts n) ≡ true
-small_begins_hold (of ident) = refl
-small_begins_hold (of n) = refl
-small_begins_hold (further components) = refl
-small_begins_hold (further x) = refl
-
-small_empty_hold : (n : FactoredSymbol) → nullable tables (small_body n) ≡ empties n
-small_empty_hold (of ident) = refl
-small_empty_hold (of n) = refl
-small_empty_hold (further components) = refl
-small_empty_hold (further x) = refl
-
-small_more_hold : (n : FactoredSymbol) → subset (goes_on tables (small_body n)) (mores n) ≡ true
-small_more_hold (of ident) = refl
-small_more_hold (of n) = refl
-small_more_hold (further components) = refl
-small_more_hold (further x) = refl
-
-small_one_hold : (n : FactoredSymbol) → decides tables (small_body n) ≡ true
-small_one_hold (of ident) = refl
-small_one_hold (of n) = refl
-small_one_hold (further components) = refl
-small_one_hold (further x) = refl
-
-small_spans_hold : (n : FactoredSymbol) → spans_tokens tables (small_body n) ≡ true
-small_spans_hold (of ident) = refl
-small_spans_hold (of n) = refl
-small_spans_hold (further components) = refl
-small_spans_hold (further x) = refl
-
-small_rank_hold : (n : FactoredSymbol) → left_rank tables (small_body n) ≤ ranks n
-small_rank_hold (of ident) = omega arith
-small_rank_hold (of n) = omega arith
-small_rank_hold (further components) = omega arith
-small_rank_hold (further x) = omega arith
-
-small_ranks_hold : (n : FactoredSymbol) → all_ranks tables (small_body n) ≤ rank_limit
-small_ranks_hold (of ident) = omega arith
-small_ranks_hold (of n) = omega arith
-small_ranks_hold (further components) = omega arith
-small_ranks_hold (further x) = omega arith
-
-pub small_builds_hold : (n : FactoredSymbol) → builds heights (heights n) (small_body n) ≡ true
-small_builds_hold (of ident) = refl
-small_builds_hold (of n) = refl
-small_builds_hold (further components) = refl
-small_builds_hold (further x) = refl
-
-pub small_keeps_hold : (n : FactoredSymbol) → keeps_body_apart ([]) (small_body n) ≡ true
-small_keeps_hold (of ident) = refl
-small_keeps_hold (of n) = refl
-small_keeps_hold (further components) = refl
-small_keeps_hold (further x) = refl
+passes = dialect_passes whole
 
 pub small_passes : Passes tables small_body rank_limit
-small_passes = record { begins = small_begins_hold; empty = small_empty_hold; more = small_more_hold; one = small_one_hold; spans = small_spans_hold; rank = small_rank_hold; ranks = small_ranks_hold }
+small_passes = dialect_passes alone
 
 pub within_hold : (n : FactoredSymbol) → subset (apart n) (SymAttr ∷ []) ≡ true
 within_hold (of ident) = refl

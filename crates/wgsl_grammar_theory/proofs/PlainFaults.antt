@@ -18,14 +18,14 @@ use Rattle.wgsl_model.specs.NamedValues.{DiagnosticSeverity, severities}
 use Rattle.wgsl_model.specs.Expressions.{ExpressionNode}
 use Rattle.wgsl_model.specs.TokenValues.{text_of}
 use Rattle.wgsl_model.specs.Checks.{unreserved, fault_unless, severity_fault, var_fault, Arguments, attribute_fault}
-use Rattle.wgsl_model.specs.Symbols.{Symbol, Symbol.ident, Symbol.arguments, Symbol.attribute, Symbol.var_template}
+use Rattle.wgsl_model.specs.Symbols.{Dialect.whole, Symbol, Symbol.ident, Symbol.arguments, Symbol.attribute, Symbol.var_template}
 use Rattle.wgsl_model.specs.CheckedFaults.{IsApart, wants_memory, IsUnopened, IsReservedFault, IsSeverityFault, IsWhole, IsAttributeFault, IsVarTemplateFault, IsCheckedFault, IsCheckedFault.reserved_fault, IsCheckedFault.severity_fault_at, IsCheckedFault.attribute_fault_at, IsCheckedFault.var_template_fault}
 use Rattle.wgsl_grammar_theory.specs.Factored.{Further.components, FactoredSymbol, FactoredSymbol.of, FactoredSymbol.further, FactoredValue, body}
 use Rattle.wgsl_grammar_theory.specs.Apart.{apart}
 use Rattle.wgsl_grammar_theory.specs.Tables.{firsts, rank_limit, tables}
 use Rattle.wgsl_grammar_theory.proofs.Passes.{passes}
 use Rattle.wgsl_grammar_theory.proofs.Guards.{reserved_class, attribute_closed, attribute_read, var_read}
-use Rattle.wgsl_grammar_theory.proofs.SameTrees.{written_is_read, read_is_written}
+use Rattle.wgsl_grammar_theory.proofs.Links.{written_is_factored, factored_is_written}
 
 pub one_class : (c d : ℕ) → is_among c (d ∷ []) ≡ true → c ≡ d
 one_class c d e = elim (cases (eqb c d)) [
@@ -131,7 +131,7 @@ attribute_plain ts ending m x ys before from w i (v, d, e) =
       p.0,
       v,
       w ∙ ap (λ (z : List Token). before ++ z) p.1,
-      read_is_written unchecked attribute v p.0 [] p.2,
+      factored_is_written whole unchecked attribute v p.0 [] p.2,
       whole_of v.node.arguments ys ending m (attribute_closed v from ys (unroll unchecked body (of attribute) v from ys d) i),
       subst (λ (z : Span). attribute_fault v z ≡ Some x) s e,
     )
@@ -142,7 +142,7 @@ var_plain ts ending x ys before from w a (Some es, d, e) =
     let v : Option (List ExpressionNode) = Some es in
     let p = part_is_front unchecked body (of var_template) v from ys d in
     let s : span_between from ys ≡ span_of p.0 = ap (λ (z : List Token). span_between z ys) p.1 ∙ span_append p.0 ys in
-    var_template_fault (before, p.0, es, w ∙ ap (λ (z : List Token). before ++ z) p.1, a, read_is_written unchecked var_template v p.0 [] p.2, subst (λ (z : Span). var_fault v z ≡ Some x) s e)
+    var_template_fault (before, p.0, es, w ∙ ap (λ (z : List Token). before ++ z) p.1, a, factored_is_written whole unchecked var_template v p.0 [] p.2, subst (λ (z : Span). var_fault v z ≡ Some x) s e)
 
 -- ---- all symbols
 no_check : (n : FactoredSymbol) → ((v : FactoredValue n) (s : Span) → head_check (body n) v s ≡ None) → (x : Fault) (xs ys : List Token) → IsFaulty body n x xs ys → ⊥
@@ -198,7 +198,7 @@ severity_back ts x ys (before, d, p, t, w, a, c1, c2, c3, n, e) =
 
 attribute_back : (ts : List Token) (ending : Ending) (x : Fault) (ys : List Token) → IsAttributeFault ts ending x ys → FaultIn body apart ts x ys
 attribute_back ts ending x ys (before, p, v, w, d, c, e) =
-    let r : Part unchecked body (of attribute) v (p ++ ys) ys = front_is_part unchecked body (of attribute) v p ys (written_is_read unchecked attribute v p [] d) in
+    let r : Part unchecked body (of attribute) v (p ++ ys) ys = front_is_part unchecked body (of attribute) v p ys (written_is_factored whole unchecked attribute v p [] d) in
     record {
       symbol_of = of attribute;
       before = before;
@@ -212,7 +212,7 @@ attribute_back ts ending x ys (before, p, v, w, d, c, e) =
 var_back : (ts : List Token) (x : Fault) (ys : List Token) → IsVarTemplateFault ts x ys → FaultIn body apart ts x ys
 var_back ts x ys (before, p, es, w, a, d, e) =
     let v : Option (List ExpressionNode) = Some es in
-    let r : Part unchecked body (of var_template) v (p ++ ys) ys = front_is_part unchecked body (of var_template) v p ys (written_is_read unchecked var_template v p [] d) in
+    let r : Part unchecked body (of var_template) v (p ++ ys) ys = front_is_part unchecked body (of var_template) v p ys (written_is_factored whole unchecked var_template v p [] d) in
     record {
       symbol_of = of var_template;
       before = before;

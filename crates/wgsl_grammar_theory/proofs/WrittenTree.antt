@@ -1,45 +1,49 @@
--- The written grammar: at most one tree, read exactly.
-use Rattle.std.proofs.Common.{◌≡◌, ◌↔◌, List, [], ◌++◌}
+-- The grammar of each dialect: at most one tree, read exactly; and how its sentences begin.
+use Rattle.std.proofs.Common.{◌≡◌, ◌↔◌, List, [], ◌++◌, sym, subst, append_assoc, append-nil}
 use Rattle.grammar.specs.Tokens.{Token}
-use Rattle.grammar.specs.Grammar.{Mode, Mode.unchecked, Derives, IsSentence, IsViable}
+use Rattle.grammar.specs.Grammar.{Mode, Mode.full, Mode.unchecked, Derives, IsSentence, IsViable}
 use Rattle.grammar.specs.Reading.{Outcome.ok, read_all}
+use Rattle.grammar.proofs.Depth.{loosen}
 use Rattle.grammar.proofs.Exact.{accepts, exact, one_tree}
-use Rattle.wgsl_model.specs.Symbols.{Symbol, Value}
-use Rattle.wgsl_model.specs.Written.{written}
-use Rattle.wgsl_model.specs.Small.{small}
-use Rattle.wgsl_grammar_theory.specs.Factored.{FactoredSymbol.of, body}
-use Rattle.wgsl_grammar_theory.specs.FactoredSmall.{small_body}
+use Rattle.wgsl_model.specs.Symbols.{Dialect, Dialect.whole, Symbol, Value}
+use Rattle.wgsl_model.specs.Written.{rules, written}
+use Rattle.wgsl_grammar_theory.specs.Factored.{FactoredSymbol.of, factored, body}
 use Rattle.wgsl_grammar_theory.specs.Tables.{rank_limit, tables}
-use Rattle.wgsl_grammar_theory.proofs.Passes.{passes, small_passes}
-use Rattle.wgsl_grammar_theory.proofs.SameTrees.{written_is_read, read_is_written, small_is_read, read_is_small}
+use Rattle.wgsl_grammar_theory.proofs.Passes.{dialect_passes}
+use Rattle.wgsl_grammar_theory.proofs.Links.{written_is_factored, factored_is_written}
 
+pub dialect_one_tree : (L : Dialect) (M : Mode) (n : Symbol) (v w : Value n) (ts : List Token) → Derives M (rules L) n v ts → Derives M (rules L) n w ts → v ≡ w
+dialect_one_tree L M n v w ts d e = one_tree tables M (factored L) rank_limit (dialect_passes L) (of n) v w ts (written_is_factored L M n v ts [] d) (written_is_factored L M n w ts [] e)
+
+pub dialect_same_trees : (L : Dialect) (M : Mode) (n : Symbol) (v : Value n) (ts : List Token) → Derives M (rules L) n v ts ↔ Derives M (factored L) (of n) v ts
+dialect_same_trees L M n v ts = (written_is_factored L M n v ts [], factored_is_written L M n v ts [])
+
+pub dialect_exact : (L : Dialect) (M : Mode) (n : Symbol) (v : Value n) (ts : List Token) → (read_all tables M (factored L) rank_limit (of n) ts ≡ ok v []) ↔ Derives M (rules L) n v ts
+dialect_exact L M n v ts = (
+  λ e. factored_is_written L M n v ts [] (exact tables M (factored L) rank_limit (of n) v ts e),
+  λ d. accepts tables M (factored L) rank_limit (dialect_passes L) (of n) v ts (written_is_factored L M n v ts [] d),
+)
+
+-- ---- the whole language
 pub written_one_tree : (M : Mode) (n : Symbol) (v w : Value n) (ts : List Token) → Derives M written n v ts → Derives M written n w ts → v ≡ w
-written_one_tree M n v w ts d e = one_tree tables M body rank_limit passes (of n) v w ts (written_is_read M n v ts [] d) (written_is_read M n w ts [] e)
-
-pub written_same_trees : (M : Mode) (n : Symbol) (v : Value n) (ts : List Token) → Derives M written n v ts ↔ Derives M body (of n) v ts
-written_same_trees M n v ts = (written_is_read M n v ts [], read_is_written M n v ts [])
+written_one_tree = dialect_one_tree whole
 
 pub written_exact : (M : Mode) (n : Symbol) (v : Value n) (ts : List Token) → (read_all tables M body rank_limit (of n) ts ≡ ok v []) ↔ Derives M written n v ts
-written_exact M n v ts = ((λ e. read_is_written M n v ts [] (exact tables M body rank_limit (of n) v ts e)), (λ d. accepts tables M body rank_limit passes (of n) v ts (written_is_read M n v ts [] d)))
+written_exact = dialect_exact whole
 
-pub sentence_in : (n : Symbol) (ts : List Token) → IsSentence written n ts → IsSentence body (of n) ts
-sentence_in n ts (v, d) = (v, written_is_read unchecked n v ts [] d)
+-- ---- sentences and how they begin, in both forms
+pub sentence_in : (L : Dialect) (n : Symbol) (ts : List Token) → IsSentence (rules L) n ts → IsSentence (factored L) (of n) ts
+sentence_in L n ts (v, d) = (v, written_is_factored L unchecked n v ts [] d)
 
-pub sentence_out : (n : Symbol) (ts : List Token) → IsSentence body (of n) ts → IsSentence written n ts
-sentence_out n ts (v, d) = (v, read_is_written unchecked n v ts [] d)
+pub viable_in : (L : Dialect) (n : Symbol) (ts : List Token) → IsViable (rules L) n ts → IsViable (factored L) (of n) ts
+viable_in L n ts (zs, s) = (zs, sentence_in L n (ts ++ zs) s)
 
-pub viable_in : (n : Symbol) (ts : List Token) → IsViable written n ts → IsViable body (of n) ts
-viable_in n ts (zs, s) = (zs, sentence_in n (ts ++ zs) s)
+pub viable_out : (L : Dialect) (n : Symbol) (ts : List Token) → IsViable (factored L) (of n) ts → IsViable (rules L) n ts
+viable_out L n ts (zs, (v, d)) = (zs, (v, factored_is_written L unchecked n v (ts ++ zs) [] d))
 
-pub viable_out : (n : Symbol) (ts : List Token) → IsViable body (of n) ts → IsViable written n ts
-viable_out n ts (zs, s) = (zs, sentence_out n (ts ++ zs) s)
+-- what begins so, begins with each front of it
+pub viable_front : (L : Dialect) (n : Symbol) (p q : List Token) → IsViable (rules L) n (p ++ q) → IsViable (rules L) n p
+viable_front L n p q (zs, (v, d)) = (q ++ zs, (v, subst (λ (x : List Token). Derives unchecked (rules L) n v x) (append_assoc p q zs) d))
 
--- ---- where a text is recognised alone
-pub small_one_tree : (M : Mode) (n : Symbol) (v w : Value n) (ts : List Token) → Derives M small n v ts → Derives M small n w ts → v ≡ w
-small_one_tree M n v w ts d e = one_tree tables M small_body rank_limit small_passes (of n) v w ts (small_is_read M n v ts [] d) (small_is_read M n w ts [] e)
-
-pub small_same_trees : (M : Mode) (n : Symbol) (v : Value n) (ts : List Token) → Derives M small n v ts ↔ Derives M small_body (of n) v ts
-small_same_trees M n v ts = (small_is_read M n v ts [], read_is_small M n v ts [])
-
-pub small_exact : (M : Mode) (n : Symbol) (v : Value n) (ts : List Token) → (read_all tables M small_body rank_limit (of n) ts ≡ ok v []) ↔ Derives M small n v ts
-small_exact M n v ts = ((λ e. read_is_small M n v ts [] (exact tables M small_body rank_limit (of n) v ts e)), (λ d. accepts tables M small_body rank_limit small_passes (of n) v ts (small_is_read M n v ts [] d)))
+pub full_is_viable : (L : Dialect) (n : Symbol) (v : Value n) (ts : List Token) → Derives full (rules L) n v ts → IsViable (rules L) n ts
+full_is_viable L n v ts d = ([], (v, subst (λ (x : List Token). Derives unchecked (rules L) n v x) (sym (append-nil ts)) (loosen full (rules L) n v ts [] d)))

@@ -11,8 +11,7 @@ use Rattle.wgsl_model.specs.Symbols.{Symbol, Value}
 use Rattle.wgsl_model.specs.Written.{written}
 use Rattle.wgsl_model.specs.Small.{small}
 use Rattle.wgsl_model.specs.Named.{IsNamed, IsNamedSmall}
-use Rattle.wgsl_grammar_theory.specs.Factored.{FactoredSymbol.of, body}
-use Rattle.wgsl_grammar_theory.specs.FactoredSmall.{small_body}
+use Rattle.wgsl_grammar_theory.specs.Factored.{FactoredSymbol.of, body, small_body}
 use Rattle.wgsl_grammar_theory.specs.Tables.{rank_limit, tables}
 
 -- what an outcome says of all tokens

@@ -4,17 +4,17 @@ use Rattle.grammar.specs.Tokens.{Token, Span}
 use Rattle.grammar.specs.Grammar.{Grammar, Grammar.empty, Grammar.token, Grammar.sequence, Grammar.choice, Grammar.mapped, Grammar.node, Grammar.checked, Grammar.symbol, Grammar.left_chain}
 use Rattle.grammar.specs.Notation.{one_token, ◌then◌, ◌or◌, ◌gives◌, ◌makes◌, ◌▹◌, ◌◃◌, ◌means◌, optional, many}
 use Rattle.wgsl_model.specs.Classes.{SymAnd, SymAndAnd, SymArrow, SymBraceLeft, SymBraceRight, SymColon, SymComma, SymShiftRight, SymShiftLeft, SymMinusMinus, SymPlusPlus, SymOr, SymOrOr, SymParenLeft, SymParenRight, SymSemicolon, SymStar, SymXor, KwBreak, KwCase, KwContinuing, KwDefault, KwElse, KwEnable, KwFn, KwFor, KwIf, KwLoop, KwOverride, KwRequires, KwStruct, KwSwitch, KwWhile, TemplateArgsStart, TemplateArgsEnd}
-use Rattle.wgsl_model.specs.Operators.{UnaryOperator.address_of, UnaryOperator.indirection, BinaryOperator, BinaryOperator.short_circuit_or, BinaryOperator.short_circuit_and, BinaryOperator.subtraction, BinaryOperator.bitwise_or, BinaryOperator.bitwise_and, BinaryOperator.bitwise_xor, BinaryOperator.shift_left, BinaryOperator.shift_right}
+use Rattle.wgsl_model.specs.Operators.{UnaryOperator.address_of, UnaryOperator.indirection, BinaryOperator, BinaryOperator.short_circuit_or, BinaryOperator.short_circuit_and, BinaryOperator.bitwise_or, BinaryOperator.bitwise_and, BinaryOperator.bitwise_xor, BinaryOperator.shift_left, BinaryOperator.shift_right}
 use Rattle.wgsl_model.specs.Spanned.{Spanned, spanned}
 use Rattle.wgsl_model.specs.Expressions.{ExpressionNode, Expression, TypeExpression, start_of, end_of}
 use Rattle.wgsl_model.specs.Attributes.{Attributes}
 use Rattle.wgsl_model.specs.Statements.{DeclarationKind, BreakIfStatement, CaseSelector, StatementNode, Statement, ElseIfClause, ElseClause, SwitchClause, ContinuingStatement}
 use Rattle.wgsl_model.specs.Units.{GlobalDirective, StructMember, FormalParameter, GlobalDeclaration}
-use Rattle.wgsl_model.specs.ExpressionParts.{placed_expression, type_of, call_of, unary_of, binary_of, multiplicative_operator, additive_operator, relational_operator}
+use Rattle.wgsl_model.specs.ExpressionParts.{placed_expression, type_of, call_of, unary_of, binary_of, multiplicative_operator, relational_operator, summand}
 use Rattle.wgsl_model.specs.StatementParts.{placed_statement, attributes, initializer, var_kind, compound_of, assignment_operator, assignment_of, increment_of, decrement_of, variable_at, parenthesized_at, call_statement_of, if_of, clause_of, switch_of, loop_of, continuing_part, for_of, while_of}
 use Rattle.wgsl_model.specs.UnitParts.{member_of, parameter_of, value_of, struct_of, function_of, enable_of, requires_of}
-use Rattle.wgsl_model.specs.Symbols.{Symbol, Symbol.ident, Symbol.type_specifier, Symbol.template_list, Symbol.expressions, Symbol.arguments, Symbol.literal, Symbol.primary_expression, Symbol.singular_expression, Symbol.component, Symbol.unary_expression, Symbol.multiplicative_expression, Symbol.negated_expression, Symbol.shift_expression, Symbol.relational_expression, Symbol.expression, Symbol.lhs_expression, Symbol.compound_statement, Symbol.statement, Symbol.return_statement, Symbol.if_statement, Symbol.switch_statement, Symbol.loop_statement, Symbol.for_statement, Symbol.while_statement, Symbol.var_statement, Symbol.value_statement, Symbol.break_statement, Symbol.continue_statement, Symbol.discard_statement, Symbol.phony_assignment, Symbol.const_assert, Symbol.switch_clause, Symbol.case_selector, Symbol.continuing_statement, Symbol.for_init, Symbol.for_update, Symbol.typed_ident, Symbol.struct_member, Symbol.formal_parameter, Symbol.global_declaration, Symbol.var_declaration, Symbol.const_declaration, Symbol.override_declaration, Symbol.alias_declaration, Symbol.struct_declaration, Symbol.function_declaration, Symbol.global_directive, Symbol.enable_directive, Symbol.requires_directive, Symbol.unit, Value, Rule}
-use Rattle.wgsl_model.specs.Written.{written}
+use Rattle.wgsl_model.specs.Symbols.{Dialect, Dialect.whole, Dialect.alone, Symbol, Symbol.ident, Symbol.type_specifier, Symbol.template_list, Symbol.expressions, Symbol.arguments, Symbol.literal, Symbol.primary_expression, Symbol.singular_expression, Symbol.component, Symbol.unary_expression, Symbol.shift_expression, Symbol.relational_expression, Symbol.expression, Symbol.lhs_expression, Symbol.compound_statement, Symbol.statement, Symbol.return_statement, Symbol.if_statement, Symbol.switch_statement, Symbol.loop_statement, Symbol.for_statement, Symbol.while_statement, Symbol.var_statement, Symbol.value_statement, Symbol.break_statement, Symbol.continue_statement, Symbol.discard_statement, Symbol.phony_assignment, Symbol.const_assert, Symbol.switch_clause, Symbol.case_selector, Symbol.continuing_statement, Symbol.for_init, Symbol.for_update, Symbol.typed_ident, Symbol.struct_member, Symbol.formal_parameter, Symbol.global_declaration, Symbol.var_declaration, Symbol.const_declaration, Symbol.override_declaration, Symbol.alias_declaration, Symbol.struct_declaration, Symbol.function_declaration, Symbol.global_directive, Symbol.enable_directive, Symbol.requires_directive, Symbol.unit, Value, Rule}
+use Rattle.wgsl_model.specs.Written.{rules}
 
 -- symbols beside the written ones: each is what a part of a rule reads
 pub data Further : Type 0 where
@@ -198,67 +198,67 @@ abbrev pub with_break : Token × (List StatementNode × Option BreakIfStatement)
 with_break p b = (placed_statement Statement.break_statement (record { start = b.start; end = p.0.end }) ∷ p.1.0, p.1.1)
 
 -- ---- the right sides of the further symbols
-abbrev pub further_body : (x : Further) → FactoredRule (FurtherValue x)
-further_body template_items = items_of (symbol (of expression)) (symbol (further template_more))
-further_body template_rest = rest_of TemplateArgsEnd (symbol (of expression)) (symbol (further template_more))
-further_body template_more = more_of TemplateArgsEnd (symbol (further template_rest))
-further_body argument_rest = rest_of SymParenRight (symbol (of expression)) (symbol (further argument_more))
-further_body argument_more = more_of SymParenRight (symbol (further argument_rest))
-further_body member_items = items_of (symbol (of struct_member)) (symbol (further member_more))
-further_body member_rest = rest_of SymBraceRight (symbol (of struct_member)) (symbol (further member_more))
-further_body member_more = more_of SymBraceRight (symbol (further member_rest))
-further_body parameter_rest = rest_of SymParenRight (symbol (of formal_parameter)) (symbol (further parameter_more))
-further_body parameter_more = more_of SymParenRight (symbol (further parameter_rest))
-further_body name_items = items_of (symbol (of ident)) (symbol (further name_more))
-further_body name_rest = rest_of SymSemicolon (symbol (of ident)) (symbol (further name_more))
-further_body name_more = more_of SymSemicolon (symbol (further name_rest))
-further_body selectors = listed (symbol (of case_selector)) (symbol (further selectors))
-further_body components = left_chain grown_by_component unchanged (symbol (of component) makes λ c span. (c, span.end))
-further_body factors = any_more (lifted multiplicative_operator then symbol (of unary_expression))
-further_body summands = any_more (lifted additive_operator then symbol (of multiplicative_expression) or symbol (of negated_expression) gives λ e. (subtraction, e))
-further_body sum_rest = one_more (SymShiftLeft means shift_left then symbol (of unary_expression)) or one_more (SymShiftRight means shift_right then symbol (of unary_expression))
+abbrev pub further_body : Dialect → (x : Further) → FactoredRule (FurtherValue x)
+further_body L template_items = items_of (symbol (of expression)) (symbol (further template_more))
+further_body L template_rest = rest_of TemplateArgsEnd (symbol (of expression)) (symbol (further template_more))
+further_body L template_more = more_of TemplateArgsEnd (symbol (further template_rest))
+further_body L argument_rest = rest_of SymParenRight (symbol (of expression)) (symbol (further argument_more))
+further_body L argument_more = more_of SymParenRight (symbol (further argument_rest))
+further_body L member_items = items_of (symbol (of struct_member)) (symbol (further member_more))
+further_body L member_rest = rest_of SymBraceRight (symbol (of struct_member)) (symbol (further member_more))
+further_body L member_more = more_of SymBraceRight (symbol (further member_rest))
+further_body L parameter_rest = rest_of SymParenRight (symbol (of formal_parameter)) (symbol (further parameter_more))
+further_body L parameter_more = more_of SymParenRight (symbol (further parameter_rest))
+further_body L name_items = items_of (symbol (of ident)) (symbol (further name_more))
+further_body L name_rest = rest_of SymSemicolon (symbol (of ident)) (symbol (further name_more))
+further_body L name_more = more_of SymSemicolon (symbol (further name_rest))
+further_body L selectors = listed (symbol (of case_selector)) (symbol (further selectors))
+further_body L components = left_chain grown_by_component unchanged (symbol (of component) makes λ c span. (c, span.end))
+further_body L factors = any_more (lifted multiplicative_operator then symbol (of unary_expression))
+further_body L summands = any_more (lifted (summand L))
+further_body L sum_rest = one_more (SymShiftLeft means shift_left then symbol (of unary_expression)) or one_more (SymShiftRight means shift_right then symbol (of unary_expression))
     or symbol (further factors) then symbol (further summands) gives λ p left. p.1 (p.0 left)
-further_body relation_rest = one_more (lifted relational_operator then symbol (of shift_expression)) or unchanged
-further_body and_rest = some_more SymAndAnd short_circuit_and (symbol (of relational_expression))
-further_body or_rest = some_more SymOrOr short_circuit_or (symbol (of relational_expression))
-further_body bitwise_and_rest = some_more SymAnd bitwise_and (symbol (of unary_expression))
-further_body bitwise_or_rest = some_more SymOr bitwise_or (symbol (of unary_expression))
-further_body bitwise_xor_rest = some_more SymXor bitwise_xor (symbol (of unary_expression))
-further_body expression_rest = symbol (further bitwise_and_rest) or symbol (further bitwise_or_rest) or symbol (further bitwise_xor_rest)
+further_body L relation_rest = one_more (lifted relational_operator then symbol (of shift_expression)) or unchanged
+further_body L and_rest = some_more SymAndAnd short_circuit_and (symbol (of relational_expression))
+further_body L or_rest = some_more SymOrOr short_circuit_or (symbol (of relational_expression))
+further_body L bitwise_and_rest = some_more SymAnd bitwise_and (symbol (of unary_expression))
+further_body L bitwise_or_rest = some_more SymOr bitwise_or (symbol (of unary_expression))
+further_body L bitwise_xor_rest = some_more SymXor bitwise_xor (symbol (of unary_expression))
+further_body L expression_rest = symbol (further bitwise_and_rest) or symbol (further bitwise_or_rest) or symbol (further bitwise_xor_rest)
     or symbol (further sum_rest) then symbol (further relation_rest) then (symbol (further and_rest) or symbol (further or_rest) or unchanged) gives λ p left. p.1.1 (p.1.0 (p.0 left))
-further_body attribute_list = lifted attributes
-further_body statement_rest = SymBraceRight means [] or symbol (of statement) then symbol (further statement_rest) gives λ p. p.0 ∷ p.1
-further_body loop_rest = SymBraceRight means ([], None) or symbol (of continuing_statement) ◃ SymBraceRight gives (λ c. ([], Some c))
+further_body L attribute_list = lifted attributes
+further_body L statement_rest = SymBraceRight means [] or symbol (of statement) then symbol (further statement_rest) gives λ p. p.0 ∷ p.1
+further_body L loop_rest = SymBraceRight means ([], None) or symbol (of continuing_statement) ◃ SymBraceRight gives (λ c. ([], Some c))
     or symbol (of statement) then symbol (further loop_rest) gives λ p. (p.0 ∷ p.1.0, p.1.1)
-further_body continuing_rest = SymBraceRight means ([], None)
+further_body L continuing_rest = SymBraceRight means ([], None)
     or one_token KwBreak then (one_token SymSemicolon then symbol (further continuing_rest) gives with_break
     or KwIf ▹ symbol (of expression) ◃ SymSemicolon ◃ SymBraceRight gives λ e b. ([], Some (record { expression = e }))) gives (λ p. p.1 p.0)
     or symbol (further other_statement) then symbol (further continuing_rest) gives λ p. (p.0 ∷ p.1.0, p.1.1)
-further_body clause_rest = SymBraceRight means [] or symbol (of switch_clause) then symbol (further clause_rest) gives λ p. p.0 ∷ p.1
-further_body else_rest = KwElse ▹ (KwIf ▹ symbol (of expression) then symbol (of compound_statement) then symbol (further else_rest) gives (λ p. (ElseIfClause.else_if_clause p.0 p.1.0 ∷ p.1.1.0, p.1.1.1))
+further_body L clause_rest = SymBraceRight means [] or symbol (of switch_clause) then symbol (further clause_rest) gives λ p. p.0 ∷ p.1
+further_body L else_rest = KwElse ▹ (KwIf ▹ symbol (of expression) then symbol (of compound_statement) then symbol (further else_rest) gives (λ p. (ElseIfClause.else_if_clause p.0 p.1.0 ∷ p.1.1.0, p.1.1.1))
     or symbol (of compound_statement) gives λ b. ([], Some (ElseClause.else_clause b))) or empty ([], None)
-further_body init_part = closed_optional SymSemicolon (symbol (of for_init))
-further_body condition_part = closed_optional SymSemicolon (symbol (of expression))
-further_body update_part = closed_optional SymParenRight (symbol (of for_update))
-further_body if_part = KwIf ▹ symbol (of expression) then symbol (of compound_statement) then symbol (further else_rest) gives λ p a. if_of a p.0 p.1.0 p.1.1
-further_body switch_part = KwSwitch ▹ symbol (of expression) then symbol (further attribute_list) then SymBraceLeft ▹ symbol (of switch_clause) then symbol (further clause_rest)
+further_body L init_part = closed_optional SymSemicolon (symbol (of for_init))
+further_body L condition_part = closed_optional SymSemicolon (symbol (of expression))
+further_body L update_part = closed_optional SymParenRight (symbol (of for_update))
+further_body L if_part = KwIf ▹ symbol (of expression) then symbol (of compound_statement) then symbol (further else_rest) gives λ p a. if_of a p.0 p.1.0 p.1.1
+further_body L switch_part = KwSwitch ▹ symbol (of expression) then symbol (further attribute_list) then SymBraceLeft ▹ symbol (of switch_clause) then symbol (further clause_rest)
     gives λ p a. switch_of a p.0 p.1.0 (p.1.1.0 ∷ p.1.1.1)
-further_body loop_part = KwLoop ▹ symbol (further attribute_list) then SymBraceLeft ▹ symbol (further loop_rest) gives λ p a. loop_of a p.0 p.1.0 p.1.1
-further_body for_part = KwFor ▹ SymParenLeft ▹ symbol (further init_part) then symbol (further condition_part) then symbol (further update_part) then symbol (of compound_statement)
+further_body L loop_part = KwLoop ▹ symbol (further attribute_list) then SymBraceLeft ▹ symbol (further loop_rest) gives λ p a. loop_of a p.0 p.1.0 p.1.1
+further_body L for_part = KwFor ▹ SymParenLeft ▹ symbol (further init_part) then symbol (further condition_part) then symbol (further update_part) then symbol (of compound_statement)
     gives λ p a. for_of a p.0 p.1.0 p.1.1.0 p.1.1.1
-further_body while_part = KwWhile ▹ symbol (of expression) then symbol (of compound_statement) gives λ p a. while_of a p.0 p.1
-further_body block_part = SymBraceLeft ▹ symbol (further statement_rest) gives λ ss a. Statement.compound (compound_of a ss)
-further_body left_side_rest = lifted assignment_operator then symbol (of expression) gives (λ p left. assignment_of left p.0 p.1)
+further_body L while_part = KwWhile ▹ symbol (of expression) then symbol (of compound_statement) gives λ p a. while_of a p.0 p.1
+further_body L block_part = SymBraceLeft ▹ symbol (further statement_rest) gives λ ss a. Statement.compound (compound_of a ss)
+further_body L left_side_rest = lifted assignment_operator then symbol (of expression) gives (λ p left. assignment_of left p.0 p.1)
     or SymPlusPlus means increment_of or SymMinusMinus means decrement_of
-further_body other_left_side = (SymParenLeft ▹ symbol (of lhs_expression) ◃ SymParenRight makes parenthesized_at) then symbol (further components) gives (λ p. p.1 p.0)
+further_body L other_left_side = (SymParenLeft ▹ symbol (of lhs_expression) ◃ SymParenRight makes parenthesized_at) then symbol (further components) gives (λ p. p.1 p.0)
     or SymStar means indirection then symbol (of lhs_expression) makes unary_of
     or SymAnd means address_of then symbol (of lhs_expression) makes unary_of
-further_body name_rest_statement = optional (symbol (of template_list)) then symbol (of arguments) gives (λ p t. call_by_name t p)
+further_body L name_rest_statement = optional (symbol (of template_list)) then symbol (of arguments) gives (λ p t. call_by_name t p)
     or symbol (further components) then symbol (further left_side_rest) gives λ p t. p.1 (p.0 (variable_of t))
-further_body simple_statement = symbol (of ident) then symbol (further name_rest_statement) gives (λ p. p.1 p.0)
+further_body L simple_statement = symbol (of ident) then symbol (further name_rest_statement) gives (λ p. p.1 p.0)
     or symbol (further other_left_side) then symbol (further left_side_rest) gives (λ p. p.1 p.0)
     or symbol (of phony_assignment)
-further_body other_statement = (SymSemicolon means Statement.void
+further_body L other_statement = (SymSemicolon means Statement.void
     or symbol (of return_statement) ◃ SymSemicolon
     or attributed (symbol (further if_part) or symbol (further switch_part) or symbol (further loop_part) or symbol (further for_part) or symbol (further while_part) or symbol (further block_part))
     or symbol (of var_statement) ◃ SymSemicolon
@@ -267,51 +267,59 @@ further_body other_statement = (SymSemicolon means Statement.void
     or symbol (of discard_statement) ◃ SymSemicolon
     or symbol (further simple_statement) ◃ SymSemicolon
     or symbol (of const_assert) ◃ SymSemicolon gives Statement.const_assert) makes placed_statement
-further_body var_part = lifted var_kind then symbol (of typed_ident) then optional (lifted initializer) ◃ SymSemicolon gives λ p a. value_of a p.0 p.1.0 p.1.1
-further_body override_part = KwOverride ▹ symbol (of typed_ident) then optional (lifted initializer) ◃ SymSemicolon gives λ p a. value_of a DeclarationKind.override_kind p.0 p.1
-further_body function_part = KwFn ▹ symbol (of ident) then SymParenLeft ▹ symbol (further parameter_rest) then optional (SymArrow ▹ symbol (further attribute_list) then symbol (of type_specifier)) then symbol (of compound_statement)
+further_body L var_part = lifted var_kind then symbol (of typed_ident) then optional (lifted initializer) ◃ SymSemicolon gives λ p a. value_of a p.0 p.1.0 p.1.1
+further_body L override_part = KwOverride ▹ symbol (of typed_ident) then optional (lifted initializer) ◃ SymSemicolon gives λ p a. value_of a DeclarationKind.override_kind p.0 p.1
+further_body L function_part = KwFn ▹ symbol (of ident) then SymParenLeft ▹ symbol (further parameter_rest) then optional (SymArrow ▹ symbol (further attribute_list) then symbol (of type_specifier)) then symbol (of compound_statement)
     gives λ p a. function_of a p.0 p.1.0 p.1.1.0 p.1.1.1
-further_body directive_list = many (symbol (of global_directive))
-further_body declaration_list = many (symbol (of global_declaration))
+further_body L directive_list = many (symbol (of global_directive))
+further_body L declaration_list = many (symbol (of global_declaration))
 
 -- ---- the rules that differ; what is not named here is as written
-abbrev pub body : (n : FactoredSymbol) → FactoredRule (FactoredValue n)
-body (further x) = further_body x
-body (of template_list) = TemplateArgsStart ▹ symbol (further template_items)
-body (of expressions) = listed (symbol (of expression)) (symbol (of expressions))
-body (of arguments) = SymParenLeft ▹ symbol (further argument_rest)
-body (of primary_expression) = (symbol (of type_specifier) then optional (symbol (of arguments)) gives call_or_type
+abbrev pub factored : Dialect → (n : FactoredSymbol) → FactoredRule (FactoredValue n)
+factored L (further x) = further_body L x
+factored L (of template_list) = TemplateArgsStart ▹ symbol (further template_items)
+factored L (of expressions) = listed (symbol (of expression)) (symbol (of expressions))
+factored L (of arguments) = SymParenLeft ▹ symbol (further argument_rest)
+factored L (of primary_expression) = (symbol (of type_specifier) then optional (symbol (of arguments)) gives call_or_type
     or symbol (of literal) gives Expression.literal or SymParenLeft ▹ symbol (of expression) ◃ SymParenRight gives Expression.parenthesized) makes placed_expression
-body (of singular_expression) = symbol (of primary_expression) then symbol (further components) gives λ p. p.1 p.0
-body (of shift_expression) = symbol (of unary_expression) then symbol (further sum_rest) gives λ p. p.1 p.0
-body (of relational_expression) = symbol (of shift_expression) then symbol (further relation_rest) gives λ p. p.1 p.0
-body (of expression) = symbol (of unary_expression) then symbol (further expression_rest) gives λ p. p.1 p.0
-body (of lhs_expression) = (symbol (of ident) makes variable_at) then symbol (further components) gives (λ p. p.1 p.0) or symbol (further other_left_side)
-body (of compound_statement) = symbol (further attribute_list) then SymBraceLeft ▹ symbol (further statement_rest) gives λ p. compound_of p.0 p.1
-body (of statement) = symbol (of break_statement) ◃ SymSemicolon makes placed_statement or symbol (further other_statement)
-body (of if_statement) = attributed (symbol (further if_part))
-body (of switch_statement) = attributed (symbol (further switch_part))
-body (of loop_statement) = attributed (symbol (further loop_part))
-body (of for_statement) = attributed (symbol (further for_part))
-body (of while_statement) = attributed (symbol (further while_part))
-body (of switch_clause) = KwCase ▹ symbol (further selectors) then optional (one_token SymColon) then symbol (of compound_statement) gives (λ p. clause_of p.0 p.1.1)
+factored L (of singular_expression) = symbol (of primary_expression) then symbol (further components) gives λ p. p.1 p.0
+factored L (of shift_expression) = symbol (of unary_expression) then symbol (further sum_rest) gives λ p. p.1 p.0
+factored L (of relational_expression) = symbol (of shift_expression) then symbol (further relation_rest) gives λ p. p.1 p.0
+factored L (of expression) = symbol (of unary_expression) then symbol (further expression_rest) gives λ p. p.1 p.0
+factored L (of lhs_expression) = (symbol (of ident) makes variable_at) then symbol (further components) gives (λ p. p.1 p.0) or symbol (further other_left_side)
+factored L (of compound_statement) = symbol (further attribute_list) then SymBraceLeft ▹ symbol (further statement_rest) gives λ p. compound_of p.0 p.1
+factored L (of statement) = symbol (of break_statement) ◃ SymSemicolon makes placed_statement or symbol (further other_statement)
+factored L (of if_statement) = attributed (symbol (further if_part))
+factored L (of switch_statement) = attributed (symbol (further switch_part))
+factored L (of loop_statement) = attributed (symbol (further loop_part))
+factored L (of for_statement) = attributed (symbol (further for_part))
+factored L (of while_statement) = attributed (symbol (further while_part))
+factored L (of switch_clause) = KwCase ▹ symbol (further selectors) then optional (one_token SymColon) then symbol (of compound_statement) gives (λ p. clause_of p.0 p.1.1)
     or KwDefault ▹ optional (one_token SymColon) then symbol (of compound_statement) gives λ p. clause_of (CaseSelector.default_selector ∷ []) p.1
-body (of continuing_statement) = KwContinuing ▹ symbol (further attribute_list) then SymBraceLeft ▹ symbol (further continuing_rest) gives λ p. continuing_part p.0 p.1.0 p.1.1
-body (of for_init) = (symbol (of var_statement) or symbol (of value_statement) or symbol (further simple_statement)) makes placed_statement
-body (of for_update) = symbol (further simple_statement) makes placed_statement
-body (of struct_member) = symbol (further attribute_list) then symbol (of ident) ◃ SymColon then symbol (of type_specifier) makes member_of
-body (of formal_parameter) = symbol (further attribute_list) then symbol (of ident) ◃ SymColon then symbol (of type_specifier) gives parameter_of
-body (of global_declaration) = (SymSemicolon means GlobalDeclaration.void
+factored L (of continuing_statement) = KwContinuing ▹ symbol (further attribute_list) then SymBraceLeft ▹ symbol (further continuing_rest) gives λ p. continuing_part p.0 p.1.0 p.1.1
+factored L (of for_init) = (symbol (of var_statement) or symbol (of value_statement) or symbol (further simple_statement)) makes placed_statement
+factored L (of for_update) = symbol (further simple_statement) makes placed_statement
+factored L (of struct_member) = symbol (further attribute_list) then symbol (of ident) ◃ SymColon then symbol (of type_specifier) makes member_of
+factored L (of formal_parameter) = symbol (further attribute_list) then symbol (of ident) ◃ SymColon then symbol (of type_specifier) gives parameter_of
+factored L (of global_declaration) = (SymSemicolon means GlobalDeclaration.void
     or attributed (symbol (further var_part) or symbol (further override_part) or symbol (further function_part))
     or symbol (of const_declaration)
     or symbol (of alias_declaration)
     or symbol (of struct_declaration)
     or symbol (of const_assert) ◃ SymSemicolon gives GlobalDeclaration.const_assert) makes spanned
-body (of var_declaration) = attributed (symbol (further var_part))
-body (of override_declaration) = attributed (symbol (further override_part))
-body (of struct_declaration) = KwStruct ▹ symbol (of ident) then SymBraceLeft ▹ symbol (further member_items) gives struct_of
-body (of function_declaration) = attributed (symbol (further function_part))
-body (of enable_directive) = KwEnable ▹ symbol (further name_items) gives enable_of
-body (of requires_directive) = KwRequires ▹ symbol (further name_items) gives requires_of
-body (of unit) = symbol (further directive_list) then symbol (further declaration_list) gives λ p. record { global_directives = p.0; global_declarations = p.1 }
-body (of n) = lifted (written n)
+factored L (of var_declaration) = attributed (symbol (further var_part))
+factored L (of override_declaration) = attributed (symbol (further override_part))
+factored L (of struct_declaration) = KwStruct ▹ symbol (of ident) then SymBraceLeft ▹ symbol (further member_items) gives struct_of
+factored L (of function_declaration) = attributed (symbol (further function_part))
+factored L (of enable_directive) = KwEnable ▹ symbol (further name_items) gives enable_of
+factored L (of requires_directive) = KwRequires ▹ symbol (further name_items) gives requires_of
+factored L (of unit) = symbol (further directive_list) then symbol (further declaration_list) gives λ p. record { global_directives = p.0; global_declarations = p.1 }
+factored L (of n) = lifted (rules L n)
+
+-- those of the whole language
+abbrev pub body : (n : FactoredSymbol) → FactoredRule (FactoredValue n)
+body = factored whole
+
+-- those of a text that is recognised alone
+abbrev pub small_body : (n : FactoredSymbol) → FactoredRule (FactoredValue n)
+small_body = factored alone

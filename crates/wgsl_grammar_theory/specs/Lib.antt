@@ -1,9 +1,7 @@
 -- The form in which one token decides, and what the further symbols mean.
 pub mod Factored
 pub mod Tables
-pub mod FactoredSmall
 pub mod Apart
-pub mod Dialects
 pub mod Meaning
 pub mod Answers
 pub mod Reader

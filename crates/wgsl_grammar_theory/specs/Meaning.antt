@@ -6,12 +6,11 @@ use Rattle.wgsl_model.specs.Classes.{SymAnd, SymAndAnd, SymBraceLeft, SymBraceRi
 use Rattle.wgsl_model.specs.Operators.{UnaryOperator.address_of, UnaryOperator.indirection, BinaryOperator, BinaryOperator.short_circuit_or, BinaryOperator.short_circuit_and, BinaryOperator.bitwise_or, BinaryOperator.bitwise_and, BinaryOperator.bitwise_xor, BinaryOperator.shift_left, BinaryOperator.shift_right}
 use Rattle.wgsl_model.specs.Expressions.{ExpressionNode}
 use Rattle.wgsl_model.specs.Statements.{DeclarationKind, Statement, ElseIfClause, ElseClause}
-use Rattle.wgsl_model.specs.ExpressionParts.{with_component, unary_of, multiplicative_operator, relational_operator}
+use Rattle.wgsl_model.specs.ExpressionParts.{with_component, unary_of, multiplicative_operator, relational_operator, summand}
 use Rattle.wgsl_model.specs.StatementParts.{placed_statement, attributes, statements, initializer, var_kind, compound_of, assignment_operator, assignment_of, increment_of, decrement_of, parenthesized_at, if_of, else_if, else_block, switch_of, loop_of, break_if, for_of, while_of}
 use Rattle.wgsl_model.specs.UnitParts.{value_of, return_part, function_of}
-use Rattle.wgsl_model.specs.Symbols.{Symbol.ident, Symbol.template_list, Symbol.arguments, Symbol.component, Symbol.unary_expression, Symbol.shift_expression, Symbol.relational_expression, Symbol.expression, Symbol.lhs_expression, Symbol.compound_statement, Symbol.return_statement, Symbol.if_statement, Symbol.switch_statement, Symbol.loop_statement, Symbol.for_statement, Symbol.while_statement, Symbol.call_statement, Symbol.var_statement, Symbol.value_statement, Symbol.continue_statement, Symbol.discard_statement, Symbol.assignment, Symbol.phony_assignment, Symbol.increment, Symbol.decrement, Symbol.const_assert, Symbol.switch_clause, Symbol.case_selector, Symbol.continuing_statement, Symbol.for_init, Symbol.for_update, Symbol.typed_ident, Symbol.struct_member, Symbol.formal_parameter, Symbol.global_declaration, Symbol.global_directive, Rule}
+use Rattle.wgsl_model.specs.Symbols.{Dialect, Symbol.ident, Symbol.template_list, Symbol.arguments, Symbol.component, Symbol.unary_expression, Symbol.shift_expression, Symbol.relational_expression, Symbol.expression, Symbol.lhs_expression, Symbol.compound_statement, Symbol.return_statement, Symbol.if_statement, Symbol.switch_statement, Symbol.loop_statement, Symbol.for_statement, Symbol.while_statement, Symbol.call_statement, Symbol.var_statement, Symbol.value_statement, Symbol.continue_statement, Symbol.discard_statement, Symbol.assignment, Symbol.phony_assignment, Symbol.increment, Symbol.decrement, Symbol.const_assert, Symbol.switch_clause, Symbol.case_selector, Symbol.continuing_statement, Symbol.for_init, Symbol.for_update, Symbol.typed_ident, Symbol.struct_member, Symbol.formal_parameter, Symbol.global_declaration, Symbol.global_directive, Rule}
 use Rattle.wgsl_grammar_theory.specs.Factored.{Further, Further.template_items, Further.template_rest, Further.template_more, Further.argument_rest, Further.argument_more, Further.member_items, Further.member_rest, Further.member_more, Further.parameter_rest, Further.parameter_more, Further.name_items, Further.name_rest, Further.name_more, Further.selectors, Further.components, Further.factors, Further.summands, Further.sum_rest, Further.relation_rest, Further.and_rest, Further.or_rest, Further.bitwise_and_rest, Further.bitwise_or_rest, Further.bitwise_xor_rest, Further.expression_rest, Further.attribute_list, Further.statement_rest, Further.loop_rest, Further.continuing_rest, Further.clause_rest, Further.else_rest, Further.init_part, Further.condition_part, Further.update_part, Further.if_part, Further.switch_part, Further.loop_part, Further.for_part, Further.while_part, Further.block_part, Further.left_side_rest, Further.other_left_side, Further.name_rest_statement, Further.simple_statement, Further.other_statement, Further.var_part, Further.override_part, Further.function_part, Further.directive_list, Further.declaration_list, Growth, FurtherValue, grown_by_component, unchanged, any_more, one_more, some_more, variable_of, call_by_name}
-use Rattle.wgsl_grammar_theory.specs.Dialects.{Dialect, summand_of}
 
 -- list(X) and the token that closes it; the same, or that token alone; a comma and then the same, or that token alone
 abbrev pub closed_list : {A : Type 0} → ℕ → Rule A → Rule (List A)
@@ -36,7 +35,7 @@ factor = multiplicative_operator then symbol unary_expression
 -- what makes a shift or a sum of a first operand
 abbrev pub sum_growth : Dialect → Rule Growth
 sum_growth L = one_more (SymShiftLeft means shift_left then symbol unary_expression) or one_more (SymShiftRight means shift_right then symbol unary_expression)
-    or any_more factor then any_more (summand_of L) gives λ p left. p.1 (p.0 left)
+    or any_more factor then any_more (summand L) gives λ p left. p.1 (p.0 left)
 
 -- what makes a comparison of a shift
 abbrev pub relation_growth : Rule Growth
@@ -73,7 +72,7 @@ meaning L name_more = closed_more SymSemicolon (symbol ident)
 meaning L selectors = list SymComma (symbol case_selector)
 meaning L components = component_growth
 meaning L factors = any_more factor
-meaning L summands = any_more (summand_of L)
+meaning L summands = any_more (summand L)
 meaning L sum_rest = sum_growth L
 meaning L relation_rest = relation_growth
 meaning L and_rest = some_more SymAndAnd short_circuit_and (symbol relational_expression)

@@ -1,14 +1,14 @@
 -- The trees that the rules of expressions make, and their operators.
 use Rattle.std.specs.Prelude.{ℕ, List, Option}
 use Rattle.grammar.specs.Tokens.{Token, Span}
-use Rattle.grammar.specs.Grammar.{Grammar.left_chain}
-use Rattle.grammar.specs.Notation.{◌means◌, ◌or◌, ◌then◌, ◌makes◌}
+use Rattle.grammar.specs.Grammar.{Grammar.symbol, Grammar.left_chain}
+use Rattle.grammar.specs.Notation.{◌means◌, ◌or◌, ◌then◌, ◌gives◌, ◌makes◌}
 use Rattle.wgsl_model.specs.Classes.{SymAnd, SymBang, SymEqualEqual, SymForwardSlash, SymGreaterThan, SymGreaterThanEqual, SymLessThan, SymLessThanEqual, SymMinus, SymModulo, SymNotEqual, SymPlus, SymStar, SymTilde}
 use Rattle.wgsl_model.specs.Faults.{next_place}
 use Rattle.wgsl_model.specs.Operators.{UnaryOperator, UnaryOperator.logical_negation, UnaryOperator.negation, UnaryOperator.bitwise_complement, UnaryOperator.address_of, UnaryOperator.indirection, BinaryOperator, BinaryOperator.addition, BinaryOperator.subtraction, BinaryOperator.multiplication, BinaryOperator.division, BinaryOperator.remainder, BinaryOperator.equality, BinaryOperator.inequality, BinaryOperator.less_than, BinaryOperator.less_than_equal, BinaryOperator.greater_than, BinaryOperator.greater_than_equal}
 use Rattle.wgsl_model.specs.Expressions.{ExpressionNode, ExpressionNode.expression_node, Expression, Expression.named_component, Expression.indexing, Expression.unary, Expression.binary, Expression.type_or_identifier, FunctionCall, FunctionCall.call, TypeExpression, TypeExpression.type_expression, TemplateArguments.no_template, expressions_of, template_of}
 use Rattle.wgsl_model.specs.TokenValues.{text_of}
-use Rattle.wgsl_model.specs.Symbols.{Rule}
+use Rattle.wgsl_model.specs.Symbols.{Dialect, Dialect.whole, Dialect.alone, Symbol.multiplicative_expression, Symbol.negated_expression, Rule}
 
 -- an expression and where it stands
 abbrev pub placed_expression : Expression → Span → ExpressionNode
@@ -73,6 +73,13 @@ multiplicative_operator = SymStar means multiplication or SymForwardSlash means 
 -- the operators of sums
 abbrev pub additive_operator : Rule BinaryOperator
 additive_operator = SymPlus means addition or SymMinus means subtraction
+
+-- what a sum goes on with
+abbrev pub summand : Dialect → Rule (BinaryOperator × ExpressionNode)
+-- ("+" "-") Mul / NegMul, a subtraction by the first minus
+summand whole = additive_operator then symbol multiplicative_expression or symbol negated_expression gives λ e. (subtraction, e)
+-- ("+" "-") Mul
+summand alone = additive_operator then symbol multiplicative_expression
 
 -- the operators of comparisons
 abbrev pub relational_operator : Rule BinaryOperator

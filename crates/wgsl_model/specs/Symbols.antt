@@ -8,6 +8,10 @@ use Rattle.wgsl_model.specs.Statements.{CompoundStatement, StatementNode, Statem
 use Rattle.wgsl_model.specs.Units.{GlobalDirective, StructMember, FormalParameter, GlobalDeclaration, TranslationUnit}
 use Rattle.wgsl_model.specs.Checks.{AttributeParts}
 
+-- the whole language, or the dialect of a text that is recognised alone
+pub data Dialect : Type 0 where
+  whole alone : Dialect
+
 -- the symbols, in the order of the grammar
 pub data Symbol : Type 0 where
   ident type_specifier template_list expressions call arguments literal primary_expression singular_expression component : Symbol

@@ -1,19 +1,20 @@
 -- The grammar as it is written: each rule under its line. A is an attribute; list(X) is X ("," X)* ","?; Block is a compound statement.
+-- L is the dialect. Where a text is recognised alone, names are identifier tokens alone, `--` stands in no sum, and nothing is checked; all else is as in the whole language.
 use Rattle.std.specs.Prelude.{ℕ, List, [], ◌∷◌, Some}
 use Rattle.grammar.specs.Grammar.{Grammar.token, Grammar.symbol, Grammar.left_chain}
 use Rattle.grammar.specs.Notation.{one_token, ◌then◌, ◌or◌, ◌gives◌, ◌makes◌, ◌with_check◌, ◌▹◌, ◌◃◌, ◌means◌, optional, many, several, list, list_or_none}
 use Rattle.wgsl_model.specs.Classes.{SymAnd, SymAndAnd, SymAttr, SymBracketLeft, SymBracketRight, SymBraceLeft, SymBraceRight, SymColon, SymComma, SymEqual, SymShiftRight, SymShiftLeft, SymMinusMinus, SymPeriod, SymPlusPlus, SymOr, SymOrOr, SymParenLeft, SymParenRight, SymSemicolon, SymStar, SymUnderscore, SymXor, KwAlias, KwBreak, KwCase, KwConst, KwConstAssert, KwContinue, KwContinuing, KwDefault, KwDiagnostic, KwDiscard, KwElse, KwEnable, KwFalse, KwFn, KwFor, KwIf, KwLet, KwLoop, KwOverride, KwRequires, KwReturn, KwStruct, KwSwitch, KwTrue, KwVar, KwWhile, Ident, ReservedWord, AbstractInt, I32, U32, AbstractFloat, F32, F16, TemplateArgsStart, TemplateArgsEnd}
-use Rattle.wgsl_model.specs.Operators.{UnaryOperator.address_of, UnaryOperator.indirection, BinaryOperator.short_circuit_or, BinaryOperator.short_circuit_and, BinaryOperator.subtraction, BinaryOperator.bitwise_or, BinaryOperator.bitwise_and, BinaryOperator.bitwise_xor, BinaryOperator.shift_left, BinaryOperator.shift_right, AssignmentOperator.equal}
+use Rattle.wgsl_model.specs.Operators.{UnaryOperator.address_of, UnaryOperator.indirection, BinaryOperator.short_circuit_or, BinaryOperator.short_circuit_and, BinaryOperator.bitwise_or, BinaryOperator.bitwise_and, BinaryOperator.bitwise_xor, BinaryOperator.shift_left, BinaryOperator.shift_right, AssignmentOperator.equal}
 use Rattle.wgsl_model.specs.Spanned.{spanned}
 use Rattle.wgsl_model.specs.Expressions.{Expression}
 use Rattle.wgsl_model.specs.Statements.{DeclarationKind, CaseSelector, Statement}
 use Rattle.wgsl_model.specs.Units.{GlobalDeclaration}
 use Rattle.wgsl_model.specs.TokenValues.{text_of, literal_of}
 use Rattle.wgsl_model.specs.Checks.{unreserved, severity_fault, var_fault, attribute_parts, attribute_fault}
-use Rattle.wgsl_model.specs.ExpressionParts.{placed_expression, type_of, call_of, index_of, component_of, with_component, unary_of, binary_of, operation_of, negation_of, negated_product_of, unary_operator, multiplicative_operator, additive_operator, relational_operator, two, two_or_more}
+use Rattle.wgsl_model.specs.ExpressionParts.{placed_expression, type_of, call_of, index_of, component_of, with_component, unary_of, binary_of, operation_of, negation_of, negated_product_of, unary_operator, multiplicative_operator, relational_operator, summand, two, two_or_more}
 use Rattle.wgsl_model.specs.StatementParts.{placed_statement, attributes, statements, initializer, var_kind, declaration_of, compound_of, assignment_operator, assignment_of, increment_of, decrement_of, underscore_at, variable_at, parenthesized_at, call_statement_of, return_of, if_of, else_if, else_block, assert_of, clause_of, switch_of, loop_of, break_if, continuing_part, for_of, while_of}
 use Rattle.wgsl_model.specs.UnitParts.{attributed_ident, member_of, parameter_of, value_of, alias_of, struct_of, return_part, function_of, enable_of, requires_of, diagnostic_of}
-use Rattle.wgsl_model.specs.Symbols.{Symbol, Symbol.ident, Symbol.type_specifier, Symbol.template_list, Symbol.expressions, Symbol.call, Symbol.arguments, Symbol.literal, Symbol.primary_expression, Symbol.singular_expression, Symbol.component, Symbol.unary_expression, Symbol.multiplicative_expression, Symbol.negated_expression, Symbol.additive_expression, Symbol.shift_expression, Symbol.relational_expression, Symbol.expression, Symbol.lhs_expression, Symbol.attribute, Symbol.compound_statement, Symbol.statement, Symbol.return_statement, Symbol.if_statement, Symbol.switch_statement, Symbol.loop_statement, Symbol.for_statement, Symbol.while_statement, Symbol.call_statement, Symbol.var_statement, Symbol.value_statement, Symbol.break_statement, Symbol.continue_statement, Symbol.discard_statement, Symbol.assignment, Symbol.phony_assignment, Symbol.increment, Symbol.decrement, Symbol.const_assert, Symbol.switch_clause, Symbol.case_selector, Symbol.continuing_statement, Symbol.for_init, Symbol.for_update, Symbol.var_template, Symbol.typed_ident, Symbol.struct_member, Symbol.formal_parameter, Symbol.global_declaration, Symbol.var_declaration, Symbol.const_declaration, Symbol.override_declaration, Symbol.alias_declaration, Symbol.struct_declaration, Symbol.function_declaration, Symbol.diagnostic_severity, Symbol.global_directive, Symbol.enable_directive, Symbol.requires_directive, Symbol.diagnostic_directive, Symbol.unit, Value, Rule}
+use Rattle.wgsl_model.specs.Symbols.{Dialect, Dialect.whole, Dialect.alone, Symbol, Symbol.ident, Symbol.type_specifier, Symbol.template_list, Symbol.expressions, Symbol.call, Symbol.arguments, Symbol.literal, Symbol.primary_expression, Symbol.singular_expression, Symbol.component, Symbol.unary_expression, Symbol.multiplicative_expression, Symbol.negated_expression, Symbol.additive_expression, Symbol.shift_expression, Symbol.relational_expression, Symbol.expression, Symbol.lhs_expression, Symbol.attribute, Symbol.compound_statement, Symbol.statement, Symbol.return_statement, Symbol.if_statement, Symbol.switch_statement, Symbol.loop_statement, Symbol.for_statement, Symbol.while_statement, Symbol.call_statement, Symbol.var_statement, Symbol.value_statement, Symbol.break_statement, Symbol.continue_statement, Symbol.discard_statement, Symbol.assignment, Symbol.phony_assignment, Symbol.increment, Symbol.decrement, Symbol.const_assert, Symbol.switch_clause, Symbol.case_selector, Symbol.continuing_statement, Symbol.for_init, Symbol.for_update, Symbol.var_template, Symbol.typed_ident, Symbol.struct_member, Symbol.formal_parameter, Symbol.global_declaration, Symbol.var_declaration, Symbol.const_declaration, Symbol.override_declaration, Symbol.alias_declaration, Symbol.struct_declaration, Symbol.function_declaration, Symbol.diagnostic_severity, Symbol.global_directive, Symbol.enable_directive, Symbol.requires_directive, Symbol.diagnostic_directive, Symbol.unit, Value, Rule}
 
 -- the keywords, which are names directly after `@`
 abbrev pub keyword_classes : List ℕ
@@ -21,60 +22,64 @@ keyword_classes =
     KwAlias ∷ KwBreak ∷ KwCase ∷ KwConst ∷ KwConstAssert ∷ KwContinue ∷ KwContinuing ∷ KwDefault ∷ KwDiagnostic ∷ KwDiscard ∷ KwElse ∷ KwEnable ∷ KwFalse ∷
     KwFn ∷ KwFor ∷ KwIf ∷ KwLet ∷ KwLoop ∷ KwOverride ∷ KwRequires ∷ KwReturn ∷ KwStruct ∷ KwSwitch ∷ KwTrue ∷ KwVar ∷ KwWhile ∷ []
 
--- the rules
-abbrev pub written : (n : Symbol) → Rule (Value n)
+-- the rules of a dialect
+abbrev pub rules : Dialect → (n : Symbol) → Rule (Value n)
 -- ---- expressions (WGSL, "Expression Grammar Summary")
 -- Ident: an identifier; a reserved word is taken for one, and is a fault
-written ident = token (Ident ∷ ReservedWord ∷ []) with_check unreserved
+rules whole ident = token (Ident ∷ ReservedWord ∷ []) with_check unreserved
+-- recognised alone: an identifier
+rules alone ident = one_token Ident
 -- TypeSpecifier = Ident TemplateList?
-written type_specifier = symbol ident then optional (symbol template_list) gives type_of
+rules L type_specifier = symbol ident then optional (symbol template_list) gives type_of
 -- TemplateList = TemplateArgsStart list(Expression) TemplateArgsEnd
-written template_list = TemplateArgsStart ▹ list SymComma (symbol expression) ◃ TemplateArgsEnd
+rules L template_list = TemplateArgsStart ▹ list SymComma (symbol expression) ◃ TemplateArgsEnd
 -- list(Expression), which decides whether a `<` begins a template list
-written expressions = list SymComma (symbol expression)
+rules L expressions = list SymComma (symbol expression)
 -- Call = TypeSpecifier Args
-written call = symbol type_specifier then symbol arguments gives call_of
+rules L call = symbol type_specifier then symbol arguments gives call_of
 -- Args = "(" list(Expression)? ")"
-written arguments = SymParenLeft ▹ list_or_none SymComma (symbol expression) ◃ SymParenRight
+rules L arguments = SymParenLeft ▹ list_or_none SymComma (symbol expression) ◃ SymParenRight
 -- Literal = a number, "true" or "false"
-written literal = token (KwTrue ∷ KwFalse ∷ AbstractInt ∷ I32 ∷ U32 ∷ AbstractFloat ∷ F32 ∷ F16 ∷ []) gives literal_of
+rules L literal = token (KwTrue ∷ KwFalse ∷ AbstractInt ∷ I32 ∷ U32 ∷ AbstractFloat ∷ F32 ∷ F16 ∷ []) gives literal_of
 -- Primary = TypeSpecifier / Call / Literal / "(" Expression ")"
-written primary_expression = (symbol type_specifier gives Expression.type_or_identifier or symbol call gives Expression.function_call
+rules L primary_expression = (symbol type_specifier gives Expression.type_or_identifier or symbol call gives Expression.function_call
     or symbol literal gives Expression.literal or SymParenLeft ▹ symbol expression ◃ SymParenRight gives Expression.parenthesized) makes placed_expression
 -- Singular = Primary Component*
-written singular_expression = left_chain with_component (symbol primary_expression) (symbol component)
+rules L singular_expression = left_chain with_component (symbol primary_expression) (symbol component)
 -- Component = "[" Expression "]" / "." Ident
-written component = SymBracketLeft ▹ symbol expression ◃ SymBracketRight gives index_of or SymPeriod ▹ symbol ident gives component_of
+rules L component = SymBracketLeft ▹ symbol expression ◃ SymBracketRight gives index_of or SymPeriod ▹ symbol ident gives component_of
 -- Unary = Singular / ("-" "!" "~" "*" "&", one of them) Unary
-written unary_expression = symbol singular_expression or unary_operator then symbol unary_expression makes unary_of
+rules L unary_expression = symbol singular_expression or unary_operator then symbol unary_expression makes unary_of
 -- Mul = Unary / Mul ("*" "/" "%") Unary
-written multiplicative_expression = left_chain binary_of (symbol unary_expression) (multiplicative_operator then symbol unary_expression)
+rules L multiplicative_expression = left_chain binary_of (symbol unary_expression) (multiplicative_operator then symbol unary_expression)
 -- NegMul = "--" Unary, whose second minus is its negation / NegMul ("*" "/" "%") Unary; it starts at the second minus
-written negated_expression = left_chain negated_product_of (SymMinusMinus ▹ symbol unary_expression makes negation_of) (multiplicative_operator then symbol unary_expression)
+rules L negated_expression = left_chain negated_product_of (SymMinusMinus ▹ symbol unary_expression makes negation_of) (multiplicative_operator then symbol unary_expression)
 -- Add = Mul / Add ("+" "-") Mul / Add NegMul, a subtraction by the first minus
-written additive_expression = left_chain binary_of (symbol multiplicative_expression)
-    (additive_operator then symbol multiplicative_expression or symbol negated_expression gives λ e. (subtraction, e))
+-- recognised alone: Add = Mul / Add ("+" "-") Mul
+rules L additive_expression = left_chain binary_of (symbol multiplicative_expression) (summand L)
 -- Shift = Add / Unary "<<" Unary / Unary ">>" Unary
-written shift_expression = symbol additive_expression or two SymShiftLeft shift_left (symbol unary_expression) or two SymShiftRight shift_right (symbol unary_expression)
+rules L shift_expression = symbol additive_expression or two SymShiftLeft shift_left (symbol unary_expression) or two SymShiftRight shift_right (symbol unary_expression)
 -- Rel = Shift / Shift ("<" ">" "<=" ">=" "==" "!=") Shift
-written relational_expression = symbol shift_expression or symbol shift_expression then relational_operator then symbol shift_expression makes operation_of
+rules L relational_expression = symbol shift_expression or symbol shift_expression then relational_operator then symbol shift_expression makes operation_of
 -- Expression = Rel / Rel ("&&" Rel)+ / Rel ("||" Rel)+ / Unary ("&" Unary)+ / Unary ("|" Unary)+ / Unary ("^" Unary)+
-written expression = symbol relational_expression
+rules L expression = symbol relational_expression
     or two_or_more SymAndAnd short_circuit_and (symbol relational_expression) or two_or_more SymOrOr short_circuit_or (symbol relational_expression)
     or two_or_more SymAnd bitwise_and (symbol unary_expression) or two_or_more SymOr bitwise_or (symbol unary_expression) or two_or_more SymXor bitwise_xor (symbol unary_expression)
 -- Lhs = Ident Component* / "(" Lhs ")" Component* / "*" Lhs / "&" Lhs
-written lhs_expression = left_chain with_component (symbol ident makes variable_at) (symbol component)
+rules L lhs_expression = left_chain with_component (symbol ident makes variable_at) (symbol component)
     or left_chain with_component (SymParenLeft ▹ symbol lhs_expression ◃ SymParenRight makes parenthesized_at) (symbol component)
     or SymStar means indirection then symbol lhs_expression makes unary_of
     or SymAnd means address_of then symbol lhs_expression makes unary_of
 -- ---- attributes (WGSL, "Attributes")
 -- A = "@" name Args?, the name an identifier, a reserved word or a keyword
-written attribute = SymAttr ▹ token (Ident ∷ ReservedWord ∷ keyword_classes) then optional (symbol arguments) makes attribute_parts with_check attribute_fault
+rules whole attribute = SymAttr ▹ token (Ident ∷ ReservedWord ∷ keyword_classes) then optional (symbol arguments) makes attribute_parts with_check attribute_fault
+-- recognised alone: A = "@" Ident Args?
+rules alone attribute = SymAttr ▹ one_token Ident then optional (symbol arguments) makes attribute_parts
 -- ---- statements (WGSL, "Statements")
 -- Block = A* "{" Statement* "}"
-written compound_statement = attributes then SymBraceLeft ▹ statements ◃ SymBraceRight gives λ p. compound_of p.0 p.1
+rules L compound_statement = attributes then SymBraceLeft ▹ statements ◃ SymBraceRight gives λ p. compound_of p.0 p.1
 -- Statement = one of nineteen
-written statement = (SymSemicolon means Statement.void
+rules L statement = (SymSemicolon means Statement.void
     or symbol return_statement ◃ SymSemicolon
     or symbol if_statement
     or symbol switch_statement
@@ -94,66 +99,68 @@ written statement = (SymSemicolon means Statement.void
     or symbol compound_statement gives Statement.compound
     or symbol const_assert ◃ SymSemicolon gives Statement.const_assert) makes placed_statement
 -- "return" Expression?
-written return_statement = KwReturn ▹ optional (symbol expression) gives return_of
+rules L return_statement = KwReturn ▹ optional (symbol expression) gives return_of
 -- A* "if" Expression Block ("else" "if" Expression Block)* ("else" Block)?
-written if_statement = attributes then KwIf ▹ symbol expression then symbol compound_statement then (many else_if then optional else_block)
+rules L if_statement = attributes then KwIf ▹ symbol expression then symbol compound_statement then (many else_if then optional else_block)
     gives λ p. if_of p.0 p.1.0 p.1.1.0 p.1.1.1
 -- A* "switch" Expression A* "{" Clause+ "}"
-written switch_statement = attributes then KwSwitch ▹ symbol expression then attributes then SymBraceLeft ▹ several (symbol switch_clause) ◃ SymBraceRight
+rules L switch_statement = attributes then KwSwitch ▹ symbol expression then attributes then SymBraceLeft ▹ several (symbol switch_clause) ◃ SymBraceRight
     gives λ p. switch_of p.0 p.1.0 p.1.1.0 p.1.1.1
 -- A* "loop" A* "{" Statement* Continuing? "}"
-written loop_statement = attributes then KwLoop ▹ attributes then SymBraceLeft ▹ (statements then optional (symbol continuing_statement)) ◃ SymBraceRight
+rules L loop_statement = attributes then KwLoop ▹ attributes then SymBraceLeft ▹ (statements then optional (symbol continuing_statement)) ◃ SymBraceRight
     gives λ p. loop_of p.0 p.1.0 p.1.1.0 p.1.1.1
 -- A* "for" "(" Init? ";" Expression? ";" Update? ")" Block
-written for_statement = attributes then KwFor ▹ SymParenLeft ▹ optional (symbol for_init) ◃ SymSemicolon then optional (symbol expression) ◃ SymSemicolon
+rules L for_statement = attributes then KwFor ▹ SymParenLeft ▹ optional (symbol for_init) ◃ SymSemicolon then optional (symbol expression) ◃ SymSemicolon
     then optional (symbol for_update) ◃ SymParenRight then symbol compound_statement gives λ p. for_of p.0 p.1.0 p.1.1.0 p.1.1.1.0 p.1.1.1.1
 -- A* "while" Expression Block
-written while_statement = attributes then KwWhile ▹ symbol expression then symbol compound_statement gives λ p. while_of p.0 p.1.0 p.1.1
+rules L while_statement = attributes then KwWhile ▹ symbol expression then symbol compound_statement gives λ p. while_of p.0 p.1.0 p.1.1
 -- Call
-written call_statement = symbol call gives call_statement_of
+rules L call_statement = symbol call gives call_statement_of
 -- "var" TemplateList? Typed ("=" Expression)?
-written var_statement = var_kind then symbol typed_ident then optional initializer gives λ p. Statement.declaration (declaration_of [] p.0 p.1.0 p.1.1)
+rules L var_statement = var_kind then symbol typed_ident then optional initializer gives λ p. Statement.declaration (declaration_of [] p.0 p.1.0 p.1.1)
 -- ("let" or "const") Typed "=" Expression
-written value_statement = (KwLet means DeclarationKind.let_kind or KwConst means DeclarationKind.const_kind) then symbol typed_ident then initializer
+rules L value_statement = (KwLet means DeclarationKind.let_kind or KwConst means DeclarationKind.const_kind) then symbol typed_ident then initializer
     gives λ p. Statement.declaration (declaration_of [] p.0 p.1.0 (Some p.1.1))
 -- "break"
-written break_statement = KwBreak means Statement.break_statement
+rules L break_statement = KwBreak means Statement.break_statement
 -- "continue"
-written continue_statement = KwContinue means Statement.continue_statement
+rules L continue_statement = KwContinue means Statement.continue_statement
 -- "discard"
-written discard_statement = KwDiscard means Statement.discard_statement
+rules L discard_statement = KwDiscard means Statement.discard_statement
 -- Lhs ("=" or a compound operator) Expression
-written assignment = symbol lhs_expression then assignment_operator then symbol expression gives λ p. assignment_of p.0 p.1.0 p.1.1
+rules L assignment = symbol lhs_expression then assignment_operator then symbol expression gives λ p. assignment_of p.0 p.1.0 p.1.1
 -- "_" "=" Expression; the left side is the identifier `_`
-written phony_assignment = (one_token SymUnderscore makes underscore_at) then initializer gives λ p. assignment_of p.0 equal p.1
+rules L phony_assignment = (one_token SymUnderscore makes underscore_at) then initializer gives λ p. assignment_of p.0 equal p.1
 -- Lhs "++"
-written increment = symbol lhs_expression ◃ SymPlusPlus gives increment_of
+rules L increment = symbol lhs_expression ◃ SymPlusPlus gives increment_of
 -- Lhs "--"
-written decrement = symbol lhs_expression ◃ SymMinusMinus gives decrement_of
+rules L decrement = symbol lhs_expression ◃ SymMinusMinus gives decrement_of
 -- "const_assert" Expression
-written const_assert = KwConstAssert ▹ symbol expression gives assert_of
+rules L const_assert = KwConstAssert ▹ symbol expression gives assert_of
 -- Clause = "case" list(Selector) ":"? Block / "default" ":"? Block
-written switch_clause = KwCase ▹ list SymComma (symbol case_selector) then optional (one_token SymColon) then symbol compound_statement gives (λ p. clause_of p.0 p.1.1)
+rules L switch_clause = KwCase ▹ list SymComma (symbol case_selector) then optional (one_token SymColon) then symbol compound_statement gives (λ p. clause_of p.0 p.1.1)
     or KwDefault ▹ optional (one_token SymColon) then symbol compound_statement gives λ p. clause_of (CaseSelector.default_selector ∷ []) p.1
 -- Selector = "default" / Expression
-written case_selector = KwDefault means CaseSelector.default_selector or symbol expression gives CaseSelector.expression_selector
+rules L case_selector = KwDefault means CaseSelector.default_selector or symbol expression gives CaseSelector.expression_selector
 -- Continuing = "continuing" A* "{" Statement* ("break" "if" Expression ";")? "}"
-written continuing_statement = KwContinuing ▹ attributes then SymBraceLeft ▹ (statements then optional break_if) ◃ SymBraceRight gives λ p. continuing_part p.0 p.1.0 p.1.1
+rules L continuing_statement = KwContinuing ▹ attributes then SymBraceLeft ▹ (statements then optional break_if) ◃ SymBraceRight gives λ p. continuing_part p.0 p.1.0 p.1.1
 -- Init = a `var`, `let`, `const`, assignment, increment, decrement or call, without its ";"
-written for_init = (symbol var_statement or symbol value_statement or symbol assignment or symbol phony_assignment or symbol increment or symbol decrement or symbol call_statement) makes placed_statement
+rules L for_init = (symbol var_statement or symbol value_statement or symbol assignment or symbol phony_assignment or symbol increment or symbol decrement or symbol call_statement) makes placed_statement
 -- Update = the last of these
-written for_update = (symbol assignment or symbol phony_assignment or symbol increment or symbol decrement or symbol call_statement) makes placed_statement
+rules L for_update = (symbol assignment or symbol phony_assignment or symbol increment or symbol decrement or symbol call_statement) makes placed_statement
 -- ---- declarations (WGSL, "Variable and Value Declarations", "Structure Types", "Type Aliases", "Functions")
 -- "var" TemplateList?, the address space and access mode of a variable
-written var_template = KwVar ▹ optional (symbol template_list) with_check var_fault
+rules whole var_template = KwVar ▹ optional (symbol template_list) with_check var_fault
+-- recognised alone: "var" TemplateList?
+rules alone var_template = KwVar ▹ optional (symbol template_list)
 -- Typed = Ident (":" TypeSpecifier)?
-written typed_ident = symbol ident then optional (SymColon ▹ symbol type_specifier) gives λ p. (text_of p.0, p.1)
+rules L typed_ident = symbol ident then optional (SymColon ▹ symbol type_specifier) gives λ p. (text_of p.0, p.1)
 -- Member = A* Ident ":" TypeSpecifier
-written struct_member = attributed_ident makes member_of
+rules L struct_member = attributed_ident makes member_of
 -- Param = A* Ident ":" TypeSpecifier
-written formal_parameter = attributed_ident gives parameter_of
+rules L formal_parameter = attributed_ident gives parameter_of
 -- Declaration = one of eight
-written global_declaration = (SymSemicolon means GlobalDeclaration.void
+rules L global_declaration = (SymSemicolon means GlobalDeclaration.void
     or symbol var_declaration
     or symbol const_declaration
     or symbol override_declaration
@@ -162,29 +169,35 @@ written global_declaration = (SymSemicolon means GlobalDeclaration.void
     or symbol function_declaration
     or symbol const_assert ◃ SymSemicolon gives GlobalDeclaration.const_assert) makes spanned
 -- A* "var" TemplateList? Typed ("=" Expression)? ";"
-written var_declaration = attributes then var_kind then symbol typed_ident then optional initializer ◃ SymSemicolon gives λ p. value_of p.0 p.1.0 p.1.1.0 p.1.1.1
+rules L var_declaration = attributes then var_kind then symbol typed_ident then optional initializer ◃ SymSemicolon gives λ p. value_of p.0 p.1.0 p.1.1.0 p.1.1.1
 -- "const" Typed "=" Expression ";"
-written const_declaration = KwConst ▹ symbol typed_ident then initializer ◃ SymSemicolon gives λ p. value_of [] DeclarationKind.const_kind p.0 (Some p.1)
+rules L const_declaration = KwConst ▹ symbol typed_ident then initializer ◃ SymSemicolon gives λ p. value_of [] DeclarationKind.const_kind p.0 (Some p.1)
 -- A* "override" Typed ("=" Expression)? ";"
-written override_declaration = attributes then KwOverride ▹ symbol typed_ident then optional initializer ◃ SymSemicolon gives λ p. value_of p.0 DeclarationKind.override_kind p.1.0 p.1.1
+rules L override_declaration = attributes then KwOverride ▹ symbol typed_ident then optional initializer ◃ SymSemicolon gives λ p. value_of p.0 DeclarationKind.override_kind p.1.0 p.1.1
 -- "alias" Ident "=" TypeSpecifier ";"
-written alias_declaration = KwAlias ▹ symbol ident then SymEqual ▹ symbol type_specifier ◃ SymSemicolon gives alias_of
+rules L alias_declaration = KwAlias ▹ symbol ident then SymEqual ▹ symbol type_specifier ◃ SymSemicolon gives alias_of
 -- "struct" Ident "{" list(Member) "}"
-written struct_declaration = KwStruct ▹ symbol ident then SymBraceLeft ▹ list SymComma (symbol struct_member) ◃ SymBraceRight gives struct_of
+rules L struct_declaration = KwStruct ▹ symbol ident then SymBraceLeft ▹ list SymComma (symbol struct_member) ◃ SymBraceRight gives struct_of
 -- A* "fn" Ident "(" list(Param)? ")" ("->" A* TypeSpecifier)? Block
-written function_declaration = attributes then KwFn ▹ symbol ident then SymParenLeft ▹ list_or_none SymComma (symbol formal_parameter) ◃ SymParenRight
+rules L function_declaration = attributes then KwFn ▹ symbol ident then SymParenLeft ▹ list_or_none SymComma (symbol formal_parameter) ◃ SymParenRight
     then optional return_part then symbol compound_statement gives λ p. function_of p.0 p.1.0 p.1.1.0 p.1.1.1.0 p.1.1.1.1
 -- ---- directives and modules (WGSL, "Directives", "Diagnostics", "WGSL Module")
 -- "diagnostic" "(" Severity, an identifier that names a severity
-written diagnostic_severity = KwDiagnostic ▹ SymParenLeft ▹ symbol ident with_check severity_fault
+rules whole diagnostic_severity = KwDiagnostic ▹ SymParenLeft ▹ symbol ident with_check severity_fault
+-- recognised alone: "diagnostic" "(" Severity, an identifier
+rules alone diagnostic_severity = KwDiagnostic ▹ SymParenLeft ▹ symbol ident
 -- Directive = one of three
-written global_directive = symbol enable_directive or symbol requires_directive or symbol diagnostic_directive
+rules L global_directive = symbol enable_directive or symbol requires_directive or symbol diagnostic_directive
 -- "enable" list(Name) ";"
-written enable_directive = KwEnable ▹ list SymComma (symbol ident) ◃ SymSemicolon gives enable_of
+rules L enable_directive = KwEnable ▹ list SymComma (symbol ident) ◃ SymSemicolon gives enable_of
 -- "requires" list(Name) ";"
-written requires_directive = KwRequires ▹ list SymComma (symbol ident) ◃ SymSemicolon gives requires_of
+rules L requires_directive = KwRequires ▹ list SymComma (symbol ident) ◃ SymSemicolon gives requires_of
 -- "diagnostic" "(" Severity "," Name ("." Name)? ","? ")" ";"
-written diagnostic_directive = symbol diagnostic_severity ◃ SymComma then symbol ident then optional (SymPeriod ▹ symbol ident) then optional (one_token SymComma) ◃ SymParenRight ◃ SymSemicolon
+rules L diagnostic_directive = symbol diagnostic_severity ◃ SymComma then symbol ident then optional (SymPeriod ▹ symbol ident) then optional (one_token SymComma) ◃ SymParenRight ◃ SymSemicolon
     gives λ p. diagnostic_of p.0 p.1.0 p.1.1.0
 -- Unit = Directive* Declaration*
-written unit = many (symbol global_directive) then many (symbol global_declaration) gives λ p. record { global_directives = p.0; global_declarations = p.1 }
+rules L unit = many (symbol global_directive) then many (symbol global_declaration) gives λ p. record { global_directives = p.0; global_declarations = p.1 }
+
+-- the grammar of the whole language
+abbrev pub written : (n : Symbol) → Rule (Value n)
+written = rules whole
