@@ -11,25 +11,9 @@ import re
 import sys
 from pathlib import Path
 
-from tables import MODEL, PARTS, Rules, Tables, definitions, rules
+from tables import MODEL, Tables, rules
 
 THEORY = Path("crates/wgsl_grammar_theory")
-
-
-def dialect(theory):
-    """The right side of each symbol where a text is recognised alone."""
-    table = rules(theory)
-    files = [MODEL / f"{part}.antt" for part in PARTS] + [MODEL / "Small.antt", theory / "specs/Factored.antt"]
-    found = definitions(files + [theory / "specs/FactoredSmall.antt"])
-    classes = set(re.findall(r"^(\w+) = \d+$", (MODEL / "Classes.antt").read_text(), re.M))
-    reader = Rules(found, classes)
-    for patterns, body in found["small"]:
-        if patterns[0][1] != "n":
-            table["of", patterns[0][1]] = reader.right_side(body)
-    for patterns, body in found["small_body"]:
-        if patterns[0][0] == "apply" and patterns[0][1][1] == "further":
-            table[Rules.symbol(patterns[0])] = reader.right_side(body)
-    return table
 
 
 class Steps:
@@ -249,9 +233,9 @@ def answers(found, parts):
 
 def main(crate):
     classes = re.findall(r"^(\w+) = \d+$", (MODEL / "Classes.antt").read_text(), re.M)
-    tables = Tables(rules(THEORY))
+    tables = Tables(rules(THEORY, "whole"))
     steps = Steps(tables, {c: i for i, c in enumerate(classes)})
-    every = {n: steps.of(g) for n, g in dialect(THEORY).items()}
+    every = {n: steps.of(g) for n, g in rules(THEORY, "alone").items()}
     needed = reached(every, ("of", "unit"))
     found = {n: s for n, s in every.items() if n in needed}
     parts = in_parts(every, needed)

@@ -16,6 +16,8 @@ from pathlib import Path
 
 MODEL = Path("crates/wgsl_model/specs")
 PARTS = ["ExpressionParts", "StatementParts", "UnitParts", "Written"]
+# the whole language, and the dialect of a text that is recognised alone
+DIALECTS = ["whole", "alone"]
 
 # the operators of the notation: how tightly each binds, and on which side it associates
 OPERATORS = {
@@ -149,11 +151,16 @@ def constructors(path, name):
 
 
 class Rules:
-    """Evaluates right sides."""
+    """Evaluates right sides in one dialect."""
 
-    def __init__(self, found, classes):
+    def __init__(self, found, classes, dialect):
         self.found = found
         self.classes = classes
+        self.dialect = dialect
+
+    def is_met(self, pattern):
+        """Whether a pattern is a name, and this dialect's where it is the name of one."""
+        return pattern[0] == "name" and (pattern[1] not in DIALECTS or pattern[1] == self.dialect)
 
     def value(self, tree, names):
         kind = tree[0]
@@ -200,8 +207,8 @@ class Rules:
         notation = getattr(self, "notation_" + name, None)
         if notation:
             return notation(*values)
-        clauses = self.found.get(name, [])
-        if len(clauses) == 1 and len(clauses[0][0]) == len(arguments) and all(p[0] == "name" for p in clauses[0][0]):
+        clauses = [c for c in self.found.get(name, []) if all(map(self.is_met, c[0]))]
+        if len(clauses) == 1 and len(clauses[0][0]) == len(arguments):
             patterns, body = clauses[0]
             return self.value(Expression(body).read(), dict(zip((p[1] for p in patterns), values)))
         return None
@@ -231,21 +238,25 @@ class Rules:
     def right_side(self, body):
         return self.value(Expression(body).read(), {})
 
+    def clauses(self, name):
+        """The clauses of a function of a dialect and a symbol that are this dialect's, by the pattern of the symbol."""
+        return [(patterns[1], body) for patterns, body in self.found[name] if self.is_met(patterns[0])]
 
-def rules(theory):
-    """The right side of each symbol, in the order of the symbols."""
+
+def rules(theory, dialect):
+    """The right side of each symbol in a dialect, in the order of the symbols."""
     factored = theory / "specs/Factored.antt"
     classes = set(re.findall(r"^(\w+) = \d+$", (MODEL / "Classes.antt").read_text(), re.M))
     found = definitions([MODEL / f"{part}.antt" for part in PARTS] + [factored])
-    reader = Rules(found, classes)
+    reader = Rules(found, classes, dialect)
     own = {}
-    for patterns, body in found["body"]:
-        if patterns[0][2][0][1] not in ("n", "x"):
-            own[Rules.symbol(patterns[0])] = body
-    for patterns, body in found["further_body"]:
-        own["further", patterns[0][1]] = body
-    for patterns, body in found["written"]:
-        own.setdefault(("of", patterns[0][1]), body)
+    for pattern, body in reader.clauses("factored"):
+        if pattern[2][0][1] not in ("n", "x"):
+            own[Rules.symbol(pattern)] = body
+    for pattern, body in reader.clauses("further_body"):
+        own["further", pattern[1]] = body
+    for pattern, body in reader.clauses("rules"):
+        own.setdefault(("of", pattern[1]), body)
     order = [("of", n) for n in constructors(MODEL / "Symbols.antt", "Symbol")]
     order += [("further", x) for x in constructors(factored, "Further")]
     missing = [n for n in order if n not in own]
@@ -432,7 +443,7 @@ class Writer:
 
 def main():
     theory = Path(sys.argv[1])
-    tables = Tables(rules(theory))
+    tables = Tables(rules(theory, "whole"))
     found = [(n, text) for n, g in tables.table.items() for text in tables.conflicts(g)]
     for n, text in found:
         print(f"{n[1]}: {text}")
