@@ -9,8 +9,7 @@ use Rattle.wgsl_model.specs.Words.{look_up}
 use Rattle.wgsl_model.specs.Expressions.{ExpressionNode}
 use Rattle.wgsl_model.specs.Checks.{bare_name, bare_word}
 use Rattle.wgsl_model.specs.NamedValues as plain
-use Rattle.wgsl_model.specs.NamedValues.{WordTable, error, severities, read, access_modes, function, address_spaces, perspective, interpolation_types, center, interpolation_samplings, vertex_index, builtin_values}
-use Rattle.wgsl_model.specs.NamedValueTexts.{severity_text, access_mode_text, address_space_text, interpolation_type_text, interpolation_sampling_text, builtin_value_text}
+use Rattle.wgsl_model.specs.NamedValues.{WordTable, error, severities, read, access_modes, function, address_spaces, perspective, interpolation_types, center, interpolation_samplings, vertex_index, builtin_values, severity_text, access_mode_text, address_space_text, interpolation_type_text, interpolation_sampling_text, builtin_value_text}
 use Rattle.wgsl_named_values.specs.declared.severity.DiagnosticSeverity.{DiagnosticSeverity}
 use Rattle.wgsl_named_values.specs.declared.memory.AccessMode.{AccessMode}
 use Rattle.wgsl_named_values.specs.declared.memory.AddressSpace.{AddressSpace}

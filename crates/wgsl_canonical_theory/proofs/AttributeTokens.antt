@@ -7,8 +7,7 @@ use Rattle.wgsl_model.specs.Kind.{Kind, plain}
 use Rattle.wgsl_model.specs.Raw.{word_of}
 use Rattle.wgsl_model.specs.Words.{look_up}
 use Rattle.wgsl_model.specs.Operators.{bitwise_or}
-use Rattle.wgsl_model.specs.NamedValues.{WordTable, DiagnosticSeverity, severities, AccessMode, access_modes, AddressSpace, AddressSpace.storage, address_spaces, InterpolationType, interpolation_types, InterpolationSampling, interpolation_samplings, builtin_values}
-use Rattle.wgsl_model.specs.NamedValueTexts.{address_space_text}
+use Rattle.wgsl_model.specs.NamedValues.{WordTable, DiagnosticSeverity, severities, AccessMode, access_modes, AddressSpace, AddressSpace.storage, address_spaces, InterpolationType, interpolation_types, InterpolationSampling, interpolation_samplings, builtin_values, address_space_text}
 use Rattle.wgsl_model.specs.Expressions.{ExpressionNode, expression_node, Expression, binary, type_or_identifier, TypeExpression}
 use Rattle.wgsl_model.specs.Attributes.{Attribute, align, binding, blend_src, group, id, location, size, if_attribute, elif_attribute, builtin, const_attribute, invariant, must_use, vertex, fragment, compute, else_attribute, diagnostic, interpolate, workgroup_size, type_constraint, custom}
 use Rattle.wgsl_model.specs.Checks.{Checked, right, right_or, bare_word, bare_name, rule_name, variants, variants_in, space_in_template, space_and_mode, Arguments, with_one, with_none, builtin_attribute, severity_and_rule, diagnostic_attribute, type_and_sampling, interpolate_attribute, workgroup_size_attribute, name_and_variants, type_attribute, attribute_names, named_attribute, AttributeParts, attribute_of}

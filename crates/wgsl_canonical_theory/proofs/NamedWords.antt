@@ -5,8 +5,7 @@ use Rattle.std.proofs.lemmas.Slice.Eq.{bytes_eq-Decides}
 use Rattle.wgsl_model.specs.Kind.{Kind}
 use Rattle.wgsl_model.specs.Raw.{word_of}
 use Rattle.wgsl_model.specs.Words.{look_up}
-use Rattle.wgsl_model.specs.NamedValues.{WordTable, DiagnosticSeverity, severities, AccessMode, access_modes, AddressSpace, address_spaces, InterpolationType, interpolation_types, InterpolationSampling, interpolation_samplings, BuiltinValue, builtin_values}
-use Rattle.wgsl_model.specs.NamedValueTexts.{severity_text, access_mode_text, address_space_text, interpolation_type_text, interpolation_sampling_text, builtin_value_text}
+use Rattle.wgsl_model.specs.NamedValues.{WordTable, DiagnosticSeverity, severities, AccessMode, access_modes, AddressSpace, address_spaces, InterpolationType, interpolation_types, InterpolationSampling, interpolation_samplings, BuiltinValue, builtin_values, severity_text, access_mode_text, address_space_text, interpolation_type_text, interpolation_sampling_text, builtin_value_text}
 use Rattle.wgsl_model.specs.Expressions.{ExpressionNode, expression_node, Expression, type_or_identifier, type_expression, no_template, template}
 use Rattle.wgsl_model.specs.Checks.{bare_name, bare_name_in, bare_word}
 use Rattle.wgsl_canonical_theory.specs.CanonicalExpressions.{expression_tokens, expression_node_tokens}

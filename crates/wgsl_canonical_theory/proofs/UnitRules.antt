@@ -10,8 +10,7 @@ use Rattle.wgsl_model.specs.Classes.{SymBraceLeft, SymBraceRight, SymComma, SymE
 use Rattle.wgsl_model.specs.Kind.{Kind, plain}
 use Rattle.wgsl_model.specs.Raw.{word_of}
 use Rattle.wgsl_model.specs.Words.{look_up}
-use Rattle.wgsl_model.specs.NamedValues.{DiagnosticSeverity.error, severities}
-use Rattle.wgsl_model.specs.NamedValueTexts.{severity_text}
+use Rattle.wgsl_model.specs.NamedValues.{DiagnosticSeverity.error, severities, severity_text}
 use Rattle.wgsl_model.specs.Spanned.{Spanned}
 use Rattle.wgsl_model.specs.Statements.{DeclarationKind.const_kind, DeclarationKind.override_kind}
 use Rattle.wgsl_model.specs.Units as tree

@@ -9,8 +9,7 @@ use Rattle.grammar.proofs.Beginnings.{cond_yes, cond_no}
 use Rattle.wgsl_model.specs.Classes.{SymParenLeft, KwDiagnostic, Ident, ReservedWord}
 use Rattle.wgsl_model.specs.Words.{look_up}
 use Rattle.wgsl_model.specs.Faults.{span_of_token, reserved_word, diagnostic_severity}
-use Rattle.wgsl_model.specs.NamedValues.{DiagnosticSeverity, error, warning, info, off, severities}
-use Rattle.wgsl_model.specs.NamedValueTexts.{severity_text}
+use Rattle.wgsl_model.specs.NamedValues.{DiagnosticSeverity, error, warning, info, off, severities, severity_text}
 use Rattle.wgsl_model.specs.TokenValues.{text_of}
 use Rattle.wgsl_model.specs.Checks.{given_or, unreserved, fault_unless, severity_fault, severity_of}
 use Rattle.wgsl_model.specs.Symbols.{Symbol, Symbol.ident}

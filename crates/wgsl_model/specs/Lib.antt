@@ -30,7 +30,6 @@ pub mod TokenList
 pub mod Joining
 pub mod Indentation
 pub mod OperatorTexts
-pub mod NamedValueTexts
 pub mod PrintedExpressions
 pub mod PrintedAttributes
 pub mod PrintedDeclarations

@@ -1,7 +1,6 @@
 -- The printed texts of the declarations of values, and of the statements that hold no others.
 use Rattle.std.specs.Prelude.{ℕ, List, [], ◌++◌, Option, Some, None, codes}
-use Rattle.wgsl_model.specs.NamedValues.{AddressSpace, AccessMode}
-use Rattle.wgsl_model.specs.NamedValueTexts.{access_mode_text, address_space_text}
+use Rattle.wgsl_model.specs.NamedValues.{AddressSpace, AccessMode, access_mode_text, address_space_text}
 use Rattle.wgsl_model.specs.OperatorTexts.{assignment_operator_text}
 use Rattle.wgsl_model.specs.Expressions.{ExpressionNode, TypeExpression}
 use Rattle.wgsl_model.specs.Statements.{DeclarationKind, const_kind, override_kind, let_kind, var_kind, Declaration, AssignmentStatement, IncrementStatement, DecrementStatement, ReturnStatement, FunctionCallStatement, ConstAssert, BreakIfStatement, CaseSelector, default_selector, expression_selector}

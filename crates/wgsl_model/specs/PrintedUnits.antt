@@ -1,6 +1,6 @@
 -- The printed texts of modules, their directives and their declarations.
 use Rattle.std.specs.Prelude.{Bool, true, false, ℕ, List, [], ◌∷◌, ◌++◌, map, Option, Some, None, codes, if◌then◌else◌}
-use Rattle.wgsl_model.specs.NamedValueTexts.{severity_text}
+use Rattle.wgsl_model.specs.NamedValues.{severity_text}
 use Rattle.wgsl_model.specs.Spanned.{Spanned}
 use Rattle.wgsl_model.specs.Expressions.{TypeExpression}
 use Rattle.wgsl_model.specs.Attributes.{Attributes}

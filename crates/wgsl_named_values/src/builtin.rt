@@ -2,7 +2,7 @@
 
 ghost use Rattle.std.specs.Prelude.{◌≡◌, Some, MatchResult};
 ghost use Rattle.wgsl_model.specs.NamedValues as plain;
-ghost use Rattle.wgsl_model.specs.NamedValueTexts.{builtin_value_text};
+ghost use Rattle.wgsl_model.specs.NamedValues.{builtin_value_text};
 ghost use Rattle.wgsl_named_values.specs.View.{builtin_value_view};
 
 use std::fmt;

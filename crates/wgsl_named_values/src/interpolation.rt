@@ -2,7 +2,7 @@
 
 ghost use Rattle.std.specs.Prelude.{◌≡◌, Some, MatchResult};
 ghost use Rattle.wgsl_model.specs.NamedValues as plain;
-ghost use Rattle.wgsl_model.specs.NamedValueTexts.{interpolation_type_text, interpolation_sampling_text};
+ghost use Rattle.wgsl_model.specs.NamedValues.{interpolation_type_text, interpolation_sampling_text};
 ghost use Rattle.wgsl_named_values.specs.View.{interpolation_type_view, interpolation_sampling_view};
 
 use std::fmt;

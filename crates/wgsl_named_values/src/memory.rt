@@ -2,7 +2,7 @@
 
 ghost use Rattle.std.specs.Prelude.{◌≡◌, Some, MatchResult};
 ghost use Rattle.wgsl_model.specs.NamedValues as plain;
-ghost use Rattle.wgsl_model.specs.NamedValueTexts.{access_mode_text, address_space_text};
+ghost use Rattle.wgsl_model.specs.NamedValues.{access_mode_text, address_space_text};
 ghost use Rattle.wgsl_named_values.specs.View.{access_mode_view, address_space_view};
 
 use std::fmt;

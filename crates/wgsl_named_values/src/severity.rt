@@ -2,7 +2,7 @@
 
 ghost use Rattle.std.specs.Prelude.{◌≡◌, Some, MatchResult};
 ghost use Rattle.wgsl_model.specs.NamedValues as plain;
-ghost use Rattle.wgsl_model.specs.NamedValueTexts.{severity_text};
+ghost use Rattle.wgsl_model.specs.NamedValues.{severity_text};
 ghost use Rattle.wgsl_named_values.specs.View.{severity_view};
 
 use std::fmt;

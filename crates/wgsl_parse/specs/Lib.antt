@@ -37,7 +37,6 @@ pub use Rattle.wgsl_model.specs.TokenList
 pub use Rattle.wgsl_model.specs.Joining
 pub use Rattle.wgsl_model.specs.Indentation
 pub use Rattle.wgsl_model.specs.OperatorTexts
-pub use Rattle.wgsl_model.specs.NamedValueTexts
 pub use Rattle.wgsl_model.specs.PrintedExpressions
 pub use Rattle.wgsl_model.specs.PrintedAttributes
 pub use Rattle.wgsl_model.specs.PrintedDeclarations

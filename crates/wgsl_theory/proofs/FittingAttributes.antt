@@ -3,8 +3,7 @@ use Rattle.std.proofs.Common.{ℕ, ◌==◌, Bool, true, false, cond, refl, List
 use Rattle.std.specs.Prelude.{codes}
 use Rattle.wgsl_model.specs.Classes.{SymAttr, SymOr, SymParenLeft, SymParenRight, SymPeriod}
 use Rattle.wgsl_model.specs.Kind.{plain}
-use Rattle.wgsl_model.specs.NamedValueTexts.{severity_text, interpolation_type_text, interpolation_sampling_text, builtin_value_text}
-use Rattle.wgsl_model.specs.NamedValues.{InterpolationSampling}
+use Rattle.wgsl_model.specs.NamedValues.{InterpolationSampling, severity_text, interpolation_type_text, interpolation_sampling_text, builtin_value_text}
 use Rattle.wgsl_model.specs.Spanned.{Spanned}
 use Rattle.wgsl_model.specs.Expressions.{ExpressionNode, TypeExpression}
 use Rattle.wgsl_model.specs.Attributes.{Attribute, align, binding, blend_src, group, id, location, size, if_attribute, elif_attribute, builtin, const_attribute, invariant, must_use, vertex, fragment, compute, else_attribute, diagnostic, interpolate, workgroup_size, type_constraint, custom, Attributes}

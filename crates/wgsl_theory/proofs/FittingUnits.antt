@@ -3,7 +3,7 @@ use Rattle.std.proofs.Common.{ℕ, refl, List, [], ◌∷◌, Option, Some, None
 use Rattle.std.specs.Prelude.{codes}
 use Rattle.std.specs.Str.{IsUtf8, chars}
 use Rattle.wgsl_model.specs.Classes.{SymArrow, SymBraceRight, SymColon, SymParenRight, SymSemicolon}
-use Rattle.wgsl_model.specs.NamedValueTexts.{severity_text}
+use Rattle.wgsl_model.specs.NamedValues.{severity_text}
 use Rattle.wgsl_model.specs.Spanned.{Spanned}
 use Rattle.wgsl_model.specs.Expressions.{TypeExpression}
 use Rattle.wgsl_model.specs.Attributes.{Attributes}

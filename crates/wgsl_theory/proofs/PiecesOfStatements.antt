@@ -3,8 +3,7 @@ use Rattle.std.proofs.Common.{ℕ, suc, cond, List, ◌∷◌, Option, Some, Non
 use Rattle.std.specs.Prelude.{codes}
 use Rattle.wgsl_model.specs.Classes.{SymBraceLeft, SymBraceRight, SymColon, SymEqual, SymMinusMinus, SymParenLeft, SymParenRight, SymPlusPlus, SymSemicolon, KwBreak, KwCase, KwConst, KwConstAssert, KwContinue, KwContinuing, KwDefault, KwDiscard, KwElse, KwFor, KwIf, KwLet, KwLoop, KwOverride, KwReturn, KwSwitch, KwVar, KwWhile}
 use Rattle.wgsl_model.specs.OperatorTexts.{assignment_operator_text}
-use Rattle.wgsl_model.specs.NamedValues.{AddressSpace, AccessMode}
-use Rattle.wgsl_model.specs.NamedValueTexts.{address_space_text, access_mode_text}
+use Rattle.wgsl_model.specs.NamedValues.{AddressSpace, AccessMode, address_space_text, access_mode_text}
 use Rattle.wgsl_model.specs.Expressions.{ExpressionNode, TypeExpression}
 use Rattle.wgsl_model.specs.Statements.{DeclarationKind, const_kind, override_kind, let_kind, var_kind, Declaration, ConstAssert, BreakIfStatement, CaseSelector, default_selector, expression_selector, statement_node, Statement, void, compound, assignment, increment, decrement, if_statement, switch_statement, loop_statement, for_statement, while_statement, break_statement, continue_statement, discard_statement, return_statement, function_call_statement, const_assert, declaration, CompoundStatement, compound_statement, IfStatement, if_else, IfClause, if_clause, ElseIfClause, else_if_clause, ElseClause, else_clause, SwitchStatement, switch, SwitchClause, switch_clause, LoopStatement, repeat, ContinuingStatement, continuing, ForStatement, repeat_for, WhileStatement, repeat_while, StatementNodes, no_statements, statement_before, ElseIfClauses, no_else_ifs, else_if_before, MaybeElseClause, no_else, one_else, SwitchClauses, no_clauses, clause_before, MaybeContinuing, no_continuing, one_continuing, MaybeStatement, no_statement, one_statement}
 use Rattle.wgsl_model.specs.PrintedDeclarations.{print_access_mode, print_var_template, print_kind, print_typed, print_initializer, unended_declaration, unended_assert}

@@ -3,7 +3,7 @@ use Rattle.std.proofs.Common.{◌≡◌, ℕ, Bool, true, false, cond, List, [],
 use Rattle.std.specs.Prelude.{codes}
 use Rattle.std.specs.List.{flat_map}
 use Rattle.wgsl_model.specs.Classes.{SymArrow, SymBraceLeft, SymBraceRight, SymColon, SymComma, SymEqual, SymParenLeft, SymParenRight, SymSemicolon, KwAlias, KwDiagnostic, KwEnable, KwFn, KwRequires, KwStruct}
-use Rattle.wgsl_model.specs.NamedValueTexts.{severity_text}
+use Rattle.wgsl_model.specs.NamedValues.{severity_text}
 use Rattle.wgsl_model.specs.Spanned.{Spanned}
 use Rattle.wgsl_model.specs.Expressions.{TypeExpression}
 use Rattle.wgsl_model.specs.Attributes.{Attributes}

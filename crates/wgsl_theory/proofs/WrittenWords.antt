@@ -3,8 +3,7 @@ use Rattle.std.proofs.Common.{ℕ, refl, List}
 use Rattle.std.specs.Prelude.{codes}
 use Rattle.wgsl_model.specs.Classes.{KwAlias, KwBreak, KwCase, KwConst, KwConstAssert, KwContinue, KwContinuing, KwDefault, KwDiagnostic, KwDiscard, KwElse, KwEnable, KwFn, KwFor, KwIf, KwLet, KwLoop, KwOverride, KwRequires, KwReturn, KwStruct, KwSwitch, KwVar, KwWhile}
 use Rattle.wgsl_model.specs.Kind.{plain}
-use Rattle.wgsl_model.specs.NamedValues.{BuiltinValue, vertex_index, instance_index, clip_distances, position, front_facing, frag_depth, sample_index, sample_mask, local_invocation_id, local_invocation_index, global_invocation_id, workgroup_id, num_workgroups, subgroup_invocation_id, subgroup_size, DiagnosticSeverity, error, warning, info, off, AccessMode, read, write, read_write, AddressSpace, function, private, workgroup, uniform, storage, InterpolationType, perspective, linear, flat, InterpolationSampling, center, centroid, sample, first, either}
-use Rattle.wgsl_model.specs.NamedValueTexts.{builtin_value_text, severity_text, access_mode_text, address_space_text, interpolation_type_text, interpolation_sampling_text}
+use Rattle.wgsl_model.specs.NamedValues.{BuiltinValue, vertex_index, instance_index, clip_distances, position, front_facing, frag_depth, sample_index, sample_mask, local_invocation_id, local_invocation_index, global_invocation_id, workgroup_id, num_workgroups, subgroup_invocation_id, subgroup_size, DiagnosticSeverity, error, warning, info, off, AccessMode, read, write, read_write, AddressSpace, function, private, workgroup, uniform, storage, InterpolationType, perspective, linear, flat, InterpolationSampling, center, centroid, sample, first, either, builtin_value_text, severity_text, access_mode_text, address_space_text, interpolation_type_text, interpolation_sampling_text}
 use Rattle.wgsl_theory.proofs.Pieces.{FitsBefore}
 use Rattle.wgsl_theory.proofs.Ends.{EndsName, IsNameText}
 use Rattle.wgsl_theory.proofs.FittingWords.{name_fits, letters_name}
