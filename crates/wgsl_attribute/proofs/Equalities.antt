@@ -41,38 +41,19 @@ use Rattle.wgsl_attribute.specs.Equality.{equal_attributes, equal_diagnostics, e
 -- each named value's number is its place among the variants
 severity_tag : (s : DiagnosticSeverity) → tag_of severity_type s ≡ severity_number (severity_view s)
 severity_tag severity.Error = refl
-severity_tag severity.Warning = refl
-severity_tag severity.Info = refl
-severity_tag severity.Off = refl
+severity_tag _ = refl
 
 type_tag : (t : InterpolationType) → tag_of interpolation_type_type t ≡ interpolation_type_number (interpolation_type_view t)
 type_tag interpolation_type.Perspective = refl
-type_tag interpolation_type.Linear = refl
-type_tag interpolation_type.Flat = refl
+type_tag _ = refl
 
 sampling_tag : (s : InterpolationSampling) → tag_of interpolation_sampling_type s ≡ interpolation_sampling_number (interpolation_sampling_view s)
 sampling_tag interpolation_sampling.Center = refl
-sampling_tag interpolation_sampling.Centroid = refl
-sampling_tag interpolation_sampling.Sample = refl
-sampling_tag interpolation_sampling.First = refl
-sampling_tag interpolation_sampling.Either = refl
+sampling_tag _ = refl
 
 builtin_tag : (b : BuiltinValue) → tag_of builtin_value_type b ≡ builtin_value_number (builtin_value_view b)
 builtin_tag builtin_value.VertexIndex = refl
-builtin_tag builtin_value.InstanceIndex = refl
-builtin_tag builtin_value.ClipDistances = refl
-builtin_tag builtin_value.Position = refl
-builtin_tag builtin_value.FrontFacing = refl
-builtin_tag builtin_value.FragDepth = refl
-builtin_tag builtin_value.SampleIndex = refl
-builtin_tag builtin_value.SampleMask = refl
-builtin_tag builtin_value.LocalInvocationId = refl
-builtin_tag builtin_value.LocalInvocationIndex = refl
-builtin_tag builtin_value.GlobalInvocationId = refl
-builtin_tag builtin_value.WorkgroupId = refl
-builtin_tag builtin_value.NumWorkgroups = refl
-builtin_tag builtin_value.SubgroupInvocationId = refl
-builtin_tag builtin_value.SubgroupSize = refl
+builtin_tag _ = refl
 
 -- where items are compared by their codes, so are options and lists of them
 module _ {X Y : Type 0} (view : X → Y) (code : Y → Code) (equal : X → X → Bool) (alike : (x y : X) → equal x y ≡ same (code (view x)) (code (view y))) where

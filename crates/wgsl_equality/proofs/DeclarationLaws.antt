@@ -3,17 +3,17 @@ use Rattle.std.specs.Prelude.{ℕ, true, [], ◌∷◌, Option, Some, None, ◌�
 use Rattle.std.specs.Option.{option_map}
 use Rattle.std.proofs.Common.{refl, ap}
 use Rattle.wgsl_model.specs.Operators.{AssignmentOperator, equal, plus_equal, minus_equal, times_equal, division_equal, modulo_equal, and_equal, or_equal, xor_equal, shift_right_assign, shift_left_assign}
-use Rattle.wgsl_model.specs.NamedValues.{AddressSpace, function, private, workgroup, uniform, storage, AccessMode, read, write, read_write}
-use Rattle.wgsl_model.specs.Expressions.{call}
+use Rattle.wgsl_model.specs.NamedValues.{AddressSpace, AccessMode}
 use Rattle.wgsl_model.specs.Statements.{DeclarationKind, const_kind, override_kind, let_kind, var_kind, Declaration, AssignmentStatement, IncrementStatement, DecrementStatement, ReturnStatement, FunctionCallStatement, ConstAssert, BreakIfStatement, CaseSelector, default_selector, expression_selector}
 use Rattle.wgsl_model.specs.WithoutSpans.{bare_expression_node, bare_type}
 use Rattle.wgsl_model.specs.StatementsWithoutSpans.{bare_declaration, bare_assignment, bare_increment, bare_decrement, bare_return, bare_call_statement, bare_assert, bare_break_if, bare_selector}
 use Rattle.wgsl_equality.specs.Code.{Code, number, text, pair, same, option_code}
 use Rattle.wgsl_equality.specs.Laws.{same_is}
-use Rattle.wgsl_equality.specs.NamedValues.{address_space_number, access_mode_number}
+use Rattle.wgsl_equality.specs.NamedValues.{access_mode_number}
 use Rattle.wgsl_equality.specs.Expressions.{expression_node_code, type_code}
 use Rattle.wgsl_equality.specs.Declarations.{assignment_operator_number, var_template_code, declaration_kind_code, declaration_code, assignment_code, increment_code, decrement_code, return_code, call_statement_code, assert_code, break_if_code, selector_code}
 use Rattle.wgsl_equality.proofs.Parts.{value_at, number_of, text_of, option_of, option_decoded, option_coded}
+use Rattle.wgsl_equality.proofs.NamedValueLaws.{address_space_of, address_space_decoded, access_mode_of, access_mode_decoded}
 use Rattle.wgsl_equality.proofs.ExpressionLaws.{node_of, node_decoded, node_coded, call_of, call_decoded, call_coded, type_of, type_decoded, type_coded}
 use Rattle.wgsl_equality.proofs.AttributeLaws.{first_of, second_of, attributes_of, attributes_decoded, attributes_coded}
 
@@ -33,30 +33,15 @@ assignment_operator_decoded xor_equal = refl
 assignment_operator_decoded shift_right_assign = refl
 assignment_operator_decoded shift_left_assign = refl
 
-abbrev address_space_of : ℕ → AddressSpace
-address_space_of = value_at storage (function ∷ private ∷ workgroup ∷ uniform ∷ storage ∷ [])
+abbrev mode_of : Code → AccessMode
+mode_of c = access_mode_of (number_of c)
 
-address_space_decoded : (s : AddressSpace) → address_space_of (address_space_number s) ≡ s
-address_space_decoded function = refl
-address_space_decoded private = refl
-address_space_decoded workgroup = refl
-address_space_decoded uniform = refl
-address_space_decoded storage = refl
-
-abbrev access_mode_of : Code → AccessMode
-access_mode_of c = value_at read_write (read ∷ write ∷ read_write ∷ []) (number_of c)
-
-access_mode_decoded : (m : AccessMode) → access_mode_of (number (access_mode_number m)) ≡ m
-access_mode_decoded read = refl
-access_mode_decoded write = refl
-access_mode_decoded read_write = refl
-
-access_modes_decoded : (o : Option AccessMode) → option_of access_mode_of (option_code (λ mode. number (access_mode_number mode)) o) ≡ o
+access_modes_decoded : (o : Option AccessMode) → option_of mode_of (option_code (λ mode. number (access_mode_number mode)) o) ≡ o
 access_modes_decoded None = refl
 access_modes_decoded (Some mode) = ap Some (access_mode_decoded mode)
 
 abbrev var_template_of : Code → AddressSpace × Option AccessMode
-var_template_of c = (address_space_of (number_of (first_of c)), option_of access_mode_of (second_of c))
+var_template_of c = (address_space_of (number_of (first_of c)), option_of mode_of (second_of c))
 
 var_template_decoded : (p : AddressSpace × Option AccessMode) → var_template_of (var_template_code p) ≡ p
 var_template_decoded p = λ i. (address_space_decoded p.0 i, access_modes_decoded p.1 i)

@@ -37,15 +37,11 @@ use Rattle.wgsl_simple_statement.specs.Equality.{equal_kinds, equal_declarations
 -- each named value's number is its place among the variants
 mode_tag : (m : AccessMode) → tag_of access_mode_type m ≡ access_mode_number (access_mode_view m)
 mode_tag access_mode.Read = refl
-mode_tag access_mode.Write = refl
-mode_tag access_mode.ReadWrite = refl
+mode_tag _ = refl
 
 space_tag : (s : AddressSpace) → tag_of address_space_type s ≡ address_space_number (address_space_view s)
 space_tag address_space.Function = refl
-space_tag address_space.Private = refl
-space_tag address_space.Workgroup = refl
-space_tag address_space.Uniform = refl
-space_tag address_space.Storage = refl
+space_tag _ = refl
 
 operator_tag : (o : AssignmentOperator) → tag_of operator_type o ≡ assignment_operator_number (assignment_operator_view o)
 operator_tag operator.Equal = refl

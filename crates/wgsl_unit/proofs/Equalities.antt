@@ -40,9 +40,7 @@ use Rattle.wgsl_unit.specs.Equality.{equal_diagnostics, equal_enables, equal_req
 -- a severity's number is its place among the variants
 severity_tag : (s : DiagnosticSeverity) → tag_of severity_type s ≡ severity_number (severity_view s)
 severity_tag severity.Error = refl
-severity_tag severity.Warning = refl
-severity_tag severity.Info = refl
-severity_tag severity.Off = refl
+severity_tag _ = refl
 
 -- directives
 diagnostics_same : (a b : DiagnosticDirective) → equal_diagnostics a b ≡ same (diagnostic_directive_code (diagnostic_directive_view a)) (diagnostic_directive_code (diagnostic_directive_view b))
