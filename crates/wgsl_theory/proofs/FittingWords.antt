@@ -138,19 +138,27 @@ letters_ascii (c ∷ cs) h =
     let parts = and_parts (nat_lt c 128 && (is_ascii_alphanumeric c || c == 95)) (letters cs) h in
     ascii_cons c cs (ltb-true c 128 (and_parts (nat_lt c 128) _ parts.0).0) (letters_ascii cs parts.1)
 
--- letters that begin with one that may begin a name
-pub letters_name : (c : ℕ) (cs : List ℕ) → (nat_lt c 128 && is_ascii_alphabetic c) ≡ true → letters (c ∷ cs) ≡ true → IsNameText (c ∷ cs)
-letters_name c cs h k =
-    let parts = and_parts (nat_lt c 128) (is_ascii_alphabetic c) h in
-    let start : is_xid_start c ≡ true = is_xid_start-ascii c (ltb-true c 128 parts.0) ∙ parts.1 in
-    let ascii : IsAscii (c ∷ cs) = letters_ascii (c ∷ cs) k in
+-- a word with a letter first
+abbrev pub is_ascii_word : List ℕ → Bool
+is_ascii_word [] = false
+is_ascii_word (c ∷ cs) = is_ascii_alphabetic c && letters (c ∷ cs)
+
+-- such a word is a name
+pub word_name : (w : List ℕ) → is_ascii_word w ≡ true → IsNameText w
+word_name [] h = cc
+word_name (c ∷ cs) h =
+    let parts = and_parts (is_ascii_alphabetic c) (letters (c ∷ cs)) h in
+    let spelled = and_parts (nat_lt c 128 && (is_ascii_alphanumeric c || c == 95)) (letters cs) parts.1 in
+    let below = ltb-true c 128 (and_parts (nat_lt c 128) (is_ascii_alphanumeric c || c == 95) spelled.0).0 in
+    let start : is_xid_start c ≡ true = is_xid_start-ascii c below ∙ parts.0 in
+    let ascii : IsAscii (c ∷ cs) = letters_ascii (c ∷ cs) parts.1 in
     record {
       utf8 = IsUtf8-from_ascii (c ∷ cs) ascii;
       first = c;
       others = cs;
       characters = chars-IsAscii (c ∷ cs) ascii;
       begins = rw start refl;
-      spelled = letters_spelled c cs start (and_parts (nat_lt c 128 && (is_ascii_alphanumeric c || c == 95)) (letters cs) k).1;
+      spelled = letters_spelled c cs start spelled.1;
     }
 
 -- ---- symbols

@@ -14,7 +14,7 @@ use Rattle.wgsl_theory.proofs.Pieces.{IsOrdinary, Stands, FitsBefore}
 use Rattle.wgsl_theory.proofs.Spellings.{IsSpelling, EndsBefore, spelling_stands}
 use Rattle.wgsl_theory.proofs.Signs.{begins_number, one_of_three}
 use Rattle.wgsl_theory.proofs.Ends.{ends_name, EndsName, EndsNumber, IsNameText, number_no_name, number_no_symbol, number_ends_before}
-use Rattle.wgsl_theory.proofs.FittingWords.{spelled_on_one_line, name_fits, letters_name}
+use Rattle.wgsl_theory.proofs.FittingWords.{spelled_on_one_line, name_fits, word_name}
 use Rattle.wgsl_theory.proofs.PointBehind.{no_point_behind}
 
 -- ---- literals
@@ -68,8 +68,8 @@ EndsLiteral (abstract_int n) rest = EndsNumber rest
 EndsLiteral l rest = EndsAtPoint rest
 
 pub literal_fits : (l : LiteralExpression) (rest : List ℕ) → IsSoundLiteral l → EndsLiteral l rest → FitsBefore (print_literal l) (literal_token l) rest
-literal_fits (boolean true) rest s e = name_fits (codes "true") rest (letters_name 116 (codes "rue") refl refl) e
-literal_fits (boolean false) rest s e = name_fits (codes "false") rest (letters_name 102 (codes "alse") refl refl) e
+literal_fits (boolean true) rest s e = name_fits (codes "true") rest (word_name (codes "true") refl) e
+literal_fits (boolean false) rest s e = name_fits (codes "false") rest (word_name (codes "false") refl) e
 literal_fits (abstract_int n) rest s e = number_fits (literal_token (abstract_int n)) (print_literal (abstract_int n)) rest tt s e
 literal_fits (i32 n) rest s e = number_fits_at_point (literal_token (i32 n)) (print_literal (i32 n)) rest tt s refl e
 literal_fits (u32 n) rest s e = number_fits_at_point (literal_token (u32 n)) (print_literal (u32 n)) rest tt s refl e
