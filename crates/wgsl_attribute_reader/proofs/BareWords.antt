@@ -1,5 +1,5 @@
 -- The values that words name.
-use Rattle.std.proofs.Common.{◌≡◌, ℕ, Bool, true, false, List, [], ◌∷◌, Option, Some, None, option_map, Result, Ok, Err, MatchResult, refl, sym, ap, ◌∙◌}
+use Rattle.std.proofs.Common.{◌≡◌, ℕ, Bool, true, false, List, [], ◌∷◌, map, Option, Some, None, option_map, Result, Ok, Err, MatchResult, refl, sym, ap, ◌∙◌}
 use Rattle.std.specs.Result.{result_ok}
 use Rattle.std.specs.Option.{option_and_then}
 use Rattle.std.specs.Bool.{if◌then◌else◌}
@@ -35,30 +35,33 @@ absent text [] h word n = refl
 absent text (entry ∷ entries) h word n =
     passed (bytes_eq entry.0 word) entry.1 (look_up entries word) (λ e. n h.0.0 (sym ((bytes_eq-Decides entry.0 word).0 e) ∙ h.0.1)) (absent text entries h.1 word n)
 
--- each value of a table with its own text
-abbrev OwnTexts : {A : Type 0} → (A → List ℕ) → WordTable A → Type 0
-OwnTexts text [] = Unit {0}
-OwnTexts text (entry ∷ entries) = (entry.0 ≡ text entry.1) × OwnTexts text entries
+-- each word of a table is its own value's text
+abbrev pub OwnTexts : {A : Type 0} → (A → List ℕ) → WordTable A → Type 0
+OwnTexts {A} text words = map (λ (entry : List ℕ × A). entry.0) words ≡ map (λ (entry : List ℕ × A). text entry.1) words
 
 spelled : {A : Type 0} (text : A → List ℕ) (words : WordTable A) → OwnTexts text words → Spells text words
 spelled text [] h = tt
-spelled text (entry ∷ entries) h = ((entry.1, h.0), spelled text entries h.1)
+spelled text (entry ∷ entries) h = ((entry.1, cc), spelled text entries (cc))
+
+-- so a word that is none of the texts stands for no value
+pub unnamed : {A : Type 0} (text : A → List ℕ) (words : WordTable A) → OwnTexts text words → (word : List ℕ) → ((a : A) → word ≡ text a → ⊥) → look_up words word ≡ None
+unnamed text words own = absent text words (spelled text words own)
 
 -- the value that a bare name stands for is the one that is found
 named : {A B E : Type 0} (text : B → List ℕ) (words : WordTable B) (view : A → B) → OwnTexts text words → ((b : B) → look_up words (text b) ≡ Some b)
     → (e : ExpressionNode) (ident : Ident) → option_map ident_name (Some ident) ≡ bare_name e
     → (found : Result A E) → MatchResult found (λ a. ident_name ident ≡ text (view a)) (λ _. (b : B) → ident_name ident ≡ text b → ⊥) → option_map view (result_ok found) ≡ bare_word words e
 named text words view own all e ident bare (Ok a) h = sym (ap (λ (name : Option (List ℕ)). option_and_then (λ n. look_up words n) name) (sym bare) ∙ ap (look_up words) h ∙ all (view a))
-named text words view own all e ident bare (Err x) h = sym (ap (λ (name : Option (List ℕ)). option_and_then (λ n. look_up words n) name) (sym bare) ∙ absent text words (spelled text words own) (ident_name ident) h)
+named text words view own all e ident bare (Err x) h = sym (ap (λ (name : Option (List ℕ)). option_and_then (λ n. look_up words n) name) (sym bare) ∙ unnamed text words own (ident_name ident) h)
 
-severity_found : (value : plain.DiagnosticSeverity) → look_up severities (severity_text value) ≡ Some value
+pub severity_found : (value : plain.DiagnosticSeverity) → look_up severities (severity_text value) ≡ Some value
 severity_found error = refl
 severity_found _ = refl
 
 pub severity_named : {E : Type 0} (e : ExpressionNode) (ident : Ident) → option_map ident_name (Some ident) ≡ bare_name e → (found : Result DiagnosticSeverity E)
     → MatchResult found (λ value. ident_name ident ≡ severity_text (severity_view value)) (λ _. (value : plain.DiagnosticSeverity) → ident_name ident ≡ severity_text value → ⊥)
     → option_map severity_view (result_ok found) ≡ bare_word severities e
-severity_named e ident bare found h = named severity_text severities severity_view (refl, (refl, (refl, (refl, tt)))) severity_found e ident bare found h
+severity_named e ident bare found h = named severity_text severities severity_view refl severity_found e ident bare found h
 
 access_mode_found : (value : plain.AccessMode) → look_up access_modes (access_mode_text value) ≡ Some value
 access_mode_found read = refl
@@ -67,7 +70,7 @@ access_mode_found _ = refl
 pub access_mode_named : {E : Type 0} (e : ExpressionNode) (ident : Ident) → option_map ident_name (Some ident) ≡ bare_name e → (found : Result AccessMode E)
     → MatchResult found (λ value. ident_name ident ≡ access_mode_text (access_mode_view value)) (λ _. (value : plain.AccessMode) → ident_name ident ≡ access_mode_text value → ⊥)
     → option_map access_mode_view (result_ok found) ≡ bare_word access_modes e
-access_mode_named e ident bare found h = named access_mode_text access_modes access_mode_view (refl, (refl, (refl, tt))) access_mode_found e ident bare found h
+access_mode_named e ident bare found h = named access_mode_text access_modes access_mode_view refl access_mode_found e ident bare found h
 
 address_space_found : (value : plain.AddressSpace) → look_up address_spaces (address_space_text value) ≡ Some value
 address_space_found function = refl
@@ -76,7 +79,7 @@ address_space_found _ = refl
 pub address_space_named : {E : Type 0} (e : ExpressionNode) (ident : Ident) → option_map ident_name (Some ident) ≡ bare_name e → (found : Result AddressSpace E)
     → MatchResult found (λ value. ident_name ident ≡ address_space_text (address_space_view value)) (λ _. (value : plain.AddressSpace) → ident_name ident ≡ address_space_text value → ⊥)
     → option_map address_space_view (result_ok found) ≡ bare_word address_spaces e
-address_space_named e ident bare found h = named address_space_text address_spaces address_space_view (refl, (refl, (refl, (refl, (refl, tt))))) address_space_found e ident bare found h
+address_space_named e ident bare found h = named address_space_text address_spaces address_space_view refl address_space_found e ident bare found h
 
 interpolation_type_found : (value : plain.InterpolationType) → look_up interpolation_types (interpolation_type_text value) ≡ Some value
 interpolation_type_found perspective = refl
@@ -85,7 +88,7 @@ interpolation_type_found _ = refl
 pub interpolation_type_named : {E : Type 0} (e : ExpressionNode) (ident : Ident) → option_map ident_name (Some ident) ≡ bare_name e → (found : Result InterpolationType E)
     → MatchResult found (λ value. ident_name ident ≡ interpolation_type_text (interpolation_type_view value)) (λ _. (value : plain.InterpolationType) → ident_name ident ≡ interpolation_type_text value → ⊥)
     → option_map interpolation_type_view (result_ok found) ≡ bare_word interpolation_types e
-interpolation_type_named e ident bare found h = named interpolation_type_text interpolation_types interpolation_type_view (refl, (refl, (refl, tt))) interpolation_type_found e ident bare found h
+interpolation_type_named e ident bare found h = named interpolation_type_text interpolation_types interpolation_type_view refl interpolation_type_found e ident bare found h
 
 interpolation_sampling_found : (value : plain.InterpolationSampling) → look_up interpolation_samplings (interpolation_sampling_text value) ≡ Some value
 interpolation_sampling_found center = refl
@@ -94,7 +97,7 @@ interpolation_sampling_found _ = refl
 pub interpolation_sampling_named : {E : Type 0} (e : ExpressionNode) (ident : Ident) → option_map ident_name (Some ident) ≡ bare_name e → (found : Result InterpolationSampling E)
     → MatchResult found (λ value. ident_name ident ≡ interpolation_sampling_text (interpolation_sampling_view value)) (λ _. (value : plain.InterpolationSampling) → ident_name ident ≡ interpolation_sampling_text value → ⊥)
     → option_map interpolation_sampling_view (result_ok found) ≡ bare_word interpolation_samplings e
-interpolation_sampling_named e ident bare found h = named interpolation_sampling_text interpolation_samplings interpolation_sampling_view (refl, (refl, (refl, (refl, (refl, tt))))) interpolation_sampling_found e ident bare found h
+interpolation_sampling_named e ident bare found h = named interpolation_sampling_text interpolation_samplings interpolation_sampling_view refl interpolation_sampling_found e ident bare found h
 
 builtin_value_found : (value : plain.BuiltinValue) → look_up builtin_values (builtin_value_text value) ≡ Some value
 builtin_value_found vertex_index = refl
@@ -103,4 +106,4 @@ builtin_value_found _ = refl
 pub builtin_value_named : {E : Type 0} (e : ExpressionNode) (ident : Ident) → option_map ident_name (Some ident) ≡ bare_name e → (found : Result BuiltinValue E)
     → MatchResult found (λ value. ident_name ident ≡ builtin_value_text (builtin_value_view value)) (λ _. (value : plain.BuiltinValue) → ident_name ident ≡ builtin_value_text value → ⊥)
     → option_map builtin_value_view (result_ok found) ≡ bare_word builtin_values e
-builtin_value_named e ident bare found h = named builtin_value_text builtin_values builtin_value_view (refl, (refl, (refl, (refl, (refl, (refl, (refl, (refl, (refl, (refl, (refl, (refl, (refl, (refl, (refl, tt))))))))))))))) builtin_value_found e ident bare found h
+builtin_value_named e ident bare found h = named builtin_value_text builtin_values builtin_value_view refl builtin_value_found e ident bare found h

@@ -1,7 +1,6 @@
 -- What is read of `diagnostic (` and a name, by what the name says.
 use Rattle.std.proofs.Common.{◌≡◌, ℕ, true, false, cond, eqb, List, [], ◌∷◌, inl, inr, refl, sym, ap, ap₂, subst, ◌∙◌}
-use Rattle.std.specs.Prelude.{Option, Some, None, codes, bytes_eq}
-use Rattle.std.proofs.lemmas.Slice.Eq.{bytes_eq-Decides}
+use Rattle.std.specs.Prelude.{Option, Some, None}
 use Rattle.grammar.specs.Tokens.{Token, Span, Fault}
 use Rattle.grammar.specs.States.{State, Read, Read.done, Read.stop, Stop.faulty, ◌>>=◌, is_first, is_at, is_any, head_of, behind, first_start, first_of, after, start_of, span_from, take, refused, judged}
 use Rattle.grammar.proofs.Sets.{cases}
@@ -9,38 +8,25 @@ use Rattle.grammar.proofs.Beginnings.{cond_yes, cond_no}
 use Rattle.wgsl_model.specs.Classes.{SymParenLeft, KwDiagnostic, Ident, ReservedWord}
 use Rattle.wgsl_model.specs.Words.{look_up}
 use Rattle.wgsl_model.specs.Faults.{span_of_token, reserved_word, diagnostic_severity}
-use Rattle.wgsl_model.specs.NamedValues.{DiagnosticSeverity, error, warning, info, off, severities, severity_text}
+use Rattle.wgsl_model.specs.NamedValues.{DiagnosticSeverity, error, severities, severity_text}
 use Rattle.wgsl_model.specs.TokenValues.{text_of}
 use Rattle.wgsl_model.specs.Checks.{given_or, unreserved, fault_unless, severity_fault, severity_of}
 use Rattle.wgsl_model.specs.Symbols.{Symbol, Symbol.ident}
 use Rattle.wgsl_grammar_theory.specs.Factored.{FactoredSymbol.of}
 use Rattle.wgsl_grammar_theory.specs.Reader.{reader}
 use Rattle.wgsl_grammar_theory.proofs.Reader.{step}
+use Rattle.wgsl_attribute_reader.proofs.BareWords.{unnamed, severity_found}
 use Rattle.wgsl_declaration_reader.specs.Names.{third_of}
 use Rattle.wgsl_declaration_reader.proofs.ClosedLists.{past_token}
 
 -- ---- the words of severities
 -- a severity's text names it
 known : (severity : DiagnosticSeverity) (text : List ℕ) → text ≡ severity_text severity → look_up severities text ≡ Some severity
-known error text e = ap (look_up severities) e
-known warning text e = ap (look_up severities) e
-known info text e = ap (look_up severities) e
-known off text e = ap (look_up severities) e
-
--- what is not the first word is looked for behind it
-other : (word text : List ℕ) (severity : DiagnosticSeverity) (words : List (List ℕ × DiagnosticSeverity)) → ¬ (text ≡ word) → look_up ((word, severity) ∷ words) text ≡ look_up words text
-other word text severity words n = elim (cases (bytes_eq word text)) [
-  | inl y ↦ absurd (n (sym ((bytes_eq-Decides word text).0 y)))
-  | inr y ↦ cond_no (bytes_eq word text) _ _ y
-]
+known severity text e = ap (look_up severities) e ∙ severity_found severity
 
 -- a text of no severity names none
 unknown : (text : List ℕ) → ((severity : DiagnosticSeverity) → ¬ (text ≡ severity_text severity)) → look_up severities text ≡ None
-unknown text n =
-    other (codes "error") text error ((codes "warning", warning) ∷ (codes "info", info) ∷ (codes "off", off) ∷ []) (n error)
-    ∙ other (codes "warning") text warning ((codes "info", info) ∷ (codes "off", off) ∷ []) (n warning)
-    ∙ other (codes "info") text info ((codes "off", off) ∷ []) (n info)
-    ∙ other (codes "off") text off [] (n off)
+unknown = unnamed severity_text severities refl
 
 -- ---- tokens that were taken
 refused_not_done : {A : Type 0} (ts : List Token) (f : Token → State → Read A) (a : A) (s : State) → ¬ ((refused ts >>= f) ≡ done a s)
