@@ -1,3 +1,3 @@
 pub mod Keeps
 pub mod Lending
-pub mod Attributed
+pub mod Parts

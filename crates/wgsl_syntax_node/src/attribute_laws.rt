@@ -12,15 +12,20 @@ ghost use Rattle.wgsl_statement.specs.declared.statement.LoopStatement.{LoopStat
 ghost use Rattle.wgsl_statement.specs.declared.statement.ForStatement.{ForStatement};
 ghost use Rattle.wgsl_statement.specs.declared.statement.WhileStatement.{WhileStatement};
 ghost use Rattle.wgsl_statement.specs.View.{compound_statement_view, if_statement_view, switch_statement_view, loop_statement_view, for_statement_view, while_statement_view};
-ghost use Rattle.wgsl_syntax_node.specs.Attributed.{compound_attributes, if_attributes, switch_attributes, loop_attributes, for_attributes, while_attributes};
+
+use crate::syntax_node::SyntaxNode;
+use wgsl_simple_statement::Declaration;
+use wgsl_statement::{
+    CompoundStatement, ForStatement, IfStatement, LoopStatement, SwitchStatement, WhileStatement,
+};
 
 /// The attributes that each statement answers are those of its plain tree.
 pub fn statement_attributes()
-    ensures declaration { (d : Declaration) → (declaration_view d).attributes ≡ attributes_view d.attributes.items }
-    ensures compound_statement { (s : CompoundStatement) → plain.compound_attributes (compound_statement_view s) ≡ attributes_view (compound_attributes s) }
-    ensures if_statement { (s : IfStatement) → plain.if_attributes (if_statement_view s) ≡ attributes_view (if_attributes s) }
-    ensures switch_statement { (s : SwitchStatement) → plain.switch_attributes (switch_statement_view s) ≡ attributes_view (switch_attributes s) }
-    ensures loop_statement { (s : LoopStatement) → plain.loop_attributes (loop_statement_view s) ≡ attributes_view (loop_attributes s) }
-    ensures for_statement { (s : ForStatement) → plain.for_attributes (for_statement_view s) ≡ attributes_view (for_attributes s) }
-    ensures while_statement { (s : WhileStatement) → plain.while_attributes (while_statement_view s) ≡ attributes_view (while_attributes s) }
+    ensures declaration { (d : Declaration) → (declaration_view d).attributes ≡ attributes_view (⟦<Declaration as SyntaxNode>⟧.attributes_of d) }
+    ensures compound_statement { (s : CompoundStatement) → plain.compound_attributes (compound_statement_view s) ≡ attributes_view (⟦<CompoundStatement as SyntaxNode>⟧.attributes_of s) }
+    ensures if_statement { (s : IfStatement) → plain.if_attributes (if_statement_view s) ≡ attributes_view (⟦<IfStatement as SyntaxNode>⟧.attributes_of s) }
+    ensures switch_statement { (s : SwitchStatement) → plain.switch_attributes (switch_statement_view s) ≡ attributes_view (⟦<SwitchStatement as SyntaxNode>⟧.attributes_of s) }
+    ensures loop_statement { (s : LoopStatement) → plain.loop_attributes (loop_statement_view s) ≡ attributes_view (⟦<LoopStatement as SyntaxNode>⟧.attributes_of s) }
+    ensures for_statement { (s : ForStatement) → plain.for_attributes (for_statement_view s) ≡ attributes_view (⟦<ForStatement as SyntaxNode>⟧.attributes_of s) }
+    ensures while_statement { (s : WhileStatement) → plain.while_attributes (while_statement_view s) ≡ attributes_view (⟦<WhileStatement as SyntaxNode>⟧.attributes_of s) }
 {}

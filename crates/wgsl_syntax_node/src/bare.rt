@@ -1,6 +1,6 @@
 //! The expressions, the statements and the clauses of statements that have no span, name or attributes of their own.
 
-use crate::syntax_node::BareNode;
+use crate::node_parts::BareNode;
 use wgsl_expression::{
     BinaryExpression, Expression, FunctionCall, IndexingExpression, LiteralExpression,
     NamedComponentExpression, ParenthesizedExpression, TypeExpression, UnaryExpression,

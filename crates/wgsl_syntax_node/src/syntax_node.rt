@@ -1,6 +1,6 @@
 //! The trait of the nodes of a tree.
 
-ghost use Rattle.std.specs.Prelude.{◌≡◌, IfOk, List, [], ℕ, Option, Some, None};
+ghost use Rattle.std.specs.Prelude.{◌≡◌, IfOk, List, ℕ, Option, Some};
 ghost use Rattle.std.specs.List.{list_any};
 ghost use Rattle.std.specs.Option.{option_map};
 ghost use Rattle.std.specs.Fn.{CalledAtMut};
@@ -16,7 +16,6 @@ ghost use Rattle.wgsl_syntax_node.specs.Lending.{LendsAttributes, ChangesAttribu
 ghost use Rattle.wgsl_span.specs.Lending.{with_node};
 ghost use Rattle.std.specs.Borrow.{sem};
 
-use crate::attribute_list::no_attributes;
 use std::alloc::{AllocError, Global};
 use wgsl_attribute::{Attribute, AttributeNode};
 use wgsl_expression::Ident;
@@ -99,41 +98,4 @@ impl<T: SyntaxNode> SyntaxNode for Spanned<T> {
     fn retain_attributes_mut<F: FnMut(&mut Attribute) -> bool>(&mut self, f: F) {
         self.node_mut().retain_attributes_mut(f);
     }
-}
-
-/// A node that has no span, name or attributes of its own.
-pub trait BareNode {}
-
-impl<T: BareNode> SyntaxNode for T {
-    ghost span_of = { λ _. None };
-
-    ghost name_of = { λ _. None };
-
-    ghost attributes_of = { λ _. [] };
-
-    ghost with_attributes = { λ node _. node };
-
-    ghost same_else = { λ before after. after ≡ before };
-
-    fn span(&self) -> Option<Span> {
-        None
-    }
-
-    fn ident(&self, _alloc: Global) -> Result<Option<Ident>, AllocError> {
-        Ok(None)
-    }
-
-    fn attributes(&self) -> &[AttributeNode] {
-        &[]
-    }
-
-    fn attributes_mut(&mut self) -> &mut [AttributeNode] {
-        no_attributes(self)
-    }
-
-    fn contains_attribute(&self, _attribute: &Attribute) -> bool {
-        false
-    }
-
-    fn retain_attributes_mut<F: FnMut(&mut Attribute) -> bool>(&mut self, _f: F) {}
 }
