@@ -1,229 +1,112 @@
-//! What the declarations of a module and their parts can do as nodes.
+//! The names and the lists of attributes of the declarations of a module and of their parts.
 
-ghost use Rattle.std.specs.Prelude.{◌≡◌, Some, None, []};
-ghost use Rattle.std.specs.Vec.{with_items};
+ghost use Rattle.std.specs.Prelude.{Some};
 ghost use Rattle.wgsl_expression.specs.View.{ident_name};
 ghost use Rattle.wgsl_unit.specs.Named.{declared_name};
 
 use crate::unit::{FormalParameter, Function, GlobalDeclaration, Struct, StructMember, TypeAlias};
-use std::alloc::{AllocError, Global};
-use wgsl_attribute::{Attribute, AttributeNode};
+use wgsl_attribute::Attributes;
 use wgsl_expression::Ident;
-use wgsl_span::Span;
-use wgsl_syntax_node::{SyntaxNode, has_attribute, no_attributes, retain_nodes};
+use wgsl_syntax_node::{NodeAttributes, NodeName, UnattributedNode};
 
-impl SyntaxNode for GlobalDeclaration {
-    ghost span_of = { λ _. None };
+impl NodeName for GlobalDeclaration {
+    ghost own_name = { declared_name };
 
-    ghost name_of = { declared_name };
-
-    ghost attributes_of = { λ _. [] };
-
-    ghost with_attributes = { λ node _. node };
-
-    ghost same_else = { λ before after. after ≡ before };
-
-    fn span(&self) -> Option<Span> {
-        None
-    }
-
-    fn ident(&self, alloc: Global) -> Result<Option<Ident>, AllocError> {
+    fn own_ident(&self) -> Option<&Ident> {
         match self {
-            GlobalDeclaration::Void | GlobalDeclaration::ConstAssert(_) => Ok(None),
-            GlobalDeclaration::Declaration(node) => node.ident(alloc),
-            GlobalDeclaration::TypeAlias(node) => node.ident(alloc),
-            GlobalDeclaration::Struct(node) => node.ident(alloc),
-            GlobalDeclaration::Function(node) => node.ident(alloc),
+            GlobalDeclaration::Void | GlobalDeclaration::ConstAssert(_) => None,
+            GlobalDeclaration::Declaration(node) => Some(&node.ident),
+            GlobalDeclaration::TypeAlias(node) => Some(&node.ident),
+            GlobalDeclaration::Struct(node) => Some(&node.ident),
+            GlobalDeclaration::Function(node) => Some(&node.ident),
         }
     }
-
-    fn attributes(&self) -> &[AttributeNode] {
-        &[]
-    }
-
-    fn attributes_mut(&mut self) -> &mut [AttributeNode] {
-        no_attributes(self)
-    }
-
-    fn contains_attribute(&self, _attribute: &Attribute) -> bool {
-        false
-    }
-
-    fn retain_attributes_mut<F: FnMut(&mut Attribute) -> bool>(&mut self, _f: F) {}
 }
 
-impl SyntaxNode for TypeAlias {
-    ghost span_of = { λ _. None };
+impl UnattributedNode for GlobalDeclaration {}
 
-    ghost name_of = { λ node. Some (ident_name node.ident) };
+impl NodeName for TypeAlias {
+    ghost own_name = { λ node. Some (ident_name node.ident) };
 
-    ghost attributes_of = { λ _. [] };
-
-    ghost with_attributes = { λ node _. node };
-
-    ghost same_else = { λ before after. after ≡ before };
-
-    fn span(&self) -> Option<Span> {
-        None
-    }
-
-    fn ident(&self, alloc: Global) -> Result<Option<Ident>, AllocError> {
-        Ok(Some(self.ident.clone(alloc)?))
-    }
-
-    fn attributes(&self) -> &[AttributeNode] {
-        &[]
-    }
-
-    fn attributes_mut(&mut self) -> &mut [AttributeNode] {
-        no_attributes(self)
-    }
-
-    fn contains_attribute(&self, _attribute: &Attribute) -> bool {
-        false
-    }
-
-    fn retain_attributes_mut<F: FnMut(&mut Attribute) -> bool>(&mut self, _f: F) {}
-}
-
-impl SyntaxNode for Struct {
-    ghost span_of = { λ _. None };
-
-    ghost name_of = { λ node. Some (ident_name node.ident) };
-
-    ghost attributes_of = { λ _. [] };
-
-    ghost with_attributes = { λ node _. node };
-
-    ghost same_else = { λ before after. after ≡ before };
-
-    fn span(&self) -> Option<Span> {
-        None
-    }
-
-    fn ident(&self, alloc: Global) -> Result<Option<Ident>, AllocError> {
-        Ok(Some(self.ident.clone(alloc)?))
-    }
-
-    fn attributes(&self) -> &[AttributeNode] {
-        &[]
-    }
-
-    fn attributes_mut(&mut self) -> &mut [AttributeNode] {
-        no_attributes(self)
-    }
-
-    fn contains_attribute(&self, _attribute: &Attribute) -> bool {
-        false
-    }
-
-    fn retain_attributes_mut<F: FnMut(&mut Attribute) -> bool>(&mut self, _f: F) {}
-}
-
-impl SyntaxNode for StructMember {
-    ghost span_of = { λ _. None };
-
-    ghost name_of = { λ node. Some (ident_name node.ident) };
-
-    ghost attributes_of = { λ node. node.attributes.items };
-
-    ghost with_attributes = { λ node attributes. record node { attributes = with_items node.attributes attributes } };
-
-    ghost same_else = { λ before after. after ≡ record before { attributes = after.attributes } };
-
-    fn span(&self) -> Option<Span> {
-        None
-    }
-
-    fn ident(&self, alloc: Global) -> Result<Option<Ident>, AllocError> {
-        Ok(Some(self.ident.clone(alloc)?))
-    }
-
-    fn attributes(&self) -> &[AttributeNode] {
-        self.attributes.as_slice()
-    }
-
-    fn attributes_mut(&mut self) -> &mut [AttributeNode] {
-        self.attributes.as_mut_slice()
-    }
-
-    fn contains_attribute(&self, attribute: &Attribute) -> bool {
-        has_attribute(&self.attributes, attribute)
-    }
-
-    fn retain_attributes_mut<F: FnMut(&mut Attribute) -> bool>(&mut self, f: F) {
-        retain_nodes(&mut self.attributes, f);
+    fn own_ident(&self) -> Option<&Ident> {
+        Some(&self.ident)
     }
 }
 
-impl SyntaxNode for FormalParameter {
-    ghost span_of = { λ _. None };
+impl UnattributedNode for TypeAlias {}
 
-    ghost name_of = { λ node. Some (ident_name node.ident) };
+impl NodeName for Struct {
+    ghost own_name = { λ node. Some (ident_name node.ident) };
 
-    ghost attributes_of = { λ node. node.attributes.items };
-
-    ghost with_attributes = { λ node attributes. record node { attributes = with_items node.attributes attributes } };
-
-    ghost same_else = { λ before after. after ≡ record before { attributes = after.attributes } };
-
-    fn span(&self) -> Option<Span> {
-        None
-    }
-
-    fn ident(&self, alloc: Global) -> Result<Option<Ident>, AllocError> {
-        Ok(Some(self.ident.clone(alloc)?))
-    }
-
-    fn attributes(&self) -> &[AttributeNode] {
-        self.attributes.as_slice()
-    }
-
-    fn attributes_mut(&mut self) -> &mut [AttributeNode] {
-        self.attributes.as_mut_slice()
-    }
-
-    fn contains_attribute(&self, attribute: &Attribute) -> bool {
-        has_attribute(&self.attributes, attribute)
-    }
-
-    fn retain_attributes_mut<F: FnMut(&mut Attribute) -> bool>(&mut self, f: F) {
-        retain_nodes(&mut self.attributes, f);
+    fn own_ident(&self) -> Option<&Ident> {
+        Some(&self.ident)
     }
 }
 
-impl SyntaxNode for Function {
-    ghost span_of = { λ _. None };
+impl UnattributedNode for Struct {}
 
-    ghost name_of = { λ node. Some (ident_name node.ident) };
+impl NodeName for StructMember {
+    ghost own_name = { λ node. Some (ident_name node.ident) };
 
-    ghost attributes_of = { λ node. node.attributes.items };
+    fn own_ident(&self) -> Option<&Ident> {
+        Some(&self.ident)
+    }
+}
 
-    ghost with_attributes = { λ node attributes. record node { attributes = with_items node.attributes attributes } };
+impl NodeAttributes for StructMember {
+    ghost list_of = { λ node. Some node.attributes };
 
-    ghost same_else = { λ before after. after ≡ record before { attributes = after.attributes } };
+    ghost with_list = { λ node list. record node { attributes = list } };
 
-    fn span(&self) -> Option<Span> {
-        None
+    fn own_attributes(&self) -> Option<&Attributes> {
+        Some(&self.attributes)
     }
 
-    fn ident(&self, alloc: Global) -> Result<Option<Ident>, AllocError> {
-        Ok(Some(self.ident.clone(alloc)?))
+    fn own_attributes_mut(&mut self) -> Option<&mut Attributes> {
+        Some(&mut self.attributes)
+    }
+}
+
+impl NodeName for FormalParameter {
+    ghost own_name = { λ node. Some (ident_name node.ident) };
+
+    fn own_ident(&self) -> Option<&Ident> {
+        Some(&self.ident)
+    }
+}
+
+impl NodeAttributes for FormalParameter {
+    ghost list_of = { λ node. Some node.attributes };
+
+    ghost with_list = { λ node list. record node { attributes = list } };
+
+    fn own_attributes(&self) -> Option<&Attributes> {
+        Some(&self.attributes)
     }
 
-    fn attributes(&self) -> &[AttributeNode] {
-        self.attributes.as_slice()
+    fn own_attributes_mut(&mut self) -> Option<&mut Attributes> {
+        Some(&mut self.attributes)
+    }
+}
+
+impl NodeName for Function {
+    ghost own_name = { λ node. Some (ident_name node.ident) };
+
+    fn own_ident(&self) -> Option<&Ident> {
+        Some(&self.ident)
+    }
+}
+
+impl NodeAttributes for Function {
+    ghost list_of = { λ node. Some node.attributes };
+
+    ghost with_list = { λ node list. record node { attributes = list } };
+
+    fn own_attributes(&self) -> Option<&Attributes> {
+        Some(&self.attributes)
     }
 
-    fn attributes_mut(&mut self) -> &mut [AttributeNode] {
-        self.attributes.as_mut_slice()
-    }
-
-    fn contains_attribute(&self, attribute: &Attribute) -> bool {
-        has_attribute(&self.attributes, attribute)
-    }
-
-    fn retain_attributes_mut<F: FnMut(&mut Attribute) -> bool>(&mut self, f: F) {
-        retain_nodes(&mut self.attributes, f);
+    fn own_attributes_mut(&mut self) -> Option<&mut Attributes> {
+        Some(&mut self.attributes)
     }
 }
