@@ -92,7 +92,7 @@ pub use Rattle.wgsl_lexer.specs.InOrder
 pub use Rattle.wgsl_templates.specs.Lists as TemplateLists
 pub use Rattle.wgsl_templates.specs.Spans as FoundSpans
 -- nodes and their attributes
-pub use Rattle.wgsl_syntax_node.specs.Attributed
+pub use Rattle.wgsl_syntax_node.specs.Parts as NodeParts
 pub use Rattle.wgsl_syntax_node.specs.Keeps
 pub use Rattle.wgsl_syntax_node.specs.Lending as AttributeLending
 pub use Rattle.wgsl_unit.specs.Named as DeclaredNames
