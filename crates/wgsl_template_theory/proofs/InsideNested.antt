@@ -7,12 +7,12 @@ use Rattle.wgsl_model.specs.Classes.{SymLessThan, TemplateArgsStart, TemplateArg
 use Rattle.wgsl_model.specs.Kind.{Kind}
 use Rattle.wgsl_model.specs.Raw.{token, raw}
 use Rattle.wgsl_model.specs.Templates.{TemplateRelation, Inside, at_greater, at_opening, at_closing, at_template, at_other, Enclosed, enclosed, TemplateUpTo, Template}
-use Rattle.wgsl_template_theory.proofs.Reach.{Role, Role.name, Role.keyword, Role.greater, Role.greater_stop, Role.opening, Role.closing, Role.short_circuit, Role.stop, Role.other, Role.template_start, Role.template_end, role, Place, inside, reach}
+use Rattle.wgsl_template_theory.proofs.Reach.{Role, Role.template_end, role, Place, inside, reach}
 use Rattle.wgsl_template_theory.proofs.Moves.{kinds, class_is}
 use Rattle.wgsl_template_theory.proofs.Behind.{NoListAt}
 use Rattle.wgsl_template_theory.proofs.Clear.{AllClear, done, other_token, template}
 use Rattle.wgsl_template_theory.proofs.RawClasses.{raw_unmarked}
-use Rattle.wgsl_template_theory.proofs.Nested.{nested_role, Nested, within, nested_behind, unmarked_nested, clear_nested}
+use Rattle.wgsl_template_theory.proofs.Nested.{nested_role, Nested, within, both_levels, nested_behind, same_head, same_tail, unmarked_nested, clear_nested}
 
 -- ---- what stands inside a template list
 -- the template lists of a relation are ended, and so are those within them
@@ -42,43 +42,16 @@ all_nested total depth text ts end h = inside_nested total (Template total) (λ 
 
 -- ---- so many template lists deep
 -- tokens that end each list are so from one number of lists alone
-same_role : (r : Role) (j i : ℕ) (F G : ℕ → Type 0) → ((a b : ℕ) → F a → G b → a ≡ b) → nested_role r j F → nested_role r i G → j ≡ i
-same_role template_start j i F G f h g = let e = f (suc j) (suc i) h g in cc
-same_role template_end zero i F G f h g = absurd h
-same_role template_end (suc j) zero F G f h g = absurd g
-same_role template_end (suc j) (suc i) F G f h g = ap (λ n. suc n) (f j i h g)
-same_role name j i F G f h g = f j i h g
-same_role keyword j i F G f h g = f j i h g
-same_role greater j i F G f h g = f j i h g
-same_role greater_stop j i F G f h g = f j i h g
-same_role opening j i F G f h g = f j i h g
-same_role closing j i F G f h g = f j i h g
-same_role short_circuit j i F G f h g = f j i h g
-same_role stop j i F G f h g = f j i h g
-same_role other j i F G f h g = f j i h g
-
 same_level : (ts : List Kind) (j i : ℕ) → Nested j ts → Nested i ts → j ≡ i
 same_level [] j i h g = h ∙ sym g
-same_level (t ∷ ts) j i h g = same_role (role t.class) j i (λ n. Nested n ts) (λ n. Nested n ts) (λ a b. same_level ts a b) h g
+same_level (t ∷ ts) j i h g = both_levels (j ≡ i) (role t.class) j i (λ n. Nested n ts) (λ n. Nested n ts) (λ a b f g on from. from (same_level ts a b f g)) h g
 
 -- behind some of the tokens
-behind_role : (A : Type 0) (r : Role) (k : ℕ) (F : ℕ → Type 0) → ((j : ℕ) → F j → A) → nested_role r k F → A
-behind_role A template_start k F f h = f (suc k) h
-behind_role A template_end zero F f h = absurd h
-behind_role A template_end (suc k) F f h = f k h
-behind_role A name k F f h = f k h
-behind_role A keyword k F f h = f k h
-behind_role A greater k F f h = f k h
-behind_role A greater_stop k F f h = f k h
-behind_role A opening k F f h = f k h
-behind_role A closing k F f h = f k h
-behind_role A short_circuit k F f h = f k h
-behind_role A stop k F f h = f k h
-behind_role A other k F f h = f k h
-
 level_behind : (us ts : List Token) (k : ℕ) → Nested k (kinds (us ++ ts)) → (j : ℕ) × Nested j (kinds ts)
 level_behind [] ts k h = (k, h)
-level_behind (u ∷ us) ts k h = behind_role ((j : ℕ) × Nested j (kinds ts)) (role u.class) k (λ j. Nested j (kinds (us ++ ts))) (λ j g. level_behind us ts j g) h
+level_behind (u ∷ us) ts k h =
+    let Behind : ℕ → Type 0 = λ j. Nested j (kinds (us ++ ts)) in
+    both_levels ((j : ℕ) × Nested j (kinds ts)) (role u.class) k k Behind Behind (λ j n g g' on from. level_behind us ts j g) h h
 
 one_more_within : (j : ℕ) → within j 1 ≡ 0 → ⊥
 one_more_within zero e = cc
@@ -100,12 +73,6 @@ no_end_between us vs rest l end h e n g =
 data Where (ms ns xs : List Token) (l : Token) (ys : List Token) : Type 0 where
   in_first : (vs : List Token) → ms ≡ xs ++ (l ∷ vs) → ys ≡ vs ++ ns → Where ms ns xs l ys
   in_second : (us : List Token) → xs ≡ ms ++ us → ns ≡ us ++ (l ∷ ys) → Where ms ns xs l ys
-
-same_head : (t u : Token) (ts us : List Token) → t ∷ ts ≡ u ∷ us → t ≡ u
-same_head t u ts us e = cc
-
-same_tail : (t u : Token) (ts us : List Token) → t ∷ ts ≡ u ∷ us → ts ≡ us
-same_tail t u ts us e = cc
 
 one_further : (a x : Token) (ms ns xs : List Token) (l : Token) (ys : List Token) → a ≡ x → Where ms ns xs l ys → Where (a ∷ ms) ns (x ∷ xs) l ys
 one_further a x ms ns xs l ys e (in_first vs f g) = in_first vs (λ i. e i ∷ f i) g

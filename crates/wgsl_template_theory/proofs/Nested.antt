@@ -5,7 +5,7 @@ use Rattle.grammar.specs.Grammar.{is_among}
 use Rattle.grammar.proofs.Sets.{clash}
 use Rattle.wgsl_model.specs.Classes.{SymComma, SymColon, SymSemicolon, SymMinusMinus, SymLessThan, KwDefault, TemplateArgsStart, TemplateArgsEnd}
 use Rattle.wgsl_model.specs.Kind.{Kind}
-use Rattle.wgsl_template_theory.proofs.Reach.{Role, Role.name, Role.keyword, Role.greater, Role.greater_stop, Role.opening, Role.closing, Role.short_circuit, Role.stop, Role.other, Role.template_start, Role.template_end, role, Place, Place.inside, reach}
+use Rattle.wgsl_template_theory.proofs.Reach.{Role, Role.template_start, Role.template_end, role, Place, Place.inside, reach}
 use Rattle.wgsl_template_theory.proofs.Moves.{kinds, class_is}
 use Rattle.wgsl_template_theory.proofs.Behind.{NoListAt}
 use Rattle.wgsl_template_theory.proofs.Clear.{template_ends, AllClear, done, other_token, template}
@@ -31,39 +31,26 @@ abbrev pub within : ℕ → ℕ → ℕ
 within zero i = i
 within (suc k) i = suc (within k i)
 
-nested_more : (r : Role) (k i : ℕ) (F G : ℕ → Type 0) → ((j : ℕ) → F j → G (within j i)) → nested_role r k F → nested_role r (within k i) G
-nested_more template_start k i F G f h = f (suc k) h
-nested_more template_end zero i F G f h = absurd h
-nested_more template_end (suc k) i F G f h = f k h
-nested_more name k i F G f h = f k h
-nested_more keyword k i F G f h = f k h
-nested_more greater k i F G f h = f k h
-nested_more greater_stop k i F G f h = f k h
-nested_more opening k i F G f h = f k h
-nested_more closing k i F G f h = f k h
-nested_more short_circuit k i F G f h = f k h
-nested_more stop k i F G f h = f k h
-nested_more other k i F G f h = f k h
+-- ---- a mark goes one level on or back, any other role leaves the level as it is
+-- what holds at each level behind a token holds at another number of levels, if that goes up by one as the level does
+nested_on : (r : Role) (out : ℕ → ℕ) (k : ℕ) (F G : ℕ → Type 0) → ((j : ℕ) → out (suc j) ≡ suc (out j)) → ((j : ℕ) → F j → G (out j)) → nested_role r k F → nested_role r (out k) G
+nested_on template_start out k F G e f h = subst G (e k) (f (suc k) h)
+nested_on template_end out zero F G e f h = absurd h
+nested_on template_end out (suc k) F G e f h = subst (λ (n : ℕ). nested_role template_end n G) (sym (e k)) (f k h)
+nested_on r out k F G e f h = f k h
+
+-- from two levels a token leads to two, which are the same where those are, and nowhere else
+pub both_levels : (A : Type 0) (r : Role) (k i : ℕ) (F G : ℕ → Type 0) → ((j n : ℕ) → F j → G n → (k ≡ i → j ≡ n) → (j ≡ n → k ≡ i) → A) → nested_role r k F → nested_role r i G → A
+both_levels A template_start k i F G f h g = f (suc k) (suc i) h g (λ e. ap (λ n. suc n) e) (λ e. cc)
+both_levels A template_end zero i F G f h g = absurd h
+both_levels A template_end (suc k) zero F G f h g = absurd g
+both_levels A template_end (suc k) (suc i) F G f h g = f k i h g (λ e. cc) (λ e. ap (λ n. suc n) e)
+both_levels A r k i F G f h g = f k i h g (λ e. e) (λ e. e)
 
 -- with more behind them
 pub nested_behind : (k i : ℕ) (us ts : List Token) → Nested k (kinds us) → Nested i (kinds ts) → Nested (within k i) (kinds (us ++ ts))
 nested_behind k i [] ts h g = subst (λ (n : ℕ). Nested (within n i) (kinds ts)) (sym h) g
-nested_behind k i (u ∷ us) ts h g = nested_more (role u.class) k i (λ j. Nested j (kinds us)) (λ j. Nested j (kinds (us ++ ts))) (λ j f. nested_behind j i us ts f g) h
-
--- two lists that begin alike and are ended both are the same
-both_nested : (A : Type 0) (r : Role) (k : ℕ) (F G : ℕ → Type 0) → ((j : ℕ) → F j → G j → A) → nested_role r k F → nested_role r k G → A
-both_nested A template_start k F G f h g = f (suc k) h g
-both_nested A template_end zero F G f h g = absurd h
-both_nested A template_end (suc k) F G f h g = f k h g
-both_nested A name k F G f h g = f k h g
-both_nested A keyword k F G f h g = f k h g
-both_nested A greater k F G f h g = f k h g
-both_nested A greater_stop k F G f h g = f k h g
-both_nested A opening k F G f h g = f k h g
-both_nested A closing k F G f h g = f k h g
-both_nested A short_circuit k F G f h g = f k h g
-both_nested A stop k F G f h g = f k h g
-both_nested A other k F G f h g = f k h g
+nested_behind k i (u ∷ us) ts h g = nested_on (role u.class) (λ j. within j i) k (λ j. Nested j (kinds us)) (λ j. Nested j (kinds (us ++ ts))) (λ j. refl) (λ j f. nested_behind j i us ts f g) h
 
 pub same_head : (t u : Token) (ts us : List Token) → t ∷ ts ≡ u ∷ us → t ≡ u
 same_head t u ts us e = cc
@@ -75,6 +62,7 @@ same_tail t u ts us e = cc
 none_ends : (t : Token) (ts : List Kind) (k : ℕ) → k ≡ 0 → role t.class ≡ template_end → nested_role (role t.class) k (λ j. Nested j ts) → ⊥
 none_ends t ts k z e h = subst (λ (r : Role). nested_role r 0 (λ j. Nested j ts)) e (subst (λ (n : ℕ). nested_role (role t.class) n (λ j. Nested j ts)) z h)
 
+-- two lists that begin alike and are both ended are the same
 pub same_split : (k : ℕ) (us vs : List Token) (e f : Token) (ts rs : List Token) → role e.class ≡ template_end → role f.class ≡ template_end → Nested k (kinds us) → Nested k (kinds vs)
     → us ++ (e ∷ ts) ≡ vs ++ (f ∷ rs) → (us ≡ vs) × (ts ≡ rs)
 same_split k [] [] e f ts rs p q h g w = (refl, same_tail e f ts rs w)
@@ -82,8 +70,8 @@ same_split k [] (v ∷ vs) e f ts rs p q h g w = absurd (none_ends v (kinds vs) 
 same_split k (u ∷ us) [] e f ts rs p q h g w = absurd (none_ends u (kinds us) k g (ap (λ (t : Token). role t.class) (same_head u f (us ++ (e ∷ ts)) rs w) ∙ q) h)
 same_split k (u ∷ us) (v ∷ vs) e f ts rs p q h g w =
     let head : u ≡ v = same_head u v (us ++ (e ∷ ts)) (vs ++ (f ∷ rs)) w in
-    let both = both_nested ((us ≡ vs) × (ts ≡ rs)) (role u.class) k (λ j. Nested j (kinds us)) (λ j. Nested j (kinds vs))
-    (λ j a b. same_split j us vs e f ts rs p q a b (same_tail u v (us ++ (e ∷ ts)) (vs ++ (f ∷ rs)) w)) h
+    let both = both_levels ((us ≡ vs) × (ts ≡ rs)) (role u.class) k k (λ j. Nested j (kinds us)) (λ j. Nested j (kinds vs))
+    (λ j n a b on from. same_split j us vs e f ts rs p q a (subst (λ (m : ℕ). Nested m (kinds vs)) (sym (on refl)) b) (same_tail u v (us ++ (e ∷ ts)) (vs ++ (f ∷ rs)) w)) h
     (subst (λ (t : Token). nested_role (role t.class) k (λ j. Nested j (kinds vs))) (sym head) g) in
     (λ i. head i ∷ both.0 i, both.1)
 
@@ -150,25 +138,11 @@ passed c a k Next q m h = go (role a) m (subst (λ (x : ℕ). nested_role (role 
   go template_end m h = absurd cc
   go r m h = h
 
-nested_alike : (r : Role) (k : ℕ) (F G : ℕ → Type 0) → ((j : ℕ) → F j → G j) → nested_role r k F → nested_role r k G
-nested_alike template_start k F G f h = f (suc k) h
-nested_alike template_end zero F G f h = absurd h
-nested_alike template_end (suc k) F G f h = f k h
-nested_alike name k F G f h = f k h
-nested_alike keyword k F G f h = f k h
-nested_alike greater k F G f h = f k h
-nested_alike greater_stop k F G f h = f k h
-nested_alike opening k F G f h = f k h
-nested_alike closing k F G f h = f k h
-nested_alike short_circuit k F G f h = f k h
-nested_alike stop k F G f h = f k h
-nested_alike other k F G f h = f k h
-
 -- template lists are written as they were read
 pub edits_nested : (b : Bool) (s c : List Kind) → Edits b s c → (k : ℕ) → Nested k s → Nested k c
 edits_nested _ _ _ (at_the_end b) k h = h
 edits_nested _ _ _ (kept b t j s c q m) k h =
-    subst (λ (x : ℕ). nested_role (role x) k (λ i. Nested i c)) q (nested_alike (role t.class) k (λ i. Nested i s) (λ i. Nested i c) (λ i g. edits_nested _ s c m i g) h)
+    subst (λ (x : ℕ). nested_role (role x) k (λ i. Nested i c)) q (nested_on (role t.class) (λ i. i) k (λ i. Nested i s) (λ i. Nested i c) (λ i. refl) (λ i g. edits_nested _ s c m i g) h)
 edits_nested _ _ _ (no_comma b t s c q f m) k h = edits_nested false s c m k (passed t.class SymComma k (λ i. Nested i s) q refl h)
 edits_nested _ _ _ (no_colon b t s c q f m) k h = edits_nested false s c m k (passed t.class SymColon k (λ i. Nested i s) q refl h)
 edits_nested _ _ _ (no_semicolon t s c q m) k h = edits_nested true s c m k (passed t.class SymSemicolon k (λ i. Nested i s) q refl h)
