@@ -5,17 +5,16 @@ use Rattle.grammar.specs.Tokens.{Token, Span, front}
 use Rattle.grammar.specs.Grammar.{Grammar.symbol, Mode.full, Chain, Chain.base, Chain.more, Means, Derives, is_among}
 use Rattle.grammar.specs.Notation.{◌then◌, ◌gives◌, ◌▹◌, ◌means◌, list}
 use Rattle.grammar.proofs.Depth.{roll, unroll}
-use Rattle.wgsl_model.specs.Classes.{SymAndAnd, SymOrOr, SymComma, SymGreaterThan, SymGreaterThanEqual, SymShiftRight}
-use Rattle.wgsl_model.specs.Operators.{BinaryOperator, short_circuit_and, short_circuit_or}
+use Rattle.wgsl_model.specs.Classes.{SymAnd, SymAndAnd, SymEqualEqual, SymNotEqual, SymLessThan, SymLessThanEqual, SymShiftLeft, SymOr, SymOrOr, SymXor, SymComma, SymGreaterThan, SymGreaterThanEqual, SymShiftRight}
+use Rattle.wgsl_model.specs.Operators.{BinaryOperator, short_circuit_and, short_circuit_or, bitwise_and, bitwise_or, bitwise_xor, shift_left, less_than, less_than_equal, equality, inequality}
 use Rattle.wgsl_model.specs.Expressions.{ExpressionNode}
-use Rattle.wgsl_model.specs.ExpressionParts.{relational_operator, binary_of, two}
+use Rattle.wgsl_model.specs.ExpressionParts.{relational_operator, binary_of, two, two_or_more}
 use Rattle.wgsl_model.specs.Symbols.{Symbol, expressions, unary_expression, multiplicative_expression, additive_expression, shift_expression, relational_expression, expression, Value}
 use Rattle.wgsl_model.specs.Written.{written}
 use Rattle.wgsl_canonical_theory.proofs.Again.{D}
 use Rattle.wgsl_template_theory.proofs.Reach.{Role, greater, short_circuit, other, role, Place, reach_role, reach, ahead_role, ahead}
 use Rattle.wgsl_template_theory.proofs.Moves.{kinds, stretch, Moves, flat_moves, class_is, Passes, both_pass, passed_derives}
-use Rattle.wgsl_template_theory.proofs.Walks.{means_walks}
-use Rattle.wgsl_template_theory.proofs.Passing.{passing, walked, unary_walks, two_walks, two_or_more_walks}
+use Rattle.wgsl_template_theory.proofs.Passing.{walked}
 
 -- ---- where a token of a role stands first
 -- one that begins with `>` ends the stretch
@@ -59,22 +58,22 @@ relation_is v xs d = (v, roll full written expression v xs [] (inl d))
 
 -- ---- shifts
 shift_way : (p : Place) (v : ExpressionNode) (xs ys : List Token) → Means full D (written shift_expression) v xs ys → Way shift_expression p xs ys
-shift_way p v xs ys (inl d) = passed (passing additive_expression v xs ys d p 0 0)
-shift_way p v xs ys (inr (inl d)) = passed (walked (two_walks (flat_moves other 0 0 refl) (unary_walks p 0 0)) v xs ys d)
+shift_way p v xs ys (inl d) = passed (walked p (symbol additive_expression) refl v xs ys d)
+shift_way p v xs ys (inr (inl d)) = passed (walked p (two SymShiftLeft shift_left (symbol unary_expression)) refl v xs ys d)
 shift_way p v xs ys (inr (inr d)) =
-    let front_part = passing unary_expression d.0.0 xs d.2.0 d.2.1 p 0 0 in
+    let front_part = walked p (symbol unary_expression) refl d.0.0 xs d.2.0 d.2.1 in
     let ends : stretch 0 0 d.2.0 ≡ [] = at_greater SymShiftRight refl d.2.2.1.2.0 d.2.2.1.2.1 in
     closed (λ h. unary_shifts d.0.0 (stretch 0 0 xs) (subst (λ (z : List Token). D unary_expression d.0.0 (stretch 0 0 xs) z) ends (passed_derives (symbol unary_expression) d.0.0 front_part d.2.1)))
 
 -- ---- comparisons
 -- an operator that begins with `>` ends the stretch, each other is passed
 operator_way : (p : Place) (o : BinaryOperator) (xs ys : List Token) → Means full D relational_operator o xs ys → Passes p 0 0 0 0 xs ys ⊎ (stretch 0 0 xs ≡ [])
-operator_way p o xs ys (inl d) = inl (walked (means_walks (flat_moves other 0 0 refl)) o xs ys d)
+operator_way p o xs ys (inl d) = inl (walked p (SymLessThan means less_than) refl o xs ys d)
 operator_way p o xs ys (inr (inl d)) = inr (at_greater SymGreaterThan refl d.2.0 d.2.1)
-operator_way p o xs ys (inr (inr (inl d))) = inl (walked (means_walks (flat_moves other 0 0 refl)) o xs ys d)
+operator_way p o xs ys (inr (inr (inl d))) = inl (walked p (SymLessThanEqual means less_than_equal) refl o xs ys d)
 operator_way p o xs ys (inr (inr (inr (inl d)))) = inr (at_greater SymGreaterThanEqual refl d.2.0 d.2.1)
-operator_way p o xs ys (inr (inr (inr (inr (inl d))))) = inl (walked (means_walks (flat_moves other 0 0 refl)) o xs ys d)
-operator_way p o xs ys (inr (inr (inr (inr (inr d))))) = inl (walked (means_walks (flat_moves other 0 0 refl)) o xs ys d)
+operator_way p o xs ys (inr (inr (inr (inr (inl d))))) = inl (walked p (SymEqualEqual means equality) refl o xs ys d)
+operator_way p o xs ys (inr (inr (inr (inr (inr d))))) = inl (walked p (SymNotEqual means inequality) refl o xs ys d)
 
 -- behind the first operand and the operator
 second_way : (p : Place) (a b : ExpressionNode) (o : BinaryOperator) (xs ms ns ys : List Token) → D shift_expression a xs ms → Means full D relational_operator o ms ns
@@ -114,9 +113,9 @@ expression_way : (p : Place) (v : ExpressionNode) (xs ys : List Token) → Means
 expression_way p v xs ys (inl d) = lifted relational_expression expression p xs ys relation_is (relational_way p v xs ys (unroll full written relational_expression v xs ys d))
 expression_way p v xs ys (inr (inl d)) = closed (chain_closed SymAndAnd short_circuit_and p refl xs v ys d)
 expression_way p v xs ys (inr (inr (inl d))) = closed (chain_closed SymOrOr short_circuit_or p refl xs v ys d)
-expression_way p v xs ys (inr (inr (inr (inl d)))) = passed (walked (two_or_more_walks (flat_moves other 0 0 refl) (unary_walks p 0 0)) v xs ys d)
-expression_way p v xs ys (inr (inr (inr (inr (inl d))))) = passed (walked (two_or_more_walks (flat_moves other 0 0 refl) (unary_walks p 0 0)) v xs ys d)
-expression_way p v xs ys (inr (inr (inr (inr (inr d))))) = passed (walked (two_or_more_walks (flat_moves other 0 0 refl) (unary_walks p 0 0)) v xs ys d)
+expression_way p v xs ys (inr (inr (inr (inl d)))) = passed (walked p (two_or_more SymAnd bitwise_and (symbol unary_expression)) refl v xs ys d)
+expression_way p v xs ys (inr (inr (inr (inr (inl d))))) = passed (walked p (two_or_more SymOr bitwise_or (symbol unary_expression)) refl v xs ys d)
+expression_way p v xs ys (inr (inr (inr (inr (inr d))))) = passed (walked p (two_or_more SymXor bitwise_xor (symbol unary_expression)) refl v xs ys d)
 
 -- ---- lists
 -- an expression, a comma and a list are a list

@@ -1,7 +1,6 @@
 pub mod Roles
 pub mod Reach
 pub mod Moves
-pub mod Walks
 pub mod Passing
 pub mod Closes
 pub mod Behind

@@ -27,19 +27,19 @@ pub record Moves (r : Role) (k d j e : ℕ) : Type 0 where
   pub counted : (next : ℕ → ℕ → ℕ) → ahead_role r k d next ≡ suc (next j e)
 
 -- within a template list, or within brackets
-abbrev pub IsInner : ℕ → ℕ → Type 0
-IsInner zero zero = ⊥
-IsInner zero (suc d) = Unit {0}
-IsInner (suc k) d = Unit {0}
+abbrev pub is_inner : ℕ → ℕ → Bool
+is_inner zero zero = false
+is_inner zero (suc d) = true
+is_inner (suc k) d = true
 
 -- so many brackets deep within one bracket more: those in a template list are not counted
 abbrev pub bracketed : ℕ → ℕ → ℕ
 bracketed zero d = suc d
 bracketed (suc k) d = d
 
-pub bracketed_is_inner : (k d : ℕ) → IsInner k (bracketed k d)
-bracketed_is_inner zero d = tt
-bracketed_is_inner (suc k) d = tt
+pub bracketed_is_inner : (k d : ℕ) → is_inner k (bracketed k d) ≡ true
+bracketed_is_inner zero d = refl
+bracketed_is_inner (suc k) d = refl
 
 pub opening_moves : (k d : ℕ) → Moves opening k d k (bracketed k d)
 opening_moves zero d = record { reached = λ f. refl; counted = λ f. refl }
@@ -76,7 +76,7 @@ is_flat_inside greater = true
 is_flat_inside short_circuit = true
 is_flat_inside r = false
 
-pub inner_moves : (r : Role) (k d : ℕ) → IsInner k d → is_flat_inside r ≡ true → Moves r k d k d
+pub inner_moves : (r : Role) (k d : ℕ) → is_inner k d ≡ true → is_flat_inside r ≡ true → Moves r k d k d
 inner_moves name zero d i h = record { reached = λ f. refl; counted = λ f. refl }
 inner_moves other zero d i h = record { reached = λ f. refl; counted = λ f. refl }
 inner_moves greater zero (suc d) i h = record { reached = λ f. refl; counted = λ f. refl }
@@ -85,7 +85,7 @@ inner_moves name (suc k) d i h = record { reached = λ f. refl; counted = λ f. 
 inner_moves other (suc k) d i h = record { reached = λ f. refl; counted = λ f. refl }
 inner_moves greater (suc k) d i h = record { reached = λ f. refl; counted = λ f. refl }
 inner_moves short_circuit (suc k) d i h = record { reached = λ f. refl; counted = λ f. refl }
-inner_moves r zero zero i h = absurd i
+inner_moves r zero zero i h = absurd cc
 inner_moves r k d i h = absurd cc
 
 -- ---- the roles of classes

@@ -1,181 +1,165 @@
 -- What an expression derives is passed: at every nesting what binds as a sum or tighter, within template lists and brackets all of it.
-use Rattle.std.proofs.Common.{◌≡◌, ℕ, suc, true, false, cond, eqb, Bool, List, [], ◌∷◌, Some, None, refl}
-use Rattle.grammar.specs.Tokens.{Token, Fault}
-use Rattle.grammar.specs.Grammar.{Grammar.symbol, Mode.full, Means, is_among}
+use Rattle.std.proofs.Common.{◌≡◌, ℕ, suc, Bool, true, false, cond, eqb, not, ◌&&◌, ◌||◌, List, [], ◌∷◌, Some, None, refl, sym, ap, ◌∙◌, inl, inr}
+use Rattle.grammar.specs.Tokens.{Token, Span, Fault}
+use Rattle.grammar.specs.Grammar.{Grammar.empty, Grammar.token, Grammar.sequence, Grammar.choice, Grammar.mapped, Grammar.node, Grammar.checked, Grammar.symbol, Grammar.left_chain, Mode.full, Chain, Chain.base, Chain.more, Means}
+use Rattle.grammar.specs.Notation.{one_token}
+use Rattle.grammar.proofs.Sets.{and_true}
 use Rattle.grammar.proofs.Depth.{Kept, same_mode, means_mono, least}
-use Rattle.wgsl_model.specs.Classes.{KwTrue, KwFalse, Ident, ReservedWord, AbstractInt, I32, U32, AbstractFloat, F32, F16}
-use Rattle.wgsl_model.specs.Operators.{BinaryOperator}
-use Rattle.wgsl_model.specs.Expressions.{ExpressionNode}
-use Rattle.wgsl_model.specs.ExpressionParts.{unary_operator, multiplicative_operator, additive_operator, relational_operator, two, two_or_more}
-use Rattle.wgsl_model.specs.Symbols.{Symbol, ident, type_specifier, template_list, expressions, call, arguments, literal, primary_expression, singular_expression, component, unary_expression, multiplicative_expression, negated_expression, additive_expression, shift_expression, relational_expression, expression, Value, Rule}
+use Rattle.wgsl_model.specs.Classes.{Ident, ReservedWord}
+use Rattle.wgsl_model.specs.Symbols.{Symbol, ident, expressions, shift_expression, relational_expression, expression, Value, Rule}
 use Rattle.wgsl_model.specs.Written.{written}
+use Rattle.wgsl_grammar_theory.proofs.WrittenEnds.{in_expression}
 use Rattle.wgsl_canonical_theory.proofs.Again.{D}
-use Rattle.wgsl_template_theory.proofs.Reach.{Role, other, greater, short_circuit, role, Place}
-use Rattle.wgsl_template_theory.proofs.Moves.{Moves, IsInner, bracketed, bracketed_is_inner, opening_moves, closing_moves, template_start_moves, template_end_moves, is_flat, flat_moves, inner_moves, role_of, Passes, token_passes}
-use Rattle.wgsl_template_theory.proofs.Walks.{Every, Passing, Walks, then_walks, or_walks, gives_walks, makes_walks, before_walks, behind_walks, means_walks, flat_walks, optional_walks, chain_walks, list_walks, list_or_none_walks}
+use Rattle.wgsl_template_theory.proofs.Reach.{Role, Role.name, Role.greater, Role.opening, Role.closing, Role.short_circuit, Role.other, Role.template_start, Role.template_end, role, Place}
+use Rattle.wgsl_template_theory.proofs.Moves.{Moves, is_inner, bracketed, bracketed_is_inner, opening_moves, closing_moves, template_start_moves, template_end_moves, flat_moves, inner_moves, role_of, all_roles, Passes, none_passes, token_passes, both_pass}
 
--- ---- symbols that are passed at every nesting
-abbrev pub WalksAll : {A : Type 0} → Rule A → Type 0
-WalksAll g = (p : Place) (k d : ℕ) → Walks p k d k d g
+-- ---- nestings
+-- what was opened and is not closed, the last first
+pub data Opened : Type 0 where
+  bracket template : Opened
 
-ident_walks : WalksAll (symbol ident)
-ident_walks p k d = record { walk = λ v xs ys h. h p k d }
+-- behind it, from so many template lists and brackets deep
+abbrev lists : ℕ → List Opened → ℕ
+lists k [] = k
+lists k (bracket ∷ s) = lists k s
+lists k (template ∷ s) = suc (lists k s)
 
-type_specifier_walks : WalksAll (symbol type_specifier)
-type_specifier_walks p k d = record { walk = λ v xs ys h. h p k d }
+abbrev brackets : ℕ → ℕ → List Opened → ℕ
+brackets k d [] = d
+brackets k d (bracket ∷ s) = bracketed (lists k s) (brackets k d s)
+brackets k d (template ∷ s) = brackets k d s
 
-template_list_walks : WalksAll (symbol template_list)
-template_list_walks p k d = record { walk = λ v xs ys h. h p k d }
+abbrev is_closed : List Opened → Bool
+is_closed [] = true
+is_closed (o ∷ s) = false
 
-call_walks : WalksAll (symbol call)
-call_walks p k d = record { walk = λ v xs ys h. h p k d }
+-- within template lists and brackets, if that was so before
+abbrev is_within : Bool → List Opened → Bool
+is_within b [] = b
+is_within b (o ∷ s) = true
 
-arguments_walks : WalksAll (symbol arguments)
-arguments_walks p k d = record { walk = λ v xs ys h. h p k d }
+within_is_inner : (k d : ℕ) (s : List Opened) → is_within (is_inner k d) s ≡ is_inner (lists k s) (brackets k d s)
+within_is_inner k d [] = refl
+within_is_inner k d (bracket ∷ s) = sym (bracketed_is_inner (lists k s) (brackets k d s))
+within_is_inner k d (template ∷ s) = refl
 
-literal_walks : WalksAll (symbol literal)
-literal_walks p k d = record { walk = λ v xs ys h. h p k d }
+-- ---- the test
+-- what is opened behind a token of a role passes
+abbrev step : Bool → List Opened → (List Opened → Bool) → Role → Bool
+step b s f name = f s
+step b s f other = f s
+step b s f greater = is_within b s && f s
+step b s f short_circuit = is_within b s && f s
+step b s f opening = f (bracket ∷ s)
+step b (bracket ∷ s) f closing = f s
+step b s f template_start = f (template ∷ s)
+step b (template ∷ s) f template_end = f s
+step b s f r = false
 
-primary_walks : WalksAll (symbol primary_expression)
-primary_walks p k d = record { walk = λ v xs ys h. h p k d }
+-- what binds as a sum or tighter is passed at every nesting, all other expressions within template lists and brackets
+abbrev binds_loosely : Symbol → Bool
+binds_loosely expressions = true
+binds_loosely shift_expression = true
+binds_loosely relational_expression = true
+binds_loosely expression = true
+binds_loosely n = false
 
-singular_walks : WalksAll (symbol singular_expression)
-singular_walks p k d = record { walk = λ v xs ys h. h p k d }
+abbrev passes : Symbol → Bool → Bool
+passes n b = in_expression n && (b || not (binds_loosely n))
 
-component_walks : WalksAll (symbol component)
-component_walks p k d = record { walk = λ v xs ys h. h p k d }
+-- what is opened behind a right side passes
+abbrev walks : {A : Type 0} → Bool → List Opened → Rule A → (List Opened → Bool) → Bool
+walks b s (empty a) f = f s
+walks b s (token c) f = all_roles (step b s f) c
+walks b s (sequence g h) f = walks b s g (λ t. walks b t h f)
+walks b s (choice g h) f = walks b s g f && walks b s h f
+walks b s (mapped m g) f = walks b s g f
+walks b s (node m g) f = walks b s g f
+walks b s (checked m g) f = walks b s g f
+walks b s (symbol n) f = passes n (is_within b s) && f s
+walks b s (left_chain m g h) f = walks b s g (λ t. walks (is_within b t) [] h is_closed && f t)
 
-pub unary_walks : WalksAll (symbol unary_expression)
-unary_walks p k d = record { walk = λ v xs ys h. h p k d }
+-- ---- what passes the test is passed
+-- what each symbol derives is passed at the nestings that its test names
+abbrev Passing : (n : Symbol) → Value n → List Token → List Token → Type 0
+Passing n v xs ys = (p : Place) (k d : ℕ) → passes n (is_inner k d) ≡ true → Passes p k d k d xs ys
 
-multiplicative_walks : WalksAll (symbol multiplicative_expression)
-multiplicative_walks p k d = record { walk = λ v xs ys h. h p k d }
+-- tokens lead to a nesting that passes
+abbrev Leads : Place → ℕ → ℕ → List Opened → (List Opened → Bool) → List Token → List Token → Type 0
+Leads p k d s f xs ys = (t : List Opened) × (f t ≡ true) × Passes p (lists k s) (brackets k d s) (lists k t) (brackets k d t) xs ys
 
-negated_walks : WalksAll (symbol negated_expression)
-negated_walks p k d = record { walk = λ v xs ys h. h p k d }
+stepped : (k d : ℕ) (s : List Opened) (f : List Opened → Bool) (r : Role) → step (is_inner k d) s f r ≡ true
+    → (t : List Opened) × (f t ≡ true) × Moves r (lists k s) (brackets k d s) (lists k t) (brackets k d t)
+stepped k d s f name e = (s, e, flat_moves name _ _ refl)
+stepped k d s f other e = (s, e, flat_moves other _ _ refl)
+stepped k d s f greater e = let w = and_true _ _ e in (s, w.1, inner_moves greater _ _ (sym (within_is_inner k d s) ∙ w.0) refl)
+stepped k d s f short_circuit e = let w = and_true _ _ e in (s, w.1, inner_moves short_circuit _ _ (sym (within_is_inner k d s) ∙ w.0) refl)
+stepped k d s f opening e = (bracket ∷ s, e, opening_moves _ _)
+stepped k d (bracket ∷ s) f closing e = (s, e, closing_moves _ _)
+stepped k d s f template_start e = (template ∷ s, e, template_start_moves _ _)
+stepped k d (template ∷ s) f template_end e = (s, e, template_end_moves _ _)
+stepped k d s f r e = absurd cc
 
-additive_walks : WalksAll (symbol additive_expression)
-additive_walks p k d = record { walk = λ v xs ys h. h p k d }
+all_closed : {p : Place} {k d : ℕ} {xs ys : List Token} → Leads p k d [] is_closed xs ys → Passes p k d k d xs ys
+all_closed ([], e, a) = a
+all_closed (o ∷ s, e, a) = absurd cc
 
--- ---- symbols that are passed within template lists and brackets
-abbrev pub WalksInside : {A : Type 0} → Rule A → Type 0
-WalksInside g = (p : Place) (k d : ℕ) → IsInner k d → Walks p k d k d g
+chain_leads : {A B : Type 0} (m : A → B → Span → A) (P : A → List Token → List Token → Type 0) (Q : B → List Token → List Token → Type 0) (p : Place) (k d : ℕ) (s : List Opened) (test f : List Opened → Bool)
+    → ((v : A) (xs ys : List Token) → P v xs ys → Leads p k d s (λ t. test t && f t) xs ys)
+    → ((t : List Opened) → test t ≡ true → (v : B) (xs ys : List Token) → Q v xs ys → Passes p (lists k t) (brackets k d t) (lists k t) (brackets k d t) xs ys)
+    → (xs : List Token) (v : A) (ys : List Token) → Chain m P Q xs v ys → Leads p k d s (λ t. test t && f t) xs ys
+chain_leads m P Q p k d s test f F H xs _ _ (base v ys c) = F v xs ys c
+chain_leads m P Q p k d s test f F H xs _ _ (more a b ys zs c i) =
+    let w = chain_leads m P Q p k d s test f F H xs a ys c in
+    (w.0, w.1, both_pass w.2 (H w.0 (and_true (test w.0) (f w.0) w.1).0 b ys zs i))
 
-shift_walks : WalksInside (symbol shift_expression)
-shift_walks p k d i = record { walk = λ v xs ys h. h p k d i }
+leads : {A : Type 0} (p : Place) (k d : ℕ) (s : List Opened) (g : Rule A) (f : List Opened → Bool) → walks (is_inner k d) s g f ≡ true → (v : A) (xs ys : List Token) → Means full Passing g v xs ys → Leads p k d s f xs ys
+leads p k d s (empty a) f e v xs ys h = (s, e, none_passes h.1)
+leads p k d s (token c) f e v xs ys h = let w = stepped k d s f (role v.class) (role_of (step (is_inner k d) s f) v.class c e h.0) in (w.0, w.1, token_passes w.2 h.1)
+leads p k d s (sequence g g') f e v xs ys (ms, x, y) =
+    let a = leads p k d s g (λ t. walks (is_inner k d) t g' f) e v.0 xs ms x in
+    let b = leads p k d a.0 g' f a.1 v.1 ms ys y in
+    (b.0, b.1, both_pass a.2 b.2)
+leads p k d s (choice g g') f e v xs ys (inl x) = leads p k d s g f (and_true _ _ e).0 v xs ys x
+leads p k d s (choice g g') f e v xs ys (inr x) = leads p k d s g' f (and_true _ _ e).1 v xs ys x
+leads p k d s (mapped m g) f e v xs ys h = leads p k d s g f e h.0 xs ys h.2
+leads p k d s (node m g) f e v xs ys h = leads p k d s g f e h.0 xs ys h.2
+leads p k d s (checked m g) f e v xs ys h = leads p k d s g f e v xs ys h.1
+leads p k d s (symbol n) f e v xs ys h = let w = and_true _ _ e in (s, w.1, h p (lists k s) (brackets k d s) (ap (passes n) (sym (within_is_inner k d s)) ∙ w.0))
+leads p k d s (left_chain m g g') f e v xs ys h =
+    let test : List Opened → Bool = λ t. walks (is_within (is_inner k d) t) [] g' is_closed in
+    let w = chain_leads m (Means full Passing g) (Means full Passing g') p k d s test f (leads p k d s g (λ t. test t && f t) e)
+    (λ t i b us vs y. all_closed (leads p (lists k t) (brackets k d t) [] g' is_closed (ap (λ (c : Bool). walks c [] g' is_closed) (sym (within_is_inner k d t)) ∙ i) b us vs y)) xs v ys h in
+    (w.0, (and_true (test w.0) (f w.0) w.1).1, w.2)
 
-relational_walks : WalksInside (symbol relational_expression)
-relational_walks p k d i = record { walk = λ v xs ys h. h p k d i }
+-- ---- the rules
+-- a name is an identifier, where checks count
+abbrev checked_rule : (n : Symbol) → Rule (Value n)
+checked_rule ident = one_token Ident
+checked_rule n = written n
 
-expression_walks : WalksInside (symbol expression)
-expression_walks p k d i = record { walk = λ v xs ys h. h p k d i }
-
--- ---- operators
-flat_token : (r : Role) → is_flat r ≡ true → (k d : ℕ) → Moves r k d k d
-flat_token r e k d = flat_moves r k d e
-
-unary_operator_walks : WalksAll unary_operator
-unary_operator_walks p k d =
-    let m : Moves other k d k d = flat_token other refl k d in
-    or_walks (means_walks m) (or_walks (means_walks m) (or_walks (means_walks m) (or_walks (means_walks m) (means_walks m))))
-
-multiplicative_operator_walks : WalksAll multiplicative_operator
-multiplicative_operator_walks p k d = let m : Moves other k d k d = flat_token other refl k d in or_walks (means_walks m) (or_walks (means_walks m) (means_walks m))
-
-additive_operator_walks : WalksAll additive_operator
-additive_operator_walks p k d = let m : Moves other k d k d = flat_token other refl k d in or_walks (means_walks m) (means_walks m)
-
-relational_operator_walks : WalksInside relational_operator
-relational_operator_walks p k d i =
-    let m : Moves other k d k d = flat_token other refl k d in
-    let g : Moves greater k d k d = inner_moves greater k d i refl in
-    or_walks (means_walks m) (or_walks (means_walks g) (or_walks (means_walks m) (or_walks (means_walks g) (or_walks (means_walks m) (means_walks m)))))
-
--- an operator between two, or between two or more
-pub two_walks : {p : Place} {k d : ℕ} {c : ℕ} {o : BinaryOperator} {g : Rule ExpressionNode} → Moves (role c) k d k d → Walks p k d k d g → Walks p k d k d (two c o g)
-two_walks m G = makes_walks (then_walks G (then_walks (means_walks m) G))
-
-pub two_or_more_walks : {p : Place} {k d : ℕ} {c : ℕ} {o : BinaryOperator} {g : Rule ExpressionNode} → Moves (role c) k d k d → Walks p k d k d g → Walks p k d k d (two_or_more c o g)
-two_or_more_walks m G = chain_walks (two_walks m G) (then_walks (means_walks m) G)
-
--- ---- rules
--- an identifier that is no reserved word
 no_reserved_word : (b c : Bool) (x : Fault) → cond b true (cond c true false) ≡ true → cond c (Some x) None ≡ None → cond b true false ≡ true
 no_reserved_word true c x h e = refl
 no_reserved_word false true x h e = absurd cc
 no_reserved_word false false x h e = h
 
-ident_rule : (v : Token) (xs ys : List Token) → Means full Passing (written ident) v xs ys → Every xs ys
-ident_rule v xs ys h p k d =
-    let known : is_among v.class (Ident ∷ []) ≡ true = no_reserved_word (eqb v.class Ident) (eqb v.class ReservedWord) _ h.1.0 h.0 in
-    token_passes (flat_moves (role v.class) k d (role_of is_flat v.class (Ident ∷ []) refl known)) h.1.1
+is_checked : (n : Symbol) (v : Value n) (xs ys : List Token) → Means full Passing (written n) v xs ys → Means full Passing (checked_rule n) v xs ys
+is_checked ident v xs ys h = (no_reserved_word (eqb v.class Ident) (eqb v.class ReservedWord) _ h.1.0 h.0, h.1.1)
+is_checked n v xs ys h = h
 
-template_list_rule : WalksAll (written template_list)
-template_list_rule p k d = before_walks (template_start_moves k d) (behind_walks (list_walks (expression_walks p (suc k) d tt)) (template_end_moves k d))
+tests : (n : Symbol) (b : Bool) → (not (passes n b) || walks b [] (checked_rule n) is_closed) ≡ true
+tests ident true = refl
+tests ident false = refl
+tests n true = refl
+tests n false = refl
 
-arguments_rule : WalksAll (written arguments)
-arguments_rule p k d = before_walks (opening_moves k d) (behind_walks (list_or_none_walks (expression_walks p k (bracketed k d) (bracketed_is_inner k d))) (closing_moves k d))
-
-primary_rule : WalksAll (written primary_expression)
-primary_rule p k d =
-    makes_walks (or_walks (gives_walks (type_specifier_walks p k d)) (or_walks (gives_walks (call_walks p k d)) (or_walks (gives_walks (literal_walks p k d))
-    (gives_walks (before_walks (opening_moves k d) (behind_walks (expression_walks p k (bracketed k d) (bracketed_is_inner k d)) (closing_moves k d)))))))
-
-component_rule : WalksAll (written component)
-component_rule p k d =
-    or_walks (gives_walks (before_walks (opening_moves k d) (behind_walks (expression_walks p k (bracketed k d) (bracketed_is_inner k d)) (closing_moves k d))))
-    (gives_walks (before_walks (flat_token other refl k d) (ident_walks p k d)))
-
-unary_rule : WalksAll (written unary_expression)
-unary_rule p k d = or_walks (singular_walks p k d) (makes_walks (then_walks (unary_operator_walks p k d) (unary_walks p k d)))
-
-negated_rule : WalksAll (written negated_expression)
-negated_rule p k d =
-    chain_walks (makes_walks (before_walks (flat_token other refl k d) (unary_walks p k d))) (then_walks (multiplicative_operator_walks p k d) (unary_walks p k d))
-
-additive_rule : WalksAll (written additive_expression)
-additive_rule p k d =
-    chain_walks (multiplicative_walks p k d) (or_walks (then_walks (additive_operator_walks p k d) (multiplicative_walks p k d)) (gives_walks (negated_walks p k d)))
-
-shift_rule : WalksInside (written shift_expression)
-shift_rule p k d i =
-    or_walks (additive_walks p k d) (or_walks (two_walks (flat_token other refl k d) (unary_walks p k d)) (two_walks (inner_moves greater k d i refl) (unary_walks p k d)))
-
-relational_rule : WalksInside (written relational_expression)
-relational_rule p k d i = or_walks (shift_walks p k d i) (makes_walks (then_walks (shift_walks p k d i) (then_walks (relational_operator_walks p k d i) (shift_walks p k d i))))
-
-expression_rule : WalksInside (written expression)
-expression_rule p k d i =
-    let s : Moves short_circuit k d k d = inner_moves short_circuit k d i refl in
-    let m : Moves other k d k d = flat_token other refl k d in
-    let r = relational_walks p k d i in
-    let u = unary_walks p k d in
-    or_walks r (or_walks (two_or_more_walks s r) (or_walks (two_or_more_walks s r) (or_walks (two_or_more_walks m u) (or_walks (two_or_more_walks m u) (two_or_more_walks m u)))))
+known : (a b : Bool) → (not a || b) ≡ true → a ≡ true → b ≡ true
+known true b e h = e
+known false b e h = absurd cc
 
 rules : (n : Symbol) → Kept (Means full Passing (written n)) (Passing n)
-rules ident v xs ys h = ident_rule v xs ys h
-rules type_specifier v xs ys h = λ p k d. (gives_walks (then_walks (ident_walks p k d) (optional_walks (template_list_walks p k d)))).walk v xs ys h
-rules template_list v xs ys h = λ p k d. (template_list_rule p k d).walk v xs ys h
-rules expressions v xs ys h = λ p k d i. (list_walks (expression_walks p k d i)).walk v xs ys h
-rules call v xs ys h = λ p k d. (gives_walks (then_walks (type_specifier_walks p k d) (arguments_walks p k d))).walk v xs ys h
-rules arguments v xs ys h = λ p k d. (arguments_rule p k d).walk v xs ys h
-rules literal v xs ys h = λ p k d. (gives_walks (flat_walks (KwTrue ∷ KwFalse ∷ AbstractInt ∷ I32 ∷ U32 ∷ AbstractFloat ∷ F32 ∷ F16 ∷ []) refl)).walk v xs ys h
-rules primary_expression v xs ys h = λ p k d. (primary_rule p k d).walk v xs ys h
-rules singular_expression v xs ys h = λ p k d. (chain_walks (primary_walks p k d) (component_walks p k d)).walk v xs ys h
-rules component v xs ys h = λ p k d. (component_rule p k d).walk v xs ys h
-rules unary_expression v xs ys h = λ p k d. (unary_rule p k d).walk v xs ys h
-rules multiplicative_expression v xs ys h = λ p k d. (chain_walks (unary_walks p k d) (then_walks (multiplicative_operator_walks p k d) (unary_walks p k d))).walk v xs ys h
-rules negated_expression v xs ys h = λ p k d. (negated_rule p k d).walk v xs ys h
-rules additive_expression v xs ys h = λ p k d. (additive_rule p k d).walk v xs ys h
-rules shift_expression v xs ys h = λ p k d i. (shift_rule p k d i).walk v xs ys h
-rules relational_expression v xs ys h = λ p k d i. (relational_rule p k d i).walk v xs ys h
-rules expression v xs ys h = λ p k d i. (expression_rule p k d i).walk v xs ys h
-rules n v xs ys h = tt
+rules n v xs ys h p k d e = all_closed (leads p k d [] (checked_rule n) is_closed (known (passes n (is_inner k d)) _ (tests n (is_inner k d)) e) v xs ys (is_checked n v xs ys h))
 
--- what each symbol derives is passed
-pub passing : (n : Symbol) (v : Value n) (xs ys : List Token) → D n v xs ys → Passing n v xs ys
-passing = least full written Passing rules
-
--- what a right side derives from the grammar's own derivations
-pub walked : {p : Place} {k d j e : ℕ} {A : Type 0} {g : Rule A} → Walks p k d j e g → (v : A) (xs ys : List Token) → Means full D g v xs ys → Passes p k d j e xs ys
-walked {g = g} G v xs ys h = G.walk v xs ys (means_mono full full (same_mode full) D Passing passing g v xs ys h)
+-- what a right side that passes the test derives is passed
+pub walked : {A : Type 0} (p : Place) (g : Rule A) → walks false [] g is_closed ≡ true → (v : A) (xs ys : List Token) → Means full D g v xs ys → Passes p 0 0 0 0 xs ys
+walked p g e v xs ys h = all_closed (leads p 0 0 [] g is_closed e v xs ys (means_mono full full (same_mode full) D Passing (least full written Passing rules) g v xs ys h))

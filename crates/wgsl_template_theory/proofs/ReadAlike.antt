@@ -57,12 +57,12 @@ other_moves : (r : Role) (c j : ℕ) → Says c r → is_mark_role r ≡ false �
 other_moves name c j s m n g = flat_moves name 0 j refl
 other_moves keyword c j s m n g = absurd cc
 other_moves greater c zero s m n g = clash _ s (no_end c g).0
-other_moves greater c (suc j) s m n g = inner_moves greater 0 (suc j) tt refl
+other_moves greater c (suc j) s m n g = inner_moves greater 0 (suc j) refl refl
 other_moves greater_stop c j s m n g = absurd cc
 other_moves opening c j s m n g = clash _ s (no_bracket j c g).0
 other_moves closing c j s m n g = clash _ s (no_bracket j c g).1
 other_moves short_circuit c zero s m n g = clash _ s (no_end c g).1
-other_moves short_circuit c (suc j) s m n g = inner_moves short_circuit 0 (suc j) tt refl
+other_moves short_circuit c (suc j) s m n g = inner_moves short_circuit 0 (suc j) refl refl
 other_moves stop c j s m n g = absurd cc
 other_moves other c j s m n g = flat_moves other 0 j refl
 other_moves template_start c j s m n g = absurd cc
