@@ -1,17 +1,13 @@
 -- Behind a comparison's `<` no token that begins with `>` is reached, where no template list was found.
-use Rattle.std.proofs.Common.{◌≡◌, ℕ, Bool, true, false, List, [], ◌∷◌, ◌⊎◌, Option, refl, sym, ap, ◌∙◌, inl, inr}
+use Rattle.std.proofs.Common.{◌≡◌, ℕ, Bool, true, false, ◌&&◌, List, [], ◌∷◌, ◌⊎◌, refl, sym, ap, ◌∙◌, inl, inr}
 use Rattle.std.proofs.lemmas.Bool.{false≢true}
-use Rattle.grammar.specs.Tokens.{Token, front}
-use Rattle.grammar.specs.Grammar.{Mode.full, Chain.base, Chain.more, Means, Derives, is_among}
-use Rattle.grammar.specs.Notation.{one_token, optional}
-use Rattle.grammar.proofs.Sets.{cases}
-use Rattle.grammar.proofs.Depth.{roll, unroll}
-use Rattle.wgsl_model.specs.Classes.{SymAttr, SymBraceLeft, SymColon, KwDefault}
-use Rattle.wgsl_model.specs.Attributes.{Attributes}
+use Rattle.grammar.specs.Tokens.{Token, Span, front}
+use Rattle.grammar.specs.Grammar.{Grammar.empty, Grammar.token, Grammar.sequence, Grammar.choice, Grammar.mapped, Grammar.node, Grammar.checked, Grammar.symbol, Grammar.left_chain, Mode.full, Chain, Chain.base, Chain.more, Means, Derives, is_among}
+use Rattle.grammar.proofs.Sets.{and_true, cases}
+use Rattle.grammar.proofs.Depth.{Kept, roll, unroll, least}
+use Rattle.wgsl_model.specs.Classes.{KwDefault}
 use Rattle.wgsl_model.specs.Expressions.{ExpressionNode}
-use Rattle.wgsl_model.specs.Statements.{CompoundStatement}
-use Rattle.wgsl_model.specs.StatementParts.{attributes}
-use Rattle.wgsl_model.specs.Symbols.{Symbol, expressions, shift_expression, relational_expression, expression, attribute, compound_statement, case_selector, Value}
+use Rattle.wgsl_model.specs.Symbols.{Symbol, expressions, shift_expression, relational_expression, expression, attribute, compound_statement, case_selector, Value, Rule}
 use Rattle.wgsl_model.specs.Written.{written}
 use Rattle.wgsl_canonical_theory.proofs.Again.{D}
 use Rattle.wgsl_template_theory.proofs.Reach.{Role, greater, greater_stop, closing, short_circuit, stop, keyword, template_end, role, Place, reach_role, reach, ahead_role, ahead}
@@ -34,7 +30,7 @@ less_than_is_clear v xs ys d p g none = by (cases (reach p 0 0 (kinds xs)))
     by (inl h) = let w = closes v xs ys operand p g h in absurd (none h w.0 w.1)
     by (inr h) = h
 
--- ---- tokens that end an expression or a list
+-- ---- what ends an expression or a list
 -- a token that begins with `>`, a closing bracket, `&&` or `||`, the end of a template list, and what no expression has
 abbrev pub is_ending : Role → Bool
 is_ending greater = true
@@ -61,30 +57,61 @@ pub ended_before : (s : List ℕ) (t : Token) (ys zs : List Token) → all_roles
 ended_before s t ys zs e known w =
     ap (stretch 0 0) w ∙ ap (λ (n : ℕ). front n (t ∷ zs)) (none_ahead (role t.class) (λ j f. ahead j f (kinds zs)) (role_of is_ending t.class s e known))
 
--- before attributes, if what is behind them ends an expression
-attribute_ended : (v : Value attribute) (ys zs : List Token) → D attribute v ys zs → stretch 0 0 ys ≡ []
-attribute_ended v ys zs d =
-    let m = unroll full written attribute v ys zs d in
-    let parts = m.1.2 in
-    ended_before (SymAttr ∷ []) parts.0.0 ys parts.2.0 refl parts.2.1.0 parts.2.1.1
+-- the symbols that begin with such a token
+abbrev begins_so : Symbol → Bool
+begins_so attribute = true
+begins_so compound_statement = true
+begins_so n = false
 
-pub attributes_ended : (v : Attributes) (ys zs : List Token) → Means full D attributes v ys zs → stretch 0 0 zs ≡ [] → stretch 0 0 ys ≡ []
-attributes_ended v ys zs d e = go v zs d e
+-- what a right side derives begins with such a token, where that is said of what stands behind if it derives nothing
+abbrev pub ending : {A : Type 0} → Bool → Rule A → Bool
+ending b (empty a) = b
+ending b (token s) = all_roles is_ending s
+ending b (sequence g h) = ending (ending b h) g
+ending b (choice g h) = ending b g && ending b h
+ending b (mapped f g) = ending b g
+ending b (node f g) = ending b g
+ending b (checked f g) = ending b g
+ending b (symbol n) = begins_so n
+ending b (left_chain f g h) = ending (b && ending b h) g
+
+abbrev Ended : {A : Type 0} → Bool → (A → List Token → List Token → Type 0) → Type 0
+Ended {A} b P = (v : A) (xs ys : List Token) → (b ≡ true → stretch 0 0 ys ≡ []) → P v xs ys → stretch 0 0 xs ≡ []
+
+chain_ended : {A B : Type 0} (f : A → B → Span → A) (P : A → List Token → List Token → Type 0) (Q : B → List Token → List Token → Type 0) (b c : Bool) → Ended c P → (c ≡ true → Ended b Q)
+    → (xs : List Token) (v : A) (ys : List Token) → (c ≡ true → stretch 0 0 ys ≡ []) → Chain f P Q xs v ys → stretch 0 0 xs ≡ []
+chain_ended f P Q b c H K xs _ _ m (base v ys d) = H v xs ys m d
+chain_ended f P Q b c H K xs _ _ m (more v w us ys d i) = chain_ended f P Q b c H K xs v us (λ t. K t w us ys (λ _. m t) i) d
+
+-- where the symbols derive so
+ended_by : (E : (n : Symbol) → Value n → List Token → List Token → Type 0) → ((n : Symbol) → begins_so n ≡ true → Ended false (E n)) → {A : Type 0} (g : Rule A) (b : Bool) → ending b g ≡ true → Ended b (Means full E g)
+ended_by E H (empty a) b e v xs ys m d = ap (stretch 0 0) d.1 ∙ m e
+ended_by E H (token s) b e v xs ys m d = ended_before s v xs ys e d.0 d.1
+ended_by E H (sequence g h) b e v xs ys m (us, d, i) = ended_by E H g (ending b h) e v.0 xs us (λ t. ended_by E H h b t v.1 us ys m i) d
+ended_by E H (choice g h) b e v xs ys m (inl d) = ended_by E H g b (and_true (ending b g) (ending b h) e).0 v xs ys m d
+ended_by E H (choice g h) b e v xs ys m (inr d) = ended_by E H h b (and_true (ending b g) (ending b h) e).1 v xs ys m d
+ended_by E H (mapped f g) b e v xs ys m d = ended_by E H g b e d.0 xs ys m d.2
+ended_by E H (node f g) b e v xs ys m d = ended_by E H g b e d.0 xs ys m d.2
+ended_by E H (checked f g) b e v xs ys m d = ended_by E H g b e v xs ys m d.1
+ended_by E H (symbol n) b e v xs ys m d = H n e v xs ys (λ t. absurd cc) d
+ended_by E H (left_chain f g h) b e v xs ys m d =
+    let c : Bool = b && ending b h in
+    chain_ended f (Means full E g) (Means full E h) b c (ended_by E H g c e) (λ t. ended_by E H h b (and_true b (ending b h) t).1) xs v ys (λ t. m (and_true b (ending b h) t).0) d
+
+symbols_end : (n : Symbol) → begins_so n ≡ true → ending false (written n) ≡ true
+symbols_end attribute e = refl
+symbols_end compound_statement e = refl
+symbols_end n e = absurd cc
+
+-- before what a right side derives that begins so
+pub ended_at : {A : Type 0} (g : Rule A) → ending false g ≡ true → (v : A) (xs ys : List Token) → Means full D g v xs ys → stretch 0 0 xs ≡ []
+ended_at g e v xs ys d = ended_by D (λ n f w us vs m i. least full written Begins rules n w us vs i f) g false e v xs ys (λ t. absurd cc) d
   where
-    go : (a : Attributes) (us : List Token) → Means full D attributes a ys us → stretch 0 0 us ≡ [] → stretch 0 0 ys ≡ []
-    go _ _ (base a us i) e = ap (stretch 0 0) i.1 ∙ e
-    go _ _ (more a b us vs c i) e = go a us c (attribute_ended i.0 us vs i.2)
+    Begins : (n : Symbol) → Value n → List Token → List Token → Type 0
+    Begins n v xs ys = begins_so n ≡ true → stretch 0 0 xs ≡ []
 
--- before a compound statement, and before an optional colon in front of one
-pub compound_ended : (v : CompoundStatement) (ys zs : List Token) → D compound_statement v ys zs → stretch 0 0 ys ≡ []
-compound_ended v ys zs d =
-    let m = unroll full written compound_statement v ys zs d in
-    let block = m.2.2 in
-    attributes_ended m.0.0 ys m.2.0 m.2.1 (ended_before (SymBraceLeft ∷ []) block.0.0 m.2.0 block.2.0 refl block.2.1.0 block.2.1.1)
-
-pub colon_ended : (v : Option Token) (ys zs : List Token) → Means full D (optional (one_token SymColon)) v ys zs → stretch 0 0 zs ≡ [] → stretch 0 0 ys ≡ []
-colon_ended v ys zs (inl d) e = ended_before (SymColon ∷ []) d.0 ys zs refl d.2.0 d.2.1
-colon_ended v ys zs (inr d) e = ap (stretch 0 0) d.1 ∙ e
+    rules : (n : Symbol) → Kept (Means full Begins (written n)) (Begins n)
+    rules n v xs ys d e = ended_by Begins (λ m f w us vs t i. i f) (written n) false (symbols_end n e) v xs ys (λ t. absurd cc) d
 
 -- ---- the items of a list
 -- from a part that a symbol derives to a token that begins with `>` stands a list of expressions

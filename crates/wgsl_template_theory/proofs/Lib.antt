@@ -5,9 +5,7 @@ pub mod Passing
 pub mod Closes
 pub mod Behind
 pub mod Clear
-pub mod ClearExpressions
-pub mod ClearStatements
-pub mod ClearUnits
+pub mod ClearRules
 pub mod Shapes
 pub mod RoleClasses
 pub mod PassedOver

@@ -17,7 +17,7 @@ use Rattle.wgsl_token_theory.proofs.Decided.{IsList, list_decided}
 use Rattle.wgsl_canonical_theory.specs.CanonicalUnits.{without_place}
 use Rattle.wgsl_template_theory.proofs.Reach.{Role, Role.name, Role.keyword, Role.greater, Role.greater_stop, Role.opening, Role.closing, Role.short_circuit, Role.stop, Role.other, Role.template_start, Role.template_end, role, inside, reach_role, reach, ahead_role, ahead}
 use Rattle.wgsl_template_theory.proofs.Moves.{kinds, stretch, Moves, flat_moves, inner_moves, opening_moves, closing_moves}
-use Rattle.wgsl_template_theory.proofs.ClearUnits.{list_clear}
+use Rattle.wgsl_template_theory.proofs.ClearRules.{list_clear}
 use Rattle.wgsl_template_theory.proofs.Shapes.{is_word_role}
 use Rattle.wgsl_template_theory.proofs.RoleClasses.{Says, role_says, is_mark_role, opening_role, closing_role, word_role}
 use Rattle.wgsl_template_theory.proofs.RawClasses.{raw_unmarked}

@@ -17,7 +17,7 @@ use Rattle.wgsl_canonical_theory.proofs.Again.{D}
 use Rattle.wgsl_canonical_theory.proofs.Derived.{by_derivation}
 use Rattle.wgsl_template_theory.proofs.Reach.{Place.inside, role}
 use Rattle.wgsl_template_theory.proofs.Moves.{kinds}
-use Rattle.wgsl_template_theory.proofs.ClearUnits.{list_clear}
+use Rattle.wgsl_template_theory.proofs.ClearRules.{list_clear}
 use Rattle.wgsl_template_theory.proofs.Nested.{Nested, same_tail, same_split, end_role, clear_nested}
 use Rattle.wgsl_template_theory.proofs.Swapped.{Swapped, none_swapped, with_token, with_template, begins, begins_alike}
 

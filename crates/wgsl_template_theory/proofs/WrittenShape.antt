@@ -14,7 +14,7 @@ use Rattle.wgsl_canonical_theory.proofs.DerivedAgain.{unit_again}
 use Rattle.wgsl_template_theory.proofs.Reach.{Role, role, Role.template_start, Role.template_end, Place, Place.outside, Place.inside}
 use Rattle.wgsl_template_theory.proofs.Moves.{kinds, role_of}
 use Rattle.wgsl_template_theory.proofs.Clear.{AllClear}
-use Rattle.wgsl_template_theory.proofs.ClearUnits.{unit_clear, list_clear}
+use Rattle.wgsl_template_theory.proofs.ClearRules.{unit_clear, list_clear}
 use Rattle.wgsl_template_theory.proofs.Shapes.{is_word_role, is_greater_role, is_plain_role, shape_end, shape_opening, shape_closing, shape_greater, shape_short_circuit, shape_plain, shape_word, shape_template, DerivesList, NotReached, IsSourceShape, NeverReached, IsWrittenShape}
 use Rattle.wgsl_template_theory.proofs.RoleClasses.{is_mark_role, word_unmarked, greater_unmarked, plain_unmarked}
 use Rattle.wgsl_template_theory.proofs.SourceShape.{source_shape}
