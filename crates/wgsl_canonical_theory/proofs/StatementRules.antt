@@ -19,7 +19,7 @@ use Rattle.wgsl_canonical_theory.specs.CanonicalExpressions.{Writes, expression_
 use Rattle.wgsl_canonical_theory.specs.CanonicalStatements.{kind_tokens, end_token, unended_tokens, compound_tokens, switch_clause_tokens}
 use Rattle.wgsl_canonical_theory.proofs.Words.{AllWords}
 use Rattle.wgsl_canonical_theory.proofs.Again.{D, write, Same, Ended, Unended, Finds, Again}
-use Rattle.wgsl_canonical_theory.proofs.Ways.{Outcome, Reads, first_of, class_of, words_behind, then_reads, or_reads, gives_reads, makes_reads, before_reads, behind_reads, means_reads, optional_reads, no_sign_reads, list_reads}
+use Rattle.wgsl_canonical_theory.proofs.Ways.{Outcome, Reads, first_of, class_of, then_reads, or_reads, gives_reads, makes_reads, sign_reads, before_reads, behind_reads, means_reads, optional_reads, no_sign_reads, list_reads}
 use Rattle.wgsl_canonical_theory.proofs.Rules.{AttributeReads, IsReadAgain, attributes_read, call_reads, case_selector_reads, compound_reads, const_assert_reads, expression_reads, for_init_reads, for_update_reads, found_by, ident_reads, initializer_reads, lhs_expression_reads, type_specifier_reads, typed_ident_reads, var_kind_reads, with_known, without_known}
 use Rattle.wgsl_canonical_theory.proofs.StatementParts.{break_if_reads, assignment_operator_reads, else_reads, maybe_continuing_reads, part_reads, else_ifs_read, clauses_read, statements_read}
 
@@ -150,16 +150,6 @@ pub case_selector_rule : IsReadAgain case_selector
 case_selector_rule v xs ys d words = with_known (found_by case_selector written_case_selector_reads v xs ys d words) tt
 
 -- ---- the phony assignment, whose left side is the identifier `_`
-sign_reads : (c : ℕ) → is_among c (c ∷ []) ≡ true → Reads (one_token c) (λ v rest. plain c ∷ rest) (λ w v. Unit {0})
-sign_reads c known = record {
-  again = λ v xs ys d words. (
-    words_behind v xs ys d.1 words,
-    λ us ks e.
-        let first = first_of (plain c) ks us e in
-        record { value = first.token; rest = first.rest; kinds = first.kinds; like = tt; derived = (class_of (plain c) first.token (c ∷ []) first.kind known, first.whole) },
-  );
-}
-
 underscore_reads : Reads (one_token SymUnderscore makes underscore_at) expression_node_tokens (λ w v. bare_expression_node w ≡ bare_expression_node v)
 underscore_reads = makes_reads (sign_reads SymUnderscore refl) (λ a span rest. refl) (λ w a s r h. refl)
 

@@ -104,58 +104,25 @@ equal_reads G s t = record {
       );
 }
 
--- ---- a sign or a keyword before a part, behind it, or for a value
-pub before_reads : {A : Type 0} (c : ℕ) {g : Rule A} {writes : Writes A} {like : A → A → Type 0} → is_among c (c ∷ []) ≡ true → Reads g writes like → Reads (c ▹ g) (λ v rest. plain c ∷ writes v rest) like
-before_reads {A} c {g} {writes} {like} known G = record {
-  again = λ v xs ys d words.
-      subst (λ (z : A). Outcome (c ▹ g) (λ v rest. plain c ∷ writes v rest) like z ys) d.1 (
-      let token = d.0.0 in
-      let found = G.again d.0.1 d.2.0 ys d.2.2 (words_behind token xs d.2.0 d.2.1.1 words) in (
-        found.0,
-        λ us ks e.
-            let first = first_of (plain c) (writes d.0.1 ks) us e in
-            let a = found.1 first.rest ks first.kinds in
-            record {
-              value = a.value;
-              rest = a.rest;
-              kinds = a.kinds;
-              like = a.like;
-              derived = ((first.token, a.value), refl, (first.rest, (class_of (plain c) first.token (c ∷ []) first.kind known, first.whole), a.derived));
-            },
-      )
-      );
+-- ---- a sign or a keyword, before a part, behind it, or for a value
+pub sign_reads : (c : ℕ) → is_among c (c ∷ []) ≡ true → Reads (one_token c) (λ v rest. plain c ∷ rest) (λ w v. Unit {0})
+sign_reads c known = record {
+  again = λ v xs ys d words. (
+    words_behind v xs ys d.1 words,
+    λ us ks e.
+        let first = first_of (plain c) ks us e in
+        record { value = first.token; rest = first.rest; kinds = first.kinds; like = tt; derived = (class_of (plain c) first.token (c ∷ []) first.kind known, first.whole) },
+  );
 }
+
+pub before_reads : {A : Type 0} (c : ℕ) {g : Rule A} {writes : Writes A} {like : A → A → Type 0} → is_among c (c ∷ []) ≡ true → Reads g writes like → Reads (c ▹ g) (λ v rest. plain c ∷ writes v rest) like
+before_reads c known G = gives_reads (then_reads (sign_reads c known) G) (λ a rest. refl) (λ w a h. h.1)
 
 pub behind_reads : {A : Type 0} (c : ℕ) {g : Rule A} {writes : Writes A} {like : A → A → Type 0} → is_among c (c ∷ []) ≡ true → Reads g writes like → Reads (g ◃ c) (λ v rest. writes v (plain c ∷ rest)) like
-behind_reads {A} c {g} {writes} {like} known G = record {
-  again = λ v xs ys d words.
-      subst (λ (z : A). Outcome (g ◃ c) (λ v rest. writes v (plain c ∷ rest)) like z ys) d.1 (
-      let found = G.again d.0.0 xs d.2.0 d.2.1 words in (
-        words_behind d.0.1 d.2.0 ys d.2.2.1 found.0,
-        λ us ks e.
-            let a = found.1 us (plain c ∷ ks) e in
-            let last = first_of (plain c) ks a.rest a.kinds in
-            record {
-              value = a.value;
-              rest = last.rest;
-              kinds = last.kinds;
-              like = a.like;
-              derived = ((a.value, last.token), refl, (a.rest, a.derived, (class_of (plain c) last.token (c ∷ []) last.kind known, last.whole)));
-            },
-      )
-      );
-}
+behind_reads c known G = gives_reads (then_reads G (sign_reads c known)) (λ a rest. refl) (λ w a h. h.0)
 
 pub means_reads : {A : Type 0} (c : ℕ) {a : A} {writes : Writes A} {like : A → A → Type 0} → is_among c (c ∷ []) ≡ true → ((rest : List Kind) → writes a rest ≡ plain c ∷ rest) → like a a → Reads (c means a) writes like
-means_reads {A} c {a} {writes} {like} known s t = record {
-  again = λ v xs ys d words.
-      subst (λ (z : A). Outcome (c means a) writes like z ys) d.1 (
-        words_behind d.0 xs ys d.2.1 words,
-        λ us ks e.
-            let first = first_of (plain c) ks us (e ∙ s ks) in
-            record { value = a; rest = first.rest; kinds = first.kinds; like = t; derived = (first.token, refl, (class_of (plain c) first.token (c ∷ []) first.kind known, first.whole)) },
-      );
-}
+means_reads c known s t = gives_reads (sign_reads c known) (λ a rest. s rest) (λ w a h. t)
 
 -- ---- nothing, and a part that may be left out
 pub none_reads : {A : Type 0} {a : A} {writes : Writes A} {like : A → A → Type 0} → ((rest : List Kind) → writes a rest ≡ rest) → like a a → Reads (empty a) writes like
