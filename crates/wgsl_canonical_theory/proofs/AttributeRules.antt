@@ -27,7 +27,7 @@ use Rattle.wgsl_canonical_theory.specs.CanonicalUnits.{without_place}
 use Rattle.wgsl_canonical_theory.proofs.Words.{AllWords}
 use Rattle.wgsl_canonical_theory.proofs.Again.{D, Again, write, Same, template_list_tokens, same_arguments}
 use Rattle.wgsl_canonical_theory.proofs.Ways.{Reads, Outcome, first_of, class_of, then_reads, makes_reads, before_reads, optional_reads}
-use Rattle.wgsl_canonical_theory.proofs.Rules.{ident_reads, template_list_reads, arguments_reads}
+use Rattle.wgsl_canonical_theory.proofs.Rules.{symbol_reads}
 use Rattle.wgsl_canonical_theory.proofs.PlainNames.{named}
 use Rattle.wgsl_canonical_theory.proofs.AttributeTokens.{space_tokens, attribute_written}
 use Rattle.wgsl_canonical_theory.proofs.AttributeLikeness.{space_alike, attribute_alike}
@@ -58,7 +58,7 @@ name_reads = record {
 }
 
 parts_read : Reads (SymAttr ▹ token (Ident ∷ ReservedWord ∷ keyword_classes) then optional (symbol arguments) makes attribute_parts) (write attribute) (Same attribute)
-parts_read = makes_reads (before_reads SymAttr refl (then_reads name_reads (optional_reads arguments_reads))) (λ a span rest. refl) (λ w a s r h. h)
+parts_read = makes_reads (before_reads SymAttr refl (then_reads name_reads (optional_reads (symbol_reads arguments)))) (λ a span rest. refl) (λ w a s r h. h)
 
 pub attribute_rule : (v : Spanned AttributeParts) (xs ys : List Token) → D attribute v xs ys → Means full Again (written attribute) v xs ys → Again attribute v xs ys
 attribute_rule v xs ys derived d words =
@@ -119,7 +119,7 @@ template_written (Some es) span h rest =
     rw known.1 (ap (λ (z : List Kind). plain KwVar ∷ z) (space_tokens es known.0 known.1 rest))
 
 template_reads : Reads (KwVar ▹ optional (symbol template_list)) (λ v rest. plain KwVar ∷ optional_tokens template_list_tokens v rest) (λ w v. same_arguments w ≡ same_arguments v)
-template_reads = before_reads KwVar refl (optional_reads template_list_reads)
+template_reads = before_reads KwVar refl (optional_reads (symbol_reads template_list))
 
 pub var_template_rule : (v : Option (List ExpressionNode)) (xs ys : List Token) → Means full Again (written var_template) v xs ys → Again var_template v xs ys
 var_template_rule v xs ys d words =
@@ -140,7 +140,7 @@ var_template_rule v xs ys d words =
 
 -- ---- severities
 severity_reads : Reads (KwDiagnostic ▹ SymParenLeft ▹ symbol ident) (write diagnostic_severity) (Same diagnostic_severity)
-severity_reads = before_reads KwDiagnostic refl (before_reads SymParenLeft refl ident_reads)
+severity_reads = before_reads KwDiagnostic refl (before_reads SymParenLeft refl (symbol_reads ident))
 
 -- an identifier is no reserved word
 unreserved_ident : (v : Token) (xs ys : List Token) → D ident v xs ys → (v.class == ReservedWord) ≡ false

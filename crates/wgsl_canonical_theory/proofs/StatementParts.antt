@@ -13,24 +13,24 @@ use Rattle.wgsl_model.specs.PrintedStatements.{is_void}
 use Rattle.wgsl_model.specs.StatementParts.{statements, assignment_operator, else_if, else_block, break_if}
 use Rattle.wgsl_model.specs.StatementsWithoutSpans.{bare_break_if, bare_statement_node, bare_statements, bare_else_if_clause, bare_else_ifs, bare_else_clause, bare_else, bare_switch_clause, bare_clauses, bare_maybe_continuing, bare_part}
 use Rattle.wgsl_model.specs.EmptyItems.{full_statement, full_statements, full_else_if_clause, full_else_ifs, full_else_clause, full_else, full_switch_clause, full_clauses, full_maybe_continuing, full_part}
-use Rattle.wgsl_model.specs.Symbols.{Symbol.statement, Symbol.switch_clause, Symbol.continuing_statement, Rule}
+use Rattle.wgsl_model.specs.Symbols.{Symbol.statement, Symbol.switch_clause, Symbol.continuing_statement, Rule, compound_statement, expression}
 use Rattle.wgsl_canonical_theory.specs.CanonicalExpressions.{Writes, all_tokens}
 use Rattle.wgsl_canonical_theory.specs.CanonicalStatements.{assignment_operator_class, break_if_tokens, end_token, unended_tokens, statements_tokens, else_ifs_tokens, else_if_clause_tokens, else_tokens, else_clause_tokens, clauses_tokens, switch_clause_tokens, maybe_continuing_tokens, part_tokens}
 use Rattle.wgsl_canonical_theory.specs.CanonicalUnits.{without_place}
 use Rattle.wgsl_canonical_theory.proofs.Words.{AllWords}
 use Rattle.wgsl_canonical_theory.proofs.Again.{D, header_tokens, seen_statement, write, Same, Found, Again}
 use Rattle.wgsl_canonical_theory.proofs.Ways.{Outcome, Reads, then_reads, or_reads, gives_reads, equal_reads, before_reads, behind_reads, means_reads, none_reads, many_reads, several_reads}
-use Rattle.wgsl_canonical_theory.proofs.Rules.{compound_reads, continuing_statement_reads, expression_reads, statement_reads, switch_clause_reads}
+use Rattle.wgsl_canonical_theory.proofs.Rules.{symbol_reads}
 
 -- ---- parts of one rule
 pub break_if_reads : Reads break_if break_if_tokens (λ w v. bare_break_if w ≡ bare_break_if v)
-break_if_reads = gives_reads (before_reads KwBreak refl (before_reads KwIf refl (behind_reads SymSemicolon refl expression_reads))) (λ a rest. refl) (λ w a h. λ i. record { expression = h i })
+break_if_reads = gives_reads (before_reads KwBreak refl (before_reads KwIf refl (behind_reads SymSemicolon refl (symbol_reads expression)))) (λ a rest. refl) (λ w a h. λ i. record { expression = h i })
 
 else_if_reads : Reads else_if else_if_clause_tokens (λ w v. bare_else_if_clause w ≡ bare_else_if_clause (full_else_if_clause v))
-else_if_reads = gives_reads (before_reads KwElse refl (before_reads KwIf refl (then_reads expression_reads compound_reads))) (λ a rest. refl) (λ w a h. λ i. tree.else_if_clause (h.0 i) (h.1 i))
+else_if_reads = gives_reads (before_reads KwElse refl (before_reads KwIf refl (then_reads (symbol_reads expression) (symbol_reads compound_statement)))) (λ a rest. refl) (λ w a h. λ i. tree.else_if_clause (h.0 i) (h.1 i))
 
 else_block_reads : Reads else_block else_clause_tokens (λ w v. bare_else_clause w ≡ bare_else_clause (full_else_clause v))
-else_block_reads = gives_reads (before_reads KwElse refl compound_reads) (λ a rest. refl) (λ w a h. λ i. tree.else_clause (h i))
+else_block_reads = gives_reads (before_reads KwElse refl (symbol_reads compound_statement)) (λ a rest. refl) (λ w a h. λ i. tree.else_clause (h i))
 
 -- the operators of assignments
 operator_reads : (c : ℕ) {operator : AssignmentOperator} → assignment_operator_class operator ≡ c → is_among c (c ∷ []) ≡ true
@@ -47,7 +47,7 @@ pub else_reads : Reads (optional else_block) (λ v rest. else_tokens (else_of v)
 else_reads = or_reads (gives_reads else_block_reads (λ a rest. refl) (λ w a h. λ i. tree.one_else (h i))) (none_reads (λ rest. refl) refl)
 
 pub maybe_continuing_reads : Reads (optional (symbol continuing_statement)) (λ v rest. maybe_continuing_tokens (continuing_of v) rest) (λ w v. bare_maybe_continuing (continuing_of w) ≡ bare_maybe_continuing (full_maybe_continuing (continuing_of v)))
-maybe_continuing_reads = or_reads (gives_reads continuing_statement_reads (λ a rest. refl) (λ w a h. λ i. tree.one_continuing (h i))) (none_reads (λ rest. refl) refl)
+maybe_continuing_reads = or_reads (gives_reads (symbol_reads continuing_statement) (λ a rest. refl) (λ w a h. λ i. tree.one_continuing (h i))) (none_reads (λ rest. refl) refl)
 
 -- a part of the header of a `for`
 pub part_written : (s : StatementNode) (rest : List Kind) → part_tokens (tree.one_statement s) rest ≡ header_tokens s rest
@@ -89,7 +89,7 @@ clauses_seen [] = refl
 clauses_seen (c ∷ cs) = ap (clause_before (bare_switch_clause (full_switch_clause c))) (clauses_seen cs)
 
 pub clauses_read : Reads (several (symbol switch_clause)) (λ v rest. clauses_tokens (clauses_of v) rest) (λ w v. bare_clauses (clauses_of w) ≡ bare_clauses (full_clauses (clauses_of v)))
-clauses_read = equal_reads (several_reads switch_clause_reads) clauses_written (λ w v h. clauses_bare w ∙ ap clauses_of h ∙ clauses_seen v)
+clauses_read = equal_reads (several_reads (symbol_reads switch_clause)) clauses_written (λ w v h. clauses_bare w ∙ ap clauses_of h ∙ clauses_seen v)
 
 -- ---- statements, where empty ones are left out
 -- a statement in a list
@@ -172,4 +172,4 @@ statements_read = record { again = λ v xs ys d words. go xs v ys d words } wher
       (found.0, λ us ks e. let x = found.1 us ks e in record { value = x.value; rest = x.rest; kinds = x.kinds; like = x.like; derived = base x.value x.rest x.derived })
   go xs _ _ (more a (statement_node s span) ys zs c d) words =
       let before = go xs a ys c words in
-      one_more a s span ys zs before (statement_reads.again (statement_node s span) ys zs d before.0)
+      one_more a s span ys zs before ((symbol_reads statement).again (statement_node s span) ys zs d before.0)

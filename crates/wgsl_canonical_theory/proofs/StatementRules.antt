@@ -13,14 +13,14 @@ use Rattle.wgsl_model.specs.StatementParts.{underscore_at, clause_of}
 use Rattle.wgsl_model.specs.WithoutSpans.{no_span, bare_expression_node}
 use Rattle.wgsl_model.specs.StatementsWithoutSpans.{bare_statement, bare_compound, bare_switch_clause}
 use Rattle.wgsl_model.specs.EmptyItems.{full_statement, full_compound, full_switch_clause}
-use Rattle.wgsl_model.specs.Symbols.{Symbol.compound_statement, Symbol.statement, Symbol.return_statement, Symbol.if_statement, Symbol.switch_statement, Symbol.loop_statement, Symbol.for_statement, Symbol.while_statement, Symbol.call_statement, Symbol.var_statement, Symbol.value_statement, Symbol.break_statement, Symbol.continue_statement, Symbol.discard_statement, Symbol.assignment, Symbol.phony_assignment, Symbol.increment, Symbol.decrement, Symbol.const_assert, Symbol.switch_clause, Symbol.case_selector, Symbol.continuing_statement, Symbol.for_init, Symbol.for_update, Symbol.typed_ident, Rule}
+use Rattle.wgsl_model.specs.Symbols.{Symbol.compound_statement, Symbol.statement, Symbol.return_statement, Symbol.if_statement, Symbol.switch_statement, Symbol.loop_statement, Symbol.for_statement, Symbol.while_statement, Symbol.call_statement, Symbol.var_statement, Symbol.value_statement, Symbol.break_statement, Symbol.continue_statement, Symbol.discard_statement, Symbol.assignment, Symbol.phony_assignment, Symbol.increment, Symbol.decrement, Symbol.const_assert, Symbol.switch_clause, Symbol.case_selector, Symbol.continuing_statement, Symbol.for_init, Symbol.for_update, Symbol.typed_ident, Rule, call, expression, ident, lhs_expression, type_specifier}
 use Rattle.wgsl_model.specs.Written.{written}
 use Rattle.wgsl_canonical_theory.specs.CanonicalExpressions.{Writes, expression_node_tokens}
 use Rattle.wgsl_canonical_theory.specs.CanonicalStatements.{kind_tokens, end_token, unended_tokens, compound_tokens, switch_clause_tokens}
 use Rattle.wgsl_canonical_theory.proofs.Words.{AllWords}
 use Rattle.wgsl_canonical_theory.proofs.Again.{D, write, Same, Ended, Unended, Finds, Again}
 use Rattle.wgsl_canonical_theory.proofs.Ways.{Outcome, Reads, first_of, class_of, then_reads, or_reads, gives_reads, makes_reads, sign_reads, before_reads, behind_reads, means_reads, optional_reads, no_sign_reads, list_reads}
-use Rattle.wgsl_canonical_theory.proofs.Rules.{AttributeReads, IsReadAgain, attributes_read, call_reads, case_selector_reads, compound_reads, const_assert_reads, expression_reads, for_init_reads, for_update_reads, found_by, ident_reads, initializer_reads, lhs_expression_reads, type_specifier_reads, typed_ident_reads, var_kind_reads, with_known, without_known}
+use Rattle.wgsl_canonical_theory.proofs.Rules.{AttributeReads, IsReadAgain, attributes_read, found_by, initializer_reads, var_kind_reads, with_known, without_known, symbol_reads}
 use Rattle.wgsl_canonical_theory.proofs.StatementParts.{break_if_reads, assignment_operator_reads, else_reads, maybe_continuing_reads, part_reads, else_ifs_read, clauses_read, statements_read}
 
 -- ---- blocks and their parts
@@ -39,14 +39,14 @@ continuing_statement_rule one v xs ys d words = with_known (found_by continuing_
 
 -- ---- statements that no `;` ends
 written_if_statement_reads : AttributeReads → Reads (written if_statement) (write if_statement) (Same if_statement)
-written_if_statement_reads one = gives_reads (then_reads (attributes_read one) (before_reads KwIf refl (then_reads expression_reads (then_reads compound_reads (then_reads else_ifs_read else_reads)))))
+written_if_statement_reads one = gives_reads (then_reads (attributes_read one) (before_reads KwIf refl (then_reads (symbol_reads expression) (then_reads (symbol_reads compound_statement) (then_reads else_ifs_read else_reads)))))
     (λ a rest. refl) (λ w a h. λ i. tree.if_statement (tree.if_else (h.0 i) (tree.if_clause (h.1.0 i) (h.1.1.0 i)) (h.1.1.1.0 i) (h.1.1.1.1 i)))
 
 pub if_statement_rule : AttributeReads → IsReadAgain if_statement
 if_statement_rule one v xs ys d words = with_known (found_by if_statement (written_if_statement_reads one) v xs ys d words) (subst Unended d.1 (λ rest. refl))
 
 written_switch_statement_reads : AttributeReads → Reads (written switch_statement) (write switch_statement) (Same switch_statement)
-written_switch_statement_reads one = gives_reads (then_reads (attributes_read one) (before_reads KwSwitch refl (then_reads expression_reads (then_reads (attributes_read one) (before_reads SymBraceLeft refl (behind_reads SymBraceRight refl clauses_read))))))
+written_switch_statement_reads one = gives_reads (then_reads (attributes_read one) (before_reads KwSwitch refl (then_reads (symbol_reads expression) (then_reads (attributes_read one) (before_reads SymBraceLeft refl (behind_reads SymBraceRight refl clauses_read))))))
     (λ a rest. refl) (λ w a h. λ i. tree.switch_statement (tree.switch (h.0 i) (h.1.0 i) (h.1.1.0 i) (h.1.1.1 i)))
 
 pub switch_statement_rule : AttributeReads → IsReadAgain switch_statement
@@ -60,34 +60,34 @@ pub loop_statement_rule : AttributeReads → IsReadAgain loop_statement
 loop_statement_rule one v xs ys d words = with_known (found_by loop_statement (written_loop_statement_reads one) v xs ys d words) (subst Unended d.1 (λ rest. refl))
 
 written_for_statement_reads : AttributeReads → Reads (written for_statement) (write for_statement) (Same for_statement)
-written_for_statement_reads one = gives_reads (then_reads (attributes_read one) (before_reads KwFor refl (before_reads SymParenLeft refl (then_reads (behind_reads SymSemicolon refl (part_reads for_init_reads))
-    (then_reads (behind_reads SymSemicolon refl (optional_reads expression_reads)) (then_reads (behind_reads SymParenRight refl (part_reads for_update_reads)) compound_reads))))))
+written_for_statement_reads one = gives_reads (then_reads (attributes_read one) (before_reads KwFor refl (before_reads SymParenLeft refl (then_reads (behind_reads SymSemicolon refl (part_reads (symbol_reads for_init)))
+    (then_reads (behind_reads SymSemicolon refl (optional_reads (symbol_reads expression))) (then_reads (behind_reads SymParenRight refl (part_reads (symbol_reads for_update))) (symbol_reads compound_statement)))))))
     (λ a rest. refl) (λ w a h. λ i. tree.for_statement (tree.repeat_for (h.0 i) (h.1.0 i) (h.1.1.0 i) (h.1.1.1.0 i) (h.1.1.1.1 i)))
 
 pub for_statement_rule : AttributeReads → IsReadAgain for_statement
 for_statement_rule one v xs ys d words = with_known (found_by for_statement (written_for_statement_reads one) v xs ys d words) (subst Unended d.1 (λ rest. refl))
 
 written_while_statement_reads : AttributeReads → Reads (written while_statement) (write while_statement) (Same while_statement)
-written_while_statement_reads one = gives_reads (then_reads (attributes_read one) (before_reads KwWhile refl (then_reads expression_reads compound_reads))) (λ a rest. refl) (λ w a h. λ i. tree.while_statement (tree.repeat_while (h.0 i) (h.1.0 i) (h.1.1 i)))
+written_while_statement_reads one = gives_reads (then_reads (attributes_read one) (before_reads KwWhile refl (then_reads (symbol_reads expression) (symbol_reads compound_statement)))) (λ a rest. refl) (λ w a h. λ i. tree.while_statement (tree.repeat_while (h.0 i) (h.1.0 i) (h.1.1 i)))
 
 pub while_statement_rule : AttributeReads → IsReadAgain while_statement
 while_statement_rule one v xs ys d words = with_known (found_by while_statement (written_while_statement_reads one) v xs ys d words) (subst Unended d.1 (λ rest. refl))
 
 -- ---- statements that a `;` ends
 written_return_statement_reads : Reads (written return_statement) (write return_statement) (Same return_statement)
-written_return_statement_reads = gives_reads (before_reads KwReturn refl (optional_reads expression_reads)) (λ a rest. refl) (λ w a h. λ i. tree.return_statement (record { expression = h i }))
+written_return_statement_reads = gives_reads (before_reads KwReturn refl (optional_reads (symbol_reads expression))) (λ a rest. refl) (λ w a h. λ i. tree.return_statement (record { expression = h i }))
 
 pub return_statement_rule : IsReadAgain return_statement
 return_statement_rule v xs ys d words = with_known (found_by return_statement written_return_statement_reads v xs ys d words) (subst Ended d.1 (λ rest. refl))
 
 written_call_statement_reads : Reads (written call_statement) (write call_statement) (Same call_statement)
-written_call_statement_reads = gives_reads call_reads (λ a rest. refl) (λ w a h. λ i. tree.function_call_statement (record { call = h i }))
+written_call_statement_reads = gives_reads (symbol_reads call) (λ a rest. refl) (λ w a h. λ i. tree.function_call_statement (record { call = h i }))
 
 pub call_statement_rule : IsReadAgain call_statement
 call_statement_rule v xs ys d words = with_known (found_by call_statement written_call_statement_reads v xs ys d words) (subst Ended d.1 (λ rest. refl))
 
 written_var_statement_reads : Reads (written var_statement) (write var_statement) (Same var_statement)
-written_var_statement_reads = gives_reads (then_reads var_kind_reads (then_reads typed_ident_reads (optional_reads initializer_reads))) (λ a rest. refl)
+written_var_statement_reads = gives_reads (then_reads var_kind_reads (then_reads (symbol_reads typed_ident) (optional_reads initializer_reads))) (λ a rest. refl)
     (λ w a h. λ i. tree.declaration (record { attributes = []; kind = h.0 i; ident = h.1.0.0 i; ty = h.1.0.1 i; initializer = h.1.1 i }))
 
 pub var_statement_rule : IsReadAgain var_statement
@@ -97,7 +97,7 @@ value_kind_reads : Reads (KwLet means let_kind or KwConst means const_kind) kind
 value_kind_reads = or_reads (means_reads KwLet refl (λ rest. refl) refl) (means_reads KwConst refl (λ rest. refl) refl)
 
 written_value_statement_reads : Reads (written value_statement) (write value_statement) (Same value_statement)
-written_value_statement_reads = gives_reads (then_reads value_kind_reads (then_reads typed_ident_reads initializer_reads)) (λ a rest. refl)
+written_value_statement_reads = gives_reads (then_reads value_kind_reads (then_reads (symbol_reads typed_ident) initializer_reads)) (λ a rest. refl)
     (λ w a h. λ i. tree.declaration (record { attributes = []; kind = h.0 i; ident = h.1.0.0 i; ty = h.1.0.1 i; initializer = Some (h.1.1 i) }))
 
 pub value_statement_rule : IsReadAgain value_statement
@@ -113,38 +113,38 @@ pub discard_statement_rule : IsReadAgain discard_statement
 discard_statement_rule v xs ys d words = with_known (found_by discard_statement (means_reads KwDiscard refl (λ rest. refl) refl) v xs ys d words) (subst Ended d.1 (λ rest. refl))
 
 written_assignment_reads : Reads (written assignment) (write assignment) (Same assignment)
-written_assignment_reads = gives_reads (then_reads lhs_expression_reads (then_reads assignment_operator_reads expression_reads)) (λ a rest. refl) (λ w a h. λ i. tree.assignment (record { operator = h.1.0 i; lhs = h.0 i; rhs = h.1.1 i }))
+written_assignment_reads = gives_reads (then_reads (symbol_reads lhs_expression) (then_reads assignment_operator_reads (symbol_reads expression))) (λ a rest. refl) (λ w a h. λ i. tree.assignment (record { operator = h.1.0 i; lhs = h.0 i; rhs = h.1.1 i }))
 
 pub assignment_rule : IsReadAgain assignment
 assignment_rule v xs ys d words = with_known (found_by assignment written_assignment_reads v xs ys d words) (subst Ended d.1 (λ rest. refl))
 
 written_increment_reads : Reads (written increment) (write increment) (Same increment)
-written_increment_reads = gives_reads (behind_reads SymPlusPlus refl lhs_expression_reads) (λ a rest. refl) (λ w a h. λ i. tree.increment (record { expression = h i }))
+written_increment_reads = gives_reads (behind_reads SymPlusPlus refl (symbol_reads lhs_expression)) (λ a rest. refl) (λ w a h. λ i. tree.increment (record { expression = h i }))
 
 pub increment_rule : IsReadAgain increment
 increment_rule v xs ys d words = with_known (found_by increment written_increment_reads v xs ys d words) (subst Ended d.1 (λ rest. refl))
 
 written_decrement_reads : Reads (written decrement) (write decrement) (Same decrement)
-written_decrement_reads = gives_reads (behind_reads SymMinusMinus refl lhs_expression_reads) (λ a rest. refl) (λ w a h. λ i. tree.decrement (record { expression = h i }))
+written_decrement_reads = gives_reads (behind_reads SymMinusMinus refl (symbol_reads lhs_expression)) (λ a rest. refl) (λ w a h. λ i. tree.decrement (record { expression = h i }))
 
 pub decrement_rule : IsReadAgain decrement
 decrement_rule v xs ys d words = with_known (found_by decrement written_decrement_reads v xs ys d words) (subst Ended d.1 (λ rest. refl))
 
 written_const_assert_reads : Reads (written const_assert) (write const_assert) (Same const_assert)
-written_const_assert_reads = gives_reads (before_reads KwConstAssert refl expression_reads) (λ a rest. refl) (λ w a h. λ i. record { expression = h i })
+written_const_assert_reads = gives_reads (before_reads KwConstAssert refl (symbol_reads expression)) (λ a rest. refl) (λ w a h. λ i. record { expression = h i })
 
 pub const_assert_rule : IsReadAgain const_assert
 const_assert_rule v xs ys d words = with_known (found_by const_assert written_const_assert_reads v xs ys d words) tt
 
 -- ---- a name with its type, and what a clause selects
 written_typed_ident_reads : Reads (written typed_ident) (write typed_ident) (Same typed_ident)
-written_typed_ident_reads = gives_reads (then_reads ident_reads (optional_reads (before_reads SymColon refl type_specifier_reads))) (λ a rest. refl) (λ w a h. h)
+written_typed_ident_reads = gives_reads (then_reads (symbol_reads ident) (optional_reads (before_reads SymColon refl (symbol_reads type_specifier)))) (λ a rest. refl) (λ w a h. h)
 
 pub typed_ident_rule : IsReadAgain typed_ident
 typed_ident_rule v xs ys d words = with_known (found_by typed_ident written_typed_ident_reads v xs ys d words) tt
 
 written_case_selector_reads : Reads (written case_selector) (write case_selector) (Same case_selector)
-written_case_selector_reads = or_reads (means_reads KwDefault refl (λ rest. refl) refl) (gives_reads expression_reads (λ a rest. refl) (λ w a h. λ i. expression_selector (h i)))
+written_case_selector_reads = or_reads (means_reads KwDefault refl (λ rest. refl) refl) (gives_reads (symbol_reads expression) (λ a rest. refl) (λ w a h. λ i. expression_selector (h i)))
 
 pub case_selector_rule : IsReadAgain case_selector
 case_selector_rule v xs ys d words = with_known (found_by case_selector written_case_selector_reads v xs ys d words) tt
@@ -174,10 +174,10 @@ abbrev LikeClause : SwitchClause → SwitchClause → Type 0
 LikeClause w v = bare_switch_clause w ≡ bare_switch_clause (full_switch_clause v)
 
 clause_body_reads : Reads clause_body (λ p rest. compound_tokens p.1 rest) (λ w v. Unit {0} × (bare_compound w.1 ≡ bare_compound (full_compound v.1)))
-clause_body_reads = then_reads no_sign_reads compound_reads
+clause_body_reads = then_reads no_sign_reads (symbol_reads compound_statement)
 
 case_clause_reads : Reads case_clause switch_clause_tokens LikeClause
-case_clause_reads = gives_reads (before_reads KwCase refl (then_reads (list_reads case_selector_reads) clause_body_reads)) (λ a rest. refl) (λ w a h. λ i. tree.switch_clause (h.0 i) (h.1.1 i))
+case_clause_reads = gives_reads (before_reads KwCase refl (then_reads (list_reads (symbol_reads case_selector)) clause_body_reads)) (λ a rest. refl) (λ w a h. λ i. tree.switch_clause (h.0 i) (h.1.1 i))
 
 -- `case` before `default` and its block
 case_default : (p : Option Token × CompoundStatement) (t : Token) (xs zs ys : List Token) → is_among t.class (KwCase ∷ []) ≡ true → xs ≡ t ∷ zs → Means full D (KwDefault ▹ clause_body) p zs ys → Means full D case_clause (clause_of (default_selector ∷ []) p.1) xs ys
@@ -263,8 +263,8 @@ written_statement_reads = makes_reads {writes = ended_tokens} {like = Like} (
     (or_reads (ended_reads {g = symbol phony_assignment} (λ v xs ys h. h))
     (or_reads (ended_reads {g = symbol increment} (λ v xs ys h. h))
     (or_reads (ended_reads {g = symbol decrement} (λ v xs ys h. h))
-    (or_reads (gives_reads compound_reads (λ a rest. refl) (λ w a h. λ i. tree.compound (h i)))
-    (gives_reads (behind_reads SymSemicolon refl const_assert_reads) (λ a rest. refl) (λ w a h. λ i. tree.const_assert (h i))))))))))))))))))))
+    (or_reads (gives_reads (symbol_reads compound_statement) (λ a rest. refl) (λ w a h. λ i. tree.compound (h i)))
+    (gives_reads (behind_reads SymSemicolon refl (symbol_reads const_assert)) (λ a rest. refl) (λ w a h. λ i. tree.const_assert (h i))))))))))))))))))))
     ) (λ a span rest. refl) (λ w a s r h. λ i. statement_node (h i) no_span)
 
 pub statement_rule : IsReadAgain statement

@@ -17,7 +17,7 @@ use Rattle.wgsl_model.specs.UnitParts.{attributed_ident, return_part, function_p
 use Rattle.wgsl_model.specs.WithoutSpans.{bare_type, bare_attributes}
 use Rattle.wgsl_model.specs.StatementsWithoutSpans.{bare_compound, bare_parameter, bare_function}
 use Rattle.wgsl_model.specs.EmptyItems.{full_compound, full_function}
-use Rattle.wgsl_model.specs.Symbols.{ident}
+use Rattle.wgsl_model.specs.Symbols.{ident, type_specifier}
 use Rattle.wgsl_canonical_theory.specs.CanonicalExpressions.{Writes, optional_tokens, further_tokens, list_tokens, word_token, type_tokens}
 use Rattle.wgsl_canonical_theory.specs.CanonicalAttributes.{rule_tokens, attributes_tokens}
 use Rattle.wgsl_canonical_theory.specs.CanonicalStatements.{compound_tokens}
@@ -26,12 +26,12 @@ use Rattle.wgsl_canonical_theory.proofs.Words.{NoPeriod}
 use Rattle.wgsl_canonical_theory.proofs.Again.{write}
 use Rattle.wgsl_canonical_theory.proofs.RuleNames.{word_tokens, pair_tokens}
 use Rattle.wgsl_canonical_theory.proofs.Ways.{Reads, then_reads, equal_reads, before_reads, behind_reads, optional_reads, list_reads}
-use Rattle.wgsl_canonical_theory.proofs.Rules.{AttributeReads, attributes_read, ident_reads, type_specifier_reads}
+use Rattle.wgsl_canonical_theory.proofs.Rules.{AttributeReads, attributes_read, symbol_reads}
 
 -- ---- attributes before a name
 pub attributed_ident_reads : AttributeReads → Reads attributed_ident (λ p rest. attributed_tokens p.0 (text_of p.1.0) p.1.1 rest)
     (λ w v. (bare_attributes w.0 ≡ bare_attributes v.0) × ((text_of w.1.0 ≡ text_of v.1.0) × (bare_type w.1.1 ≡ bare_type v.1.1)))
-attributed_ident_reads one = then_reads (attributes_read one) (then_reads (behind_reads SymColon refl ident_reads) type_specifier_reads)
+attributed_ident_reads one = then_reads (attributes_read one) (then_reads (behind_reads SymColon refl (symbol_reads ident)) (symbol_reads type_specifier))
 
 -- ---- names in a list
 further_written : (names : List Token) (rest : List Kind) → further_tokens word_token (texts_of names) rest ≡ further_tokens (write ident) names rest
@@ -47,7 +47,7 @@ texts_mapped [] = refl
 texts_mapped (t ∷ names) = ap (λ z. text_of t ∷ z) (texts_mapped names)
 
 pub names_read : Reads (list SymComma (symbol ident)) (λ names rest. list_tokens word_token (texts_of names) rest) (λ w v. texts_of w ≡ texts_of v)
-names_read = equal_reads (list_reads ident_reads) names_written (λ w v h. texts_mapped w ∙ h ∙ sym (texts_mapped v))
+names_read = equal_reads (list_reads (symbol_reads ident)) names_written (λ w v h. texts_mapped w ∙ h ∙ sym (texts_mapped v))
 
 -- ---- functions
 -- what a function returns, behind its arrow
@@ -58,7 +58,7 @@ abbrev bare_returned : Attributes × TypeExpression → Attributes × TypeExpres
 bare_returned r = (bare_attributes r.0, bare_type r.1)
 
 pub returned_reads : AttributeReads → Reads (optional return_part) (optional_tokens returned_tokens) (λ w v. option_map bare_returned w ≡ option_map bare_returned v)
-returned_reads one = optional_reads (equal_reads (before_reads SymArrow refl (then_reads (attributes_read one) type_specifier_reads)) (λ v rest. refl) (λ w v h. λ i. (h.0 i, h.1 i)))
+returned_reads one = optional_reads (equal_reads (before_reads SymArrow refl (then_reads (attributes_read one) (symbol_reads type_specifier))) (λ v rest. refl) (λ w v h. λ i. (h.0 i, h.1 i)))
 
 -- a function, by its parts
 pub function_written : (attributes : Attributes) (name : Token) (parameters : List FormalParameter) (returned : Option (Attributes × TypeExpression)) (block : CompoundStatement) (rest : List Kind)

@@ -22,14 +22,14 @@ use Rattle.wgsl_model.specs.UnitParts.{diagnostic_of}
 use Rattle.wgsl_model.specs.WithoutSpans.{no_span, bare_spanned}
 use Rattle.wgsl_model.specs.StatementsWithoutSpans.{bare_member, bare_parameter, bare_global_declaration}
 use Rattle.wgsl_model.specs.EmptyItems.{full_declaration, full_declarations}
-use Rattle.wgsl_model.specs.Symbols.{ident, struct_member, formal_parameter, global_declaration, var_declaration, const_declaration, override_declaration, alias_declaration, struct_declaration, function_declaration, diagnostic_severity, global_directive, enable_directive, requires_directive, diagnostic_directive, unit, Rule}
+use Rattle.wgsl_model.specs.Symbols.{ident, struct_member, formal_parameter, global_declaration, var_declaration, const_declaration, override_declaration, alias_declaration, struct_declaration, function_declaration, diagnostic_severity, global_directive, enable_directive, requires_directive, diagnostic_directive, unit, Rule, compound_statement, const_assert, type_specifier, typed_ident}
 use Rattle.wgsl_model.specs.Written.{written}
 use Rattle.wgsl_canonical_theory.specs.CanonicalExpressions.{Writes, all_tokens, optional_tokens}
 use Rattle.wgsl_canonical_theory.specs.CanonicalUnits.{directive_tokens, global_declaration_tokens, kept_declaration_tokens}
 use Rattle.wgsl_canonical_theory.proofs.Words.{NoPeriod, AllWords}
 use Rattle.wgsl_canonical_theory.proofs.Again.{D, Again, write, Same, Known, Found, Finds}
 use Rattle.wgsl_canonical_theory.proofs.Ways.{Outcome, Reads, words_behind, then_reads, or_reads, gives_reads, makes_reads, equal_reads, before_reads, behind_reads, means_reads, none_reads, optional_reads, no_sign_reads, all_behind, map_behind, many_reads, list_reads, list_or_none_reads}
-use Rattle.wgsl_canonical_theory.proofs.Rules.{AttributeReads, IsReadAgain, alias_declaration_reads, attributes_read, by_reads, compound_reads, const_assert_reads, const_declaration_reads, diagnostic_directive_reads, diagnostic_severity_reads, enable_directive_reads, formal_parameter_reads, function_declaration_reads, global_declaration_reads, global_directive_reads, ident_reads, initializer_reads, override_declaration_reads, requires_directive_reads, struct_declaration_reads, struct_member_reads, type_specifier_reads, typed_ident_reads, var_declaration_reads, var_kind_reads}
+use Rattle.wgsl_canonical_theory.proofs.Rules.{AttributeReads, IsReadAgain, attributes_read, by_reads, initializer_reads, var_kind_reads, symbol_reads}
 use Rattle.wgsl_canonical_theory.proofs.NamedWords.{severity_word}
 use Rattle.wgsl_canonical_theory.proofs.UnitParts.{attributed_ident_reads, names_read, returned_reads, function_written, same_function, period_tokens, rule_written, same_rule}
 
@@ -49,21 +49,21 @@ formal_parameter_rule one v xs ys d = by_reads {n = formal_parameter} (formal_pa
 
 -- ---- declarations of values
 var_declaration_written : AttributeReads → Reads (written var_declaration) (write var_declaration) (Same var_declaration)
-var_declaration_written one = gives_reads (then_reads (attributes_read one) (then_reads var_kind_reads (then_reads typed_ident_reads (behind_reads SymSemicolon refl (optional_reads initializer_reads))))) (λ a rest. refl)
+var_declaration_written one = gives_reads (then_reads (attributes_read one) (then_reads var_kind_reads (then_reads (symbol_reads typed_ident) (behind_reads SymSemicolon refl (optional_reads initializer_reads))))) (λ a rest. refl)
     (λ w a h. λ i. tree.declaration (record { attributes = h.0 i; kind = h.1.0 i; ident = h.1.1.0.0 i; ty = h.1.1.0.1 i; initializer = h.1.1.1 i }))
 
 pub var_declaration_rule : AttributeReads → IsReadAgain var_declaration
 var_declaration_rule one v xs ys d = by_reads {n = var_declaration} (var_declaration_written one) v xs ys d
 
 const_declaration_written : Reads (written const_declaration) (write const_declaration) (Same const_declaration)
-const_declaration_written = gives_reads (before_reads KwConst refl (then_reads typed_ident_reads (behind_reads SymSemicolon refl initializer_reads))) (λ a rest. refl)
+const_declaration_written = gives_reads (before_reads KwConst refl (then_reads (symbol_reads typed_ident) (behind_reads SymSemicolon refl initializer_reads))) (λ a rest. refl)
     (λ w a h. λ i. tree.declaration (record { attributes = []; kind = const_kind; ident = h.0.0 i; ty = h.0.1 i; initializer = Some (h.1 i) }))
 
 pub const_declaration_rule : IsReadAgain const_declaration
 const_declaration_rule v xs ys d = by_reads {n = const_declaration} const_declaration_written v xs ys d
 
 override_declaration_written : AttributeReads → Reads (written override_declaration) (write override_declaration) (Same override_declaration)
-override_declaration_written one = gives_reads (then_reads (attributes_read one) (before_reads KwOverride refl (then_reads typed_ident_reads (behind_reads SymSemicolon refl (optional_reads initializer_reads))))) (λ a rest. refl)
+override_declaration_written one = gives_reads (then_reads (attributes_read one) (before_reads KwOverride refl (then_reads (symbol_reads typed_ident) (behind_reads SymSemicolon refl (optional_reads initializer_reads))))) (λ a rest. refl)
     (λ w a h. λ i. tree.declaration (record { attributes = h.0 i; kind = override_kind; ident = h.1.0.0 i; ty = h.1.0.1 i; initializer = h.1.1 i }))
 
 pub override_declaration_rule : AttributeReads → IsReadAgain override_declaration
@@ -71,14 +71,14 @@ override_declaration_rule one v xs ys d = by_reads {n = override_declaration} (o
 
 -- ---- declarations of types and functions
 alias_declaration_written : Reads (written alias_declaration) (write alias_declaration) (Same alias_declaration)
-alias_declaration_written = gives_reads (before_reads KwAlias refl (then_reads ident_reads (before_reads SymEqual refl (behind_reads SymSemicolon refl type_specifier_reads)))) (λ a rest. refl)
+alias_declaration_written = gives_reads (before_reads KwAlias refl (then_reads (symbol_reads ident) (before_reads SymEqual refl (behind_reads SymSemicolon refl (symbol_reads type_specifier))))) (λ a rest. refl)
     (λ w a h. λ i. tree.type_alias (record { ident = h.0 i; ty = h.1 i }))
 
 pub alias_declaration_rule : IsReadAgain alias_declaration
 alias_declaration_rule v xs ys d = by_reads {n = alias_declaration} alias_declaration_written v xs ys d
 
 struct_declaration_written : Reads (written struct_declaration) (write struct_declaration) (Same struct_declaration)
-struct_declaration_written = gives_reads (before_reads KwStruct refl (then_reads ident_reads (before_reads SymBraceLeft refl (behind_reads SymBraceRight refl (list_reads {bare = bare_spanned bare_member} {kept = bare_spanned bare_member} struct_member_reads))))) (λ a rest. refl)
+struct_declaration_written = gives_reads (before_reads KwStruct refl (then_reads (symbol_reads ident) (before_reads SymBraceLeft refl (behind_reads SymBraceRight refl (list_reads {bare = bare_spanned bare_member} {kept = bare_spanned bare_member} (symbol_reads struct_member)))))) (λ a rest. refl)
     (λ w a h. λ i. tree.structure (record { ident = h.0 i; members = h.1 i }))
 
 pub struct_declaration_rule : IsReadAgain struct_declaration
@@ -86,8 +86,8 @@ struct_declaration_rule v xs ys d = by_reads {n = struct_declaration} struct_dec
 
 function_declaration_written : AttributeReads → Reads (written function_declaration) (write function_declaration) (Same function_declaration)
 function_declaration_written one = gives_reads
-    (then_reads (attributes_read one) (before_reads KwFn refl (then_reads ident_reads (before_reads SymParenLeft refl
-    (then_reads (behind_reads SymParenRight refl (list_or_none_reads {bare = bare_parameter} {kept = bare_parameter} formal_parameter_reads)) (then_reads (returned_reads one) compound_reads))))))
+    (then_reads (attributes_read one) (before_reads KwFn refl (then_reads (symbol_reads ident) (before_reads SymParenLeft refl
+    (then_reads (behind_reads SymParenRight refl (list_or_none_reads {bare = bare_parameter} {kept = bare_parameter} (symbol_reads formal_parameter))) (then_reads (returned_reads one) (symbol_reads compound_statement)))))))
     (λ a rest. function_written a.0 a.1.0 a.1.1.0 a.1.1.1.0 a.1.1.1.1 rest)
     (λ w a h. ap tree.function (same_function w a h.0 h.1.0 h.1.1.0 h.1.1.1.0 h.1.1.1.1))
 
@@ -101,8 +101,8 @@ SameDeclaration w v = bare_global_declaration w ≡ bare_global_declaration (ful
 
 global_declaration_written : Reads (written global_declaration) (write global_declaration) (Same global_declaration)
 global_declaration_written = makes_reads {writes = global_declaration_tokens} {like = SameDeclaration}
-    (or_reads (means_reads SymSemicolon refl (λ rest. refl) refl) (or_reads var_declaration_reads (or_reads const_declaration_reads (or_reads override_declaration_reads (or_reads alias_declaration_reads (or_reads struct_declaration_reads
-    (or_reads function_declaration_reads (gives_reads (behind_reads SymSemicolon refl const_assert_reads) (λ a rest. refl) (λ w a h. λ i. tree.const_assert (h i))))))))))
+    (or_reads (means_reads SymSemicolon refl (λ rest. refl) refl) (or_reads (symbol_reads var_declaration) (or_reads (symbol_reads const_declaration) (or_reads (symbol_reads override_declaration) (or_reads (symbol_reads alias_declaration) (or_reads (symbol_reads struct_declaration)
+    (or_reads (symbol_reads function_declaration) (gives_reads (behind_reads SymSemicolon refl (symbol_reads const_assert)) (λ a rest. refl) (λ w a h. λ i. tree.const_assert (h i))))))))))
     (λ a span rest. refl) (λ w a s r h. h)
 
 pub global_declaration_rule : IsReadAgain global_declaration
@@ -122,7 +122,7 @@ pub requires_directive_rule : IsReadAgain requires_directive
 requires_directive_rule v xs ys d = by_reads {n = requires_directive} requires_directive_written v xs ys d
 
 global_directive_written : Reads (written global_directive) (write global_directive) (Same global_directive)
-global_directive_written = or_reads enable_directive_reads (or_reads requires_directive_reads diagnostic_directive_reads)
+global_directive_written = or_reads (symbol_reads enable_directive) (or_reads (symbol_reads requires_directive) (symbol_reads diagnostic_directive))
 
 pub global_directive_rule : IsReadAgain global_directive
 global_directive_rule v xs ys d = by_reads {n = global_directive} global_directive_written v xs ys d
@@ -155,7 +155,7 @@ diagnostic_parts_tokens p rest =
     plain KwDiagnostic ∷ (plain SymParenLeft ∷ (word_of (text_of p.0) ∷ (plain SymComma ∷ (word_of (text_of p.1.0) ∷ optional_tokens period_tokens p.1.1.0 (plain SymParenRight ∷ (plain SymSemicolon ∷ rest))))))
 
 diagnostic_parts_read : Reads diagnostic_parts diagnostic_parts_tokens (λ w v. (text_of w.0 ≡ text_of v.0) × ((text_of w.1.0 ≡ text_of v.1.0) × ((option_map text_of w.1.1.0 ≡ option_map text_of v.1.1.0) × Unit {0})))
-diagnostic_parts_read = then_reads (behind_reads SymComma refl diagnostic_severity_reads) (then_reads ident_reads (then_reads (optional_reads (before_reads SymPeriod refl ident_reads)) (behind_reads SymSemicolon refl (behind_reads SymParenRight refl no_sign_reads))))
+diagnostic_parts_read = then_reads (behind_reads SymComma refl (symbol_reads diagnostic_severity)) (then_reads (symbol_reads ident) (then_reads (optional_reads (before_reads SymPeriod refl (symbol_reads ident))) (behind_reads SymSemicolon refl (behind_reads SymParenRight refl no_sign_reads))))
 
 -- the word of the severity names it, and the first name of the rule has no `.`
 abbrev KnownParts : DiagnosticParts → Type 0
@@ -247,11 +247,11 @@ declarations_read = record { again = λ v xs ys d words. go xs v ys d words } wh
       (found.0, λ us ks e. let x = found.1 us ks e in record { value = x.value; rest = x.rest; kinds = x.kinds; like = x.like; derived = base x.value x.rest x.derived })
   go xs _ _ (more a b ys zs c d) words =
       let before = go xs a ys c words in
-      let last = global_declaration_reads.again b ys zs d before.0 in
+      let last = (symbol_reads global_declaration).again b ys zs d before.0 in
       (last.0, λ us ks e. one_more a b last.1 us ks (before.1 us (kept_declaration_tokens b ks) (e ∙ all_behind kept_declaration_tokens a b ks)))
 
 directives_read : Reads (many (symbol global_directive)) (all_tokens directive_tokens) (λ w v. w ≡ v)
-directives_read = equal_reads (many_reads {bare = λ d. d} {kept = λ d. d} global_directive_reads) (λ v rest. refl) (λ w v h. sym (map-id w) ∙ h ∙ map-id v)
+directives_read = equal_reads (many_reads {bare = λ d. d} {kept = λ d. d} (symbol_reads global_directive)) (λ v rest. refl) (λ w v h. sym (map-id w) ∙ h ∙ map-id v)
 
 unit_written : Reads (written unit) (write unit) (Same unit)
 unit_written = gives_reads (then_reads directives_read declarations_read) (λ a rest. refl)

@@ -192,10 +192,6 @@ pub several_reads : {A B : Type 0} {g : Rule A} {writes : Writes A} {bare kept :
 several_reads {A} {B} {g} {writes} {bare} {kept} G = chain_reads (gives_reads G (λ a rest. refl) (λ w a h. ap (λ (z : B). z ∷ []) h)) G (λ a b span rest. all_behind writes a b rest)
     (λ w v x y s r h k. map_behind bare w x ∙ ap₂ (λ (z : List B) (u : B). z ++ (u ∷ [])) h k ∙ sym (map_behind kept v y))
 
--- ---- a symbol
-pub symbol_reads : {n : Symbol} → ((v : Value n) (xs ys : List Token) → Again n v xs ys → AllWords xs → AllWords ys × Finds (D n) (λ w. Same n w v) (write n v)) → Reads (symbol n) (write n) (Same n)
-symbol_reads f = record { again = f }
-
 -- ---- with a comma between each two
 abbrev pub HasItem : {A : Type 0} → List A → Type 0
 HasItem [] = ⊥
