@@ -2,6 +2,7 @@
 use Rattle.std.proofs.Common.{◌≡◌, List, [], ◌∷◌, map, refl, subst}
 use Rattle.grammar.specs.Tokens.{Token}
 use Rattle.grammar.specs.Grammar.{Mode.full, Means, Derives}
+use Rattle.wgsl_model.specs.Classes.{KwBreak, KwContinue, KwDiscard}
 use Rattle.wgsl_model.specs.Units.{TranslationUnit}
 use Rattle.wgsl_model.specs.StatementsWithoutSpans.{bare_unit}
 use Rattle.wgsl_model.specs.EmptyItems.{full_unit}
@@ -9,75 +10,77 @@ use Rattle.wgsl_model.specs.Symbols.{Symbol, ident, type_specifier, template_lis
 use Rattle.wgsl_model.specs.Written.{written}
 use Rattle.wgsl_canonical_theory.specs.CanonicalUnits.{canonical, without_place}
 use Rattle.wgsl_canonical_theory.proofs.Words.{AllWords}
-use Rattle.wgsl_canonical_theory.proofs.Again.{D, Again}
+use Rattle.wgsl_canonical_theory.proofs.Again.{D, Ended, Unended, Again}
 use Rattle.wgsl_canonical_theory.proofs.Derived.{by_derivation}
-use Rattle.wgsl_canonical_theory.proofs.ExpressionRules.{ident_rule, type_specifier_rule, template_list_rule, expressions_rule, call_rule, arguments_rule, literal_rule, primary_expression_rule, singular_expression_rule, component_rule, unary_expression_rule, multiplicative_expression_rule, negated_expression_rule, additive_expression_rule, shift_expression_rule, relational_expression_rule, expression_rule, lhs_expression_rule}
+use Rattle.wgsl_canonical_theory.proofs.Ways.{means_reads}
+use Rattle.wgsl_canonical_theory.proofs.Rules.{known_by}
+use Rattle.wgsl_canonical_theory.proofs.ExpressionRules.{ident_rule, component_rule, negated_expression_rule, type_specifier_right, template_list_right, expressions_right, call_right, arguments_right, literal_right, primary_expression_right, singular_expression_right, unary_expression_right, multiplicative_expression_right, additive_expression_right, shift_expression_right, relational_expression_right, expression_right, lhs_expression_right}
 use Rattle.wgsl_canonical_theory.proofs.AttributeRules.{attribute_node_reads, attribute_rule, var_template_rule, diagnostic_severity_rule}
-use Rattle.wgsl_canonical_theory.proofs.StatementRules.{compound_statement_rule, statement_rule, return_statement_rule, if_statement_rule, switch_statement_rule, loop_statement_rule, for_statement_rule, while_statement_rule, call_statement_rule, var_statement_rule, value_statement_rule, break_statement_rule, continue_statement_rule, discard_statement_rule, assignment_rule, phony_assignment_rule, increment_rule, decrement_rule, const_assert_rule, switch_clause_rule, case_selector_rule, continuing_statement_rule, for_init_rule, for_update_rule, typed_ident_rule}
-use Rattle.wgsl_canonical_theory.proofs.UnitRules.{struct_member_rule, formal_parameter_rule, global_declaration_rule, var_declaration_rule, const_declaration_rule, override_declaration_rule, alias_declaration_rule, struct_declaration_rule, function_declaration_rule, global_directive_rule, enable_directive_rule, requires_directive_rule, diagnostic_directive_rule, unit_rule}
+use Rattle.wgsl_canonical_theory.proofs.StatementRules.{written_compound_statement_reads, written_continuing_statement_reads, written_if_statement_reads, written_switch_statement_reads, written_loop_statement_reads, written_for_statement_reads, written_while_statement_reads, written_return_statement_reads, written_call_statement_reads, written_var_statement_reads, written_value_statement_reads, written_assignment_reads, written_increment_reads, written_decrement_reads, written_const_assert_reads, written_typed_ident_reads, written_case_selector_reads, written_phony_assignment_reads, written_switch_clause_reads, written_statement_reads, written_for_update_reads, written_for_init_reads}
+use Rattle.wgsl_canonical_theory.proofs.UnitRules.{struct_member_written, formal_parameter_written, var_declaration_written, const_declaration_written, override_declaration_written, alias_declaration_written, struct_declaration_written, function_declaration_written, global_declaration_written, enable_directive_written, requires_directive_written, global_directive_written, diagnostic_directive_written, unit_written}
 
 -- each rule of the grammar
 rules : (n : Symbol) (v : Value n) (xs ys : List Token) → D n v xs ys → Means full Again (written n) v xs ys → Again n v xs ys
 rules ident v xs ys here d = ident_rule v xs ys d
-rules type_specifier v xs ys here d = type_specifier_rule v xs ys d
-rules template_list v xs ys here d = template_list_rule v xs ys d
-rules expressions v xs ys here d = expressions_rule v xs ys d
-rules call v xs ys here d = call_rule v xs ys d
-rules arguments v xs ys here d = arguments_rule v xs ys d
-rules literal v xs ys here d = literal_rule v xs ys d
-rules primary_expression v xs ys here d = primary_expression_rule v xs ys d
-rules singular_expression v xs ys here d = singular_expression_rule v xs ys d
+rules type_specifier v xs ys here d = known_by type_specifier type_specifier_right v tt xs ys d
+rules template_list v xs ys here d = known_by template_list template_list_right v tt xs ys d
+rules expressions v xs ys here d = known_by expressions expressions_right v tt xs ys d
+rules call v xs ys here d = known_by call call_right v tt xs ys d
+rules arguments v xs ys here d = known_by arguments arguments_right v tt xs ys d
+rules literal v xs ys here d = known_by literal literal_right v tt xs ys d
+rules primary_expression v xs ys here d = known_by primary_expression primary_expression_right v tt xs ys d
+rules singular_expression v xs ys here d = known_by singular_expression singular_expression_right v tt xs ys d
 rules component v xs ys here d = component_rule v xs ys d
-rules unary_expression v xs ys here d = unary_expression_rule v xs ys d
-rules multiplicative_expression v xs ys here d = multiplicative_expression_rule v xs ys d
+rules unary_expression v xs ys here d = known_by unary_expression unary_expression_right v tt xs ys d
+rules multiplicative_expression v xs ys here d = known_by multiplicative_expression multiplicative_expression_right v tt xs ys d
 rules negated_expression v xs ys here d = negated_expression_rule v xs ys d
-rules additive_expression v xs ys here d = additive_expression_rule v xs ys d
-rules shift_expression v xs ys here d = shift_expression_rule v xs ys d
-rules relational_expression v xs ys here d = relational_expression_rule v xs ys d
-rules expression v xs ys here d = expression_rule v xs ys d
-rules lhs_expression v xs ys here d = lhs_expression_rule v xs ys d
+rules additive_expression v xs ys here d = known_by additive_expression additive_expression_right v tt xs ys d
+rules shift_expression v xs ys here d = known_by shift_expression shift_expression_right v tt xs ys d
+rules relational_expression v xs ys here d = known_by relational_expression relational_expression_right v tt xs ys d
+rules expression v xs ys here d = known_by expression expression_right v tt xs ys d
+rules lhs_expression v xs ys here d = known_by lhs_expression lhs_expression_right v tt xs ys d
 rules attribute v xs ys here d = attribute_rule v xs ys here d
-rules compound_statement v xs ys here d = compound_statement_rule attribute_node_reads v xs ys d
-rules statement v xs ys here d = statement_rule v xs ys d
-rules return_statement v xs ys here d = return_statement_rule v xs ys d
-rules if_statement v xs ys here d = if_statement_rule attribute_node_reads v xs ys d
-rules switch_statement v xs ys here d = switch_statement_rule attribute_node_reads v xs ys d
-rules loop_statement v xs ys here d = loop_statement_rule attribute_node_reads v xs ys d
-rules for_statement v xs ys here d = for_statement_rule attribute_node_reads v xs ys d
-rules while_statement v xs ys here d = while_statement_rule attribute_node_reads v xs ys d
-rules call_statement v xs ys here d = call_statement_rule v xs ys d
-rules var_statement v xs ys here d = var_statement_rule v xs ys d
-rules value_statement v xs ys here d = value_statement_rule v xs ys d
-rules break_statement v xs ys here d = break_statement_rule v xs ys d
-rules continue_statement v xs ys here d = continue_statement_rule v xs ys d
-rules discard_statement v xs ys here d = discard_statement_rule v xs ys d
-rules assignment v xs ys here d = assignment_rule v xs ys d
-rules phony_assignment v xs ys here d = phony_assignment_rule v xs ys d
-rules increment v xs ys here d = increment_rule v xs ys d
-rules decrement v xs ys here d = decrement_rule v xs ys d
-rules const_assert v xs ys here d = const_assert_rule v xs ys d
-rules switch_clause v xs ys here d = switch_clause_rule v xs ys d
-rules case_selector v xs ys here d = case_selector_rule v xs ys d
-rules continuing_statement v xs ys here d = continuing_statement_rule attribute_node_reads v xs ys d
-rules for_init v xs ys here d = for_init_rule v xs ys d
-rules for_update v xs ys here d = for_update_rule v xs ys d
+rules compound_statement v xs ys here d = known_by compound_statement (written_compound_statement_reads attribute_node_reads) v tt xs ys d
+rules statement v xs ys here d = known_by statement written_statement_reads v tt xs ys d
+rules return_statement v xs ys here d = known_by return_statement written_return_statement_reads v (subst Ended d.1 (λ rest. refl)) xs ys d
+rules if_statement v xs ys here d = known_by if_statement (written_if_statement_reads attribute_node_reads) v (subst Unended d.1 (λ rest. refl)) xs ys d
+rules switch_statement v xs ys here d = known_by switch_statement (written_switch_statement_reads attribute_node_reads) v (subst Unended d.1 (λ rest. refl)) xs ys d
+rules loop_statement v xs ys here d = known_by loop_statement (written_loop_statement_reads attribute_node_reads) v (subst Unended d.1 (λ rest. refl)) xs ys d
+rules for_statement v xs ys here d = known_by for_statement (written_for_statement_reads attribute_node_reads) v (subst Unended d.1 (λ rest. refl)) xs ys d
+rules while_statement v xs ys here d = known_by while_statement (written_while_statement_reads attribute_node_reads) v (subst Unended d.1 (λ rest. refl)) xs ys d
+rules call_statement v xs ys here d = known_by call_statement written_call_statement_reads v (subst Ended d.1 (λ rest. refl)) xs ys d
+rules var_statement v xs ys here d = known_by var_statement written_var_statement_reads v (subst Ended d.1 (λ rest. refl)) xs ys d
+rules value_statement v xs ys here d = known_by value_statement written_value_statement_reads v (subst Ended d.1 (λ rest. refl)) xs ys d
+rules break_statement v xs ys here d = known_by break_statement (means_reads KwBreak refl (λ rest. refl) refl) v (subst Ended d.1 (λ rest. refl)) xs ys d
+rules continue_statement v xs ys here d = known_by continue_statement (means_reads KwContinue refl (λ rest. refl) refl) v (subst Ended d.1 (λ rest. refl)) xs ys d
+rules discard_statement v xs ys here d = known_by discard_statement (means_reads KwDiscard refl (λ rest. refl) refl) v (subst Ended d.1 (λ rest. refl)) xs ys d
+rules assignment v xs ys here d = known_by assignment written_assignment_reads v (subst Ended d.1 (λ rest. refl)) xs ys d
+rules phony_assignment v xs ys here d = known_by phony_assignment written_phony_assignment_reads v (subst Ended d.1 (λ rest. refl)) xs ys d
+rules increment v xs ys here d = known_by increment written_increment_reads v (subst Ended d.1 (λ rest. refl)) xs ys d
+rules decrement v xs ys here d = known_by decrement written_decrement_reads v (subst Ended d.1 (λ rest. refl)) xs ys d
+rules const_assert v xs ys here d = known_by const_assert written_const_assert_reads v tt xs ys d
+rules switch_clause v xs ys here d = known_by switch_clause written_switch_clause_reads v tt xs ys d
+rules case_selector v xs ys here d = known_by case_selector written_case_selector_reads v tt xs ys d
+rules continuing_statement v xs ys here d = known_by continuing_statement (written_continuing_statement_reads attribute_node_reads) v tt xs ys d
+rules for_init v xs ys here d = known_by for_init written_for_init_reads v tt xs ys d
+rules for_update v xs ys here d = known_by for_update written_for_update_reads v tt xs ys d
 rules var_template v xs ys here d = var_template_rule v xs ys d
-rules typed_ident v xs ys here d = typed_ident_rule v xs ys d
-rules struct_member v xs ys here d = struct_member_rule attribute_node_reads v xs ys d
-rules formal_parameter v xs ys here d = formal_parameter_rule attribute_node_reads v xs ys d
-rules global_declaration v xs ys here d = global_declaration_rule v xs ys d
-rules var_declaration v xs ys here d = var_declaration_rule attribute_node_reads v xs ys d
-rules const_declaration v xs ys here d = const_declaration_rule v xs ys d
-rules override_declaration v xs ys here d = override_declaration_rule attribute_node_reads v xs ys d
-rules alias_declaration v xs ys here d = alias_declaration_rule v xs ys d
-rules struct_declaration v xs ys here d = struct_declaration_rule v xs ys d
-rules function_declaration v xs ys here d = function_declaration_rule attribute_node_reads v xs ys d
+rules typed_ident v xs ys here d = known_by typed_ident written_typed_ident_reads v tt xs ys d
+rules struct_member v xs ys here d = known_by struct_member (struct_member_written attribute_node_reads) v tt xs ys d
+rules formal_parameter v xs ys here d = known_by formal_parameter (formal_parameter_written attribute_node_reads) v tt xs ys d
+rules global_declaration v xs ys here d = known_by global_declaration global_declaration_written v tt xs ys d
+rules var_declaration v xs ys here d = known_by var_declaration (var_declaration_written attribute_node_reads) v tt xs ys d
+rules const_declaration v xs ys here d = known_by const_declaration const_declaration_written v tt xs ys d
+rules override_declaration v xs ys here d = known_by override_declaration (override_declaration_written attribute_node_reads) v tt xs ys d
+rules alias_declaration v xs ys here d = known_by alias_declaration alias_declaration_written v tt xs ys d
+rules struct_declaration v xs ys here d = known_by struct_declaration struct_declaration_written v tt xs ys d
+rules function_declaration v xs ys here d = known_by function_declaration (function_declaration_written attribute_node_reads) v tt xs ys d
 rules diagnostic_severity v xs ys here d = diagnostic_severity_rule v xs ys here d
-rules global_directive v xs ys here d = global_directive_rule v xs ys d
-rules enable_directive v xs ys here d = enable_directive_rule v xs ys d
-rules requires_directive v xs ys here d = requires_directive_rule v xs ys d
-rules diagnostic_directive v xs ys here d = diagnostic_directive_rule v xs ys d
-rules unit v xs ys here d = unit_rule v xs ys d
+rules global_directive v xs ys here d = known_by global_directive global_directive_written v tt xs ys d
+rules enable_directive v xs ys here d = known_by enable_directive enable_directive_written v tt xs ys d
+rules requires_directive v xs ys here d = known_by requires_directive requires_directive_written v tt xs ys d
+rules diagnostic_directive v xs ys here d = known_by diagnostic_directive diagnostic_directive_written v tt xs ys d
+rules unit v xs ys here d = known_by unit unit_written v tt xs ys d
 
 -- what a symbol derives is read again
 pub again : (n : Symbol) (v : Value n) (xs ys : List Token) → D n v xs ys → Again n v xs ys

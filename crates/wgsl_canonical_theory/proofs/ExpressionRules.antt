@@ -21,7 +21,7 @@ use Rattle.wgsl_canonical_theory.specs.CanonicalUnits.{without_place}
 use Rattle.wgsl_canonical_theory.proofs.Words.{NoPeriod, AllWords}
 use Rattle.wgsl_canonical_theory.proofs.Again.{D, Again, write, Same, Finds, FindsComponent, template_list_tokens}
 use Rattle.wgsl_canonical_theory.proofs.Ways.{Outcome, Reads, first_of, class_of, words_behind, then_reads, or_reads, gives_reads, makes_reads, before_reads, behind_reads, means_reads, optional_reads, chain_reads, list_reads, list_or_none_reads}
-use Rattle.wgsl_canonical_theory.proofs.Rules.{by_reads, rolled, symbol_reads}
+use Rattle.wgsl_canonical_theory.proofs.Rules.{rolled, symbol_reads}
 
 -- ---- names
 -- a class that is one of two is one of more
@@ -86,37 +86,22 @@ template_bare None = refl
 template_bare (Some es) = ap TemplateArguments.template (expressions_bare es)
 
 -- ---- types and calls
-type_specifier_right : Reads (written type_specifier) (write type_specifier) (Same type_specifier)
+pub type_specifier_right : Reads (written type_specifier) (write type_specifier) (Same type_specifier)
 type_specifier_right = gives_reads (then_reads (symbol_reads ident) (optional_reads (symbol_reads template_list))) (λ a rest. ap (λ z. word_of (text_of a.0) ∷ z) (template_written a.1 rest))
     (λ w a h. let arguments = template_bare w.1 ∙ ap template_of h.1 ∙ sym (template_bare a.1) in λ i. type_expression (h.0 i) (arguments i))
 
-pub type_specifier_rule : (v : Value type_specifier) (xs ys : List Token) → Means full Again (written type_specifier) v xs ys → Again type_specifier v xs ys
-type_specifier_rule = by_reads {n = type_specifier} type_specifier_right
-
-template_list_right : Reads (written template_list) (write template_list) (Same template_list)
+pub template_list_right : Reads (written template_list) (write template_list) (Same template_list)
 template_list_right = before_reads TemplateArgsStart refl (behind_reads TemplateArgsEnd refl (list_reads (symbol_reads expression)))
 
-pub template_list_rule : (v : Value template_list) (xs ys : List Token) → Means full Again (written template_list) v xs ys → Again template_list v xs ys
-template_list_rule = by_reads {n = template_list} template_list_right
-
-expressions_right : Reads (written expressions) (write expressions) (Same expressions)
+pub expressions_right : Reads (written expressions) (write expressions) (Same expressions)
 expressions_right = list_reads (symbol_reads expression)
 
-pub expressions_rule : (v : Value expressions) (xs ys : List Token) → Means full Again (written expressions) v xs ys → Again expressions v xs ys
-expressions_rule = by_reads {n = expressions} expressions_right
-
-call_right : Reads (written call) (write call) (Same call)
+pub call_right : Reads (written call) (write call) (Same call)
 call_right = gives_reads (then_reads (symbol_reads type_specifier) (symbol_reads arguments)) (λ a rest. ap (λ z. type_tokens a.0 (plain SymParenLeft ∷ z)) (expressions_written a.1 (plain SymParenRight ∷ rest)))
     (λ w a h. let arguments = expressions_bare w.1 ∙ ap expressions_of h.1 ∙ sym (expressions_bare a.1) in λ i. FunctionCall.call (h.0 i) (arguments i))
 
-pub call_rule : (v : Value call) (xs ys : List Token) → Means full Again (written call) v xs ys → Again call v xs ys
-call_rule = by_reads {n = call} call_right
-
-arguments_right : Reads (written arguments) (write arguments) (Same arguments)
+pub arguments_right : Reads (written arguments) (write arguments) (Same arguments)
 arguments_right = before_reads SymParenLeft refl (behind_reads SymParenRight refl (list_or_none_reads (symbol_reads expression)))
-
-pub arguments_rule : (v : Value arguments) (xs ys : List Token) → Means full Again (written arguments) v xs ys → Again arguments v xs ys
-arguments_rule = by_reads {n = arguments} arguments_right
 
 -- ---- literals
 abbrev pub literal_classes : List ℕ
@@ -136,7 +121,7 @@ literal_is (f16 text) = (refl, refl)
 literal_again : (l : LiteralExpression) (t : Token) → without_place t ≡ literal_token l → (is_among t.class literal_classes ≡ true) × (literal_of t ≡ l)
 literal_again l t e = subst (λ (k : Kind). (is_among k.class literal_classes ≡ true) × (literal_of (placed k 0 0) ≡ l)) (sym e) (literal_is l)
 
-literal_right : Reads (written literal) (write literal) (Same literal)
+pub literal_right : Reads (written literal) (write literal) (Same literal)
 literal_right = record {
   again = λ v xs ys d words. (
     words_behind d.0 xs ys d.2.1 words,
@@ -146,9 +131,6 @@ literal_right = record {
         record { value = literal_of first.token; rest = first.rest; kinds = first.kinds; like = known.1; derived = (first.token, refl, (known.0, first.whole)) },
   );
 }
-
-pub literal_rule : (v : Value literal) (xs ys : List Token) → Means full Again (written literal) v xs ys → Again literal v xs ys
-literal_rule = by_reads {n = literal} literal_right
 
 -- ---- an expression of one part, with its components
 -- two expressions that differ by spans alone
@@ -162,14 +144,11 @@ same_expression w v = bare_expression w ≡ bare_expression v
 node_reads : {g : Rule Expression} → Reads g expression_tokens same_expression → Reads (g makes placed_expression) expression_node_tokens same_node
 node_reads G = makes_reads G (λ a span rest. refl) (λ w a s r h. λ i. expression_node (h i) no_span)
 
-primary_expression_right : Reads (written primary_expression) (write primary_expression) (Same primary_expression)
+pub primary_expression_right : Reads (written primary_expression) (write primary_expression) (Same primary_expression)
 primary_expression_right = node_reads (or_reads (gives_reads (symbol_reads type_specifier) (λ a rest. refl) (λ w a h. λ i. Expression.type_or_identifier (h i)))
     (or_reads (gives_reads (symbol_reads call) (λ a rest. refl) (λ w a h. λ i. Expression.function_call (h i)))
     (or_reads (gives_reads (symbol_reads literal) (λ a rest. refl) (λ w a h. λ i. Expression.literal (h i)))
     (gives_reads (before_reads SymParenLeft refl (behind_reads SymParenRight refl (symbol_reads expression))) (λ a rest. refl) (λ w a h. λ i. Expression.parenthesized (h i))))))
-
-pub primary_expression_rule : (v : Value primary_expression) (xs ys : List Token) → Means full Again (written primary_expression) v xs ys → Again primary_expression v xs ys
-primary_expression_rule = by_reads {n = primary_expression} primary_expression_right
 
 -- an index, and a name
 index_reads : Reads (SymBracketLeft ▹ symbol expression ◃ SymBracketRight) (λ e rest. plain SymBracketLeft ∷ expression_node_tokens e (plain SymBracketRight ∷ rest)) same_node
@@ -242,11 +221,8 @@ components_reads {g} G = record { again = λ v xs ys d words. go xs v ys d words
             },
       )
 
-singular_expression_right : Reads (written singular_expression) (write singular_expression) (Same singular_expression)
+pub singular_expression_right : Reads (written singular_expression) (write singular_expression) (Same singular_expression)
 singular_expression_right = components_reads (symbol_reads primary_expression)
-
-pub singular_expression_rule : (v : Value singular_expression) (xs ys : List Token) → Means full Again (written singular_expression) v xs ys → Again singular_expression v xs ys
-singular_expression_rule = by_reads {n = singular_expression} singular_expression_right
 
 -- ---- an operator before an operand
 abbrev pub unary_operator_tokens : Writes UnaryOperator
@@ -266,11 +242,8 @@ unary_operator_reads = or_reads (unary_sign_reads negation refl) (or_reads (unar
 operation_reads : {g : Rule UnaryOperator} {h : Rule ExpressionNode} → Reads g unary_operator_tokens same_unary_operator → Reads h expression_node_tokens same_node → Reads (g then h makes unary_of) expression_node_tokens same_node
 operation_reads G H = makes_reads (then_reads G H) (λ a span rest. refl) (λ w a s r h. λ i. expression_node (Expression.unary (h.0 i) (h.1 i)) no_span)
 
-unary_expression_right : Reads (written unary_expression) (write unary_expression) (Same unary_expression)
+pub unary_expression_right : Reads (written unary_expression) (write unary_expression) (Same unary_expression)
 unary_expression_right = or_reads (symbol_reads singular_expression) (operation_reads unary_operator_reads (symbol_reads unary_expression))
-
-pub unary_expression_rule : (v : Value unary_expression) (xs ys : List Token) → Means full Again (written unary_expression) v xs ys → Again unary_expression v xs ys
-unary_expression_rule = by_reads {n = unary_expression} unary_expression_right
 
 -- ---- an operator between operands
 abbrev pub operator_tokens : Writes BinaryOperator
@@ -313,11 +286,8 @@ operations_reads G H = chain_reads G H (λ a b span rest. refl) (λ w v x y s r 
 one_operation_reads : {x y : Rule ExpressionNode} {g : Rule BinaryOperator} → Reads x expression_node_tokens same_node → Reads g operator_tokens same_operator → Reads y expression_node_tokens same_node → Reads (x then g then y makes operation_of) expression_node_tokens same_node
 one_operation_reads X G Y = makes_reads (then_reads X (operand_reads G Y)) (λ a span rest. refl) (λ w a s r h. λ i. expression_node (Expression.binary (h.1.0 i) (h.0 i) (h.1.1 i)) no_span)
 
-multiplicative_expression_right : Reads (written multiplicative_expression) (write multiplicative_expression) (Same multiplicative_expression)
+pub multiplicative_expression_right : Reads (written multiplicative_expression) (write multiplicative_expression) (Same multiplicative_expression)
 multiplicative_expression_right = operations_reads (symbol_reads unary_expression) (operand_reads multiplicative_operator_reads (symbol_reads unary_expression))
-
-pub multiplicative_expression_rule : (v : Value multiplicative_expression) (xs ys : List Token) → Means full Again (written multiplicative_expression) v xs ys → Again multiplicative_expression v xs ys
-multiplicative_expression_rule = by_reads {n = multiplicative_expression} multiplicative_expression_right
 
 -- ---- a product that the second minus of `--` begins
 -- what is written from it is read again as a product
@@ -394,43 +364,28 @@ addend_reads = record { again = go } where
       )
 
 -- ---- sums, shifts and comparisons
-additive_expression_right : Reads (written additive_expression) (write additive_expression) (Same additive_expression)
+pub additive_expression_right : Reads (written additive_expression) (write additive_expression) (Same additive_expression)
 additive_expression_right = operations_reads (symbol_reads multiplicative_expression) addend_reads
 
-pub additive_expression_rule : (v : Value additive_expression) (xs ys : List Token) → Means full Again (written additive_expression) v xs ys → Again additive_expression v xs ys
-additive_expression_rule = by_reads {n = additive_expression} additive_expression_right
-
-shift_expression_right : Reads (written shift_expression) (write shift_expression) (Same shift_expression)
+pub shift_expression_right : Reads (written shift_expression) (write shift_expression) (Same shift_expression)
 shift_expression_right = or_reads (symbol_reads additive_expression)
     (or_reads (one_operation_reads (symbol_reads unary_expression) (sign_reads shift_left refl) (symbol_reads unary_expression)) (one_operation_reads (symbol_reads unary_expression) (sign_reads shift_right refl) (symbol_reads unary_expression)))
 
-pub shift_expression_rule : (v : Value shift_expression) (xs ys : List Token) → Means full Again (written shift_expression) v xs ys → Again shift_expression v xs ys
-shift_expression_rule = by_reads {n = shift_expression} shift_expression_right
-
-relational_expression_right : Reads (written relational_expression) (write relational_expression) (Same relational_expression)
+pub relational_expression_right : Reads (written relational_expression) (write relational_expression) (Same relational_expression)
 relational_expression_right = or_reads (symbol_reads shift_expression) (one_operation_reads (symbol_reads shift_expression) relational_operator_reads (symbol_reads shift_expression))
-
-pub relational_expression_rule : (v : Value relational_expression) (xs ys : List Token) → Means full Again (written relational_expression) v xs ys → Again relational_expression v xs ys
-relational_expression_rule = by_reads {n = relational_expression} relational_expression_right
 
 -- two operands or more, with one operator between
 two_or_more_reads : {x : Rule ExpressionNode} (o : BinaryOperator) → is_among (binary_operator_class o) (binary_operator_class o ∷ []) ≡ true → Reads x expression_node_tokens same_node
     → Reads (two_or_more (binary_operator_class o) o x) expression_node_tokens same_node
 two_or_more_reads o known X = operations_reads (one_operation_reads X (sign_reads o known) X) (operand_reads (sign_reads o known) X)
 
-expression_right : Reads (written expression) (write expression) (Same expression)
+pub expression_right : Reads (written expression) (write expression) (Same expression)
 expression_right = or_reads (symbol_reads relational_expression)
     (or_reads (two_or_more_reads short_circuit_and refl (symbol_reads relational_expression)) (or_reads (two_or_more_reads short_circuit_or refl (symbol_reads relational_expression))
     (or_reads (two_or_more_reads bitwise_and refl (symbol_reads unary_expression)) (or_reads (two_or_more_reads bitwise_or refl (symbol_reads unary_expression)) (two_or_more_reads bitwise_xor refl (symbol_reads unary_expression))))))
 
-pub expression_rule : (v : Value expression) (xs ys : List Token) → Means full Again (written expression) v xs ys → Again expression v xs ys
-expression_rule = by_reads {n = expression} expression_right
-
 -- ---- left sides
-lhs_expression_right : Reads (written lhs_expression) (write lhs_expression) (Same lhs_expression)
+pub lhs_expression_right : Reads (written lhs_expression) (write lhs_expression) (Same lhs_expression)
 lhs_expression_right = or_reads (components_reads (makes_reads (symbol_reads ident) (λ a span rest. refl) (λ w a s r h. λ i. expression_node (variable (h i)) no_span)))
     (or_reads (components_reads (makes_reads (before_reads SymParenLeft refl (behind_reads SymParenRight refl (symbol_reads lhs_expression))) (λ a span rest. refl) (λ w a s r h. λ i. expression_node (Expression.parenthesized (h i)) no_span)))
     (or_reads (operation_reads (unary_sign_reads indirection refl) (symbol_reads lhs_expression)) (operation_reads (unary_sign_reads address_of refl) (symbol_reads lhs_expression))))
-
-pub lhs_expression_rule : (v : Value lhs_expression) (xs ys : List Token) → Means full Again (written lhs_expression) v xs ys → Again lhs_expression v xs ys
-lhs_expression_rule = by_reads {n = lhs_expression} lhs_expression_right

@@ -10,40 +10,29 @@ use Rattle.wgsl_model.specs.Checks.{attribute_node}
 use Rattle.wgsl_model.specs.StatementParts as parts
 use Rattle.wgsl_model.specs.StatementParts.{initializer, var_kind}
 use Rattle.wgsl_model.specs.WithoutSpans.{bare_spanned, bare_expression_node, bare_attribute, bare_attributes}
-use Rattle.wgsl_model.specs.Symbols.{Symbol, ident, type_specifier, template_list, call, arguments, literal, component, negated_expression, primary_expression, singular_expression, unary_expression, multiplicative_expression, additive_expression, shift_expression, relational_expression, expression, lhs_expression, attribute, compound_statement, statement, const_assert, switch_clause, case_selector, continuing_statement, for_init, for_update, typed_ident, var_template, struct_member, formal_parameter, global_declaration, var_declaration, const_declaration, override_declaration, alias_declaration, struct_declaration, function_declaration, diagnostic_severity, global_directive, enable_directive, requires_directive, diagnostic_directive, Value}
+use Rattle.wgsl_model.specs.Symbols.{Symbol, component, negated_expression, expression, attribute, var_template, Value}
 use Rattle.wgsl_model.specs.Written.{written}
 use Rattle.wgsl_canonical_theory.specs.CanonicalAttributes.{attribute_tokens, attributes_tokens}
 use Rattle.wgsl_canonical_theory.specs.CanonicalStatements.{kind_tokens, initializer_tokens}
 use Rattle.wgsl_canonical_theory.proofs.Words.{AllWords}
-use Rattle.wgsl_canonical_theory.proofs.Again.{D, Again, write, Same, Found, Finds}
+use Rattle.wgsl_canonical_theory.proofs.Again.{D, Again, write, Same, Known, Found, Finds}
 use Rattle.wgsl_canonical_theory.proofs.Ways.{Reads, gives_reads, before_reads, many_reads}
 
 -- ---- from the right side of a symbol to the symbol
--- what the right side of a symbol derives is read again as the symbol
-abbrev pub IsReadAgain : Symbol → Type 0
-IsReadAgain n = (v : Value n) (xs ys : List Token) → Means full Again (written n) v xs ys → Again n v xs ys
-
 -- what a right side derives, its symbol derives
 pub rolled : {n : Symbol} {Like : Value n → Type 0} {us : List Token} {ks : List Kind} → Found (Means full D (written n)) Like us ks → Found (D n) Like us ks
 rolled {n} {us = us} f = record { value = f.value; rest = f.rest; kinds = f.kinds; like = f.like; derived = roll full written n f.value us f.rest f.derived }
 
--- what is read again, with what else is known of it and without
-pub with_known : {A B C : Type 0} → A × C → B → A × B × C
-with_known found known = (found.0, known, found.1)
+-- the rule of a symbol, with what else is known of its value
+pub known_by : (n : Symbol) → Reads (written n) (write n) (Same n) → (v : Value n) → Known n v → (xs ys : List Token) → Means full Again (written n) v xs ys → AllWords xs → AllWords ys × Known n v × Finds (D n) (λ w. Same n w v) (write n v)
+known_by n R v known xs ys d words = let found = R.again v xs ys d words in (found.0, known, λ us ks e. rolled {n = n} (found.1 us ks e))
 
+-- ---- a symbol in a right side
+-- what is read again, without what else is known of it
 pub without_known : {A B C : Type 0} → A × B × C → A × C
 without_known found = (found.0, found.2)
 
--- the rule of a symbol, but for what else is known
-pub found_by : (n : Symbol) → Reads (written n) (write n) (Same n) → (v : Value n) (xs ys : List Token) → Means full Again (written n) v xs ys → AllWords xs → AllWords ys × Finds (D n) (λ w. Same n w v) (write n v)
-found_by n R v xs ys d words = let found = R.again v xs ys d words in (found.0, λ us ks e. rolled {n = n} (found.1 us ks e))
-
--- the rule of a symbol of which nothing else is known
-pub by_reads : {n : Symbol} → Reads (written n) (write n) (Same n) → (v : Value n) (xs ys : List Token) → Means full Again (written n) v xs ys → AllWords xs → AllWords ys × Unit {0} × Finds (D n) (λ w. Same n w v) (write n v)
-by_reads {n} R v xs ys d words = with_known (found_by n R v xs ys d words) tt
-
--- ---- a symbol in a right side
--- but for those that are written with what stands before them
+-- of each symbol but those that are written with what stands before them
 abbrev pub SymbolReads : Symbol → Type 0
 SymbolReads component = Unit {0}
 SymbolReads negated_expression = Unit {0}

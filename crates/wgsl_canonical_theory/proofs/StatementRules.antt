@@ -1,10 +1,10 @@
 -- What the rules of statements derive is read again. The rules with attributes take what is proved of one attribute.
-use Rattle.std.proofs.Common.{◌≡◌, ℕ, true, List, [], ◌∷◌, Option, Some, refl, ap, subst, ◌∙◌, inl, inr}
+use Rattle.std.proofs.Common.{◌≡◌, true, List, [], ◌∷◌, Option, Some, refl, ap, subst, ◌∙◌, inl, inr}
 use Rattle.grammar.specs.Tokens.{Token}
 use Rattle.grammar.specs.Grammar.{Grammar.symbol, Mode.full, Chain.base, Means, is_among}
 use Rattle.grammar.specs.Notation.{one_token, ◌then◌, ◌or◌, ◌gives◌, ◌makes◌, ◌▹◌, ◌◃◌, ◌means◌, optional, list}
 use Rattle.grammar.proofs.Depth.{roll}
-use Rattle.wgsl_model.specs.Classes.{SymBraceLeft, SymBraceRight, SymColon, SymComma, SymMinusMinus, SymParenLeft, SymParenRight, SymPlusPlus, SymSemicolon, SymUnderscore, KwBreak, KwCase, KwConst, KwConstAssert, KwContinue, KwContinuing, KwDefault, KwDiscard, KwFor, KwIf, KwLet, KwLoop, KwReturn, KwSwitch, KwWhile}
+use Rattle.wgsl_model.specs.Classes.{SymBraceLeft, SymBraceRight, SymColon, SymComma, SymMinusMinus, SymParenLeft, SymParenRight, SymPlusPlus, SymSemicolon, SymUnderscore, KwCase, KwConst, KwConstAssert, KwContinuing, KwDefault, KwFor, KwIf, KwLet, KwLoop, KwReturn, KwSwitch, KwWhile}
 use Rattle.wgsl_model.specs.Kind.{plain}
 use Rattle.wgsl_model.specs.Operators.{AssignmentOperator.equal}
 use Rattle.wgsl_model.specs.Statements as tree
@@ -20,144 +20,81 @@ use Rattle.wgsl_canonical_theory.specs.CanonicalStatements.{kind_tokens, end_tok
 use Rattle.wgsl_canonical_theory.proofs.Words.{AllWords}
 use Rattle.wgsl_canonical_theory.proofs.Again.{D, write, Same, Ended, Unended, Finds, Again}
 use Rattle.wgsl_canonical_theory.proofs.Ways.{Outcome, Reads, first_of, class_of, then_reads, or_reads, gives_reads, makes_reads, sign_reads, before_reads, behind_reads, means_reads, optional_reads, no_sign_reads, list_reads}
-use Rattle.wgsl_canonical_theory.proofs.Rules.{AttributeReads, IsReadAgain, attributes_read, found_by, initializer_reads, var_kind_reads, with_known, without_known, symbol_reads}
+use Rattle.wgsl_canonical_theory.proofs.Rules.{AttributeReads, attributes_read, initializer_reads, var_kind_reads, without_known, symbol_reads}
 use Rattle.wgsl_canonical_theory.proofs.StatementParts.{break_if_reads, assignment_operator_reads, else_reads, maybe_continuing_reads, part_reads, else_ifs_read, clauses_read, statements_read}
 
 -- ---- blocks and their parts
-written_compound_statement_reads : AttributeReads → Reads (written compound_statement) (write compound_statement) (Same compound_statement)
+pub written_compound_statement_reads : AttributeReads → Reads (written compound_statement) (write compound_statement) (Same compound_statement)
 written_compound_statement_reads one = gives_reads (then_reads (attributes_read one) (before_reads SymBraceLeft refl (behind_reads SymBraceRight refl statements_read))) (λ a rest. refl) (λ w a h. λ i. tree.compound_statement (h.0 i) (h.1 i))
 
-pub compound_statement_rule : AttributeReads → IsReadAgain compound_statement
-compound_statement_rule one v xs ys d words = with_known (found_by compound_statement (written_compound_statement_reads one) v xs ys d words) tt
-
-written_continuing_statement_reads : AttributeReads → Reads (written continuing_statement) (write continuing_statement) (Same continuing_statement)
+pub written_continuing_statement_reads : AttributeReads → Reads (written continuing_statement) (write continuing_statement) (Same continuing_statement)
 written_continuing_statement_reads one = gives_reads (before_reads KwContinuing refl (then_reads (attributes_read one) (before_reads SymBraceLeft refl (behind_reads SymBraceRight refl (then_reads statements_read (optional_reads break_if_reads))))))
     (λ a rest. refl) (λ w a h. λ i. tree.continuing (tree.compound_statement (h.0 i) (h.1.0 i)) (h.1.1 i))
 
-pub continuing_statement_rule : AttributeReads → IsReadAgain continuing_statement
-continuing_statement_rule one v xs ys d words = with_known (found_by continuing_statement (written_continuing_statement_reads one) v xs ys d words) tt
-
 -- ---- statements that no `;` ends
-written_if_statement_reads : AttributeReads → Reads (written if_statement) (write if_statement) (Same if_statement)
+pub written_if_statement_reads : AttributeReads → Reads (written if_statement) (write if_statement) (Same if_statement)
 written_if_statement_reads one = gives_reads (then_reads (attributes_read one) (before_reads KwIf refl (then_reads (symbol_reads expression) (then_reads (symbol_reads compound_statement) (then_reads else_ifs_read else_reads)))))
     (λ a rest. refl) (λ w a h. λ i. tree.if_statement (tree.if_else (h.0 i) (tree.if_clause (h.1.0 i) (h.1.1.0 i)) (h.1.1.1.0 i) (h.1.1.1.1 i)))
 
-pub if_statement_rule : AttributeReads → IsReadAgain if_statement
-if_statement_rule one v xs ys d words = with_known (found_by if_statement (written_if_statement_reads one) v xs ys d words) (subst Unended d.1 (λ rest. refl))
-
-written_switch_statement_reads : AttributeReads → Reads (written switch_statement) (write switch_statement) (Same switch_statement)
+pub written_switch_statement_reads : AttributeReads → Reads (written switch_statement) (write switch_statement) (Same switch_statement)
 written_switch_statement_reads one = gives_reads (then_reads (attributes_read one) (before_reads KwSwitch refl (then_reads (symbol_reads expression) (then_reads (attributes_read one) (before_reads SymBraceLeft refl (behind_reads SymBraceRight refl clauses_read))))))
     (λ a rest. refl) (λ w a h. λ i. tree.switch_statement (tree.switch (h.0 i) (h.1.0 i) (h.1.1.0 i) (h.1.1.1 i)))
 
-pub switch_statement_rule : AttributeReads → IsReadAgain switch_statement
-switch_statement_rule one v xs ys d words = with_known (found_by switch_statement (written_switch_statement_reads one) v xs ys d words) (subst Unended d.1 (λ rest. refl))
-
-written_loop_statement_reads : AttributeReads → Reads (written loop_statement) (write loop_statement) (Same loop_statement)
+pub written_loop_statement_reads : AttributeReads → Reads (written loop_statement) (write loop_statement) (Same loop_statement)
 written_loop_statement_reads one = gives_reads (then_reads (attributes_read one) (before_reads KwLoop refl (then_reads (attributes_read one) (before_reads SymBraceLeft refl (behind_reads SymBraceRight refl (then_reads statements_read maybe_continuing_reads))))))
     (λ a rest. refl) (λ w a h. λ i. tree.loop_statement (tree.repeat (h.0 i) (tree.compound_statement (h.1.0 i) (h.1.1.0 i)) (h.1.1.1 i)))
 
-pub loop_statement_rule : AttributeReads → IsReadAgain loop_statement
-loop_statement_rule one v xs ys d words = with_known (found_by loop_statement (written_loop_statement_reads one) v xs ys d words) (subst Unended d.1 (λ rest. refl))
-
-written_for_statement_reads : AttributeReads → Reads (written for_statement) (write for_statement) (Same for_statement)
+pub written_for_statement_reads : AttributeReads → Reads (written for_statement) (write for_statement) (Same for_statement)
 written_for_statement_reads one = gives_reads (then_reads (attributes_read one) (before_reads KwFor refl (before_reads SymParenLeft refl (then_reads (behind_reads SymSemicolon refl (part_reads (symbol_reads for_init)))
     (then_reads (behind_reads SymSemicolon refl (optional_reads (symbol_reads expression))) (then_reads (behind_reads SymParenRight refl (part_reads (symbol_reads for_update))) (symbol_reads compound_statement)))))))
     (λ a rest. refl) (λ w a h. λ i. tree.for_statement (tree.repeat_for (h.0 i) (h.1.0 i) (h.1.1.0 i) (h.1.1.1.0 i) (h.1.1.1.1 i)))
 
-pub for_statement_rule : AttributeReads → IsReadAgain for_statement
-for_statement_rule one v xs ys d words = with_known (found_by for_statement (written_for_statement_reads one) v xs ys d words) (subst Unended d.1 (λ rest. refl))
-
-written_while_statement_reads : AttributeReads → Reads (written while_statement) (write while_statement) (Same while_statement)
+pub written_while_statement_reads : AttributeReads → Reads (written while_statement) (write while_statement) (Same while_statement)
 written_while_statement_reads one = gives_reads (then_reads (attributes_read one) (before_reads KwWhile refl (then_reads (symbol_reads expression) (symbol_reads compound_statement)))) (λ a rest. refl) (λ w a h. λ i. tree.while_statement (tree.repeat_while (h.0 i) (h.1.0 i) (h.1.1 i)))
 
-pub while_statement_rule : AttributeReads → IsReadAgain while_statement
-while_statement_rule one v xs ys d words = with_known (found_by while_statement (written_while_statement_reads one) v xs ys d words) (subst Unended d.1 (λ rest. refl))
-
 -- ---- statements that a `;` ends
-written_return_statement_reads : Reads (written return_statement) (write return_statement) (Same return_statement)
+pub written_return_statement_reads : Reads (written return_statement) (write return_statement) (Same return_statement)
 written_return_statement_reads = gives_reads (before_reads KwReturn refl (optional_reads (symbol_reads expression))) (λ a rest. refl) (λ w a h. λ i. tree.return_statement (record { expression = h i }))
 
-pub return_statement_rule : IsReadAgain return_statement
-return_statement_rule v xs ys d words = with_known (found_by return_statement written_return_statement_reads v xs ys d words) (subst Ended d.1 (λ rest. refl))
-
-written_call_statement_reads : Reads (written call_statement) (write call_statement) (Same call_statement)
+pub written_call_statement_reads : Reads (written call_statement) (write call_statement) (Same call_statement)
 written_call_statement_reads = gives_reads (symbol_reads call) (λ a rest. refl) (λ w a h. λ i. tree.function_call_statement (record { call = h i }))
 
-pub call_statement_rule : IsReadAgain call_statement
-call_statement_rule v xs ys d words = with_known (found_by call_statement written_call_statement_reads v xs ys d words) (subst Ended d.1 (λ rest. refl))
-
-written_var_statement_reads : Reads (written var_statement) (write var_statement) (Same var_statement)
+pub written_var_statement_reads : Reads (written var_statement) (write var_statement) (Same var_statement)
 written_var_statement_reads = gives_reads (then_reads var_kind_reads (then_reads (symbol_reads typed_ident) (optional_reads initializer_reads))) (λ a rest. refl)
     (λ w a h. λ i. tree.declaration (record { attributes = []; kind = h.0 i; ident = h.1.0.0 i; ty = h.1.0.1 i; initializer = h.1.1 i }))
-
-pub var_statement_rule : IsReadAgain var_statement
-var_statement_rule v xs ys d words = with_known (found_by var_statement written_var_statement_reads v xs ys d words) (subst Ended d.1 (λ rest. refl))
 
 value_kind_reads : Reads (KwLet means let_kind or KwConst means const_kind) kind_tokens (λ w v. w ≡ v)
 value_kind_reads = or_reads (means_reads KwLet refl (λ rest. refl) refl) (means_reads KwConst refl (λ rest. refl) refl)
 
-written_value_statement_reads : Reads (written value_statement) (write value_statement) (Same value_statement)
+pub written_value_statement_reads : Reads (written value_statement) (write value_statement) (Same value_statement)
 written_value_statement_reads = gives_reads (then_reads value_kind_reads (then_reads (symbol_reads typed_ident) initializer_reads)) (λ a rest. refl)
     (λ w a h. λ i. tree.declaration (record { attributes = []; kind = h.0 i; ident = h.1.0.0 i; ty = h.1.0.1 i; initializer = Some (h.1.1 i) }))
 
-pub value_statement_rule : IsReadAgain value_statement
-value_statement_rule v xs ys d words = with_known (found_by value_statement written_value_statement_reads v xs ys d words) (subst Ended d.1 (λ rest. refl))
-
-pub break_statement_rule : IsReadAgain break_statement
-break_statement_rule v xs ys d words = with_known (found_by break_statement (means_reads KwBreak refl (λ rest. refl) refl) v xs ys d words) (subst Ended d.1 (λ rest. refl))
-
-pub continue_statement_rule : IsReadAgain continue_statement
-continue_statement_rule v xs ys d words = with_known (found_by continue_statement (means_reads KwContinue refl (λ rest. refl) refl) v xs ys d words) (subst Ended d.1 (λ rest. refl))
-
-pub discard_statement_rule : IsReadAgain discard_statement
-discard_statement_rule v xs ys d words = with_known (found_by discard_statement (means_reads KwDiscard refl (λ rest. refl) refl) v xs ys d words) (subst Ended d.1 (λ rest. refl))
-
-written_assignment_reads : Reads (written assignment) (write assignment) (Same assignment)
+pub written_assignment_reads : Reads (written assignment) (write assignment) (Same assignment)
 written_assignment_reads = gives_reads (then_reads (symbol_reads lhs_expression) (then_reads assignment_operator_reads (symbol_reads expression))) (λ a rest. refl) (λ w a h. λ i. tree.assignment (record { operator = h.1.0 i; lhs = h.0 i; rhs = h.1.1 i }))
 
-pub assignment_rule : IsReadAgain assignment
-assignment_rule v xs ys d words = with_known (found_by assignment written_assignment_reads v xs ys d words) (subst Ended d.1 (λ rest. refl))
-
-written_increment_reads : Reads (written increment) (write increment) (Same increment)
+pub written_increment_reads : Reads (written increment) (write increment) (Same increment)
 written_increment_reads = gives_reads (behind_reads SymPlusPlus refl (symbol_reads lhs_expression)) (λ a rest. refl) (λ w a h. λ i. tree.increment (record { expression = h i }))
 
-pub increment_rule : IsReadAgain increment
-increment_rule v xs ys d words = with_known (found_by increment written_increment_reads v xs ys d words) (subst Ended d.1 (λ rest. refl))
-
-written_decrement_reads : Reads (written decrement) (write decrement) (Same decrement)
+pub written_decrement_reads : Reads (written decrement) (write decrement) (Same decrement)
 written_decrement_reads = gives_reads (behind_reads SymMinusMinus refl (symbol_reads lhs_expression)) (λ a rest. refl) (λ w a h. λ i. tree.decrement (record { expression = h i }))
 
-pub decrement_rule : IsReadAgain decrement
-decrement_rule v xs ys d words = with_known (found_by decrement written_decrement_reads v xs ys d words) (subst Ended d.1 (λ rest. refl))
-
-written_const_assert_reads : Reads (written const_assert) (write const_assert) (Same const_assert)
+pub written_const_assert_reads : Reads (written const_assert) (write const_assert) (Same const_assert)
 written_const_assert_reads = gives_reads (before_reads KwConstAssert refl (symbol_reads expression)) (λ a rest. refl) (λ w a h. λ i. record { expression = h i })
 
-pub const_assert_rule : IsReadAgain const_assert
-const_assert_rule v xs ys d words = with_known (found_by const_assert written_const_assert_reads v xs ys d words) tt
-
 -- ---- a name with its type, and what a clause selects
-written_typed_ident_reads : Reads (written typed_ident) (write typed_ident) (Same typed_ident)
+pub written_typed_ident_reads : Reads (written typed_ident) (write typed_ident) (Same typed_ident)
 written_typed_ident_reads = gives_reads (then_reads (symbol_reads ident) (optional_reads (before_reads SymColon refl (symbol_reads type_specifier)))) (λ a rest. refl) (λ w a h. h)
 
-pub typed_ident_rule : IsReadAgain typed_ident
-typed_ident_rule v xs ys d words = with_known (found_by typed_ident written_typed_ident_reads v xs ys d words) tt
-
-written_case_selector_reads : Reads (written case_selector) (write case_selector) (Same case_selector)
+pub written_case_selector_reads : Reads (written case_selector) (write case_selector) (Same case_selector)
 written_case_selector_reads = or_reads (means_reads KwDefault refl (λ rest. refl) refl) (gives_reads (symbol_reads expression) (λ a rest. refl) (λ w a h. λ i. expression_selector (h i)))
-
-pub case_selector_rule : IsReadAgain case_selector
-case_selector_rule v xs ys d words = with_known (found_by case_selector written_case_selector_reads v xs ys d words) tt
 
 -- ---- the phony assignment, whose left side is the identifier `_`
 underscore_reads : Reads (one_token SymUnderscore makes underscore_at) expression_node_tokens (λ w v. bare_expression_node w ≡ bare_expression_node v)
 underscore_reads = makes_reads (sign_reads SymUnderscore refl) (λ a span rest. refl) (λ w a s r h. refl)
 
-written_phony_assignment_reads : Reads (written phony_assignment) (write phony_assignment) (Same phony_assignment)
+pub written_phony_assignment_reads : Reads (written phony_assignment) (write phony_assignment) (Same phony_assignment)
 written_phony_assignment_reads = gives_reads (then_reads underscore_reads initializer_reads) (λ a rest. refl) (λ w a h. λ i. tree.assignment (record { operator = equal; lhs = h.0 i; rhs = h.1 i }))
-
-pub phony_assignment_rule : IsReadAgain phony_assignment
-phony_assignment_rule v xs ys d words = with_known (found_by phony_assignment written_phony_assignment_reads v xs ys d words) (subst Ended d.1 (λ rest. refl))
 
 -- ---- clauses: the optional colon is left out, and `default` alone is written `case default`
 -- a block behind the optional colon
@@ -203,7 +140,7 @@ default_clause_reads v xs ys d words = subst (λ (z : SwitchClause). Outcome cas
     )
     )
 
-written_switch_clause_reads : Reads (written switch_clause) (write switch_clause) (Same switch_clause)
+pub written_switch_clause_reads : Reads (written switch_clause) (write switch_clause) (Same switch_clause)
 written_switch_clause_reads = record { again = go } where
   as_case : (v : SwitchClause) (ys : List Token) → Outcome case_clause switch_clause_tokens LikeClause v ys → Outcome (written switch_clause) switch_clause_tokens LikeClause v ys
   as_case v ys found = (found.0, λ us ks e. let a = found.1 us ks e in record { value = a.value; rest = a.rest; kinds = a.kinds; like = a.like; derived = inl a.derived })
@@ -211,9 +148,6 @@ written_switch_clause_reads = record { again = go } where
   go : (v : SwitchClause) (xs ys : List Token) → Means full Again (written switch_clause) v xs ys → AllWords xs → Outcome (written switch_clause) switch_clause_tokens LikeClause v ys
   go v xs ys (inl d) words = as_case v ys (case_clause_reads.again v xs ys d words)
   go v xs ys (inr d) words = as_case v ys (default_clause_reads v xs ys d words)
-
-pub switch_clause_rule : IsReadAgain switch_clause
-switch_clause_rule v xs ys d words = with_known (found_by switch_clause written_switch_clause_reads v xs ys d words) tt
 
 -- ---- statements, with the `;` that ends them and without
 abbrev Like : Statement → Statement → Type 0
@@ -244,7 +178,7 @@ unended_reads {g} f = record {
       (found.0, λ us ks e. found.2 us ks (e ∙ ap (unended_tokens v) (found.1 ks)));
 }
 
-written_statement_reads : Reads (written statement) (write statement) (Same statement)
+pub written_statement_reads : Reads (written statement) (write statement) (Same statement)
 written_statement_reads = makes_reads {writes = ended_tokens} {like = Like} (
     or_reads (means_reads SymSemicolon refl (λ rest. refl) refl)
     (or_reads (ended_reads {g = symbol return_statement} (λ v xs ys h. h))
@@ -267,9 +201,6 @@ written_statement_reads = makes_reads {writes = ended_tokens} {like = Like} (
     (gives_reads (behind_reads SymSemicolon refl (symbol_reads const_assert)) (λ a rest. refl) (λ w a h. λ i. tree.const_assert (h i))))))))))))))))))))
     ) (λ a span rest. refl) (λ w a s r h. λ i. statement_node (h i) no_span)
 
-pub statement_rule : IsReadAgain statement
-statement_rule v xs ys d words = with_known (found_by statement written_statement_reads v xs ys d words) tt
-
 -- ---- statements in the header of a `for`
 abbrev update_statement : Rule Statement
 update_statement = symbol assignment or symbol phony_assignment or symbol increment or symbol decrement or symbol call_statement
@@ -282,16 +213,10 @@ update_reads =
     (or_reads (header_reads {P = Ended} {g = symbol decrement} (λ v xs ys h. h))
     (header_reads {P = Ended} {g = symbol call_statement} (λ v xs ys h. h)))))
 
-written_for_update_reads : Reads (written for_update) (write for_update) (Same for_update)
+pub written_for_update_reads : Reads (written for_update) (write for_update) (Same for_update)
 written_for_update_reads = makes_reads update_reads (λ a span rest. refl) (λ w a s r h. λ i. statement_node (h i) no_span)
 
-pub for_update_rule : IsReadAgain for_update
-for_update_rule v xs ys d words = with_known (found_by for_update written_for_update_reads v xs ys d words) tt
-
-written_for_init_reads : Reads (written for_init) (write for_init) (Same for_init)
+pub written_for_init_reads : Reads (written for_init) (write for_init) (Same for_init)
 written_for_init_reads = makes_reads {writes = unended_tokens} {like = Like}
     (or_reads (header_reads {P = Ended} {g = symbol var_statement} (λ v xs ys h. h)) (or_reads (header_reads {P = Ended} {g = symbol value_statement} (λ v xs ys h. h)) update_reads))
     (λ a span rest. refl) (λ w a s r h. λ i. statement_node (h i) no_span)
-
-pub for_init_rule : IsReadAgain for_init
-for_init_rule v xs ys d words = with_known (found_by for_init written_for_init_reads v xs ys d words) tt

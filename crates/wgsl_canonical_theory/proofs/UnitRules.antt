@@ -29,103 +29,67 @@ use Rattle.wgsl_canonical_theory.specs.CanonicalUnits.{directive_tokens, global_
 use Rattle.wgsl_canonical_theory.proofs.Words.{NoPeriod, AllWords}
 use Rattle.wgsl_canonical_theory.proofs.Again.{D, Again, write, Same, Known, Found, Finds}
 use Rattle.wgsl_canonical_theory.proofs.Ways.{Outcome, Reads, words_behind, then_reads, or_reads, gives_reads, makes_reads, equal_reads, before_reads, behind_reads, means_reads, none_reads, optional_reads, no_sign_reads, all_behind, map_behind, many_reads, list_reads, list_or_none_reads}
-use Rattle.wgsl_canonical_theory.proofs.Rules.{AttributeReads, IsReadAgain, attributes_read, by_reads, initializer_reads, var_kind_reads, symbol_reads}
+use Rattle.wgsl_canonical_theory.proofs.Rules.{AttributeReads, attributes_read, initializer_reads, var_kind_reads, symbol_reads}
 use Rattle.wgsl_canonical_theory.proofs.NamedWords.{severity_word}
 use Rattle.wgsl_canonical_theory.proofs.UnitParts.{attributed_ident_reads, names_read, returned_reads, function_written, same_function, period_tokens, rule_written, same_rule}
 
 -- ---- members and parameters
-struct_member_written : AttributeReads → Reads (written struct_member) (write struct_member) (Same struct_member)
+pub struct_member_written : AttributeReads → Reads (written struct_member) (write struct_member) (Same struct_member)
 struct_member_written one = makes_reads (attributed_ident_reads one) (λ a span rest. refl)
     (λ w a s r h. λ i. record { node = record { attributes = h.0 i; ident = h.1.0 i; ty = h.1.1 i }; span = no_span })
 
-pub struct_member_rule : AttributeReads → IsReadAgain struct_member
-struct_member_rule one v xs ys d = by_reads {n = struct_member} (struct_member_written one) v xs ys d
-
-formal_parameter_written : AttributeReads → Reads (written formal_parameter) (write formal_parameter) (Same formal_parameter)
+pub formal_parameter_written : AttributeReads → Reads (written formal_parameter) (write formal_parameter) (Same formal_parameter)
 formal_parameter_written one = gives_reads (attributed_ident_reads one) (λ a rest. refl) (λ w a h. λ i. record { attributes = h.0 i; ident = h.1.0 i; ty = h.1.1 i })
 
-pub formal_parameter_rule : AttributeReads → IsReadAgain formal_parameter
-formal_parameter_rule one v xs ys d = by_reads {n = formal_parameter} (formal_parameter_written one) v xs ys d
-
 -- ---- declarations of values
-var_declaration_written : AttributeReads → Reads (written var_declaration) (write var_declaration) (Same var_declaration)
+pub var_declaration_written : AttributeReads → Reads (written var_declaration) (write var_declaration) (Same var_declaration)
 var_declaration_written one = gives_reads (then_reads (attributes_read one) (then_reads var_kind_reads (then_reads (symbol_reads typed_ident) (behind_reads SymSemicolon refl (optional_reads initializer_reads))))) (λ a rest. refl)
     (λ w a h. λ i. tree.declaration (record { attributes = h.0 i; kind = h.1.0 i; ident = h.1.1.0.0 i; ty = h.1.1.0.1 i; initializer = h.1.1.1 i }))
 
-pub var_declaration_rule : AttributeReads → IsReadAgain var_declaration
-var_declaration_rule one v xs ys d = by_reads {n = var_declaration} (var_declaration_written one) v xs ys d
-
-const_declaration_written : Reads (written const_declaration) (write const_declaration) (Same const_declaration)
+pub const_declaration_written : Reads (written const_declaration) (write const_declaration) (Same const_declaration)
 const_declaration_written = gives_reads (before_reads KwConst refl (then_reads (symbol_reads typed_ident) (behind_reads SymSemicolon refl initializer_reads))) (λ a rest. refl)
     (λ w a h. λ i. tree.declaration (record { attributes = []; kind = const_kind; ident = h.0.0 i; ty = h.0.1 i; initializer = Some (h.1 i) }))
 
-pub const_declaration_rule : IsReadAgain const_declaration
-const_declaration_rule v xs ys d = by_reads {n = const_declaration} const_declaration_written v xs ys d
-
-override_declaration_written : AttributeReads → Reads (written override_declaration) (write override_declaration) (Same override_declaration)
+pub override_declaration_written : AttributeReads → Reads (written override_declaration) (write override_declaration) (Same override_declaration)
 override_declaration_written one = gives_reads (then_reads (attributes_read one) (before_reads KwOverride refl (then_reads (symbol_reads typed_ident) (behind_reads SymSemicolon refl (optional_reads initializer_reads))))) (λ a rest. refl)
     (λ w a h. λ i. tree.declaration (record { attributes = h.0 i; kind = override_kind; ident = h.1.0.0 i; ty = h.1.0.1 i; initializer = h.1.1 i }))
 
-pub override_declaration_rule : AttributeReads → IsReadAgain override_declaration
-override_declaration_rule one v xs ys d = by_reads {n = override_declaration} (override_declaration_written one) v xs ys d
-
 -- ---- declarations of types and functions
-alias_declaration_written : Reads (written alias_declaration) (write alias_declaration) (Same alias_declaration)
+pub alias_declaration_written : Reads (written alias_declaration) (write alias_declaration) (Same alias_declaration)
 alias_declaration_written = gives_reads (before_reads KwAlias refl (then_reads (symbol_reads ident) (before_reads SymEqual refl (behind_reads SymSemicolon refl (symbol_reads type_specifier))))) (λ a rest. refl)
     (λ w a h. λ i. tree.type_alias (record { ident = h.0 i; ty = h.1 i }))
 
-pub alias_declaration_rule : IsReadAgain alias_declaration
-alias_declaration_rule v xs ys d = by_reads {n = alias_declaration} alias_declaration_written v xs ys d
-
-struct_declaration_written : Reads (written struct_declaration) (write struct_declaration) (Same struct_declaration)
+pub struct_declaration_written : Reads (written struct_declaration) (write struct_declaration) (Same struct_declaration)
 struct_declaration_written = gives_reads (before_reads KwStruct refl (then_reads (symbol_reads ident) (before_reads SymBraceLeft refl (behind_reads SymBraceRight refl (list_reads {bare = bare_spanned bare_member} {kept = bare_spanned bare_member} (symbol_reads struct_member)))))) (λ a rest. refl)
     (λ w a h. λ i. tree.structure (record { ident = h.0 i; members = h.1 i }))
 
-pub struct_declaration_rule : IsReadAgain struct_declaration
-struct_declaration_rule v xs ys d = by_reads {n = struct_declaration} struct_declaration_written v xs ys d
-
-function_declaration_written : AttributeReads → Reads (written function_declaration) (write function_declaration) (Same function_declaration)
+pub function_declaration_written : AttributeReads → Reads (written function_declaration) (write function_declaration) (Same function_declaration)
 function_declaration_written one = gives_reads
     (then_reads (attributes_read one) (before_reads KwFn refl (then_reads (symbol_reads ident) (before_reads SymParenLeft refl
     (then_reads (behind_reads SymParenRight refl (list_or_none_reads {bare = bare_parameter} {kept = bare_parameter} (symbol_reads formal_parameter))) (then_reads (returned_reads one) (symbol_reads compound_statement)))))))
     (λ a rest. function_written a.0 a.1.0 a.1.1.0 a.1.1.1.0 a.1.1.1.1 rest)
     (λ w a h. ap tree.function (same_function w a h.0 h.1.0 h.1.1.0 h.1.1.1.0 h.1.1.1.1))
 
-pub function_declaration_rule : AttributeReads → IsReadAgain function_declaration
-function_declaration_rule one v xs ys d = by_reads {n = function_declaration} (function_declaration_written one) v xs ys d
-
 -- ---- declarations
 -- declarations that are the same, spans and empty items aside
 abbrev SameDeclaration : GlobalDeclaration → GlobalDeclaration → Type 0
 SameDeclaration w v = bare_global_declaration w ≡ bare_global_declaration (full_declaration v)
 
-global_declaration_written : Reads (written global_declaration) (write global_declaration) (Same global_declaration)
+pub global_declaration_written : Reads (written global_declaration) (write global_declaration) (Same global_declaration)
 global_declaration_written = makes_reads {writes = global_declaration_tokens} {like = SameDeclaration}
     (or_reads (means_reads SymSemicolon refl (λ rest. refl) refl) (or_reads (symbol_reads var_declaration) (or_reads (symbol_reads const_declaration) (or_reads (symbol_reads override_declaration) (or_reads (symbol_reads alias_declaration) (or_reads (symbol_reads struct_declaration)
     (or_reads (symbol_reads function_declaration) (gives_reads (behind_reads SymSemicolon refl (symbol_reads const_assert)) (λ a rest. refl) (λ w a h. λ i. tree.const_assert (h i))))))))))
     (λ a span rest. refl) (λ w a s r h. h)
 
-pub global_declaration_rule : IsReadAgain global_declaration
-global_declaration_rule v xs ys d = by_reads {n = global_declaration} global_declaration_written v xs ys d
-
 -- ---- directives
-enable_directive_written : Reads (written enable_directive) (write enable_directive) (Same enable_directive)
+pub enable_directive_written : Reads (written enable_directive) (write enable_directive) (Same enable_directive)
 enable_directive_written = gives_reads (before_reads KwEnable refl (behind_reads SymSemicolon refl names_read)) (λ a rest. refl) (λ w a h. λ i. tree.enable (record { extensions = h i }))
 
-pub enable_directive_rule : IsReadAgain enable_directive
-enable_directive_rule v xs ys d = by_reads {n = enable_directive} enable_directive_written v xs ys d
-
-requires_directive_written : Reads (written requires_directive) (write requires_directive) (Same requires_directive)
+pub requires_directive_written : Reads (written requires_directive) (write requires_directive) (Same requires_directive)
 requires_directive_written = gives_reads (before_reads KwRequires refl (behind_reads SymSemicolon refl names_read)) (λ a rest. refl) (λ w a h. λ i. tree.requires (record { extensions = h i }))
 
-pub requires_directive_rule : IsReadAgain requires_directive
-requires_directive_rule v xs ys d = by_reads {n = requires_directive} requires_directive_written v xs ys d
-
-global_directive_written : Reads (written global_directive) (write global_directive) (Same global_directive)
+pub global_directive_written : Reads (written global_directive) (write global_directive) (Same global_directive)
 global_directive_written = or_reads (symbol_reads enable_directive) (or_reads (symbol_reads requires_directive) (symbol_reads diagnostic_directive))
-
-pub global_directive_rule : IsReadAgain global_directive
-global_directive_rule v xs ys d = by_reads {n = global_directive} global_directive_written v xs ys d
 
 -- ---- `diagnostic`
 -- a value is turned into another, and something is known of it
@@ -175,12 +139,9 @@ diagnostic_tokens p known rest =
     ap₂ (λ (word : List ℕ) (rule : List Kind). plain KwDiagnostic ∷ (plain SymParenLeft ∷ (word_of word ∷ (plain SymComma ∷ rule)))) (severity_written p.0 known.0)
     (rule_written p.1.0 p.1.1.0 (plain SymParenRight ∷ (plain SymSemicolon ∷ rest)) known.1)
 
-diagnostic_directive_written : Reads (written diagnostic_directive) (write diagnostic_directive) (Same diagnostic_directive)
+pub diagnostic_directive_written : Reads (written diagnostic_directive) (write diagnostic_directive) (Same diagnostic_directive)
 diagnostic_directive_written = known_reads {Fact = KnownParts} diagnostic_parts_read known_parts diagnostic_tokens
     (λ w a h. λ i. tree.diagnostic (record { severity = given_or error (look_up severities (h.0 i)); rule_name = same_rule w.1.0 a.1.0 w.1.1.0 a.1.1.0 h.1.0 h.1.1.0 i }))
-
-pub diagnostic_directive_rule : IsReadAgain diagnostic_directive
-diagnostic_directive_rule v xs ys d = by_reads {n = diagnostic_directive} diagnostic_directive_written v xs ys d
 
 -- ---- modules, where empty declarations are left out
 abbrev bare_item : Spanned GlobalDeclaration → Spanned GlobalDeclaration
@@ -253,9 +214,6 @@ declarations_read = record { again = λ v xs ys d words. go xs v ys d words } wh
 directives_read : Reads (many (symbol global_directive)) (all_tokens directive_tokens) (λ w v. w ≡ v)
 directives_read = equal_reads (many_reads {bare = λ d. d} {kept = λ d. d} (symbol_reads global_directive)) (λ v rest. refl) (λ w v h. sym (map-id w) ∙ h ∙ map-id v)
 
-unit_written : Reads (written unit) (write unit) (Same unit)
+pub unit_written : Reads (written unit) (write unit) (Same unit)
 unit_written = gives_reads (then_reads directives_read declarations_read) (λ a rest. refl)
     (λ w a h. λ i. record { global_directives = h.0 i; global_declarations = h.1 i })
-
-pub unit_rule : IsReadAgain unit
-unit_rule v xs ys d = by_reads {n = unit} unit_written v xs ys d

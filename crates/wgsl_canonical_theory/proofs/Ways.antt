@@ -2,15 +2,15 @@
 use Rattle.std.proofs.Common.{◌≡◌, ℕ, true, List, [], ◌∷◌, ◌++◌, map, Option, Some, None, refl, sym, ap, ap₂, subst, ◌∙◌, inl, inr}
 use Rattle.std.specs.Option.{option_map}
 use Rattle.grammar.specs.Tokens.{Token, Span, span_between}
-use Rattle.grammar.specs.Grammar.{Grammar.empty, Grammar.symbol, Grammar.left_chain, Mode.full, Chain, Chain.base, Chain.more, Means, is_among}
+use Rattle.grammar.specs.Grammar.{Grammar.empty, Grammar.left_chain, Mode.full, Chain, Chain.base, Chain.more, Means, is_among}
 use Rattle.grammar.specs.Notation.{one_token, ◌then◌, ◌or◌, ◌gives◌, ◌makes◌, ◌▹◌, ◌◃◌, ◌means◌, optional, many, several, separated, list, list_or_none}
 use Rattle.wgsl_model.specs.Classes.{SymComma}
 use Rattle.wgsl_model.specs.Kind.{Kind, plain}
-use Rattle.wgsl_model.specs.Symbols.{Symbol, Value, Rule}
+use Rattle.wgsl_model.specs.Symbols.{Rule}
 use Rattle.wgsl_canonical_theory.specs.CanonicalExpressions.{Writes, optional_tokens, all_tokens, further_tokens, list_tokens}
 use Rattle.wgsl_canonical_theory.specs.CanonicalUnits.{without_place}
 use Rattle.wgsl_canonical_theory.proofs.Words.{AllWords}
-use Rattle.wgsl_canonical_theory.proofs.Again.{D, Again, write, Same, Found, Finds}
+use Rattle.wgsl_canonical_theory.proofs.Again.{D, Again, Found, Finds}
 
 -- a value that is read again, and the words behind it
 abbrev pub Outcome : {A : Type 0} → Rule A → Writes A → (A → A → Type 0) → A → List Token → Type 0
