@@ -20,7 +20,7 @@ use Rattle.wgsl_canonical_theory.specs.CanonicalExpressions.{Writes, optional_to
 use Rattle.wgsl_canonical_theory.specs.CanonicalUnits.{without_place}
 use Rattle.wgsl_canonical_theory.proofs.Words.{NoPeriod, AllWords}
 use Rattle.wgsl_canonical_theory.proofs.Again.{D, Again, write, Same, Finds, FindsComponent, template_list_tokens}
-use Rattle.wgsl_canonical_theory.proofs.Ways.{Outcome, Reads, first_of, class_of, words_behind, then_reads, or_reads, gives_reads, makes_reads, before_reads, behind_reads, means_reads, optional_reads, chain_reads, list_reads, list_or_none_reads}
+use Rattle.wgsl_canonical_theory.proofs.Ways.{Outcome, Reads, found_as, found_in, first_of, class_of, words_behind, then_reads, or_reads, gives_reads, makes_reads, before_reads, behind_reads, means_reads, optional_reads, chain_reads, list_reads, list_or_none_reads}
 use Rattle.wgsl_canonical_theory.proofs.Rules.{rolled, symbol_reads}
 
 -- ---- names
@@ -166,15 +166,7 @@ component_rule v xs ys (inl d) words =
       λ ks. (
         plain SymBracketLeft ∷ expression_node_tokens d.0 (plain SymBracketRight ∷ ks),
         λ base. refl,
-        λ us e.
-            let a = found.1 us ks e in
-            rolled {n = component} (record {
-              value = index_of a.value;
-              rest = a.rest;
-              kinds = a.kinds;
-              like = λ x y h. λ i. Expression.indexing (h i) (a.like i);
-              derived = inl (a.value, refl, a.derived);
-            }),
+        λ us e. rolled {n = component} (found_as (λ a rest. index_of a) (λ a rest i. inl (a, refl, i)) (λ a rest k x y h. λ i. Expression.indexing (h i) (k i)) (found.1 us ks e)),
       ),
     )
 component_rule v xs ys (inr d) words =
@@ -185,15 +177,7 @@ component_rule v xs ys (inr d) words =
       λ ks. (
         plain SymPeriod ∷ (word_of (text_of d.0) ∷ ks),
         λ base. refl,
-        λ us e.
-            let a = found.1 us ks e in
-            rolled {n = component} (record {
-              value = component_of a.value;
-              rest = a.rest;
-              kinds = a.kinds;
-              like = λ x y h. λ i. Expression.named_component (h i) (a.like i);
-              derived = inr (a.value, refl, a.derived);
-            }),
+        λ us e. rolled {n = component} (found_as (λ a rest. component_of a) (λ a rest i. inr (a, refl, i)) (λ a rest k x y h. λ i. Expression.named_component (h i) (k i)) (found.1 us ks e)),
       ),
     )
 
@@ -201,9 +185,7 @@ component_rule v xs ys (inr d) words =
 components_reads : {g : Rule ExpressionNode} → Reads g expression_node_tokens same_node → Reads (left_chain with_component g (symbol component)) expression_node_tokens same_node
 components_reads {g} G = record { again = λ v xs ys d words. go xs v ys d words } where
   go : (xs : List Token) (v : ExpressionNode) (ys : List Token) → Chain with_component (Means full Again g) (Again component) xs v ys → AllWords xs → Outcome (left_chain with_component g (symbol component)) expression_node_tokens same_node v ys
-  go xs _ _ (base a ys d) words =
-      let found = G.again a xs ys d words in
-      (found.0, λ us ks e. let x = found.1 us ks e in record { value = x.value; rest = x.rest; kinds = x.kinds; like = x.like; derived = base x.value x.rest x.derived })
+  go xs _ _ (base a ys d) words = let found = G.again a xs ys d words in (found.0, λ us ks e. found_in (λ x rest i. base x rest i) (found.1 us ks e))
   go xs _ _ (more a b ys zs c d) words =
       let before = go xs a ys c words in
       let last = d before.0 in (
@@ -346,7 +328,7 @@ addend_reads = record { again = go } where
   go : (v : Operand) (xs ys : List Token) → Means full Again addend v xs ys → AllWords xs → Outcome addend operand_tokens same_operand v ys
   go v xs ys (inl d) words =
       let found = (operand_reads additive_operator_reads (symbol_reads multiplicative_expression)).again v xs ys d words in
-      (found.0, λ us ks e. let x = found.1 us ks e in record { value = x.value; rest = x.rest; kinds = x.kinds; like = x.like; derived = inl x.derived })
+      (found.0, λ us ks e. found_in (λ x rest i. inl i) (found.1 us ks e))
   go v xs ys (inr d) words =
       let found = d.2 words in
       subst (λ (z : Operand). Outcome addend operand_tokens same_operand z ys) d.1 (

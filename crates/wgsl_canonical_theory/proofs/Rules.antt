@@ -16,12 +16,12 @@ use Rattle.wgsl_canonical_theory.specs.CanonicalAttributes.{attribute_tokens, at
 use Rattle.wgsl_canonical_theory.specs.CanonicalStatements.{kind_tokens, initializer_tokens}
 use Rattle.wgsl_canonical_theory.proofs.Words.{AllWords}
 use Rattle.wgsl_canonical_theory.proofs.Again.{D, Again, write, Same, Known, Found, Finds}
-use Rattle.wgsl_canonical_theory.proofs.Ways.{Reads, gives_reads, before_reads, many_reads}
+use Rattle.wgsl_canonical_theory.proofs.Ways.{Reads, found_in, gives_reads, before_reads, many_reads}
 
 -- ---- from the right side of a symbol to the symbol
 -- what a right side derives, its symbol derives
 pub rolled : {n : Symbol} {Like : Value n → Type 0} {us : List Token} {ks : List Kind} → Found (Means full D (written n)) Like us ks → Found (D n) Like us ks
-rolled {n} {us = us} f = record { value = f.value; rest = f.rest; kinds = f.kinds; like = f.like; derived = roll full written n f.value us f.rest f.derived }
+rolled {n} {us = us} f = found_in (λ a rest d. roll full written n a us rest d) f
 
 -- the rule of a symbol, with what else is known of its value
 pub known_by : (n : Symbol) → Reads (written n) (write n) (Same n) → (v : Value n) → Known n v → (xs ys : List Token) → Means full Again (written n) v xs ys → AllWords xs → AllWords ys × Known n v × Finds (D n) (λ w. Same n w v) (write n v)

@@ -19,7 +19,7 @@ use Rattle.wgsl_canonical_theory.specs.CanonicalStatements.{assignment_operator_
 use Rattle.wgsl_canonical_theory.specs.CanonicalUnits.{without_place}
 use Rattle.wgsl_canonical_theory.proofs.Words.{AllWords}
 use Rattle.wgsl_canonical_theory.proofs.Again.{D, header_tokens, seen_statement, write, Same, Found, Again}
-use Rattle.wgsl_canonical_theory.proofs.Ways.{Outcome, Reads, then_reads, or_reads, gives_reads, equal_reads, before_reads, behind_reads, means_reads, none_reads, many_reads, several_reads}
+use Rattle.wgsl_canonical_theory.proofs.Ways.{Outcome, Reads, found_in, then_reads, or_reads, gives_reads, equal_reads, before_reads, behind_reads, means_reads, none_reads, many_reads, several_reads}
 use Rattle.wgsl_canonical_theory.proofs.Rules.{symbol_reads}
 
 -- ---- parts of one rule
@@ -167,9 +167,7 @@ statements_read = record { again = λ v xs ys d words. go xs v ys d words } wher
   none = none_reads (λ rest. refl) refl
 
   go : (xs : List Token) (v : List StatementNode) (ys : List Token) → Means full Again statements v xs ys → AllWords xs → ListOutcome v ys
-  go xs _ _ (base a ys d) words =
-      let found = none.again a xs ys d words in
-      (found.0, λ us ks e. let x = found.1 us ks e in record { value = x.value; rest = x.rest; kinds = x.kinds; like = x.like; derived = base x.value x.rest x.derived })
+  go xs _ _ (base a ys d) words = let found = none.again a xs ys d words in (found.0, λ us ks e. found_in (λ x rest i. base x rest i) (found.1 us ks e))
   go xs _ _ (more a (statement_node s span) ys zs c d) words =
       let before = go xs a ys c words in
       one_more a s span ys zs before ((symbol_reads statement).again (statement_node s span) ys zs d before.0)

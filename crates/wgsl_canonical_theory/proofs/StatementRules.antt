@@ -19,7 +19,7 @@ use Rattle.wgsl_canonical_theory.specs.CanonicalExpressions.{Writes, expression_
 use Rattle.wgsl_canonical_theory.specs.CanonicalStatements.{kind_tokens, end_token, unended_tokens, compound_tokens, switch_clause_tokens}
 use Rattle.wgsl_canonical_theory.proofs.Words.{AllWords}
 use Rattle.wgsl_canonical_theory.proofs.Again.{D, write, Same, Ended, Unended, Finds, Again}
-use Rattle.wgsl_canonical_theory.proofs.Ways.{Outcome, Reads, first_of, class_of, then_reads, or_reads, gives_reads, makes_reads, sign_reads, before_reads, behind_reads, means_reads, optional_reads, no_sign_reads, list_reads}
+use Rattle.wgsl_canonical_theory.proofs.Ways.{Outcome, Reads, found_in, first_of, class_of, then_reads, or_reads, gives_reads, makes_reads, sign_reads, before_reads, behind_reads, means_reads, optional_reads, no_sign_reads, list_reads}
 use Rattle.wgsl_canonical_theory.proofs.Rules.{AttributeReads, attributes_read, initializer_reads, var_kind_reads, without_known, symbol_reads}
 use Rattle.wgsl_canonical_theory.proofs.StatementParts.{break_if_reads, assignment_operator_reads, else_reads, maybe_continuing_reads, part_reads, else_ifs_read, clauses_read, statements_read}
 
@@ -143,7 +143,7 @@ default_clause_reads v xs ys d words = subst (λ (z : SwitchClause). Outcome cas
 pub written_switch_clause_reads : Reads (written switch_clause) (write switch_clause) (Same switch_clause)
 written_switch_clause_reads = record { again = go } where
   as_case : (v : SwitchClause) (ys : List Token) → Outcome case_clause switch_clause_tokens LikeClause v ys → Outcome (written switch_clause) switch_clause_tokens LikeClause v ys
-  as_case v ys found = (found.0, λ us ks e. let a = found.1 us ks e in record { value = a.value; rest = a.rest; kinds = a.kinds; like = a.like; derived = inl a.derived })
+  as_case v ys found = (found.0, λ us ks e. found_in (λ a rest i. inl i) (found.1 us ks e))
 
   go : (v : SwitchClause) (xs ys : List Token) → Means full Again (written switch_clause) v xs ys → AllWords xs → Outcome (written switch_clause) switch_clause_tokens LikeClause v ys
   go v xs ys (inl d) words = as_case v ys (case_clause_reads.again v xs ys d words)

@@ -5,7 +5,7 @@ use Rattle.std.specs.Option.{option_map}
 use mathlib.Core.List.{append-nil}
 use Rattle.grammar.specs.Tokens.{Token, Span}
 use Rattle.grammar.specs.Grammar.{Grammar.empty, Grammar.symbol, Mode.full, Chain, Chain.base, Chain.more, Means}
-use Rattle.grammar.specs.Notation.{one_token, ◌then◌, ◌gives◌, ◌▹◌, ◌◃◌, optional, many}
+use Rattle.grammar.specs.Notation.{one_token, ◌then◌, ◌▹◌, ◌◃◌, optional, many}
 use Rattle.wgsl_model.specs.Classes.{SymBraceLeft, SymBraceRight, SymComma, SymEqual, SymParenLeft, SymParenRight, SymPeriod, SymSemicolon, KwAlias, KwConst, KwDiagnostic, KwEnable, KwFn, KwOverride, KwRequires, KwStruct}
 use Rattle.wgsl_model.specs.Kind.{Kind, plain}
 use Rattle.wgsl_model.specs.Raw.{word_of}
@@ -28,7 +28,7 @@ use Rattle.wgsl_canonical_theory.specs.CanonicalExpressions.{Writes, all_tokens,
 use Rattle.wgsl_canonical_theory.specs.CanonicalUnits.{directive_tokens, global_declaration_tokens, kept_declaration_tokens}
 use Rattle.wgsl_canonical_theory.proofs.Words.{NoPeriod, AllWords}
 use Rattle.wgsl_canonical_theory.proofs.Again.{D, Again, write, Same, Known, Found, Finds}
-use Rattle.wgsl_canonical_theory.proofs.Ways.{Outcome, Reads, words_behind, then_reads, or_reads, gives_reads, makes_reads, equal_reads, before_reads, behind_reads, means_reads, none_reads, optional_reads, no_sign_reads, all_behind, map_behind, many_reads, list_reads, list_or_none_reads}
+use Rattle.wgsl_canonical_theory.proofs.Ways.{Outcome, Reads, found_in, known_reads, words_behind, then_reads, or_reads, gives_reads, makes_reads, equal_reads, before_reads, behind_reads, means_reads, none_reads, optional_reads, no_sign_reads, all_behind, map_behind, many_reads, list_reads, list_or_none_reads}
 use Rattle.wgsl_canonical_theory.proofs.Rules.{AttributeReads, attributes_read, initializer_reads, var_kind_reads, symbol_reads}
 use Rattle.wgsl_canonical_theory.proofs.NamedWords.{severity_word}
 use Rattle.wgsl_canonical_theory.proofs.UnitParts.{attributed_ident_reads, names_read, returned_reads, function_written, same_function, period_tokens, rule_written, same_rule}
@@ -92,21 +92,6 @@ pub global_directive_written : Reads (written global_directive) (write global_di
 global_directive_written = or_reads (symbol_reads enable_directive) (or_reads (symbol_reads requires_directive) (symbol_reads diagnostic_directive))
 
 -- ---- `diagnostic`
--- a value is turned into another, and something is known of it
-known_reads : {A B : Type 0} {g : Rule A} {f : A → B} {writes : Writes A} {made : Writes B} {like : A → A → Type 0} {same : B → B → Type 0} {Fact : A → Type 0}
-    → Reads g writes like → ((v : A) (xs ys : List Token) → Means full Again g v xs ys → AllWords xs → Fact v)
-    → ((a : A) → Fact a → (rest : List Kind) → made (f a) rest ≡ writes a rest) → ((w a : A) → like w a → same (f w) (f a)) → Reads (g gives f) made same
-known_reads {A} {B} {g} {f} {writes} {made} {like} {same} G known s t = record {
-  again = λ v xs ys d words.
-      subst (λ (z : B). Outcome (g gives f) made same z ys) d.1 (
-      let fact = known d.0 xs ys d.2 words in
-      let found = G.again d.0 xs ys d.2 words in (
-        found.0,
-        λ us ks e. let a = found.1 us ks (e ∙ s d.0 fact ks) in record { value = f a.value; rest = a.rest; kinds = a.kinds; like = t a.value d.0 a.like; derived = (a.value, refl, a.derived) },
-      )
-      );
-}
-
 -- a severity and the names of a rule, with a comma behind them or none
 abbrev pub DiagnosticParts : Type 0
 DiagnosticParts = Token × (Token × (Option Token × Option Token))
@@ -203,9 +188,7 @@ declarations_read = record { again = λ v xs ys d words. go xs v ys d words } wh
 
   go : (xs : List Token) (v : List (Spanned GlobalDeclaration)) (ys : List Token) → Chain push (Means full Again none) (Again global_declaration) xs v ys → AllWords xs
       → Outcome (many (symbol global_declaration)) (all_tokens kept_declaration_tokens) like v ys
-  go xs _ _ (base a ys d) words =
-      let found = N.again a xs ys d words in
-      (found.0, λ us ks e. let x = found.1 us ks e in record { value = x.value; rest = x.rest; kinds = x.kinds; like = x.like; derived = base x.value x.rest x.derived })
+  go xs _ _ (base a ys d) words = let found = N.again a xs ys d words in (found.0, λ us ks e. found_in (λ x rest i. base x rest i) (found.1 us ks e))
   go xs _ _ (more a b ys zs c d) words =
       let before = go xs a ys c words in
       let last = (symbol_reads global_declaration).again b ys zs d before.0 in

@@ -20,6 +20,11 @@ Outcome g writes like v ys = AllWords ys × Finds (Means full D g) (λ w. like w
 pub record Reads {A : Type 0} (g : Rule A) (writes : Writes A) (like : A → A → Type 0) : Type 0 where
   pub again : (v : A) (xs ys : List Token) → Means full Again g v xs ys → AllWords xs → Outcome g writes like v ys
 
+-- a list without its first
+abbrev behind_first : List Kind → List Kind
+behind_first [] = []
+behind_first (k ∷ ks) = ks
+
 -- ---- one token
 -- the first token of a list whose kinds begin with a kind
 pub record First (k : Kind) (ks : List Kind) (ts : List Token) : Type 0 where
@@ -56,28 +61,37 @@ then_reads {writes_2 = writes_2} G H = record {
       );
 }
 
+-- what is found, turned into another value
+pub found_as : {A B : Type 0} {P : A → List Token → List Token → Type 0} {Q : B → List Token → List Token → Type 0} {Like : A → Type 0} {Same : B → Type 0} {us : List Token} {ks : List Kind} (f : A → List Token → B)
+    → ((a : A) (rest : List Token) → P a us rest → Q (f a rest) us rest) → ((a : A) (rest : List Token) → Like a → Same (f a rest)) → Found P Like us ks → Found Q Same us ks
+found_as f to t a = record { value = f a.value a.rest; rest = a.rest; kinds = a.kinds; like = t a.value a.rest a.like; derived = to a.value a.rest a.derived }
+
+-- and what derives no less finds it too
+pub found_in : {A : Type 0} {P Q : A → List Token → List Token → Type 0} {Like : A → Type 0} {us : List Token} {ks : List Kind} → ((a : A) (rest : List Token) → P a us rest → Q a us rest) → Found P Like us ks → Found Q Like us ks
+found_in to a = found_as (λ a rest. a) to (λ a rest h. h) a
+
 pub or_reads : {A : Type 0} {g h : Rule A} {writes : Writes A} {like : A → A → Type 0} → Reads g writes like → Reads h writes like → Reads (g or h) writes like
 or_reads {A} {g} {h} {writes} {like} G H = record { again = go } where
   go : (v : A) (xs ys : List Token) → Means full Again (g or h) v xs ys → AllWords xs → Outcome (g or h) writes like v ys
-  go v xs ys (inl d) words =
-      let found = G.again v xs ys d words in
-      (found.0, λ us ks e. let a = found.1 us ks e in record { value = a.value; rest = a.rest; kinds = a.kinds; like = a.like; derived = inl a.derived })
-  go v xs ys (inr d) words =
-      let found = H.again v xs ys d words in
-      (found.0, λ us ks e. let a = found.1 us ks e in record { value = a.value; rest = a.rest; kinds = a.kinds; like = a.like; derived = inr a.derived })
+  go v xs ys (inl d) words = let found = G.again v xs ys d words in (found.0, λ us ks e. found_in (λ a rest i. inl i) (found.1 us ks e))
+  go v xs ys (inr d) words = let found = H.again v xs ys d words in (found.0, λ us ks e. found_in (λ a rest i. inr i) (found.1 us ks e))
 
 -- ---- values
-pub gives_reads : {A B : Type 0} {g : Rule A} {f : A → B} {writes : Writes A} {made : Writes B} {like : A → A → Type 0} {same : B → B → Type 0}
-    → Reads g writes like → ((a : A) (rest : List Kind) → made (f a) rest ≡ writes a rest) → ((w a : A) → like w a → same (f w) (f a)) → Reads (g gives f) made same
-gives_reads {A} {B} {g} {f} {writes} {made} {like} {same} G s t = record {
+-- a value is turned into another, and something is known of it
+pub known_reads : {A B : Type 0} {g : Rule A} {f : A → B} {writes : Writes A} {made : Writes B} {like : A → A → Type 0} {same : B → B → Type 0} {Fact : A → Type 0}
+    → Reads g writes like → ((v : A) (xs ys : List Token) → Means full Again g v xs ys → AllWords xs → Fact v)
+    → ((a : A) → Fact a → (rest : List Kind) → made (f a) rest ≡ writes a rest) → ((w a : A) → like w a → same (f w) (f a)) → Reads (g gives f) made same
+known_reads {A} {B} {g} {f} {writes} {made} {like} {same} G known s t = record {
   again = λ v xs ys d words.
       subst (λ (z : B). Outcome (g gives f) made same z ys) d.1 (
-      let found = G.again d.0 xs ys d.2 words in (
-        found.0,
-        λ us ks e. let a = found.1 us ks (e ∙ s d.0 ks) in record { value = f a.value; rest = a.rest; kinds = a.kinds; like = t a.value d.0 a.like; derived = (a.value, refl, a.derived) },
-      )
+      let found = G.again d.0 xs ys d.2 words in
+      (found.0, λ us ks e. found_as (λ a rest. f a) (λ a rest i. (a, refl, i)) (λ a rest h. t a d.0 h) (found.1 us ks (e ∙ s d.0 (known d.0 xs ys d.2 words) ks)))
       );
 }
+
+pub gives_reads : {A B : Type 0} {g : Rule A} {f : A → B} {writes : Writes A} {made : Writes B} {like : A → A → Type 0} {same : B → B → Type 0}
+    → Reads g writes like → ((a : A) (rest : List Kind) → made (f a) rest ≡ writes a rest) → ((w a : A) → like w a → same (f w) (f a)) → Reads (g gives f) made same
+gives_reads {A} G s t = known_reads {Fact = λ (a : A). Unit {0}} G (λ v xs ys d words. tt) (λ a known rest. s a rest) t
 
 pub makes_reads : {A B : Type 0} {g : Rule A} {f : A → Span → B} {writes : Writes A} {made : Writes B} {like : A → A → Type 0} {same : B → B → Type 0}
     → Reads g writes like → ((a : A) (span : Span) (rest : List Kind) → made (f a span) rest ≡ writes a rest) → ((w a : A) (s r : Span) → like w a → same (f w s) (f a r)) → Reads (g makes f) made same
@@ -87,22 +101,24 @@ makes_reads {A} {B} {g} {f} {writes} {made} {like} {same} G s t = record {
       let found = G.again d.0 xs ys d.2 words in (
         found.0,
         λ us ks e.
-            let a = found.1 us ks (e ∙ s d.0 (span_between xs ys) ks) in
-            record { value = f a.value (span_between us a.rest); rest = a.rest; kinds = a.kinds; like = t a.value d.0 (span_between us a.rest) (span_between xs ys) a.like; derived = (a.value, refl, a.derived) },
+            found_as (λ a rest. f a (span_between us rest)) (λ a rest i. (a, refl, i)) (λ a rest h. t a d.0 (span_between us rest) (span_between xs ys) h) (found.1 us ks (e ∙ s d.0 (span_between xs ys) ks)),
       )
       );
 }
 
--- the same, with other writes and another likeness
+-- the same, with other writes of the values that are derived and another likeness
+pub fact_reads : {A : Type 0} {g : Rule A} {writes made : Writes A} {like same : A → A → Type 0} {Fact : A → Type 0}
+    → Reads g writes like → ((v : A) (xs ys : List Token) → Means full Again g v xs ys → Fact v) → ((v : A) → Fact v → (rest : List Kind) → made v rest ≡ writes v rest) → ((w v : A) → like w v → same w v)
+    → Reads g made same
+fact_reads G known s t = record {
+  again = λ v xs ys d words.
+      let found = G.again v xs ys d words in
+      (found.0, λ us ks e. found_as (λ a rest. a) (λ a rest i. i) (λ a rest h. t a v h) (found.1 us ks (e ∙ s v (known v xs ys d) ks)));
+}
+
 pub equal_reads : {A : Type 0} {g : Rule A} {writes made : Writes A} {like same : A → A → Type 0}
     → Reads g writes like → ((v : A) (rest : List Kind) → made v rest ≡ writes v rest) → ((w v : A) → like w v → same w v) → Reads g made same
-equal_reads G s t = record {
-  again = λ v xs ys d words.
-      let found = G.again v xs ys d words in (
-        found.0,
-        λ us ks e. let a = found.1 us ks (e ∙ s v ks) in record { value = a.value; rest = a.rest; kinds = a.kinds; like = t a.value v a.like; derived = a.derived },
-      );
-}
+equal_reads {A} G s t = fact_reads {Fact = λ (a : A). Unit {0}} G (λ v xs ys d. tt) (λ v known rest. s v rest) t
 
 -- ---- a sign or a keyword, before a part, behind it, or for a value
 pub sign_reads : (c : ℕ) → is_among c (c ∷ []) ≡ true → Reads (one_token c) (λ v rest. plain c ∷ rest) (λ w v. Unit {0})
@@ -165,9 +181,7 @@ pub chain_reads : {A B : Type 0} {f : A → B → Span → A} {g : Rule A} {h : 
     → ((w v : A) (x y : B) (s r : Span) → like w v → like_item x y → like (f w x s) (f v y r)) → Reads (left_chain f g h) writes like
 chain_reads {A} {B} {f} {g} {h} {writes} {item} {like} {like_item} G H s t = record { again = λ v xs ys d words. go xs v ys d words } where
   go : (xs : List Token) (v : A) (ys : List Token) → Chain f (Means full Again g) (Means full Again h) xs v ys → AllWords xs → Outcome (left_chain f g h) writes like v ys
-  go xs _ _ (base a ys d) words =
-      let found = G.again a xs ys d words in
-      (found.0, λ us ks e. let x = found.1 us ks e in record { value = x.value; rest = x.rest; kinds = x.kinds; like = x.like; derived = base x.value x.rest x.derived })
+  go xs _ _ (base a ys d) words = let found = G.again a xs ys d words in (found.0, λ us ks e. found_in (λ x rest i. base x rest i) (found.1 us ks e))
   go xs _ _ (more a b ys zs c d) words =
       let before = go xs a ys c words in
       let last = H.again b ys zs d before.0 in (
@@ -197,59 +211,34 @@ abbrev pub HasItem : {A : Type 0} → List A → Type 0
 HasItem [] = ⊥
 HasItem (x ∷ xs) = Unit {0}
 
-pub item_behind : {A : Type 0} (xs : List A) (x : A) → HasItem (xs ++ (x ∷ []))
-item_behind [] x = tt
-item_behind (y ∷ xs) x = tt
+-- a list that is derived item by item, the first without a comma
+pub has_item : {A : Type 0} (P Q : A → List Token → List Token → Type 0) (xs : List Token) (v : List A) (ys : List Token)
+    → Chain (λ (l : List A) (x : A) s. l ++ (x ∷ [])) (λ l us vs. (a : A) × (a ∷ [] ≡ l) × P a us vs) Q xs v ys → HasItem v
+has_item {A} P Q xs _ _ (base v ys d) = subst HasItem d.1 tt
+has_item {A} P Q xs _ _ (more v x us ys d i) = behind v where
+  behind : (l : List A) → HasItem (l ++ (x ∷ []))
+  behind [] = tt
+  behind (y ∷ l) = tt
 
-pub further_behind : {A : Type 0} (writes : Writes A) (xs : List A) (x : A) (rest : List Kind) → further_tokens writes (xs ++ (x ∷ [])) rest ≡ further_tokens writes xs (plain SymComma ∷ writes x rest)
-further_behind writes [] x rest = refl
-further_behind writes (y ∷ xs) x rest = ap (λ z. plain SymComma ∷ writes y z) (further_behind writes xs x rest)
+-- items that each stand behind a comma, without the first comma
+abbrev pub items_tokens : {A : Type 0} → Writes A → Writes (List A)
+items_tokens writes xs rest = behind_first (further_tokens writes xs rest)
 
-pub list_behind : {A : Type 0} (writes : Writes A) (xs : List A) (x : A) (rest : List Kind) → HasItem xs → list_tokens writes (xs ++ (x ∷ [])) rest ≡ list_tokens writes xs (plain SymComma ∷ writes x rest)
-list_behind writes [] x rest h = absurd h
-list_behind writes (y ∷ xs) x rest h = ap (writes y) (further_behind writes xs x rest)
+pub items_behind : {A : Type 0} (writes : Writes A) (xs : List A) (x : A) (rest : List Kind) → items_tokens writes (xs ++ (x ∷ [])) rest ≡ items_tokens writes xs (plain SymComma ∷ writes x rest)
+items_behind {A} writes xs x rest = ap behind_first (further xs) where
+  further : (l : List A) → further_tokens writes (l ++ (x ∷ [])) rest ≡ further_tokens writes l (plain SymComma ∷ writes x rest)
+  further [] = refl
+  further (y ∷ l) = ap (λ z. plain SymComma ∷ writes y z) (further l)
+
+pub items_written : {A : Type 0} (writes : Writes A) (xs : List A) → HasItem xs → (rest : List Kind) → list_tokens writes xs rest ≡ items_tokens writes xs rest
+items_written writes [] h rest = absurd h
+items_written writes (x ∷ xs) h rest = refl
 
 pub separated_reads : {A B : Type 0} {g : Rule A} {writes : Writes A} {bare kept : A → B} → Reads g writes (λ w v. bare w ≡ kept v) → Reads (separated SymComma g) (list_tokens writes) (λ w v. map bare w ≡ map kept v)
-separated_reads {A} {B} {g} {writes} {bare} {kept} G = record { again = λ v xs ys d words. (go xs v ys d words).1 } where
-  first : Rule (List A)
-  first = g gives (λ (x : A). x ∷ [])
-
-  push : List A → A → Span → List A
-  push xs x s = xs ++ (x ∷ [])
-
-  like : List A → List A → Type 0
-  like w v = map bare w ≡ map kept v
-
-  F : Reads first (list_tokens writes) like
-  F = gives_reads G (λ a rest. refl) (λ w a h. ap (λ (z : B). z ∷ []) h)
-
-  N : Reads (SymComma ▹ g) (λ v rest. plain SymComma ∷ writes v rest) (λ w v. bare w ≡ kept v)
-  N = before_reads SymComma refl G
-
-  go : (xs : List Token) (v : List A) (ys : List Token) → Chain push (Means full Again first) (Means full Again (SymComma ▹ g)) xs v ys → AllWords xs → HasItem v × Outcome (separated SymComma g) (list_tokens writes) like v ys
-  go xs _ _ (base a ys d) words =
-      let found = F.again a xs ys d words in (
-        subst HasItem d.1 tt,
-        (found.0, λ us ks e. let x = found.1 us ks e in record { value = x.value; rest = x.rest; kinds = x.kinds; like = x.like; derived = base x.value x.rest x.derived }),
-      )
-  go xs _ _ (more a b ys zs c d) words =
-      let before = go xs a ys c words in
-      let last = N.again b ys zs d before.1.0 in (
-        item_behind a b,
-        (
-          last.0,
-          λ us ks e.
-              let x = before.1.1 us (plain SymComma ∷ writes b ks) (e ∙ list_behind writes a b ks before.0) in
-              let y = last.1 x.rest ks x.kinds in
-              record {
-                value = x.value ++ (y.value ∷ []);
-                rest = y.rest;
-                kinds = y.kinds;
-                like = map_behind bare x.value y.value ∙ ap₂ (λ (z : List B) (u : B). z ++ (u ∷ [])) x.like y.like ∙ sym (map_behind kept a b);
-                derived = more x.value y.value x.rest y.rest x.derived y.derived;
-              },
-        ),
-      )
+separated_reads {A} {B} {g} {writes} {bare} {kept} G =
+    fact_reads {Fact = HasItem} (chain_reads {writes = items_tokens writes} (gives_reads G (λ a rest. refl) (λ w a h. ap (λ (z : B). z ∷ []) h)) (before_reads SymComma refl G) (λ a b span rest. items_behind writes a b rest)
+    (λ w v x y s r h k. map_behind bare w x ∙ ap₂ (λ (z : List B) (u : B). z ++ (u ∷ [])) h k ∙ sym (map_behind kept v y)))
+    (λ v xs ys d. has_item (Means full Again g) (Means full Again (SymComma ▹ g)) xs v ys d) (items_written writes) (λ w v h. h)
 
 -- the comma that may follow the last item is left out
 pub list_reads : {A B : Type 0} {g : Rule A} {writes : Writes A} {bare kept : A → B} → Reads g writes (λ w v. bare w ≡ kept v) → Reads (list SymComma g) (list_tokens writes) (λ w v. map bare w ≡ map kept v)
@@ -257,16 +246,13 @@ list_reads {A} {B} {g} {writes} {bare} {kept} G = record { again = go } where
   like : List A → List A → Type 0
   like w v = map bare w ≡ map kept v
 
-  S : Reads (separated SymComma g) (list_tokens writes) like
-  S = separated_reads G
-
   shorter : (v : List A) (ys : List Token) → Outcome (separated SymComma g) (list_tokens writes) like v ys → Outcome (list SymComma g) (list_tokens writes) like v ys
-  shorter v ys found = (found.0, λ us ks e. let x = found.1 us ks e in record { value = x.value; rest = x.rest; kinds = x.kinds; like = x.like; derived = inl x.derived })
+  shorter v ys found = (found.0, λ us ks e. found_in (λ a rest i. inl i) (found.1 us ks e))
 
   go : (v : List A) (xs ys : List Token) → Means full Again (list SymComma g) v xs ys → AllWords xs → Outcome (list SymComma g) (list_tokens writes) like v ys
-  go v xs ys (inl d) words = shorter v ys (S.again v xs ys d words)
+  go v xs ys (inl d) words = shorter v ys ((separated_reads G).again v xs ys d words)
   go v xs ys (inr d) words =
-      let found = S.again d.0.0 xs d.2.0 d.2.1 words in
+      let found = (separated_reads G).again d.0.0 xs d.2.0 d.2.1 words in
       subst (λ (z : List A). Outcome (list SymComma g) (list_tokens writes) like z ys) d.1 (shorter d.0.0 ys (words_behind d.0.1 d.2.0 ys d.2.2.1 found.0, found.1))
 
 pub list_or_none_reads : {A B : Type 0} {g : Rule A} {writes : Writes A} {bare kept : A → B} → Reads g writes (λ w v. bare w ≡ kept v) → Reads (list_or_none SymComma g) (list_tokens writes) (λ w v. map bare w ≡ map kept v)
