@@ -20,7 +20,7 @@ use Rattle.wgsl_canonical_theory.proofs.AttributeRules.{template_written}
 use Rattle.wgsl_template_theory.proofs.Moves.{kinds}
 use Rattle.wgsl_template_theory.proofs.Edits.{Edits, widen}
 use Rattle.wgsl_template_theory.proofs.EditWays.{Changed, Changes, then_edits, makes_edits, before_edits, optional_edits, many_edits}
-use Rattle.wgsl_template_theory.proofs.EditSymbols.{ident_edits, template_list_edits, arguments_edits}
+use Rattle.wgsl_template_theory.proofs.EditSymbols.{symbol_edits}
 use Rattle.wgsl_template_theory.proofs.EditRules.{word_kept}
 
 -- ---- attributes
@@ -28,7 +28,7 @@ name_edits : {b : Bool} → Changes false b (token (Ident ∷ ReservedWord ∷ k
 name_edits = record { edit = λ v xs ys d words. word_kept v xs ys d.0 d.1 words }
 
 parts_edits : {b : Bool} → Changes false b (SymAttr ▹ token (Ident ∷ ReservedWord ∷ keyword_classes) then optional (symbol arguments) makes attribute_parts) (write attribute)
-parts_edits = makes_edits (before_edits SymAttr (then_edits name_edits (optional_edits {e = false} tt arguments_edits))) (λ a span rest. refl)
+parts_edits = makes_edits (before_edits SymAttr (then_edits name_edits (optional_edits {e = false} tt (symbol_edits arguments tt)))) (λ a span rest. refl)
 
 pub attribute_right : {b : Bool} → Changes false b (written attribute) (write attribute)
 attribute_right {b} = record { edit = λ v xs ys d words. (parts_edits {b = b}).edit v xs ys d.1 words }
@@ -63,11 +63,11 @@ var_template_right {b} = record {
       (found.0, λ ks r. subst (λ (z : List Kind). Edits b (kinds xs) z) (sym (template_written v (span_between xs ys) d.0 ks)) (found.1 ks r));
 } where
   template_edits : {b : Bool} → Changes false b (KwVar ▹ optional (symbol template_list)) (λ v rest. plain KwVar ∷ optional_tokens template_list_tokens v rest)
-  template_edits = before_edits KwVar (optional_edits {e = false} tt template_list_edits)
+  template_edits = before_edits KwVar (optional_edits {e = false} tt (symbol_edits template_list tt))
 
 -- ---- severities
 severity_edits : {b : Bool} → Changes false b (KwDiagnostic ▹ SymParenLeft ▹ symbol ident) (write diagnostic_severity)
-severity_edits = before_edits KwDiagnostic (before_edits SymParenLeft ident_edits)
+severity_edits = before_edits KwDiagnostic (before_edits SymParenLeft (symbol_edits ident tt))
 
 pub diagnostic_severity_right : {b : Bool} → Changes false b (written diagnostic_severity) (write diagnostic_severity)
 diagnostic_severity_right {b} = record { edit = λ v xs ys d words. (severity_edits {b = b}).edit v xs ys d.1 words }

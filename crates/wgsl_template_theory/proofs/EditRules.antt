@@ -21,7 +21,7 @@ use Rattle.wgsl_template_theory.proofs.Moves.{kinds, class_is}
 use Rattle.wgsl_canonical_theory.proofs.ExpressionRules.{expressions_written, template_written, Operand, one_of_more, literal_classes, unary_operator_tokens, operator_tokens, operand_tokens}
 use Rattle.wgsl_template_theory.proofs.Edits.{is_stop, Edits, kept, two_minuses, widen}
 use Rattle.wgsl_template_theory.proofs.EditWays.{edit_write, Edited, TurnsComponent, Changed, Changes, then_edits, or_edits, gives_edits, makes_edits, before_edits, behind_edits, means_edits, optional_edits, chain_edits, list_edits, list_or_none_edits, ended_list_edits}
-use Rattle.wgsl_template_theory.proofs.EditSymbols.{ident_edits, type_specifier_edits, template_list_edits, call_edits, arguments_edits, literal_edits, primary_expression_edits, singular_expression_edits, unary_expression_edits, multiplicative_expression_edits, negated_expression_edits, additive_expression_edits, shift_expression_edits, relational_expression_edits, expression_edits, lhs_expression_edits}
+use Rattle.wgsl_template_theory.proofs.EditSymbols.{symbol_edits}
 
 -- ---- names
 -- a token in place of one of the same class, whatever that is
@@ -39,16 +39,16 @@ ident_right = record { edit = λ v xs ys d words. word_kept v xs ys (one_of_more
 
 -- ---- types and calls
 pub type_specifier_right : {b : Bool} → Changes false b (written type_specifier) (write type_specifier)
-type_specifier_right = gives_edits (then_edits ident_edits (optional_edits {e = false} tt template_list_edits)) (λ a rest. ap (λ z. word_of (text_of a.0) ∷ z) (template_written a.1 rest))
+type_specifier_right = gives_edits (then_edits (symbol_edits ident tt) (optional_edits {e = false} tt (symbol_edits template_list tt))) (λ a rest. ap (λ z. word_of (text_of a.0) ∷ z) (template_written a.1 rest))
 
 pub template_list_right : {b : Bool} → Changes false b (written template_list) (write template_list)
-template_list_right = before_edits TemplateArgsStart (ended_list_edits TemplateArgsEnd refl (list_edits expression_edits expression_edits))
+template_list_right = before_edits TemplateArgsStart (ended_list_edits TemplateArgsEnd refl (list_edits (symbol_edits expression tt) (symbol_edits expression tt)))
 
 pub call_right : {b : Bool} → Changes false b (written call) (write call)
-call_right = gives_edits (then_edits type_specifier_edits arguments_edits) (λ a rest. ap (λ z. type_tokens a.0 (plain SymParenLeft ∷ z)) (expressions_written a.1 (plain SymParenRight ∷ rest)))
+call_right = gives_edits (then_edits (symbol_edits type_specifier tt) (symbol_edits arguments tt)) (λ a rest. ap (λ z. type_tokens a.0 (plain SymParenLeft ∷ z)) (expressions_written a.1 (plain SymParenRight ∷ rest)))
 
 pub arguments_right : {b : Bool} → Changes false b (written arguments) (write arguments)
-arguments_right = before_edits SymParenLeft (ended_list_edits SymParenRight refl (list_or_none_edits expression_edits expression_edits))
+arguments_right = before_edits SymParenLeft (ended_list_edits SymParenRight refl (list_or_none_edits (symbol_edits expression tt) (symbol_edits expression tt)))
 
 -- ---- literals
 
@@ -82,14 +82,14 @@ node_edits : {e b : Bool} {g : Rule Expression} → Changes e b g expression_tok
 node_edits G = makes_edits G (λ a span rest. refl)
 
 pub primary_expression_right : {b : Bool} → Changes false b (written primary_expression) (write primary_expression)
-primary_expression_right = node_edits (or_edits (gives_edits type_specifier_edits (λ a rest. refl)) (or_edits (gives_edits call_edits (λ a rest. refl)) (or_edits (gives_edits literal_edits (λ a rest. refl))
-    (gives_edits (before_edits SymParenLeft (behind_edits {m = false} SymParenRight expression_edits)) (λ a rest. refl)))))
+primary_expression_right = node_edits (or_edits (gives_edits (symbol_edits type_specifier tt) (λ a rest. refl)) (or_edits (gives_edits (symbol_edits call tt) (λ a rest. refl)) (or_edits (gives_edits (symbol_edits literal tt) (λ a rest. refl))
+    (gives_edits (before_edits SymParenLeft (behind_edits {m = false} SymParenRight (symbol_edits expression tt))) (λ a rest. refl)))))
 
 index_edits : {b : Bool} → Changes false b (SymBracketLeft ▹ symbol expression ◃ SymBracketRight) (λ e rest. plain SymBracketLeft ∷ expression_node_tokens e (plain SymBracketRight ∷ rest))
-index_edits = before_edits SymBracketLeft (behind_edits {m = false} SymBracketRight expression_edits)
+index_edits = before_edits SymBracketLeft (behind_edits {m = false} SymBracketRight (symbol_edits expression tt))
 
 name_edits : {b : Bool} → Changes false b (SymPeriod ▹ symbol ident) (λ t rest. plain SymPeriod ∷ (word_of (text_of t) ∷ rest))
-name_edits = before_edits SymPeriod ident_edits
+name_edits = before_edits SymPeriod (symbol_edits ident tt)
 
 pub component_right : (v : Value component) (xs ys : List Token) → Means full Edited (written component) v xs ys → AllWords xs → AllWords ys × TurnsComponent v xs ys
 component_right v xs ys (inl d) words =
@@ -114,7 +114,7 @@ components_edits {b} {g} G = record { edit = λ v xs ys d words. go xs v ys d wo
       )
 
 pub singular_expression_right : {b : Bool} → Changes false b (written singular_expression) (write singular_expression)
-singular_expression_right = components_edits primary_expression_edits
+singular_expression_right = components_edits (symbol_edits primary_expression tt)
 
 -- ---- an operator before an operand
 
@@ -125,7 +125,7 @@ operation_edits : {b : Bool} {g : Rule UnaryOperator} {h : Rule ExpressionNode} 
 operation_edits G H = makes_edits (then_edits G H) (λ a span rest. refl)
 
 pub unary_expression_right : {b : Bool} → Changes false b (written unary_expression) (write unary_expression)
-unary_expression_right = or_edits singular_expression_edits (operation_edits unary_operator_edits unary_expression_edits)
+unary_expression_right = or_edits (symbol_edits singular_expression tt) (operation_edits unary_operator_edits (symbol_edits unary_expression tt))
 
 -- ---- an operator between operands
 
@@ -149,7 +149,7 @@ one_operation_edits : {b : Bool} {x y : Rule ExpressionNode} {g : Rule BinaryOpe
 one_operation_edits X G Y = makes_edits (then_edits X (operand_edits G Y)) (λ a span rest. refl)
 
 pub multiplicative_expression_right : {b : Bool} → Changes false b (written multiplicative_expression) (write multiplicative_expression)
-multiplicative_expression_right = operations_edits unary_expression_edits (operand_edits multiplicative_operator_edits unary_expression_edits)
+multiplicative_expression_right = operations_edits (symbol_edits unary_expression tt) (operand_edits multiplicative_operator_edits (symbol_edits unary_expression tt))
 
 -- ---- a product that the second minus of `--` begins, with the first minus before it
 negation_edits : {b : Bool} → Changes false b (SymMinusMinus ▹ symbol unary_expression makes negation_of) (edit_write negated_expression)
@@ -157,7 +157,7 @@ negation_edits {b} = makes_edits {writes = λ e rest. plain SymMinus ∷ (plain 
   edit = λ v xs ys d words.
       subst (λ (z : ExpressionNode). Changed false b (λ e rest. plain SymMinus ∷ (plain SymMinus ∷ expression_node_tokens e rest)) z xs ys) d.1 (
       let t = d.0.0 in
-      let found = (unary_expression_edits {b = false}).edit d.0.1 d.2.0 ys d.2.2 (words_behind t xs d.2.0 d.2.1.1 words) in (
+      let found = (symbol_edits unary_expression tt {b = false}).edit d.0.1 d.2.0 ys d.2.2 (words_behind t xs d.2.0 d.2.1.1 words) in (
         found.0,
         λ ks r. subst (λ (z : List Token). Edits b (kinds z) (plain SymMinus ∷ (plain SymMinus ∷ expression_node_tokens d.0.1 ks))) (sym d.2.1.1)
             (two_minuses b (without_place t) (kinds d.2.0) (expression_node_tokens d.0.1 ks) (class_is t.class SymMinusMinus d.2.1.0) (found.1 ks r)),
@@ -166,18 +166,18 @@ negation_edits {b} = makes_edits {writes = λ e rest. plain SymMinus ∷ (plain 
 }) (λ a span rest. refl)
 
 pub negated_expression_right : {b : Bool} → Changes false b (written negated_expression) (edit_write negated_expression)
-negated_expression_right = chain_edits negation_edits (operand_edits multiplicative_operator_edits unary_expression_edits) (λ a x span rest. refl)
+negated_expression_right = chain_edits negation_edits (operand_edits multiplicative_operator_edits (symbol_edits unary_expression tt)) (λ a x span rest. refl)
 
 -- ---- sums, shifts and comparisons
 pub additive_expression_right : {b : Bool} → Changes false b (written additive_expression) (write additive_expression)
-additive_expression_right = operations_edits multiplicative_expression_edits (or_edits (operand_edits additive_operator_edits multiplicative_expression_edits) (gives_edits negated_expression_edits (λ a rest. refl)))
+additive_expression_right = operations_edits (symbol_edits multiplicative_expression tt) (or_edits (operand_edits additive_operator_edits (symbol_edits multiplicative_expression tt)) (gives_edits (symbol_edits negated_expression tt) (λ a rest. refl)))
 
 pub shift_expression_right : {b : Bool} → Changes false b (written shift_expression) (write shift_expression)
-shift_expression_right = or_edits additive_expression_edits
-    (or_edits (one_operation_edits unary_expression_edits (means_edits SymShiftLeft (λ rest. refl)) unary_expression_edits) (one_operation_edits unary_expression_edits (means_edits SymShiftRight (λ rest. refl)) unary_expression_edits))
+shift_expression_right = or_edits (symbol_edits additive_expression tt)
+    (or_edits (one_operation_edits (symbol_edits unary_expression tt) (means_edits SymShiftLeft (λ rest. refl)) (symbol_edits unary_expression tt)) (one_operation_edits (symbol_edits unary_expression tt) (means_edits SymShiftRight (λ rest. refl)) (symbol_edits unary_expression tt)))
 
 pub relational_expression_right : {b : Bool} → Changes false b (written relational_expression) (write relational_expression)
-relational_expression_right = or_edits shift_expression_edits (one_operation_edits shift_expression_edits relational_operator_edits shift_expression_edits)
+relational_expression_right = or_edits (symbol_edits shift_expression tt) (one_operation_edits (symbol_edits shift_expression tt) relational_operator_edits (symbol_edits shift_expression tt))
 
 two_or_more_edits : {b : Bool} (c : ℕ) (o : BinaryOperator) {x : Rule ExpressionNode} → is_stop c ≡ false → c ≡ binary_operator_class o → Changes false b x expression_node_tokens → Changes false false x expression_node_tokens → Changes false b (two_or_more c o x) expression_node_tokens
 two_or_more_edits c o known q X Y = operations_edits (one_operation_edits X sign Y) (operand_edits sign Y) where
@@ -185,13 +185,13 @@ two_or_more_edits c o known q X Y = operations_edits (one_operation_edits X sign
   sign = subst (λ (e : Bool). Changes e false (c means o) operator_tokens) known (means_edits c (λ rest. ap (λ (z : ℕ). plain z ∷ rest) (sym q)))
 
 pub expression_right : {b : Bool} → Changes false b (written expression) (write expression)
-expression_right = or_edits relational_expression_edits
-    (or_edits (two_or_more_edits SymAndAnd short_circuit_and refl refl relational_expression_edits relational_expression_edits) (or_edits (two_or_more_edits SymOrOr short_circuit_or refl refl relational_expression_edits relational_expression_edits)
-    (or_edits (two_or_more_edits SymAnd bitwise_and refl refl unary_expression_edits unary_expression_edits) (or_edits (two_or_more_edits SymOr bitwise_or refl refl unary_expression_edits unary_expression_edits)
-    (two_or_more_edits SymXor bitwise_xor refl refl unary_expression_edits unary_expression_edits)))))
+expression_right = or_edits (symbol_edits relational_expression tt)
+    (or_edits (two_or_more_edits SymAndAnd short_circuit_and refl refl (symbol_edits relational_expression tt) (symbol_edits relational_expression tt)) (or_edits (two_or_more_edits SymOrOr short_circuit_or refl refl (symbol_edits relational_expression tt) (symbol_edits relational_expression tt))
+    (or_edits (two_or_more_edits SymAnd bitwise_and refl refl (symbol_edits unary_expression tt) (symbol_edits unary_expression tt)) (or_edits (two_or_more_edits SymOr bitwise_or refl refl (symbol_edits unary_expression tt) (symbol_edits unary_expression tt))
+    (two_or_more_edits SymXor bitwise_xor refl refl (symbol_edits unary_expression tt) (symbol_edits unary_expression tt))))))
 
 -- ---- left sides
 pub lhs_expression_right : {b : Bool} → Changes false b (written lhs_expression) (write lhs_expression)
-lhs_expression_right = or_edits (components_edits (makes_edits ident_edits (λ a span rest. refl)))
-    (or_edits (components_edits (makes_edits (before_edits SymParenLeft (behind_edits {m = false} SymParenRight lhs_expression_edits)) (λ a span rest. refl)))
-    (or_edits (operation_edits (means_edits SymStar (λ rest. refl)) lhs_expression_edits) (operation_edits (means_edits SymAnd (λ rest. refl)) lhs_expression_edits)))
+lhs_expression_right = or_edits (components_edits (makes_edits (symbol_edits ident tt) (λ a span rest. refl)))
+    (or_edits (components_edits (makes_edits (before_edits SymParenLeft (behind_edits {m = false} SymParenRight (symbol_edits lhs_expression tt))) (λ a span rest. refl)))
+    (or_edits (operation_edits (means_edits SymStar (λ rest. refl)) (symbol_edits lhs_expression tt)) (operation_edits (means_edits SymAnd (λ rest. refl)) (symbol_edits lhs_expression tt))))

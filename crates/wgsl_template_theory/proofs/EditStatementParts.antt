@@ -11,7 +11,7 @@ use Rattle.wgsl_model.specs.Statements as tree
 use Rattle.wgsl_model.specs.Statements.{CompoundStatement, StatementNode, StatementNode.statement_node, statements_of, else_ifs_of, else_of, clauses_of, continuing_of, maybe_statement}
 use Rattle.wgsl_model.specs.PrintedStatements.{is_void}
 use Rattle.wgsl_model.specs.StatementParts.{statements, initializer, var_kind, assignment_operator, else_if, else_block, break_if}
-use Rattle.wgsl_model.specs.Symbols.{compound_statement, switch_clause, continuing_statement, Rule}
+use Rattle.wgsl_model.specs.Symbols.{compound_statement, switch_clause, continuing_statement, Rule, expression, var_template}
 use Rattle.wgsl_canonical_theory.specs.CanonicalExpressions.{Writes}
 use Rattle.wgsl_canonical_theory.specs.CanonicalStatements.{kind_tokens, initializer_tokens, assignment_operator_class, break_if_tokens, end_token, unended_tokens, statements_tokens, compound_tokens, else_ifs_tokens, else_if_clause_tokens, else_tokens, else_clause_tokens, clauses_tokens, maybe_continuing_tokens, part_tokens}
 use Rattle.wgsl_canonical_theory.specs.CanonicalUnits.{without_place}
@@ -21,18 +21,14 @@ use Rattle.wgsl_canonical_theory.proofs.Ways.{words_behind}
 use Rattle.wgsl_canonical_theory.proofs.StatementParts.{part_written, else_ifs_written, clauses_written, list_written}
 use Rattle.wgsl_canonical_theory.proofs.StatementRules.{clause_body}
 use Rattle.wgsl_template_theory.proofs.Moves.{kinds, class_is}
-use Rattle.wgsl_template_theory.proofs.Edits.{is_stop, ends_list, first_among, block_begins, Edits, no_colon, no_semicolon, widen}
-use Rattle.wgsl_template_theory.proofs.EditWays.{Edited, Changed, Changes, ListChanges, kept_statement_tokens, token_turns, then_edits, or_edits, gives_edits, equal_edits, before_edits, behind_edits, means_edits, none_edits, chain_edits, many_edits, several_edits}
-use Rattle.wgsl_template_theory.proofs.EditSymbols.{compound_statement_edits, continuing_statement_edits, expression_edits, statement_edits, switch_clause_edits, var_template_edits}
+use Rattle.wgsl_template_theory.proofs.Edits.{ends_list, first_among, block_begins, Edits, no_colon, no_semicolon, widen}
+use Rattle.wgsl_template_theory.proofs.EditWays.{Edited, Changed, Changes, ListChanges, kept_statement_tokens, then_edits, or_edits, gives_edits, equal_edits, before_edits, behind_edits, means_edits, none_edits, chain_edits, many_edits, several_edits}
+use Rattle.wgsl_template_theory.proofs.EditSymbols.{symbol_edits, statement_edits}
 
 -- ---- more ways to write a right side
 -- before what no stop may stand in front of
 pub narrow_edits : {e b : Bool} {A : Type 0} {g : Rule A} {writes : Writes A} → Changes e b g writes → Changes false b g writes
 narrow_edits {e} G = record { edit = λ v xs ys d words. let found = G.edit v xs ys d words in (found.0, λ ks r. found.1 ks (widen {e = false} {b = e} tt r)) }
-
--- a sign
-pub sign_edits : {b : Bool} (c : ℕ) → Changes (is_stop c) b (one_token c) (λ v rest. plain c ∷ rest)
-sign_edits {b} c = record { edit = λ v xs ys d words. (words_behind v xs ys d.1 words, λ ks r. token_turns {b = b} {c = c} v xs ys ks d.0 d.1 r) }
 
 -- the `;` of an empty item
 pub empty_edits : {A : Type 0} {a : A} {writes : Writes A} → ((rest : List Kind) → writes a rest ≡ rest) → Changes true true (SymSemicolon means a) writes
@@ -57,19 +53,19 @@ list_then_edits {writes_2 = writes_2} f G H = record {
 
 -- ---- parts of one rule
 pub var_kind_edits : {b : Bool} → Changes false b var_kind kind_tokens
-var_kind_edits = gives_edits var_template_edits (λ a rest. refl)
+var_kind_edits = gives_edits (symbol_edits var_template tt) (λ a rest. refl)
 
 pub initializer_edits : {b : Bool} → Changes false b initializer initializer_tokens
-initializer_edits = before_edits SymEqual expression_edits
+initializer_edits = before_edits SymEqual (symbol_edits expression tt)
 
 pub break_if_edits : {b : Bool} → Changes true b break_if break_if_tokens
-break_if_edits = gives_edits (before_edits KwBreak (before_edits KwIf (behind_edits {m = false} SymSemicolon expression_edits))) (λ a rest. refl)
+break_if_edits = gives_edits (before_edits KwBreak (before_edits KwIf (behind_edits {m = false} SymSemicolon (symbol_edits expression tt)))) (λ a rest. refl)
 
 else_if_edits : {b : Bool} → Changes true b else_if else_if_clause_tokens
-else_if_edits = gives_edits (before_edits KwElse (before_edits KwIf (then_edits expression_edits compound_statement_edits))) (λ a rest. refl)
+else_if_edits = gives_edits (before_edits KwElse (before_edits KwIf (then_edits (symbol_edits expression tt) (symbol_edits compound_statement tt)))) (λ a rest. refl)
 
 else_block_edits : {b : Bool} → Changes true b else_block else_clause_tokens
-else_block_edits = gives_edits (before_edits KwElse compound_statement_edits) (λ a rest. refl)
+else_block_edits = gives_edits (before_edits KwElse (symbol_edits compound_statement tt)) (λ a rest. refl)
 
 -- the operators of assignments
 operator_edits : {b : Bool} (c : ℕ) {operator : AssignmentOperator} → assignment_operator_class operator ≡ c → Changes false b (c means operator) (λ v rest. plain (assignment_operator_class v) ∷ rest)
@@ -85,7 +81,7 @@ pub else_edits : Changes true true (optional else_block) (λ v rest. else_tokens
 else_edits = or_edits (gives_edits else_block_edits (λ a rest. refl)) (none_edits {e = true} tt (λ rest. refl))
 
 pub maybe_continuing_edits : Changes true true (optional (symbol continuing_statement)) (λ v rest. maybe_continuing_tokens (continuing_of v) rest)
-maybe_continuing_edits = or_edits (gives_edits continuing_statement_edits (λ a rest. refl)) (none_edits {e = true} tt (λ rest. refl))
+maybe_continuing_edits = or_edits (gives_edits (symbol_edits continuing_statement tt) (λ a rest. refl)) (none_edits {e = true} tt (λ rest. refl))
 
 pub part_edits : {b : Bool} {g : Rule StatementNode} → Changes false b g header_tokens → Changes false b (optional g) (λ v rest. part_tokens (maybe_statement v) rest)
 part_edits G = or_edits (gives_edits G part_written) (none_edits {e = false} tt (λ rest. refl))
@@ -96,7 +92,7 @@ pub else_ifs_edits : Changes true true (many else_if) (λ v rest. else_ifs_token
 else_ifs_edits = equal_edits (many_edits {e = true} {b = true} tt else_if_edits) else_ifs_written
 
 pub clauses_edits : {b : Bool} → Changes true b (several (symbol switch_clause)) (λ v rest. clauses_tokens (clauses_of v) rest)
-clauses_edits = equal_edits (several_edits switch_clause_edits switch_clause_edits) clauses_written
+clauses_edits = equal_edits (several_edits (symbol_edits switch_clause tt) (symbol_edits switch_clause tt)) clauses_written
 
 -- ---- statements, where empty ones are left out
 
@@ -120,11 +116,11 @@ pub clause_body_edits : {b : Bool} → Changes true b clause_body (λ p rest. co
 clause_body_edits {b} = record { edit = λ v xs ys d words. go v xs ys d.0 d.1 d.2 words } where
   go : (v : Option Token × CompoundStatement) (xs ys ms : List Token) → Means full Edited (optional (one_token SymColon)) v.0 xs ms → Edited compound_statement v.1 ms ys → AllWords xs → Changed true b (λ p rest. compound_tokens p.1 rest) v xs ys
   go v xs ys ms (inl d) body words =
-      let found = (compound_statement_edits {b = false}).edit v.1 ms ys body (words_behind d.0 xs ms d.2.1 words) in (
+      let found = (symbol_edits compound_statement tt {b = false}).edit v.1 ms ys body (words_behind d.0 xs ms d.2.1 words) in (
         found.0,
         λ ks r. subst (λ (z : List Token). Edits b (kinds z) (compound_tokens v.1 ks)) (sym d.2.1)
             (no_colon b (without_place d.0) (kinds ms) (compound_tokens v.1 ks) (class_is d.0.class SymColon d.2.0) (block_first v.1 ks) (found.1 ks r)),
       )
   go v xs ys ms (inr d) body words =
-      let found = (compound_statement_edits {b = b}).edit v.1 ms ys body (subst AllWords d.1 words) in
+      let found = (symbol_edits compound_statement tt {b = b}).edit v.1 ms ys body (subst AllWords d.1 words) in
       (found.0, λ ks r. subst (λ (z : List Token). Edits b (kinds z) (compound_tokens v.1 ks)) (sym d.1) (found.1 ks r))

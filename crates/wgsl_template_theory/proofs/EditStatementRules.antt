@@ -9,7 +9,7 @@ use Rattle.wgsl_model.specs.Kind.{Kind, plain}
 use Rattle.wgsl_model.specs.Statements.{DeclarationKind.let_kind, DeclarationKind.const_kind, CompoundStatement, Statement}
 use Rattle.wgsl_model.specs.PrintedStatements.{is_void}
 use Rattle.wgsl_model.specs.StatementParts.{underscore_at}
-use Rattle.wgsl_model.specs.Symbols.{compound_statement, statement, return_statement, if_statement, switch_statement, loop_statement, for_statement, while_statement, call_statement, var_statement, value_statement, break_statement, continue_statement, discard_statement, assignment, phony_assignment, increment, decrement, const_assert, switch_clause, case_selector, continuing_statement, for_init, for_update, typed_ident, Rule}
+use Rattle.wgsl_model.specs.Symbols.{compound_statement, statement, return_statement, if_statement, switch_statement, loop_statement, for_statement, while_statement, call_statement, var_statement, value_statement, break_statement, continue_statement, discard_statement, assignment, phony_assignment, increment, decrement, const_assert, switch_clause, case_selector, continuing_statement, for_init, for_update, typed_ident, Rule, call, expression, ident, lhs_expression, type_specifier}
 use Rattle.wgsl_model.specs.Written.{written}
 use Rattle.wgsl_canonical_theory.specs.CanonicalExpressions.{Writes, expression_node_tokens}
 use Rattle.wgsl_canonical_theory.specs.CanonicalStatements.{kind_tokens, end_token, unended_tokens, compound_tokens}
@@ -20,10 +20,10 @@ use Rattle.wgsl_canonical_theory.proofs.Ways.{words_behind}
 use Rattle.wgsl_canonical_theory.proofs.StatementRules.{clause_body}
 use Rattle.wgsl_template_theory.proofs.Moves.{kinds, class_is}
 use Rattle.wgsl_template_theory.proofs.Edits.{Edits, with_case}
-use Rattle.wgsl_template_theory.proofs.EditWays.{Edited, Turns, Changed, Changes, kept_statement_tokens, token_turns, then_edits, or_edits, gives_edits, makes_edits, before_edits, behind_edits, means_edits, optional_edits, list_edits, wider_edits}
-use Rattle.wgsl_template_theory.proofs.EditSymbols.{ident_edits, type_specifier_edits, call_edits, expression_edits, lhs_expression_edits, compound_statement_edits, var_statement_edits, value_statement_edits, assignment_edits, phony_assignment_edits, increment_edits, decrement_edits, call_statement_edits, const_assert_edits, case_selector_edits, for_init_edits, for_update_edits, typed_ident_edits}
+use Rattle.wgsl_template_theory.proofs.EditWays.{sign_edits, Edited, Turns, Changed, Changes, kept_statement_tokens, token_turns, then_edits, or_edits, gives_edits, makes_edits, before_edits, behind_edits, means_edits, optional_edits, list_edits, wider_edits}
+use Rattle.wgsl_template_theory.proofs.EditSymbols.{symbol_edits}
 use Rattle.wgsl_template_theory.proofs.EditAttributeRules.{attributes_edits}
-use Rattle.wgsl_template_theory.proofs.EditStatementParts.{narrow_edits, sign_edits, empty_edits, list_then_edits, var_kind_edits, initializer_edits, break_if_edits, assignment_operator_edits, else_edits, maybe_continuing_edits, part_edits, else_ifs_edits, clauses_edits, statements_edits, block_ends_list, clause_body_edits}
+use Rattle.wgsl_template_theory.proofs.EditStatementParts.{narrow_edits, empty_edits, list_then_edits, var_kind_edits, initializer_edits, break_if_edits, assignment_operator_edits, else_edits, maybe_continuing_edits, part_edits, else_ifs_edits, clauses_edits, statements_edits, block_ends_list, clause_body_edits}
 
 -- ---- blocks and their parts
 pub compound_statement_right : {b : Bool} → Changes true b (written compound_statement) (write compound_statement)
@@ -34,36 +34,36 @@ continuing_statement_right = gives_edits (before_edits KwContinuing (then_edits 
 
 -- ---- statements that no `;` ends
 pub if_statement_right : {b : Bool} → Changes true b (written if_statement) (write if_statement)
-if_statement_right = gives_edits (then_edits attributes_edits (before_edits KwIf (then_edits expression_edits (then_edits compound_statement_edits (then_edits else_ifs_edits else_edits))))) (λ a rest. refl)
+if_statement_right = gives_edits (then_edits attributes_edits (before_edits KwIf (then_edits (symbol_edits expression tt) (then_edits (symbol_edits compound_statement tt) (then_edits else_ifs_edits else_edits))))) (λ a rest. refl)
 
 pub switch_statement_right : {b : Bool} → Changes true b (written switch_statement) (write switch_statement)
-switch_statement_right = gives_edits (then_edits attributes_edits (before_edits KwSwitch (then_edits expression_edits (then_edits attributes_edits (before_edits SymBraceLeft (behind_edits {m = true} SymBraceRight clauses_edits)))))) (λ a rest. refl)
+switch_statement_right = gives_edits (then_edits attributes_edits (before_edits KwSwitch (then_edits (symbol_edits expression tt) (then_edits attributes_edits (before_edits SymBraceLeft (behind_edits {m = true} SymBraceRight clauses_edits)))))) (λ a rest. refl)
 
 pub loop_statement_right : {b : Bool} → Changes true b (written loop_statement) (write loop_statement)
 loop_statement_right = gives_edits (then_edits attributes_edits (before_edits KwLoop (then_edits attributes_edits (before_edits SymBraceLeft (behind_edits {m = true} SymBraceRight (then_edits statements_edits maybe_continuing_edits)))))) (λ a rest. refl)
 
 pub for_statement_right : {b : Bool} → Changes true b (written for_statement) (write for_statement)
-for_statement_right = gives_edits (then_edits attributes_edits (before_edits KwFor (before_edits SymParenLeft (then_edits (behind_edits {m = false} SymSemicolon (part_edits for_init_edits))
-    (then_edits (behind_edits {m = false} SymSemicolon (optional_edits {e = false} tt expression_edits)) (then_edits (behind_edits {m = false} SymParenRight (part_edits for_update_edits)) compound_statement_edits)))))) (λ a rest. refl)
+for_statement_right = gives_edits (then_edits attributes_edits (before_edits KwFor (before_edits SymParenLeft (then_edits (behind_edits {m = false} SymSemicolon (part_edits (symbol_edits for_init tt)))
+    (then_edits (behind_edits {m = false} SymSemicolon (optional_edits {e = false} tt (symbol_edits expression tt))) (then_edits (behind_edits {m = false} SymParenRight (part_edits (symbol_edits for_update tt))) (symbol_edits compound_statement tt))))))) (λ a rest. refl)
 
 pub while_statement_right : {b : Bool} → Changes true b (written while_statement) (write while_statement)
-while_statement_right = gives_edits (then_edits attributes_edits (before_edits KwWhile (then_edits expression_edits compound_statement_edits))) (λ a rest. refl)
+while_statement_right = gives_edits (then_edits attributes_edits (before_edits KwWhile (then_edits (symbol_edits expression tt) (symbol_edits compound_statement tt)))) (λ a rest. refl)
 
 -- ---- statements that a `;` ends
 pub return_statement_right : {b : Bool} → Changes false b (written return_statement) (write return_statement)
-return_statement_right = gives_edits (before_edits KwReturn (optional_edits {e = false} tt expression_edits)) (λ a rest. refl)
+return_statement_right = gives_edits (before_edits KwReturn (optional_edits {e = false} tt (symbol_edits expression tt))) (λ a rest. refl)
 
 pub call_statement_right : {b : Bool} → Changes false b (written call_statement) (write call_statement)
-call_statement_right = gives_edits call_edits (λ a rest. refl)
+call_statement_right = gives_edits (symbol_edits call tt) (λ a rest. refl)
 
 pub var_statement_right : {b : Bool} → Changes false b (written var_statement) (write var_statement)
-var_statement_right = gives_edits (then_edits var_kind_edits (then_edits typed_ident_edits (optional_edits {e = false} tt initializer_edits))) (λ a rest. refl)
+var_statement_right = gives_edits (then_edits var_kind_edits (then_edits (symbol_edits typed_ident tt) (optional_edits {e = false} tt initializer_edits))) (λ a rest. refl)
 
 value_kind_edits : {b : Bool} → Changes false b (KwLet means let_kind or KwConst means const_kind) kind_tokens
 value_kind_edits = or_edits (means_edits KwLet (λ rest. refl)) (means_edits KwConst (λ rest. refl))
 
 pub value_statement_right : {b : Bool} → Changes false b (written value_statement) (write value_statement)
-value_statement_right = gives_edits (then_edits value_kind_edits (then_edits typed_ident_edits initializer_edits)) (λ a rest. refl)
+value_statement_right = gives_edits (then_edits value_kind_edits (then_edits (symbol_edits typed_ident tt) initializer_edits)) (λ a rest. refl)
 
 pub break_statement_right : {b : Bool} → Changes false b (written break_statement) (write break_statement)
 break_statement_right = means_edits KwBreak (λ rest. refl)
@@ -75,16 +75,16 @@ pub discard_statement_right : {b : Bool} → Changes false b (written discard_st
 discard_statement_right = means_edits KwDiscard (λ rest. refl)
 
 pub assignment_right : {b : Bool} → Changes false b (written assignment) (write assignment)
-assignment_right = gives_edits (then_edits lhs_expression_edits (then_edits assignment_operator_edits expression_edits)) (λ a rest. refl)
+assignment_right = gives_edits (then_edits (symbol_edits lhs_expression tt) (then_edits assignment_operator_edits (symbol_edits expression tt))) (λ a rest. refl)
 
 pub increment_right : {b : Bool} → Changes false b (written increment) (write increment)
-increment_right = narrow_edits {e = true} (gives_edits (behind_edits {m = false} SymPlusPlus lhs_expression_edits) (λ a rest. refl))
+increment_right = narrow_edits {e = true} (gives_edits (behind_edits {m = false} SymPlusPlus (symbol_edits lhs_expression tt)) (λ a rest. refl))
 
 pub decrement_right : {b : Bool} → Changes false b (written decrement) (write decrement)
-decrement_right = gives_edits (behind_edits {m = false} SymMinusMinus lhs_expression_edits) (λ a rest. refl)
+decrement_right = gives_edits (behind_edits {m = false} SymMinusMinus (symbol_edits lhs_expression tt)) (λ a rest. refl)
 
 pub const_assert_right : {b : Bool} → Changes false b (written const_assert) (write const_assert)
-const_assert_right = gives_edits (before_edits KwConstAssert expression_edits) (λ a rest. refl)
+const_assert_right = gives_edits (before_edits KwConstAssert (symbol_edits expression tt)) (λ a rest. refl)
 
 -- the phony assignment, whose left side is the identifier `_`
 underscore_edits : {b : Bool} → Changes true b (one_token SymUnderscore makes underscore_at) expression_node_tokens
@@ -95,10 +95,10 @@ phony_assignment_right = gives_edits (then_edits underscore_edits initializer_ed
 
 -- ---- a name with its type, and what a clause selects
 pub typed_ident_right : {b : Bool} → Changes false b (written typed_ident) (write typed_ident)
-typed_ident_right = gives_edits (then_edits ident_edits (optional_edits {e = false} tt (before_edits SymColon type_specifier_edits))) (λ a rest. refl)
+typed_ident_right = gives_edits (then_edits (symbol_edits ident tt) (optional_edits {e = false} tt (before_edits SymColon (symbol_edits type_specifier tt)))) (λ a rest. refl)
 
 pub case_selector_right : {b : Bool} → Changes false b (written case_selector) (write case_selector)
-case_selector_right = or_edits (means_edits KwDefault (λ rest. refl)) (gives_edits expression_edits (λ a rest. refl))
+case_selector_right = or_edits (means_edits KwDefault (λ rest. refl)) (gives_edits (symbol_edits expression tt) (λ a rest. refl))
 
 -- ---- clauses: the optional colon is left out, and `default` alone is written `case default`
 default_edits : {b : Bool} → Changes true b (KwDefault ▹ clause_body) (λ p rest. plain KwCase ∷ (plain KwDefault ∷ compound_tokens p.1 rest))
@@ -115,7 +115,7 @@ default_edits {b} = record {
 }
 
 pub switch_clause_right : {b : Bool} → Changes true b (written switch_clause) (write switch_clause)
-switch_clause_right = or_edits (gives_edits (before_edits KwCase (list_then_edits (λ v rest. block_ends_list v.1 rest) (list_edits case_selector_edits case_selector_edits) clause_body_edits)) (λ a rest. refl)) (gives_edits default_edits (λ a rest. refl))
+switch_clause_right = or_edits (gives_edits (before_edits KwCase (list_then_edits (λ v rest. block_ends_list v.1 rest) (list_edits (symbol_edits case_selector tt) (symbol_edits case_selector tt)) clause_body_edits)) (λ a rest. refl)) (gives_edits default_edits (λ a rest. refl))
 
 -- ---- statements in a list, where an empty one has no tokens
 abbrev kept_plain : Writes Statement
@@ -166,16 +166,16 @@ statement_right = makes_edits {writes = kept_plain} (
     (or_edits (ended_edits {g = symbol phony_assignment} (λ v xs ys h. h))
     (or_edits (ended_edits {g = symbol increment} (λ v xs ys h. h))
     (or_edits (ended_edits {g = symbol decrement} (λ v xs ys h. h))
-    (or_edits (gives_edits compound_statement_edits (λ a rest. refl))
-    (gives_edits (behind_edits {m = false} SymSemicolon const_assert_edits) (λ a rest. refl))))))))))))))))))))
+    (or_edits (gives_edits (symbol_edits compound_statement tt) (λ a rest. refl))
+    (gives_edits (behind_edits {m = false} SymSemicolon (symbol_edits const_assert tt)) (λ a rest. refl))))))))))))))))))))
     ) (λ a span rest. refl)
 
 -- ---- statements in the header of a `for`
 update_edits : {b : Bool} → Changes false b (symbol assignment or symbol phony_assignment or symbol increment or symbol decrement or symbol call_statement) unended_tokens
-update_edits = or_edits assignment_edits (or_edits phony_assignment_edits (or_edits increment_edits (or_edits decrement_edits call_statement_edits)))
+update_edits = or_edits (symbol_edits assignment tt) (or_edits (symbol_edits phony_assignment tt) (or_edits (symbol_edits increment tt) (or_edits (symbol_edits decrement tt) (symbol_edits call_statement tt))))
 
 pub for_update_right : {b : Bool} → Changes false b (written for_update) (write for_update)
 for_update_right = makes_edits update_edits (λ a span rest. refl)
 
 pub for_init_right : {b : Bool} → Changes false b (written for_init) (write for_init)
-for_init_right = makes_edits {writes = unended_tokens} (or_edits var_statement_edits (or_edits value_statement_edits update_edits)) (λ a span rest. refl)
+for_init_right = makes_edits {writes = unended_tokens} (or_edits (symbol_edits var_statement tt) (or_edits (symbol_edits value_statement tt) update_edits)) (λ a span rest. refl)

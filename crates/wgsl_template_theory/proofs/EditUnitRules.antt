@@ -11,7 +11,7 @@ use Rattle.wgsl_model.specs.Units.{GlobalDeclaration}
 use Rattle.wgsl_model.specs.PrintedUnits.{is_void}
 use Rattle.wgsl_model.specs.TokenValues.{text_of}
 use Rattle.wgsl_model.specs.UnitParts.{attributed_ident, return_part, texts_of, diagnostic_of}
-use Rattle.wgsl_model.specs.Symbols.{ident, struct_member, formal_parameter, global_declaration, var_declaration, const_declaration, override_declaration, alias_declaration, struct_declaration, function_declaration, diagnostic_severity, global_directive, enable_directive, requires_directive, diagnostic_directive, unit, Rule}
+use Rattle.wgsl_model.specs.Symbols.{ident, struct_member, formal_parameter, global_declaration, var_declaration, const_declaration, override_declaration, alias_declaration, struct_declaration, function_declaration, diagnostic_severity, global_directive, enable_directive, requires_directive, diagnostic_directive, unit, Rule, compound_statement, const_assert, type_specifier, typed_ident}
 use Rattle.wgsl_model.specs.Written.{written}
 use Rattle.wgsl_canonical_theory.specs.CanonicalExpressions.{Writes, optional_tokens, list_tokens, word_token}
 use Rattle.wgsl_canonical_theory.specs.CanonicalUnits.{directive_tokens, attributed_tokens, global_declaration_tokens, kept_declaration_tokens, without_place}
@@ -23,13 +23,13 @@ use Rattle.wgsl_canonical_theory.proofs.UnitRules.{DiagnosticParts, diagnostic_p
 use Rattle.wgsl_template_theory.proofs.Moves.{kinds, class_is}
 use Rattle.wgsl_template_theory.proofs.Edits.{ends_list, Edits, no_comma, widen}
 use Rattle.wgsl_template_theory.proofs.EditWays.{Edited, Turns, Changes, ListChanges, then_edits, or_edits, gives_edits, makes_edits, wider_edits, before_edits, behind_edits, optional_edits, many_edits, list_edits, list_or_none_edits, ended_list_edits}
-use Rattle.wgsl_template_theory.proofs.EditSymbols.{ident_edits, type_specifier_edits, compound_statement_edits, const_assert_edits, typed_ident_edits, struct_member_edits, formal_parameter_edits, diagnostic_severity_edits, enable_directive_edits, requires_directive_edits, diagnostic_directive_edits, global_directive_edits, global_declaration_edits}
+use Rattle.wgsl_template_theory.proofs.EditSymbols.{symbol_edits, global_declaration_edits}
 use Rattle.wgsl_template_theory.proofs.EditAttributeRules.{attributes_edits}
 use Rattle.wgsl_template_theory.proofs.EditStatementParts.{empty_edits, var_kind_edits, initializer_edits}
 
 -- ---- members and parameters
 attributed_ident_edits : {b : Bool} → Changes false b attributed_ident (λ p rest. attributed_tokens p.0 (text_of p.1.0) p.1.1 rest)
-attributed_ident_edits = then_edits attributes_edits (then_edits (behind_edits {m = false} SymColon ident_edits) type_specifier_edits)
+attributed_ident_edits = then_edits attributes_edits (then_edits (behind_edits {m = false} SymColon (symbol_edits ident tt)) (symbol_edits type_specifier tt))
 
 pub struct_member_right : {b : Bool} → Changes false b (written struct_member) (write struct_member)
 struct_member_right = makes_edits attributed_ident_edits (λ a span rest. refl)
@@ -39,27 +39,27 @@ formal_parameter_right = gives_edits attributed_ident_edits (λ a rest. refl)
 
 -- ---- declarations of values
 pub var_declaration_right : {b : Bool} → Changes true b (written var_declaration) (write var_declaration)
-var_declaration_right = gives_edits (then_edits attributes_edits (then_edits var_kind_edits (then_edits typed_ident_edits (behind_edits {m = false} SymSemicolon (optional_edits {e = false} tt initializer_edits))))) (λ a rest. refl)
+var_declaration_right = gives_edits (then_edits attributes_edits (then_edits var_kind_edits (then_edits (symbol_edits typed_ident tt) (behind_edits {m = false} SymSemicolon (optional_edits {e = false} tt initializer_edits))))) (λ a rest. refl)
 
 pub const_declaration_right : {b : Bool} → Changes true b (written const_declaration) (write const_declaration)
-const_declaration_right = gives_edits (before_edits KwConst (then_edits typed_ident_edits (behind_edits {m = false} SymSemicolon initializer_edits))) (λ a rest. refl)
+const_declaration_right = gives_edits (before_edits KwConst (then_edits (symbol_edits typed_ident tt) (behind_edits {m = false} SymSemicolon initializer_edits))) (λ a rest. refl)
 
 pub override_declaration_right : {b : Bool} → Changes true b (written override_declaration) (write override_declaration)
-override_declaration_right = gives_edits (then_edits attributes_edits (before_edits KwOverride (then_edits typed_ident_edits (behind_edits {m = false} SymSemicolon (optional_edits {e = false} tt initializer_edits))))) (λ a rest. refl)
+override_declaration_right = gives_edits (then_edits attributes_edits (before_edits KwOverride (then_edits (symbol_edits typed_ident tt) (behind_edits {m = false} SymSemicolon (optional_edits {e = false} tt initializer_edits))))) (λ a rest. refl)
 
 -- ---- declarations of types and functions
 pub alias_declaration_right : {b : Bool} → Changes true b (written alias_declaration) (write alias_declaration)
-alias_declaration_right = gives_edits (before_edits KwAlias (then_edits ident_edits (before_edits SymEqual (behind_edits {m = false} SymSemicolon type_specifier_edits)))) (λ a rest. refl)
+alias_declaration_right = gives_edits (before_edits KwAlias (then_edits (symbol_edits ident tt) (before_edits SymEqual (behind_edits {m = false} SymSemicolon (symbol_edits type_specifier tt))))) (λ a rest. refl)
 
 pub struct_declaration_right : {b : Bool} → Changes true b (written struct_declaration) (write struct_declaration)
-struct_declaration_right = gives_edits (before_edits KwStruct (then_edits ident_edits (before_edits SymBraceLeft (ended_list_edits SymBraceRight refl (list_edits struct_member_edits struct_member_edits))))) (λ a rest. refl)
+struct_declaration_right = gives_edits (before_edits KwStruct (then_edits (symbol_edits ident tt) (before_edits SymBraceLeft (ended_list_edits SymBraceRight refl (list_edits (symbol_edits struct_member tt) (symbol_edits struct_member tt)))))) (λ a rest. refl)
 
 returned_edits : {b : Bool} → Changes false b (optional return_part) (optional_tokens returned_tokens)
-returned_edits = optional_edits {e = false} tt (before_edits SymArrow (then_edits attributes_edits type_specifier_edits))
+returned_edits = optional_edits {e = false} tt (before_edits SymArrow (then_edits attributes_edits (symbol_edits type_specifier tt)))
 
 pub function_declaration_right : {b : Bool} → Changes true b (written function_declaration) (write function_declaration)
 function_declaration_right = gives_edits
-    (then_edits attributes_edits (before_edits KwFn (then_edits ident_edits (before_edits SymParenLeft (then_edits (ended_list_edits SymParenRight refl (list_or_none_edits formal_parameter_edits formal_parameter_edits)) (then_edits returned_edits compound_statement_edits))))))
+    (then_edits attributes_edits (before_edits KwFn (then_edits (symbol_edits ident tt) (before_edits SymParenLeft (then_edits (ended_list_edits SymParenRight refl (list_or_none_edits (symbol_edits formal_parameter tt) (symbol_edits formal_parameter tt))) (then_edits returned_edits (symbol_edits compound_statement tt)))))))
     (λ a rest. function_written a.0 a.1.0 a.1.1.0 a.1.1.1.0 a.1.1.1.1 rest)
 
 -- ---- declarations in a module, where an empty one has no tokens
@@ -83,14 +83,14 @@ global_declaration_right = makes_edits {writes = kept_plain} (
     (or_edits (filled_edits {g = symbol alias_declaration} (λ v xs ys h. h))
     (or_edits (filled_edits {g = symbol struct_declaration} (λ v xs ys h. h))
     (or_edits (filled_edits {g = symbol function_declaration} (λ v xs ys h. h))
-    (gives_edits (behind_edits {m = false} SymSemicolon const_assert_edits) (λ a rest. refl))))))))))
+    (gives_edits (behind_edits {m = false} SymSemicolon (symbol_edits const_assert tt)) (λ a rest. refl))))))))))
     (λ a span rest. refl)
 
 -- ---- directives
 names_edits : {b : Bool} → ListChanges b (list SymComma (symbol ident)) (λ names rest. list_tokens word_token (texts_of names) rest)
 names_edits {b} = record {
   edit = λ v xs ys d words.
-      let found = (list_edits {b = b} ident_edits ident_edits).edit v xs ys d words in
+      let found = (list_edits {b = b} (symbol_edits ident tt) (symbol_edits ident tt)).edit v xs ys d words in
       (found.0, λ ks f r. subst (λ (z : List Kind). Edits b (kinds xs) z) (sym (names_written v ks)) (found.1 ks f r));
 }
 
@@ -101,7 +101,7 @@ pub requires_directive_right : {b : Bool} → Changes true b (written requires_d
 requires_directive_right = gives_edits (before_edits KwRequires (ended_list_edits SymSemicolon refl names_edits)) (λ a rest. refl)
 
 pub global_directive_right : {b : Bool} → Changes true b (written global_directive) (write global_directive)
-global_directive_right = or_edits enable_directive_edits (or_edits requires_directive_edits diagnostic_directive_edits)
+global_directive_right = or_edits (symbol_edits enable_directive tt) (or_edits (symbol_edits requires_directive tt) (symbol_edits diagnostic_directive tt))
 
 -- ---- `diagnostic`
 -- a comma that may stand before what ends a list is left out
@@ -113,8 +113,8 @@ comma_edits {b} = record { edit = go } where
   go v xs ys (inr d) words = (subst AllWords d.1 words, λ ks f r. subst (λ (z : List Token). Edits b (kinds z) ks) (sym d.1) (widen {e = false} {b = b} tt r))
 
 diagnostic_parts_edits : {b : Bool} → Changes true b diagnostic_parts diagnostic_parts_tokens
-diagnostic_parts_edits = then_edits (behind_edits {m = false} SymComma diagnostic_severity_edits) (then_edits ident_edits
-    (then_edits (optional_edits {e = false} tt (before_edits SymPeriod ident_edits)) (behind_edits {m = false} SymSemicolon (ended_list_edits SymParenRight refl comma_edits))))
+diagnostic_parts_edits = then_edits (behind_edits {m = false} SymComma (symbol_edits diagnostic_severity tt)) (then_edits (symbol_edits ident tt)
+    (then_edits (optional_edits {e = false} tt (before_edits SymPeriod (symbol_edits ident tt))) (behind_edits {m = false} SymSemicolon (ended_list_edits SymParenRight refl comma_edits))))
 
 diagnostic_tokens : (p : DiagnosticParts) → Known diagnostic_severity p.0 → NoPeriod (text_of p.1.0) → (rest : List Kind) → directive_tokens (diagnostic_of p.0 p.1.0 p.1.1.0) rest ≡ diagnostic_parts_tokens p rest
 diagnostic_tokens p severity name rest =
@@ -136,4 +136,4 @@ diagnostic_directive_right {b} = record {
 
 -- ---- modules
 pub unit_right : Changes true true (written unit) (write unit)
-unit_right = gives_edits (then_edits (many_edits {e = true} {b = true} tt global_directive_edits) (many_edits {e = true} {b = true} tt global_declaration_edits)) (λ a rest. refl)
+unit_right = gives_edits (then_edits (many_edits {e = true} {b = true} tt (symbol_edits global_directive tt)) (many_edits {e = true} {b = true} tt global_declaration_edits)) (λ a rest. refl)

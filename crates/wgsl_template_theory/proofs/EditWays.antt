@@ -1,9 +1,9 @@
 -- How the kinds that are written from what a right side derives differ from its tokens, by the ways to write a right side.
-use Rattle.std.proofs.Common.{◌≡◌, ℕ, Bool, true, false, List, [], ◌∷◌, ◌++◌, refl, sym, subst, inl, inr}
+use Rattle.std.proofs.Common.{◌≡◌, ℕ, Bool, true, false, List, [], ◌∷◌, refl, sym, subst, inl, inr}
 use Rattle.std.specs.Prelude.{if◌then◌else◌}
 use Rattle.grammar.specs.Tokens.{Token, Span, span_between}
 use Rattle.grammar.specs.Grammar.{Grammar.empty, Grammar.left_chain, Mode.full, Chain, Chain.base, Chain.more, Means, is_among}
-use Rattle.grammar.specs.Notation.{◌then◌, ◌or◌, ◌gives◌, ◌makes◌, ◌▹◌, ◌◃◌, ◌means◌, optional, many, several, separated, list, list_or_none}
+use Rattle.grammar.specs.Notation.{one_token, ◌then◌, ◌or◌, ◌gives◌, ◌makes◌, ◌▹◌, ◌◃◌, ◌means◌, optional, many, several, separated, list, list_or_none}
 use Rattle.wgsl_model.specs.Classes.{SymComma, SymMinus}
 use Rattle.wgsl_model.specs.Kind.{Kind, plain}
 use Rattle.wgsl_model.specs.Expressions.{ExpressionNode, Expression}
@@ -16,7 +16,7 @@ use Rattle.wgsl_canonical_theory.specs.CanonicalStatements.{end_token, unended_t
 use Rattle.wgsl_canonical_theory.specs.CanonicalUnits.{kept_declaration_tokens, without_place}
 use Rattle.wgsl_canonical_theory.proofs.Words.{AllWords}
 use Rattle.wgsl_canonical_theory.proofs.Again.{write, Known}
-use Rattle.wgsl_canonical_theory.proofs.Ways.{words_behind, all_behind, HasItem, item_behind, list_behind}
+use Rattle.wgsl_canonical_theory.proofs.Ways.{words_behind, all_behind, HasItem, has_item, items_tokens, items_behind, items_written}
 use Rattle.wgsl_template_theory.proofs.Moves.{kinds, class_is}
 use Rattle.wgsl_template_theory.proofs.Edits.{is_stop, ends_list, list_ends, Edits, kept, no_comma, Widens, widen}
 
@@ -152,46 +152,33 @@ makes_edits {e} {b} {A} {B} {g} {f} {writes} {made} G s = record {
       );
 }
 
--- the same, with other writes
-pub equal_edits : {e b : Bool} {A : Type 0} {g : Rule A} {writes made : Writes A} → Changes e b g writes → ((v : A) (rest : List Kind) → made v rest ≡ writes v rest) → Changes e b g made
-equal_edits {b = b} G s = record {
+-- the same, with other writes of the values that are derived
+pub fact_edits : {e b : Bool} {A : Type 0} {g : Rule A} {writes made : Writes A} {Fact : A → Type 0} → Changes e b g writes → ((v : A) (xs ys : List Token) → Means full Edited g v xs ys → Fact v) → ((v : A) → Fact v → (rest : List Kind) → made v rest ≡ writes v rest) → Changes e b g made
+fact_edits {b = b} G known s = record {
   edit = λ v xs ys d words.
       let found = G.edit v xs ys d words in
-      (found.0, λ ks r. subst (λ (z : List Kind). Edits b (kinds xs) z) (sym (s v ks)) (found.1 ks r));
+      (found.0, λ ks r. subst (λ (z : List Kind). Edits b (kinds xs) z) (sym (s v (known v xs ys d) ks)) (found.1 ks r));
 }
+
+pub equal_edits : {e b : Bool} {A : Type 0} {g : Rule A} {writes made : Writes A} → Changes e b g writes → ((v : A) (rest : List Kind) → made v rest ≡ writes v rest) → Changes e b g made
+equal_edits {A = A} G s = fact_edits {Fact = λ (a : A). Unit {0}} G (λ v xs ys d. tt) (λ v known rest. s v rest)
 
 -- with more before it
 pub wider_edits : {e m b : Bool} {A : Type 0} {g : Rule A} {writes : Writes A} → Widens m b → Changes e m g writes → Changes e b g writes
 wider_edits w G = record { edit = λ v xs ys d words. let found = G.edit v xs ys d words in (found.0, λ ks r. widen w (found.1 ks r)) }
 
--- ---- a sign or a keyword before a part, behind it, or for a value
+-- ---- a sign or a keyword, before a part, behind it, or for a value
+pub sign_edits : {b : Bool} (c : ℕ) → Changes (is_stop c) b (one_token c) (λ v rest. plain c ∷ rest)
+sign_edits {b} c = record { edit = λ v xs ys d words. (words_behind v xs ys d.1 words, λ ks r. token_turns {b = b} {c = c} v xs ys ks d.0 d.1 r) }
+
 pub before_edits : {e b : Bool} {A : Type 0} (c : ℕ) {g : Rule A} {writes : Writes A} → Changes e (is_stop c) g writes → Changes e b (c ▹ g) (λ v rest. plain c ∷ writes v rest)
-before_edits {e} {b} {A} c {g} {writes} G = record {
-  edit = λ v xs ys d words.
-      subst (λ (z : A). Changed e b (λ v rest. plain c ∷ writes v rest) z xs ys) d.1 (
-      let token = d.0.0 in
-      let found = G.edit d.0.1 d.2.0 ys d.2.2 (words_behind token xs d.2.0 d.2.1.1 words) in
-      (found.0, λ ks r. token_turns {b = b} {c = c} token xs d.2.0 (writes d.0.1 ks) d.2.1.0 d.2.1.1 (found.1 ks r))
-      );
-}
+before_edits c G = gives_edits (then_edits (sign_edits c) G) (λ a rest. refl)
 
 pub behind_edits : {m b : Bool} {A : Type 0} (c : ℕ) {g : Rule A} {writes : Writes A} → Changes m b g writes → Changes (is_stop c) b (g ◃ c) (λ v rest. writes v (plain c ∷ rest))
-behind_edits {m} {b} {A} c {g} {writes} G = record {
-  edit = λ v xs ys d words.
-      subst (λ (z : A). Changed (is_stop c) b (λ v rest. writes v (plain c ∷ rest)) z xs ys) d.1 (
-      let found = G.edit d.0.0 xs d.2.0 d.2.1 words in
-      (words_behind d.0.1 d.2.0 ys d.2.2.1 found.0, λ ks r. found.1 (plain c ∷ ks) (token_turns {b = m} {c = c} d.0.1 d.2.0 ys ks d.2.2.0 d.2.2.1 r))
-      );
-}
+behind_edits c G = gives_edits (then_edits G (sign_edits c)) (λ a rest. refl)
 
 pub means_edits : {b : Bool} {A : Type 0} (c : ℕ) {a : A} {writes : Writes A} → ((rest : List Kind) → writes a rest ≡ plain c ∷ rest) → Changes (is_stop c) b (c means a) writes
-means_edits {b} {A} c {a} {writes} s = record {
-  edit = λ v xs ys d words.
-      subst (λ (z : A). Changed (is_stop c) b writes z xs ys) d.1 (
-        words_behind d.0 xs ys d.2.1 words,
-        λ ks r. subst (λ (z : List Kind). Edits b (kinds xs) z) (sym (s ks)) (token_turns {b = b} {c = c} d.0 xs ys ks d.2.0 d.2.1 r),
-      );
-}
+means_edits c s = gives_edits (sign_edits c) (λ a rest. s rest)
 
 -- ---- nothing, and a part that may be left out
 pub none_edits : {e b : Bool} {A : Type 0} {a : A} {writes : Writes A} → Widens e b → ((rest : List Kind) → writes a rest ≡ rest) → Changes e b (empty a) writes
@@ -224,27 +211,10 @@ pub several_edits : {e b : Bool} {A : Type 0} {g : Rule A} {writes : Writes A} �
 several_edits {writes = writes} G H = chain_edits (gives_edits G (λ a rest. refl)) H (λ a x span rest. all_behind writes a x rest)
 
 -- ---- with a comma between each two
-
 separated_edits : {b : Bool} {A : Type 0} {g : Rule A} {writes : Writes A} → Changes false b g writes → Changes false false g writes → Changes false b (separated SymComma g) (list_tokens writes)
-separated_edits {b} {A} {g} {writes} G H = record { edit = λ v xs ys d words. (go xs v ys d words).1 } where
-  first : Rule (List A)
-  first = g gives (λ (x : A). x ∷ [])
-
-  push : List A → A → Span → List A
-  push xs x s = xs ++ (x ∷ [])
-
-  F : Changes false b first (list_tokens writes)
-  F = gives_edits G (λ a rest. refl)
-
-  N : Changes false false (SymComma ▹ g) (λ v rest. plain SymComma ∷ writes v rest)
-  N = before_edits SymComma H
-
-  go : (xs : List Token) (v : List A) (ys : List Token) → Chain push (Means full Edited first) (Means full Edited (SymComma ▹ g)) xs v ys → AllWords xs → HasItem v × Changed false b (list_tokens writes) v xs ys
-  go xs _ _ (base a ys d) words = (subst HasItem d.1 tt, F.edit a xs ys d words)
-  go xs _ _ (more a x ys zs c d) words =
-      let before = go xs a ys c words in
-      let last = N.edit x ys zs d before.1.0 in
-      (item_behind a x, (last.0, λ ks r. subst (λ (z : List Kind). Edits b (kinds xs) z) (sym (list_behind writes a x ks before.0)) (before.1.1 (plain SymComma ∷ writes x ks) (last.1 ks r))))
+separated_edits {g = g} {writes = writes} G H =
+    fact_edits {Fact = HasItem} (chain_edits {writes = items_tokens writes} (gives_edits G (λ a rest. refl)) (before_edits SymComma H) (λ a x span rest. items_behind writes a x rest))
+    (λ v xs ys d. has_item (Means full Edited g) (Means full Edited (SymComma ▹ g)) xs v ys d) (items_written writes)
 
 -- before kinds that end a list: the comma that may follow the last item is left out
 pub record ListChanges (b : Bool) {A : Type 0} (g : Rule A) (writes : Writes A) : Type 0 where
