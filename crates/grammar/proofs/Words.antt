@@ -2,7 +2,7 @@
 use Rattle.std.proofs.Common.{◌≡◌, ℕ, zero, suc, ◌<◌, Bool, true, false, ◌&&◌, ◌||◌, ltb, List, [], ◌∷◌, ◌⊎◌, inl, inr, refl, arith, ltb-true}
 use Rattle.grammar.specs.Tokens.{Token, Payload.nothing, span_between}
 use Rattle.grammar.specs.Grammar.{Grammar, Grammar.empty, Grammar.token, Grammar.sequence, Grammar.choice, Grammar.mapped, Grammar.node, Grammar.checked, Grammar.symbol, Grammar.left_chain, Chain.base, Mode.unchecked, is_among, Means, Part}
-use Rattle.grammar.proofs.Sets.{and_true}
+use Rattle.grammar.proofs.Sets.{and_true, either}
 use Rattle.grammar.proofs.Depth.{roll}
 use Rattle.grammar.proofs.Viable.{HasSentences}
 
@@ -18,10 +18,6 @@ builds height h (node f g) = builds height h g
 builds height h (checked f g) = builds height h g
 builds height h (symbol n) = ltb (height n) h
 builds height h (left_chain f g i) = builds height h g
-
-either : (a b : Bool) → (a || b) ≡ true → (a ≡ true) ⊎ (b ≡ true)
-either true b e = inl refl
-either false b e = inr e
 
 -- what stands before a list
 abbrev Before : {A : Type 0} → (A → List Token → List Token → Type 0) → List Token → Type 0

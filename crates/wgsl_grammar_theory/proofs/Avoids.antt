@@ -1,71 +1,86 @@
--- What takes no token of some classes, and what ends with a token of some classes.
-use Rattle.std.proofs.Common.{◌≡◌, ℕ, zero, suc, ◌+◌, ◌<◌, Bool, true, false, ◌&&◌, ◌||◌, List, [], ◌∷◌, ◌++◌, length, ◌⊎◌, inl, inr, refl, sym, ap, subst, ◌∙◌, append-nil, arith, length-append}
+-- What takes tokens of some classes alone, and what ends with a token of some classes.
+use Rattle.std.proofs.Common.{◌≡◌, ℕ, zero, suc, ◌+◌, ◌<◌, Bool, true, false, not, ◌&&◌, ◌||◌, List, [], ◌∷◌, ◌++◌, length, ◌⊎◌, inl, inr, refl, sym, ap, subst, ◌∙◌, append-nil, arith, length-append}
 use Rattle.grammar.specs.Tokens.{Token, Span}
 use Rattle.grammar.specs.Grammar.{Grammar, Grammar.empty, Grammar.token, Grammar.sequence, Grammar.choice, Grammar.mapped, Grammar.node, Grammar.checked, Grammar.symbol, Grammar.left_chain, Mode, is_among, Chain, Chain.base, Chain.more, Means, Within, Part}
 use Rattle.grammar.specs.Tables.{disjoint, subset}
 use Rattle.grammar.specs.Faults.{last_class}
-use Rattle.grammar.proofs.Sets.{and_true, in_subset, apart}
+use Rattle.grammar.proofs.Sets.{and_true, either, implied, in_subset, apart}
+use Rattle.grammar.proofs.Depth.{Kept, least}
 use Rattle.grammar.proofs.Frame.{Framed, joined, framed, framed_within}
 use Rattle.grammar.proofs.Anchors.{last_append}
 use Rattle.wgsl_grammar_theory.proofs.Taking.{surely_takes, Shorter, shorter, shorter_within}
 
--- ---- no token of some classes
+-- ---- tokens of some classes
+-- what holds of the class of each token
+abbrev pub AllOf : (ℕ → Type 0) → List Token → Type 0
+AllOf Q [] = Unit {0}
+AllOf Q (t ∷ ts) = Q t.class × AllOf Q ts
+
+all_append : (Q : ℕ → Type 0) (p q : List Token) → AllOf Q p → AllOf Q q → AllOf Q (p ++ q)
+all_append Q [] q n m = m
+all_append Q (t ∷ p) q n m = (n.0, all_append Q p q n.1 m)
+
+-- no token of some classes
 abbrev pub NoneOf : List ℕ → List Token → Type 0
-NoneOf cs [] = Unit {0}
-NoneOf cs (t ∷ ts) = (is_among t.class cs ≡ false) × NoneOf cs ts
+NoneOf cs = AllOf (λ (c : ℕ). is_among c cs ≡ false)
 
-pub none_append : (cs : List ℕ) (p q : List Token) → NoneOf cs p → NoneOf cs q → NoneOf cs (p ++ q)
-none_append cs [] q n m = m
-none_append cs (t ∷ p) q n m = (n.0, none_append cs p q n.1 m)
+-- a test of lists of classes, and what holds of each class of those that pass it
+pub record ClassTest (Q : ℕ → Type 0) : Type 0 where
+  pub test : List ℕ → Bool
+  pub passed : (c : ℕ) (s : List ℕ) → test s ≡ true → is_among c s ≡ true → Q c
 
--- a part takes no token of the classes cs, where the symbols K take none
-abbrev pub avoids : {N : Type 0} {Value : N → Type 0} (cs : List ℕ) (K : N → Bool) {A : Type 0} → Grammar N Value A → Bool
-avoids cs K (empty a) = true
-avoids cs K (token s) = disjoint s cs
-avoids cs K (sequence g h) = avoids cs K g && avoids cs K h
-avoids cs K (choice g h) = avoids cs K g && avoids cs K h
-avoids cs K (mapped f g) = avoids cs K g
-avoids cs K (node f g) = avoids cs K g
-avoids cs K (checked f g) = avoids cs K g
-avoids cs K (symbol n) = K n
-avoids cs K (left_chain f g h) = avoids cs K g && avoids cs K h
+abbrev pub none_of : (cs : List ℕ) → ClassTest (λ (c : ℕ). is_among c cs ≡ false)
+none_of cs = record { test = λ s. disjoint s cs; passed = λ c s e m. apart c s cs e m }
 
-abbrev pub Avoiding : {A : Type 0} → List ℕ → (A → List Token → List Token → Type 0) → Type 0
-Avoiding {A} cs P = (v : A) (xs ys : List Token) → P v xs ys → (p : List Token) × (xs ≡ p ++ ys) × NoneOf cs p
+-- a part takes tokens of classes that pass the test alone, where the symbols K do
+abbrev pub takes_only : {N : Type 0} {Value : N → Type 0} (test : List ℕ → Bool) (K : N → Bool) {A : Type 0} → Grammar N Value A → Bool
+takes_only test K (empty a) = true
+takes_only test K (token s) = test s
+takes_only test K (sequence g h) = takes_only test K g && takes_only test K h
+takes_only test K (choice g h) = takes_only test K g && takes_only test K h
+takes_only test K (mapped f g) = takes_only test K g
+takes_only test K (node f g) = takes_only test K g
+takes_only test K (checked f g) = takes_only test K g
+takes_only test K (symbol n) = K n
+takes_only test K (left_chain f g h) = takes_only test K g && takes_only test K h
 
-avoiding_chain : (cs : List ℕ) {A B : Type 0} (f : A → B → Span → A) (P : A → List Token → List Token → Type 0) (Q : B → List Token → List Token → Type 0) → Avoiding cs P → Avoiding cs Q
-    → (xs : List Token) (v : A) (ys : List Token) → Chain f P Q xs v ys → (p : List Token) × (xs ≡ p ++ ys) × NoneOf cs p
-avoiding_chain cs f P Q H K xs _ _ (base v ys d) = H v xs ys d
-avoiding_chain cs f P Q H K xs _ _ (more a b ys zs c d) =
-    let w = avoiding_chain cs f P Q H K xs a ys c in let u = K b ys zs d in
-    (w.0 ++ u.0, joined w.0 u.0 xs ys zs w.1 u.1, none_append cs w.0 u.0 w.2 u.2)
+abbrev pub TakingOnly : {A : Type 0} → (ℕ → Type 0) → (A → List Token → List Token → Type 0) → Type 0
+TakingOnly {A} Q P = (v : A) (xs ys : List Token) → P v xs ys → (p : List Token) × (xs ≡ p ++ ys) × AllOf Q p
 
-pub avoiding : {N : Type 0} {Value : N → Type 0} (M : Mode) (D : (n : N) → Value n → List Token → List Token → Type 0) (cs : List ℕ) (K : N → Bool) → ((n : N) → K n ≡ true → Avoiding cs (D n))
-    → {A : Type 0} (g : Grammar N Value A) → avoids cs K g ≡ true → Avoiding cs (Means M D g)
-avoiding M D cs K H (empty a) e v xs ys d = ([], d.1, tt)
-avoiding M D cs K H (token s) e v xs ys d = (v ∷ [], d.1, (apart v.class s cs e d.0, tt))
-avoiding M D cs K H (sequence g h) e v xs ys (ms, d, i) =
-    let t = and_true (avoids cs K g) (avoids cs K h) e in
-    let w = avoiding M D cs K H g t.0 v.0 xs ms d in let u = avoiding M D cs K H h t.1 v.1 ms ys i in
-    (w.0 ++ u.0, joined w.0 u.0 xs ms ys w.1 u.1, none_append cs w.0 u.0 w.2 u.2)
-avoiding M D cs K H (choice g h) e v xs ys (inl d) = avoiding M D cs K H g (and_true (avoids cs K g) (avoids cs K h) e).0 v xs ys d
-avoiding M D cs K H (choice g h) e v xs ys (inr d) = avoiding M D cs K H h (and_true (avoids cs K g) (avoids cs K h) e).1 v xs ys d
-avoiding M D cs K H (mapped f g) e v xs ys d = avoiding M D cs K H g e d.0 xs ys d.2
-avoiding M D cs K H (node f g) e v xs ys d = avoiding M D cs K H g e d.0 xs ys d.2
-avoiding M D cs K H (checked f g) e v xs ys d = avoiding M D cs K H g e v xs ys d.1
-avoiding M D cs K H (symbol n) e v xs ys d = H n e v xs ys d
-avoiding M D cs K H (left_chain f g h) e v xs ys d =
-    let t = and_true (avoids cs K g) (avoids cs K h) e in
-    avoiding_chain cs f (Means M D g) (Means M D h) (λ a us vs q. avoiding M D cs K H g t.0 a us vs q) (λ a us vs q. avoiding M D cs K H h t.1 a us vs q) xs v ys d
+only_chain : (Q : ℕ → Type 0) {A B : Type 0} (f : A → B → Span → A) (P : A → List Token → List Token → Type 0) (R : B → List Token → List Token → Type 0) → TakingOnly Q P → TakingOnly Q R
+    → (xs : List Token) (v : A) (ys : List Token) → Chain f P R xs v ys → (p : List Token) × (xs ≡ p ++ ys) × AllOf Q p
+only_chain Q f P R H K xs _ _ (base v ys d) = H v xs ys d
+only_chain Q f P R H K xs _ _ (more a b ys zs c d) =
+    let w = only_chain Q f P R H K xs a ys c in let u = K b ys zs d in
+    (w.0 ++ u.0, joined w.0 u.0 xs ys zs w.1 u.1, all_append Q w.0 u.0 w.2 u.2)
 
-avoiding_within : {N : Type 0} {Value : N → Type 0} (M : Mode) (body : (n : N) → Grammar N Value (Value n)) (cs : List ℕ) (K : N → Bool) → ((n : N) → K n ≡ true → avoids cs K (body n) ≡ true)
-    → (k : ℕ) (n : N) → K n ≡ true → Avoiding cs (Within M body k n)
-avoiding_within M body cs K H zero n e v xs ys d = absurd d
-avoiding_within M body cs K H (suc k) n e v xs ys d = avoiding M (Within M body k) cs K (avoiding_within M body cs K H k) (body n) (H n e) v xs ys d
+pub taking_only : {N : Type 0} {Value : N → Type 0} (M : Mode) (D : (n : N) → Value n → List Token → List Token → Type 0) {Q : ℕ → Type 0} (T : ClassTest Q) (K : N → Bool) → ((n : N) → K n ≡ true → TakingOnly Q (D n))
+    → {A : Type 0} (g : Grammar N Value A) → takes_only T.test K g ≡ true → TakingOnly Q (Means M D g)
+taking_only M D T K H (empty a) e v xs ys d = ([], d.1, tt)
+taking_only M D T K H (token s) e v xs ys d = (v ∷ [], d.1, (T.passed v.class s e d.0, tt))
+taking_only M D {Q} T K H (sequence g h) e v xs ys (ms, d, i) =
+    let t = and_true (takes_only T.test K g) (takes_only T.test K h) e in
+    let w = taking_only M D T K H g t.0 v.0 xs ms d in let u = taking_only M D T K H h t.1 v.1 ms ys i in
+    (w.0 ++ u.0, joined w.0 u.0 xs ms ys w.1 u.1, all_append Q w.0 u.0 w.2 u.2)
+taking_only M D T K H (choice g h) e v xs ys (inl d) = taking_only M D T K H g (and_true (takes_only T.test K g) (takes_only T.test K h) e).0 v xs ys d
+taking_only M D T K H (choice g h) e v xs ys (inr d) = taking_only M D T K H h (and_true (takes_only T.test K g) (takes_only T.test K h) e).1 v xs ys d
+taking_only M D T K H (mapped f g) e v xs ys d = taking_only M D T K H g e d.0 xs ys d.2
+taking_only M D T K H (node f g) e v xs ys d = taking_only M D T K H g e d.0 xs ys d.2
+taking_only M D T K H (checked f g) e v xs ys d = taking_only M D T K H g e v xs ys d.1
+taking_only M D T K H (symbol n) e v xs ys d = H n e v xs ys d
+taking_only M D {Q} T K H (left_chain f g h) e v xs ys d =
+    let t = and_true (takes_only T.test K g) (takes_only T.test K h) e in
+    only_chain Q f (Means M D g) (Means M D h) (λ a us vs q. taking_only M D T K H g t.0 a us vs q) (λ a us vs q. taking_only M D T K H h t.1 a us vs q) xs v ys d
 
-pub avoiding_part : {N : Type 0} {Value : N → Type 0} (M : Mode) (body : (n : N) → Grammar N Value (Value n)) (cs : List ℕ) (K : N → Bool) → ((n : N) → K n ≡ true → avoids cs K (body n) ≡ true)
-    → (n : N) → K n ≡ true → (v : Value n) (xs ys : List Token) → Part M body n v xs ys → (p : List Token) × (xs ≡ p ++ ys) × NoneOf cs p
-avoiding_part M body cs K H n e v xs ys (k, d) = avoiding_within M body cs K H k n e v xs ys d
+-- what the symbols K derive, where their rules, or rules that derive no less, pass
+pub only_part : {N : Type 0} {Value : N → Type 0} (M : Mode) (body rule : (n : N) → Grammar N Value (Value n)) {Q : ℕ → Type 0} (T : ClassTest Q) (K : N → Bool)
+    → ((D : (n : N) → Value n → List Token → List Token → Type 0) (n : N) → Kept (Means M D (body n)) (Means M D (rule n)))
+    → ((n : N) → (not (K n) || takes_only T.test K (rule n)) ≡ true) → (n : N) → K n ≡ true → TakingOnly Q (Part M body n)
+only_part {N} {Value} M body rule {Q} T K R H n e v xs ys d =
+    least M body Holds (λ m w us vs i k. taking_only M Holds T K (λ o f x ws zs j. j f) (rule m) (implied (K m) (takes_only T.test K (rule m)) (H m) k) w us vs (R Holds m w us vs i)) n v xs ys d e
+  where
+    Holds : (n : N) → Value n → List Token → List Token → Type 0
+    Holds n v xs ys = K n ≡ true → (p : List Token) × (xs ≡ p ++ ys) × AllOf Q p
 
 -- ---- a last token of some classes
 -- nothing, or a list that ends with a token of the classes
@@ -109,10 +124,6 @@ ending_chain cs f P Q H K xs _ _ (base v ys d) = H v xs ys d
 ending_chain cs f P Q H K xs _ _ (more a b ys zs c d) =
     let w = ending_chain cs f P Q H K xs a ys c in let u = K b ys zs d in
     (w.0 ++ u.0, joined w.0 u.0 xs ys zs w.1 u.1, ends_append cs w.0 u.0 w.2 u.2)
-
-either : (a b : Bool) → (a || b) ≡ true → (a ≡ true) ⊎ (b ≡ true)
-either true b e = inl refl
-either false b e = inr e
 
 -- what is known of the symbols
 record Known {N : Type 0} {Value : N → Type 0} (D : (n : N) → Value n → List Token → List Token → Type 0) (cs : List ℕ) (K J : N → Bool) : Type 0 where

@@ -1,8 +1,8 @@
 -- What surely takes a token.
-use Rattle.std.proofs.Common.{◌≡◌, ℕ, zero, suc, ◌+◌, ◌<◌, ◌≤◌, Bool, true, false, ◌&&◌, ◌||◌, List, [], ◌∷◌, ◌++◌, length, ◌⊎◌, inl, inr, refl, ap, ◌∙◌, arith, length-append}
+use Rattle.std.proofs.Common.{◌≡◌, ℕ, zero, suc, ◌+◌, ◌<◌, ◌≤◌, Bool, true, false, ◌&&◌, ◌||◌, List, [], ◌∷◌, ◌++◌, length, inl, inr, ap, ◌∙◌, arith, length-append}
 use Rattle.grammar.specs.Tokens.{Token, Span}
 use Rattle.grammar.specs.Grammar.{Grammar, Grammar.empty, Grammar.token, Grammar.sequence, Grammar.choice, Grammar.mapped, Grammar.node, Grammar.checked, Grammar.symbol, Grammar.left_chain, Mode, Chain, Chain.base, Chain.more, Means, Within, Part}
-use Rattle.grammar.proofs.Sets.{and_true}
+use Rattle.grammar.proofs.Sets.{and_true, either}
 use Rattle.grammar.proofs.Frame.{Framed, framed, framed_within, framed_part}
 
 -- a part takes a token at least, where the symbols K do
@@ -16,10 +16,6 @@ surely_takes K (node f g) = surely_takes K g
 surely_takes K (checked f g) = surely_takes K g
 surely_takes K (symbol n) = K n
 surely_takes K (left_chain f g h) = surely_takes K g
-
-either : (a b : Bool) → (a || b) ≡ true → (a ≡ true) ⊎ (b ≡ true)
-either true b e = inl refl
-either false b e = inr e
 
 no_longer : (p xs ys : List Token) → xs ≡ p ++ ys → length ys ≤ length xs
 no_longer p xs ys w = let e : length xs ≡ length p + length ys = ap (λ (z : List Token). length z) w ∙ length-append p ys in omega (arith, e)

@@ -1,18 +1,14 @@
 -- Which tokens expressions take, and with which tokens sentences end.
-use Rattle.std.proofs.Common.{◌≡◌, ℕ, Bool, true, false, List, [], ◌∷◌, ◌++◌, refl}
+use Rattle.std.proofs.Common.{◌≡◌, ℕ, Bool, true, false, not, ◌||◌, List, [], ◌∷◌, ◌++◌, refl}
 use Rattle.grammar.specs.Grammar.{Mode.unchecked, Part}
 use Rattle.grammar.specs.Tokens.{Token}
+use Rattle.grammar.specs.Tables.{disjoint}
+use Rattle.grammar.proofs.Sets.{implied}
 use Rattle.wgsl_model.specs.Classes.{SymAttr, SymBraceRight, SymParenRight, SymSemicolon, KwVar, TemplateArgsEnd}
-use Rattle.wgsl_model.specs.Symbols.{Symbol, Symbol.ident, Symbol.type_specifier, Symbol.template_list, Symbol.expressions, Symbol.call, Symbol.arguments, Symbol.literal, Symbol.primary_expression, Symbol.singular_expression, Symbol.component, Symbol.unary_expression, Symbol.multiplicative_expression, Symbol.negated_expression, Symbol.additive_expression, Symbol.shift_expression, Symbol.relational_expression, Symbol.expression, Symbol.compound_statement, Symbol.statement, Symbol.if_statement, Symbol.switch_statement, Symbol.loop_statement, Symbol.for_statement, Symbol.while_statement, Symbol.global_declaration, Symbol.var_declaration, Symbol.const_declaration, Symbol.override_declaration, Symbol.alias_declaration, Symbol.struct_declaration, Symbol.function_declaration, Symbol.global_directive, Symbol.enable_directive, Symbol.requires_directive, Symbol.diagnostic_directive, Symbol.unit, Value}
+use Rattle.wgsl_model.specs.Symbols.{Dialect.whole, Symbol, Symbol.ident, Symbol.type_specifier, Symbol.template_list, Symbol.expressions, Symbol.call, Symbol.arguments, Symbol.literal, Symbol.primary_expression, Symbol.singular_expression, Symbol.component, Symbol.unary_expression, Symbol.multiplicative_expression, Symbol.negated_expression, Symbol.additive_expression, Symbol.shift_expression, Symbol.relational_expression, Symbol.expression, Symbol.compound_statement, Symbol.statement, Symbol.if_statement, Symbol.switch_statement, Symbol.loop_statement, Symbol.for_statement, Symbol.while_statement, Symbol.global_declaration, Symbol.var_declaration, Symbol.const_declaration, Symbol.override_declaration, Symbol.alias_declaration, Symbol.struct_declaration, Symbol.function_declaration, Symbol.global_directive, Symbol.enable_directive, Symbol.requires_directive, Symbol.diagnostic_directive, Symbol.unit, Value}
 use Rattle.wgsl_model.specs.Written.{written}
-use Rattle.wgsl_grammar_theory.proofs.Taking.{surely_takes}
-use Rattle.wgsl_grammar_theory.proofs.LevelLinks.{taking}
-use Rattle.wgsl_grammar_theory.proofs.Avoids.{NoneOf, avoids, avoiding_part, EndsWith, ends, ending_part}
-
--- all symbols but a unit take a token
-written_takes : (n : Symbol) → taking n ≡ true → surely_takes taking (written n) ≡ true
-written_takes unit e = absurd cc
-written_takes n e = refl
+use Rattle.wgsl_grammar_theory.proofs.LevelLinks.{taking, written_takes}
+use Rattle.wgsl_grammar_theory.proofs.Avoids.{NoneOf, none_of, takes_only, only_part, EndsWith, ends, ending_part}
 
 -- the symbols that stand in expressions
 abbrev pub in_expression : Symbol → Bool
@@ -39,28 +35,12 @@ in_expression n = false
 abbrev pub attribute_or_var : List ℕ
 attribute_or_var = SymAttr ∷ KwVar ∷ []
 
-expression_avoids : (n : Symbol) → in_expression n ≡ true → avoids attribute_or_var in_expression (written n) ≡ true
-expression_avoids ident e = refl
-expression_avoids type_specifier e = refl
-expression_avoids template_list e = refl
-expression_avoids expressions e = refl
-expression_avoids call e = refl
-expression_avoids arguments e = refl
-expression_avoids literal e = refl
-expression_avoids primary_expression e = refl
-expression_avoids singular_expression e = refl
-expression_avoids component e = refl
-expression_avoids unary_expression e = refl
-expression_avoids multiplicative_expression e = refl
-expression_avoids negated_expression e = refl
-expression_avoids additive_expression e = refl
-expression_avoids shift_expression e = refl
-expression_avoids relational_expression e = refl
-expression_avoids expression e = refl
-expression_avoids n e = absurd cc
+held : (n : Symbol) → (not (in_expression n) || takes_only (λ s. disjoint s attribute_or_var) in_expression (written n)) ≡ true
+held unit = refl
+held n = refl
 
 pub expression_holds_none : (n : Symbol) → in_expression n ≡ true → (v : Value n) (xs ys : List Token) → Part unchecked written n v xs ys → (p : List Token) × (xs ≡ p ++ ys) × NoneOf attribute_or_var p
-expression_holds_none = avoiding_part unchecked written attribute_or_var in_expression expression_avoids
+expression_holds_none = only_part unchecked written written (none_of attribute_or_var) in_expression (λ D n v xs ys d. d) held
 
 -- ---- arguments and templates end with the token that closes them
 abbrev pub only : Symbol → Bool
@@ -72,7 +52,7 @@ arguments_end arguments e = refl
 arguments_end n e = absurd cc
 
 pub arguments_close : (v : Value arguments) (xs ys : List Token) → Part unchecked written arguments v xs ys → (p : List Token) × (xs ≡ p ++ ys) × EndsWith (SymParenRight ∷ []) p
-arguments_close = ending_part unchecked written (SymParenRight ∷ []) only taking written_takes arguments_end arguments refl
+arguments_close = ending_part unchecked written (SymParenRight ∷ []) only taking (written_takes whole) arguments_end arguments refl
 
 abbrev pub templates : Symbol → Bool
 templates template_list = true
@@ -83,7 +63,7 @@ templates_end template_list e = refl
 templates_end n e = absurd cc
 
 pub template_closes : (v : Value template_list) (xs ys : List Token) → Part unchecked written template_list v xs ys → (p : List Token) × (xs ≡ p ++ ys) × EndsWith (TemplateArgsEnd ∷ []) p
-template_closes = ending_part unchecked written (TemplateArgsEnd ∷ []) templates taking written_takes templates_end template_list refl
+template_closes = ending_part unchecked written (TemplateArgsEnd ∷ []) templates taking (written_takes whole) templates_end template_list refl
 
 -- ---- statements, declarations, directives and modules end with `;` or `}`
 abbrev pub closing : Symbol → Bool
@@ -111,27 +91,9 @@ closing n = false
 abbrev pub closers : List ℕ
 closers = SymSemicolon ∷ SymBraceRight ∷ []
 
-closing_end : (n : Symbol) → closing n ≡ true → ends closers closing taking (written n) ≡ true
-closing_end compound_statement e = refl
-closing_end statement e = refl
-closing_end if_statement e = refl
-closing_end switch_statement e = refl
-closing_end loop_statement e = refl
-closing_end for_statement e = refl
-closing_end while_statement e = refl
-closing_end global_declaration e = refl
-closing_end var_declaration e = refl
-closing_end const_declaration e = refl
-closing_end override_declaration e = refl
-closing_end alias_declaration e = refl
-closing_end struct_declaration e = refl
-closing_end function_declaration e = refl
-closing_end global_directive e = refl
-closing_end enable_directive e = refl
-closing_end requires_directive e = refl
-closing_end diagnostic_directive e = refl
-closing_end unit e = refl
-closing_end n e = absurd cc
+closing_end : (n : Symbol) → (not (closing n) || ends closers closing taking (written n)) ≡ true
+closing_end unit = refl
+closing_end n = refl
 
 pub sentence_closes : (n : Symbol) → closing n ≡ true → (v : Value n) (xs ys : List Token) → Part unchecked written n v xs ys → (p : List Token) × (xs ≡ p ++ ys) × EndsWith closers p
-sentence_closes = ending_part unchecked written closers closing taking written_takes closing_end
+sentence_closes = ending_part unchecked written closers closing taking (written_takes whole) (λ n e. implied (closing n) _ (closing_end n) e)

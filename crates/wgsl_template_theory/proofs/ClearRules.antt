@@ -1,9 +1,9 @@
 -- What each symbol derives is clear, by a test of its right side: the tokens of a unit, and those of a list of expressions inside a template list.
-use Rattle.std.proofs.Common.{◌≡◌, Bool, true, false, ◌&&◌, ◌||◌, List, [], ◌∷◌, ◌++◌, ◌⊎◌, inl, inr, refl, sym, ap, subst, ◌∙◌, append_assoc, append-nil}
+use Rattle.std.proofs.Common.{◌≡◌, Bool, true, false, ◌&&◌, ◌||◌, List, [], ◌∷◌, ◌++◌, inl, inr, refl, sym, ap, subst, ◌∙◌, append_assoc, append-nil}
 use Rattle.grammar.specs.Tokens.{Token, Span}
 use Rattle.grammar.specs.Grammar.{Grammar.empty, Grammar.token, Grammar.sequence, Grammar.choice, Grammar.mapped, Grammar.node, Grammar.checked, Grammar.symbol, Grammar.left_chain, Mode.full, Chain, Chain.base, Chain.more, Means, Derives, is_among}
 use Rattle.grammar.specs.Tables.{subset}
-use Rattle.grammar.proofs.Sets.{and_true, in_subset, apart}
+use Rattle.grammar.proofs.Sets.{and_true, either, in_subset, apart}
 use Rattle.grammar.proofs.Frame.{joined}
 use Rattle.grammar.proofs.Depth.{roll}
 use Rattle.wgsl_model.specs.Classes.{SymComma, SymEqualEqual, SymGreaterThan, SymGreaterThanEqual, SymLessThan, SymLessThanEqual, SymNotEqual}
@@ -57,10 +57,6 @@ clears n (symbol m) = is_enough n (need m)
 clears n (left_chain f g h) = some_need (λ m. is_enough n m && (leads m m h && (clears m g && clears m h)))
 
 -- ---- what passes the test is clear
-either : (a b : Bool) → (a || b) ≡ true → (a ≡ true) ⊎ (b ≡ true)
-either true b e = inl refl
-either false b e = inr e
-
 that_need : (f : Need → Bool) → some_need f ≡ true → (m : Need) × f m ≡ true
 that_need f e = elim (either (f any_tokens) _ e) [
   | inl a ↦ (any_tokens, a)

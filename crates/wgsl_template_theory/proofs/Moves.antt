@@ -1,13 +1,14 @@
 -- How a token, and a list of tokens, leads from one nesting of `reach` to another.
-use Rattle.std.proofs.Common.{◌≡◌, ℕ, zero, suc, Bool, true, false, cond, eqb, List, [], ◌∷◌, ◌++◌, map, refl, sym, ap, subst, ◌∙◌, append_assoc, inl, inr, eqb-true}
+use Rattle.std.proofs.Common.{◌≡◌, ℕ, zero, suc, Bool, true, false, eqb, List, [], ◌∷◌, ◌++◌, map, refl, sym, ap, subst, ◌∙◌, append_assoc, inl, inr, eqb-true}
 use Rattle.grammar.specs.Tokens.{Token, front}
 use Rattle.grammar.specs.Grammar.{Mode.full, Means, is_among}
-use Rattle.grammar.proofs.Sets.{cond_and, cond_either}
+use Rattle.grammar.proofs.Sets.{cond_either}
 use Rattle.grammar.proofs.Exact.{same_front}
 use Rattle.grammar.proofs.Frame.{framed, framed_part}
 use Rattle.wgsl_model.specs.Kind.{Kind}
 use Rattle.wgsl_model.specs.Symbols.{Rule}
 use Rattle.wgsl_model.specs.Written.{written}
+use Rattle.wgsl_token_theory.proofs.Classes.{all_pass, passes_on}
 use Rattle.wgsl_canonical_theory.specs.CanonicalUnits.{without_place}
 use Rattle.wgsl_canonical_theory.proofs.Again.{D}
 use Rattle.wgsl_template_theory.proofs.Reach.{Role, name, greater, opening, closing, short_circuit, other, template_start, template_end, role, Place, reach_role, reach, ahead_role, ahead}
@@ -91,16 +92,10 @@ inner_moves r k d i h = absurd cc
 -- ---- the roles of classes
 -- the roles of all classes of a list pass a test
 abbrev pub all_roles : (Role → Bool) → List ℕ → Bool
-all_roles test [] = true
-all_roles test (c ∷ s) = cond (test (role c)) (all_roles test s) false
+all_roles test = all_pass (λ c. test (role c))
 
 pub role_of : (test : Role → Bool) (c : ℕ) (s : List ℕ) → all_roles test s ≡ true → is_among c s ≡ true → test (role c) ≡ true
-role_of test c [] e m = absurd cc
-role_of test c (a ∷ s) e m = let w = cond_and (test (role a)) (all_roles test s) e in
-    elim (cond_either (eqb c a) (is_among c s) m) [
-      | inl q ↦ subst (λ (z : ℕ). test (role z) ≡ true) (sym (eqb-true c a q)) w.0
-      | inr q ↦ role_of test c s w.1 q
-    ]
+role_of test = passes_on (λ c. test (role c))
 
 -- a token of a class
 pub class_is : (c a : ℕ) → is_among c (a ∷ []) ≡ true → c ≡ a

@@ -1,14 +1,13 @@
 -- What an expression derives is passed: at every nesting what binds as a sum or tighter, within template lists and brackets all of it.
-use Rattle.std.proofs.Common.{◌≡◌, ℕ, suc, Bool, true, false, cond, eqb, not, ◌&&◌, ◌||◌, List, [], ◌∷◌, Some, None, refl, sym, ap, ◌∙◌, inl, inr}
-use Rattle.grammar.specs.Tokens.{Token, Span, Fault}
+use Rattle.std.proofs.Common.{◌≡◌, ℕ, suc, Bool, true, false, not, ◌&&◌, ◌||◌, List, [], ◌∷◌, refl, sym, ap, ◌∙◌, inl, inr}
+use Rattle.grammar.specs.Tokens.{Token, Span}
 use Rattle.grammar.specs.Grammar.{Grammar.empty, Grammar.token, Grammar.sequence, Grammar.choice, Grammar.mapped, Grammar.node, Grammar.checked, Grammar.symbol, Grammar.left_chain, Mode.full, Chain, Chain.base, Chain.more, Means}
-use Rattle.grammar.specs.Notation.{one_token}
-use Rattle.grammar.proofs.Sets.{and_true}
+use Rattle.grammar.proofs.Sets.{and_true, implied}
 use Rattle.grammar.proofs.Depth.{Kept, same_mode, means_mono, least}
-use Rattle.wgsl_model.specs.Classes.{Ident, ReservedWord}
 use Rattle.wgsl_model.specs.Symbols.{Symbol, ident, expressions, shift_expression, relational_expression, expression, Value, Rule}
 use Rattle.wgsl_model.specs.Written.{written}
 use Rattle.wgsl_grammar_theory.proofs.WrittenEnds.{in_expression}
+use Rattle.wgsl_token_theory.proofs.CheckedRules.{checked_rule, is_checked}
 use Rattle.wgsl_canonical_theory.proofs.Again.{D}
 use Rattle.wgsl_template_theory.proofs.Reach.{Role, Role.name, Role.greater, Role.opening, Role.closing, Role.short_circuit, Role.other, Role.template_start, Role.template_end, role, Place}
 use Rattle.wgsl_template_theory.proofs.Moves.{Moves, is_inner, bracketed, bracketed_is_inner, opening_moves, closing_moves, template_start_moves, template_end_moves, flat_moves, inner_moves, role_of, all_roles, Passes, none_passes, token_passes, both_pass}
@@ -133,32 +132,14 @@ leads p k d s (left_chain m g g') f e v xs ys h =
     (w.0, (and_true (test w.0) (f w.0) w.1).1, w.2)
 
 -- ---- the rules
--- a name is an identifier, where checks count
-abbrev checked_rule : (n : Symbol) → Rule (Value n)
-checked_rule ident = one_token Ident
-checked_rule n = written n
-
-no_reserved_word : (b c : Bool) (x : Fault) → cond b true (cond c true false) ≡ true → cond c (Some x) None ≡ None → cond b true false ≡ true
-no_reserved_word true c x h e = refl
-no_reserved_word false true x h e = absurd cc
-no_reserved_word false false x h e = h
-
-is_checked : (n : Symbol) (v : Value n) (xs ys : List Token) → Means full Passing (written n) v xs ys → Means full Passing (checked_rule n) v xs ys
-is_checked ident v xs ys h = (no_reserved_word (eqb v.class Ident) (eqb v.class ReservedWord) _ h.1.0 h.0, h.1.1)
-is_checked n v xs ys h = h
-
 tests : (n : Symbol) (b : Bool) → (not (passes n b) || walks b [] (checked_rule n) is_closed) ≡ true
 tests ident true = refl
 tests ident false = refl
 tests n true = refl
 tests n false = refl
 
-known : (a b : Bool) → (not a || b) ≡ true → a ≡ true → b ≡ true
-known true b e h = e
-known false b e h = absurd cc
-
 rules : (n : Symbol) → Kept (Means full Passing (written n)) (Passing n)
-rules n v xs ys h p k d e = all_closed (leads p k d [] (checked_rule n) is_closed (known (passes n (is_inner k d)) _ (tests n (is_inner k d)) e) v xs ys (is_checked n v xs ys h))
+rules n v xs ys h p k d e = all_closed (leads p k d [] (checked_rule n) is_closed (implied (passes n (is_inner k d)) _ (tests n (is_inner k d)) e) v xs ys (is_checked Passing n v xs ys h))
 
 -- what a right side that passes the test derives is passed
 pub walked : {A : Type 0} (p : Place) (g : Rule A) → walks false [] g is_closed ≡ true → (v : A) (xs ys : List Token) → Means full D g v xs ys → Passes p 0 0 0 0 xs ys

@@ -5,6 +5,7 @@ pub mod Inside
 pub mod Unique
 pub mod Decided
 pub mod Lists
+pub mod CheckedRules
 pub mod Refuted
 pub mod Widths
 pub mod Places
