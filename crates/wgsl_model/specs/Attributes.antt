@@ -1,5 +1,5 @@
 -- The trees of attributes (WGSL, section 11).
-use Rattle.std.specs.Prelude.{ℕ, List, Option}
+use Rattle.std.specs.Prelude.{ℕ, List, [], ◌∷◌, Option, codes}
 use Rattle.wgsl_model.specs.NamedValues.{DiagnosticSeverity, InterpolationType, InterpolationSampling, BuiltinValue}
 use Rattle.wgsl_model.specs.Spanned.{Spanned}
 use Rattle.wgsl_model.specs.Expressions.{ExpressionNode, TypeExpression}
@@ -30,11 +30,49 @@ pub record CustomAttribute : Type 0 where
   pub name : List ℕ
   pub arguments : Option (List ExpressionNode)
 
+-- an attribute with one argument
+pub data OneArgument : Type 0 where
+  align binding blend_src group id location size if_attribute elif_attribute : OneArgument
+
+-- the name of an attribute with one argument
+abbrev pub one_argument_text : OneArgument → List ℕ
+one_argument_text align = codes "align"
+one_argument_text binding = codes "binding"
+one_argument_text blend_src = codes "blend_src"
+one_argument_text group = codes "group"
+one_argument_text id = codes "id"
+one_argument_text location = codes "location"
+one_argument_text size = codes "size"
+one_argument_text if_attribute = codes "if"
+one_argument_text elif_attribute = codes "elif"
+
+-- the attributes with one argument
+abbrev pub one_argument_attributes : List OneArgument
+one_argument_attributes = align ∷ binding ∷ blend_src ∷ group ∷ id ∷ location ∷ size ∷ if_attribute ∷ elif_attribute ∷ []
+
+-- an attribute without arguments
+pub data NoArgument : Type 0 where
+  const_attribute invariant must_use vertex fragment compute else_attribute : NoArgument
+
+-- the name of an attribute without arguments
+abbrev pub no_argument_text : NoArgument → List ℕ
+no_argument_text const_attribute = codes "const"
+no_argument_text invariant = codes "invariant"
+no_argument_text must_use = codes "must_use"
+no_argument_text vertex = codes "vertex"
+no_argument_text fragment = codes "fragment"
+no_argument_text compute = codes "compute"
+no_argument_text else_attribute = codes "else"
+
+-- the attributes without arguments
+abbrev pub no_argument_attributes : List NoArgument
+no_argument_attributes = const_attribute ∷ invariant ∷ must_use ∷ vertex ∷ fragment ∷ compute ∷ else_attribute ∷ []
+
 -- an attribute
 pub data Attribute : Type 0 where
-  align binding blend_src group id location size if_attribute elif_attribute : ExpressionNode → Attribute
+  with_argument : OneArgument → ExpressionNode → Attribute
+  without_argument : NoArgument → Attribute
   builtin : BuiltinValue → Attribute
-  const_attribute invariant must_use vertex fragment compute else_attribute : Attribute
   diagnostic : DiagnosticAttribute → Attribute
   interpolate : InterpolateAttribute → Attribute
   workgroup_size : WorkgroupSizeAttribute → Attribute

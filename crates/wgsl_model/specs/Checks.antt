@@ -5,10 +5,10 @@ use Rattle.wgsl_model.specs.Classes.{ReservedWord}
 use Rattle.wgsl_model.specs.Words.{look_up}
 use Rattle.wgsl_model.specs.Faults.{span_of_token, reserved_word, diagnostic_severity, invalid_attribute, invalid_var_template}
 use Rattle.wgsl_model.specs.Operators.{BinaryOperator.bitwise_or}
-use Rattle.wgsl_model.specs.NamedValues.{WordTable, DiagnosticSeverity, DiagnosticSeverity.error, severities, AccessMode, access_modes, AddressSpace, AddressSpace.storage, address_spaces, InterpolationType, interpolation_types, InterpolationSampling, interpolation_samplings, builtin_values}
+use Rattle.wgsl_model.specs.NamedValues.{WordTable, words_of, DiagnosticSeverity, DiagnosticSeverity.error, severities, AccessMode, access_modes, AddressSpace, AddressSpace.storage, address_spaces, InterpolationType, interpolation_types, InterpolationSampling, interpolation_samplings, builtin_values}
 use Rattle.wgsl_model.specs.Spanned.{Spanned}
 use Rattle.wgsl_model.specs.Expressions.{ExpressionNode, ExpressionNode.expression_node, Expression, Expression.named_component, Expression.binary, Expression.type_or_identifier, TypeExpression, TypeExpression.type_expression, TemplateArguments.no_template}
-use Rattle.wgsl_model.specs.Attributes.{Attribute, align, binding, blend_src, group, id, location, size, if_attribute, elif_attribute, builtin, const_attribute, invariant, must_use, vertex, fragment, compute, else_attribute, diagnostic, interpolate, workgroup_size, type_constraint, custom}
+use Rattle.wgsl_model.specs.Attributes.{one_argument_text, one_argument_attributes, no_argument_text, no_argument_attributes, Attribute, with_argument, without_argument, builtin, diagnostic, interpolate, workgroup_size, type_constraint, custom}
 use Rattle.wgsl_model.specs.Statements.{DeclarationKind, DeclarationKind.var_kind}
 use Rattle.wgsl_model.specs.TokenValues.{text_of}
 
@@ -174,11 +174,8 @@ type_attribute arguments = wrong (codes "expected 2 arguments")
 -- what each name makes of its arguments
 abbrev pub attribute_names : WordTable (Arguments → Checked Attribute)
 attribute_names =
-    (codes "align", with_one align) ∷ (codes "binding", with_one binding) ∷ (codes "blend_src", with_one blend_src) ∷ (codes "group", with_one group) ∷
-    (codes "id", with_one id) ∷ (codes "location", with_one location) ∷ (codes "size", with_one size) ∷ (codes "if", with_one if_attribute) ∷ (codes "elif", with_one elif_attribute) ∷
-    (codes "const", with_none const_attribute) ∷ (codes "invariant", with_none invariant) ∷ (codes "must_use", with_none must_use) ∷ (codes "vertex", with_none vertex) ∷
-    (codes "fragment", with_none fragment) ∷ (codes "compute", with_none compute) ∷ (codes "else", with_none else_attribute) ∷
-    (codes "builtin", builtin_attribute) ∷ (codes "diagnostic", diagnostic_attribute) ∷ (codes "interpolate", interpolate_attribute) ∷ (codes "workgroup_size", workgroup_size_attribute) ∷ (codes "type", type_attribute) ∷ []
+    words_of one_argument_text (λ name. with_one (with_argument name)) one_argument_attributes ++ (words_of no_argument_text (λ name. with_none (without_argument name)) no_argument_attributes ++
+    ((codes "builtin", builtin_attribute) ∷ (codes "diagnostic", diagnostic_attribute) ∷ (codes "interpolate", interpolate_attribute) ∷ (codes "workgroup_size", workgroup_size_attribute) ∷ (codes "type", type_attribute) ∷ []))
 
 -- any other name keeps its arguments as they are
 abbrev pub named_attribute : Option (Arguments → Checked Attribute) → List ℕ → Arguments → Checked Attribute

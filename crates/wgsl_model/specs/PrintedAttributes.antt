@@ -3,13 +3,9 @@ use Rattle.std.specs.Prelude.{ℕ, List, [], ◌∷◌, ◌++◌, map, Option, S
 use Rattle.wgsl_model.specs.NamedValues.{InterpolationSampling, severity_text, interpolation_type_text, interpolation_sampling_text, builtin_value_text}
 use Rattle.wgsl_model.specs.Spanned.{Spanned}
 use Rattle.wgsl_model.specs.Expressions.{ExpressionNode}
-use Rattle.wgsl_model.specs.Attributes.{Attribute, align, binding, blend_src, group, id, location, size, if_attribute, elif_attribute, builtin, const_attribute, invariant, must_use, vertex, fragment, compute, else_attribute, diagnostic, interpolate, workgroup_size, type_constraint, custom, Attributes, DiagnosticAttribute, InterpolateAttribute, WorkgroupSizeAttribute, TypeConstraint, CustomAttribute}
+use Rattle.wgsl_model.specs.Attributes.{one_argument_text, no_argument_text, Attribute, with_argument, without_argument, builtin, diagnostic, interpolate, workgroup_size, type_constraint, custom, Attributes, DiagnosticAttribute, InterpolateAttribute, WorkgroupSizeAttribute, TypeConstraint, CustomAttribute}
 use Rattle.wgsl_model.specs.Joining.{joined}
 use Rattle.wgsl_model.specs.PrintedExpressions.{print_expression_node, print_type}
-
--- a name behind its `@`, and one argument in parentheses
-abbrev pub print_one_argument : List ℕ → ExpressionNode → List ℕ
-print_one_argument name argument = name ++ codes "(" ++ print_expression_node argument ++ codes ")"
 
 -- a severity and the name of a rule
 abbrev pub print_diagnostic_attribute : DiagnosticAttribute → List ℕ
@@ -43,23 +39,9 @@ abbrev pub print_custom : CustomAttribute → List ℕ
 print_custom c = codes "@" ++ c.name ++ print_arguments c.arguments
 
 abbrev pub print_attribute : Attribute → List ℕ
-print_attribute (align e) = print_one_argument (codes "@align") e
-print_attribute (binding e) = print_one_argument (codes "@binding") e
-print_attribute (blend_src e) = print_one_argument (codes "@blend_src") e
-print_attribute (group e) = print_one_argument (codes "@group") e
-print_attribute (id e) = print_one_argument (codes "@id") e
-print_attribute (location e) = print_one_argument (codes "@location") e
-print_attribute (size e) = print_one_argument (codes "@size") e
-print_attribute (if_attribute e) = print_one_argument (codes "@if") e
-print_attribute (elif_attribute e) = print_one_argument (codes "@elif") e
+print_attribute (with_argument name e) = codes "@" ++ one_argument_text name ++ codes "(" ++ print_expression_node e ++ codes ")"
+print_attribute (without_argument name) = codes "@" ++ no_argument_text name
 print_attribute (builtin value) = codes "@builtin(" ++ builtin_value_text value ++ codes ")"
-print_attribute const_attribute = codes "@const"
-print_attribute invariant = codes "@invariant"
-print_attribute must_use = codes "@must_use"
-print_attribute vertex = codes "@vertex"
-print_attribute fragment = codes "@fragment"
-print_attribute compute = codes "@compute"
-print_attribute else_attribute = codes "@else"
 print_attribute (diagnostic d) = print_diagnostic_attribute d
 print_attribute (interpolate i) = print_interpolate i
 print_attribute (workgroup_size w) = print_workgroup_size w

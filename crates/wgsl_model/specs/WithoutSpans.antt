@@ -4,7 +4,7 @@ use Rattle.std.specs.Option.{option_map}
 use Rattle.grammar.specs.Tokens.{Span}
 use Rattle.wgsl_model.specs.Spanned.{Spanned}
 use Rattle.wgsl_model.specs.Expressions.{ExpressionNode, expression_node, Expression, literal, parenthesized, named_component, indexing, unary, binary, function_call, type_or_identifier, FunctionCall, call, TypeExpression, type_expression, TemplateArguments, no_template, template, ExpressionNodes, no_expressions, expression_before}
-use Rattle.wgsl_model.specs.Attributes.{Attribute, align, binding, blend_src, group, id, location, size, if_attribute, elif_attribute, Attribute.workgroup_size, Attribute.type_constraint, Attribute.custom, Attributes, WorkgroupSizeAttribute, TypeConstraint, CustomAttribute}
+use Rattle.wgsl_model.specs.Attributes.{Attribute, with_argument, Attribute.workgroup_size, Attribute.type_constraint, Attribute.custom, Attributes, WorkgroupSizeAttribute, TypeConstraint, CustomAttribute}
 
 -- the span that stands for every span
 abbrev pub no_span : Span
@@ -53,15 +53,7 @@ abbrev pub bare_custom : CustomAttribute → CustomAttribute
 bare_custom c = record c { arguments = option_map (map bare_expression_node) c.arguments }
 
 abbrev pub bare_attribute : Attribute → Attribute
-bare_attribute (align e) = align (bare_expression_node e)
-bare_attribute (binding e) = binding (bare_expression_node e)
-bare_attribute (blend_src e) = blend_src (bare_expression_node e)
-bare_attribute (group e) = group (bare_expression_node e)
-bare_attribute (id e) = id (bare_expression_node e)
-bare_attribute (location e) = location (bare_expression_node e)
-bare_attribute (size e) = size (bare_expression_node e)
-bare_attribute (if_attribute e) = if_attribute (bare_expression_node e)
-bare_attribute (elif_attribute e) = elif_attribute (bare_expression_node e)
+bare_attribute (with_argument name e) = with_argument name (bare_expression_node e)
 bare_attribute (workgroup_size w) = workgroup_size (bare_workgroup_size w)
 bare_attribute (type_constraint t) = type_constraint (bare_type_constraint t)
 bare_attribute (custom c) = custom (bare_custom c)
