@@ -1,15 +1,16 @@
 -- The checks of attributes and `var` templates answer the same for arguments that differ by spans alone.
-use Rattle.std.proofs.Common.{◌≡◌, ℕ, Bool, true, false, cond, List, [], ◌∷◌, ◌++◌, map, Option, Some, None, refl, sym, ap, ap₂, ◌∙◌}
-use Rattle.std.specs.Prelude.{codes, bytes_eq, option_and_then}
+use Rattle.std.proofs.Common.{◌≡◌, ℕ, List, [], ◌∷◌, ◌++◌, map, Option, Some, None, refl, sym, ap, ap₂, ◌∙◌}
+use Rattle.std.specs.Prelude.{codes, option_and_then}
 use Rattle.std.specs.Option.{option_map}
 use Rattle.wgsl_model.specs.Words.{look_up}
 use Rattle.wgsl_model.specs.Operators.{bitwise_or}
 use Rattle.wgsl_model.specs.NamedValues.{WordTable, DiagnosticSeverity, severities, AccessMode, access_modes, AddressSpace, AddressSpace.storage, address_spaces, InterpolationType, interpolation_types, InterpolationSampling, interpolation_samplings, builtin_values}
 use Rattle.wgsl_model.specs.Expressions.{ExpressionNode, expression_node, Expression, named_component, binary, type_or_identifier, TypeExpression, type_expression, no_template}
-use Rattle.wgsl_model.specs.Attributes.{Attribute, align, binding, blend_src, group, id, location, size, if_attribute, elif_attribute, builtin, const_attribute, invariant, must_use, vertex, fragment, compute, else_attribute, interpolate}
+use Rattle.wgsl_model.specs.Attributes.{OneArgument, NoArgument, Attribute, with_argument, without_argument, builtin, interpolate}
 use Rattle.wgsl_model.specs.Checks.{Checked, right, wrong, right_or, bare_word, bare_name, bare_name_in, rule_name, rule_name_in, variants, variants_in, space_in_template, space_and_mode, Arguments, with_one, with_none, builtin_attribute, severity_and_rule, diagnostic_attribute, type_and_sampling, interpolate_attribute, workgroup_size_attribute, name_and_variants, type_attribute, attribute_names, named_attribute, AttributeParts, attribute_of}
 use Rattle.wgsl_model.specs.WithoutSpans.{bare_expression, bare_expression_node, bare_type, bare_attribute}
 use Rattle.wgsl_canonical_theory.proofs.Again.{same_arguments}
+use Rattle.wgsl_canonical_theory.proofs.AttributeNames.{of_each_name}
 
 -- ---- names and types
 bare_name_in_alike : (e : Expression) → bare_name_in (bare_expression e) ≡ bare_name_in e
@@ -69,15 +70,13 @@ bare_checked (wrong text) = wrong text
 abbrev IsAlike : (Arguments → Checked Attribute) → Type 0
 IsAlike f = (x : Arguments) → f (same_arguments x) ≡ bare_checked (f x)
 
-one_alike : (f : ExpressionNode → Attribute) → ((e : ExpressionNode) → f (bare_expression_node e) ≡ bare_attribute (f e)) → IsAlike (with_one f)
-one_alike f h None = refl
-one_alike f h (Some []) = refl
-one_alike f h (Some (e ∷ [])) = ap (λ (z : Attribute). right z) (h e)
-one_alike f h (Some (e ∷ (x ∷ es))) = refl
+one_alike : (name : OneArgument) → IsAlike (with_one (with_argument name))
+one_alike name (Some (e ∷ [])) = refl
+one_alike name x = refl
 
-none_alike : (a : Attribute) → a ≡ bare_attribute a → IsAlike (with_none a)
-none_alike a h None = ap (λ (z : Attribute). right z) h
-none_alike a h (Some es) = refl
+none_alike : (name : NoArgument) → IsAlike (with_none (without_argument name))
+none_alike name None = refl
+none_alike name (Some es) = refl
 
 right_alike : {A : Type 0} (f : A → Attribute) (text : List ℕ) → ((x : A) → f x ≡ bare_attribute (f x)) → (o p : Option A) → p ≡ o → right_or p f text ≡ bare_checked (right_or o f text)
 right_alike f text h None p e = rw e refl
@@ -121,72 +120,9 @@ type_alike : IsAlike type_attribute
 type_alike (Some (t ∷ (c ∷ []))) = ap₂ name_and_variants (bare_name_alike t) (variants_alike c) ∙ name_and_variants_alike (bare_name t) (variants c)
 type_alike x = refl
 
--- ---- the names
-abbrev AllAlike : WordTable (Arguments → Checked Attribute) → Type 0
-AllAlike [] = Unit {0}
-AllAlike (entry ∷ entries) = IsAlike entry.1 × AllAlike entries
-
-names_alike : AllAlike attribute_names
-names_alike = (
-  one_alike align (λ e. refl),
-  (
-    one_alike binding (λ e. refl),
-    (
-      one_alike blend_src (λ e. refl),
-      (
-        one_alike group (λ e. refl),
-        (
-          one_alike id (λ e. refl),
-          (
-            one_alike location (λ e. refl),
-            (
-              one_alike size (λ e. refl),
-              (
-                one_alike if_attribute (λ e. refl),
-                (
-                  one_alike elif_attribute (λ e. refl),
-                  (
-                    none_alike const_attribute refl,
-                    (
-                      none_alike invariant refl,
-                      (
-                        none_alike must_use refl,
-                        (
-                          none_alike vertex refl,
-                          (
-                            none_alike fragment refl,
-                            (
-                              none_alike compute refl,
-                              (
-                                none_alike else_attribute refl,
-                                (
-                                  builtin_alike,
-                                  (diagnostic_alike, (interpolate_alike, (size_alike, (type_alike, tt)))),
-                                ),
-                              ),
-                            ),
-                          ),
-                        ),
-                      ),
-                    ),
-                  ),
-                ),
-              ),
-            ),
-          ),
-        ),
-      ),
-    ),
-  ),
-)
-
-named_alike : (table : WordTable (Arguments → Checked Attribute)) → AllAlike table → (name : List ℕ) → IsAlike (named_attribute (look_up table name) name)
-named_alike [] n name x = refl
-named_alike (entry ∷ entries) n name x = at (named_alike entries n.1 name x) (bytes_eq entry.0 name) where
-  at : named_attribute (look_up entries name) name (same_arguments x) ≡ bare_checked (named_attribute (look_up entries name) name x)
-      → (b : Bool) → named_attribute (cond b (Some entry.1) (look_up entries name)) name (same_arguments x) ≡ bare_checked (named_attribute (cond b (Some entry.1) (look_up entries name)) name x)
-  at others true = n.0 x
-  at others false = others
+-- whatever the name
+name_alike : (name : List ℕ) → IsAlike (named_attribute (look_up attribute_names name) name)
+name_alike = of_each_name (λ name check. IsAlike check) one_alike none_alike (builtin_alike, (diagnostic_alike, (interpolate_alike, (size_alike, (type_alike, tt))))) (λ name x. refl)
 
 -- what is right without its spans is right
 bare_right : (c : Checked Attribute) (a : Attribute) → bare_checked c ≡ right (bare_attribute a) → (b : Attribute) × (c ≡ right b) × (bare_attribute b ≡ bare_attribute a)
@@ -197,7 +133,7 @@ bare_right (wrong text) a h = absurd (cc)
 pub attribute_alike : (w v : AttributeParts) (a : Attribute) → w.name ≡ v.name → same_arguments w.arguments ≡ same_arguments v.arguments → attribute_of v ≡ right a
     → (b : Attribute) × (attribute_of w ≡ right b) × (bare_attribute b ≡ bare_attribute a)
 attribute_alike w v a same alike h = bare_right (attribute_of w) a (
-    sym (named_alike attribute_names names_alike w.name w.arguments)
+    sym (name_alike w.name w.arguments)
     ∙ ap₂ (λ (name : List ℕ) (x : Arguments). named_attribute (look_up attribute_names name) name x) same alike
-    ∙ named_alike attribute_names names_alike v.name v.arguments
+    ∙ name_alike v.name v.arguments
     ∙ ap bare_checked h)

@@ -1,20 +1,19 @@
 -- Attributes are written as their names and arguments.
-use Rattle.std.proofs.Common.{◌≡◌, ℕ, Bool, true, false, cond, List, [], ◌∷◌, ◌++◌, Option, Some, None, refl, sym, ap, subst, ◌∙◌}
-use Rattle.std.specs.Prelude.{codes, bytes_eq, option_map}
-use Rattle.std.proofs.lemmas.Slice.Eq.{bytes_eq-Decides}
+use Rattle.std.proofs.Common.{◌≡◌, ℕ, List, [], ◌∷◌, ◌++◌, Option, Some, None, refl, sym, ap, subst, ◌∙◌}
+use Rattle.std.specs.Prelude.{codes, option_map}
 use Rattle.wgsl_model.specs.Classes.{SymComma, SymOr, SymParenRight, TemplateArgsStart, TemplateArgsEnd}
 use Rattle.wgsl_model.specs.Kind.{Kind, plain}
 use Rattle.wgsl_model.specs.Raw.{word_of}
-use Rattle.wgsl_model.specs.Words.{look_up}
 use Rattle.wgsl_model.specs.Operators.{bitwise_or}
-use Rattle.wgsl_model.specs.NamedValues.{WordTable, DiagnosticSeverity, severities, AccessMode, access_modes, AddressSpace, AddressSpace.storage, address_spaces, InterpolationType, interpolation_types, InterpolationSampling, interpolation_samplings, builtin_values, address_space_text}
+use Rattle.wgsl_model.specs.NamedValues.{DiagnosticSeverity, severities, AccessMode, access_modes, AddressSpace, AddressSpace.storage, address_spaces, InterpolationType, interpolation_types, InterpolationSampling, interpolation_samplings, builtin_values, address_space_text}
 use Rattle.wgsl_model.specs.Expressions.{ExpressionNode, expression_node, Expression, binary, type_or_identifier, TypeExpression}
-use Rattle.wgsl_model.specs.Attributes.{Attribute, align, binding, blend_src, group, id, location, size, if_attribute, elif_attribute, builtin, const_attribute, invariant, must_use, vertex, fragment, compute, else_attribute, diagnostic, interpolate, workgroup_size, type_constraint, custom}
-use Rattle.wgsl_model.specs.Checks.{Checked, right, right_or, bare_word, bare_name, rule_name, variants, variants_in, space_in_template, space_and_mode, Arguments, with_one, with_none, builtin_attribute, severity_and_rule, diagnostic_attribute, type_and_sampling, interpolate_attribute, workgroup_size_attribute, name_and_variants, type_attribute, attribute_names, named_attribute, AttributeParts, attribute_of}
+use Rattle.wgsl_model.specs.Attributes.{OneArgument, one_argument_text, NoArgument, no_argument_text, Attribute, with_argument, without_argument, builtin, diagnostic, interpolate, workgroup_size, type_constraint, custom}
+use Rattle.wgsl_model.specs.Checks.{Checked, right, right_or, bare_word, bare_name, rule_name, variants, variants_in, space_in_template, space_and_mode, Arguments, with_one, with_none, builtin_attribute, severity_and_rule, diagnostic_attribute, type_and_sampling, interpolate_attribute, workgroup_size_attribute, name_and_variants, type_attribute, named_attribute, AttributeParts, attribute_of}
 use Rattle.wgsl_canonical_theory.specs.CanonicalExpressions.{optional_tokens, expression_tokens, expression_node_tokens, type_tokens}
-use Rattle.wgsl_canonical_theory.specs.CanonicalAttributes.{types_tokens, further_types_tokens, arguments_tokens, one_argument_tokens, named_attribute_tokens}
+use Rattle.wgsl_canonical_theory.specs.CanonicalAttributes.{types_tokens, further_types_tokens, arguments_tokens, named_attribute_tokens}
 use Rattle.wgsl_canonical_theory.specs.CanonicalStatements.{var_template_tokens}
 use Rattle.wgsl_canonical_theory.proofs.Again.{template_list_tokens}
+use Rattle.wgsl_canonical_theory.proofs.AttributeNames.{of_each_name}
 use Rattle.wgsl_canonical_theory.proofs.NamedWords.{bare_name_tokens, severity_tokens, access_mode_tokens, address_space_tokens, interpolation_type_tokens, interpolation_sampling_tokens, builtin_value_tokens}
 use Rattle.wgsl_canonical_theory.proofs.RuleNames.{PlainArguments, rule_name_tokens}
 
@@ -81,13 +80,13 @@ space_tokens (e ∷ (m ∷ (n ∷ es))) p h rest = absurd (cc)
 abbrev WritesName : List ℕ → (Arguments → Checked Attribute) → Type 0
 WritesName name f = (x : Arguments) → PlainArguments x → (a : Attribute) → f x ≡ right a → (rest : List Kind) → named_attribute_tokens a rest ≡ word_of name ∷ optional_tokens arguments_tokens x rest
 
-one_written : (name : List ℕ) (f : ExpressionNode → Attribute) → ((e : ExpressionNode) (rest : List Kind) → named_attribute_tokens (f e) rest ≡ one_argument_tokens name e rest) → WritesName name (with_one f)
-one_written name f h (Some (e ∷ [])) p a q rest = let same : f e ≡ a = cc in ap (λ (z : Attribute). named_attribute_tokens z rest) (sym same) ∙ h e rest
-one_written name f h x p a q rest = absurd (cc)
+one_written : (name : OneArgument) → WritesName (one_argument_text name) (with_one (with_argument name))
+one_written name (Some (e ∷ [])) p a q rest = let same : with_argument name e ≡ a = cc in ap (λ (z : Attribute). named_attribute_tokens z rest) (sym same)
+one_written name x p a q rest = absurd (cc)
 
-none_written : (name : List ℕ) (b : Attribute) → ((rest : List Kind) → named_attribute_tokens b rest ≡ word_of name ∷ rest) → WritesName name (with_none b)
-none_written name b h None p a q rest = let same : b ≡ a = cc in ap (λ (z : Attribute). named_attribute_tokens z rest) (sym same) ∙ h rest
-none_written name b h x p a q rest = absurd (cc)
+none_written : (name : NoArgument) → WritesName (no_argument_text name) (with_none (without_argument name))
+none_written name None p a q rest = let same : without_argument name ≡ a = cc in ap (λ (z : Attribute). named_attribute_tokens z rest) (sym same)
+none_written name x p a q rest = absurd (cc)
 
 size_written : WritesName (codes "workgroup_size") workgroup_size_attribute
 size_written (Some (x ∷ [])) p a q rest = let same : workgroup_size (record { x = x; y = None; z = None }) ≡ a = cc in ap (λ (z : Attribute). named_attribute_tokens z rest) (sym same)
@@ -137,77 +136,11 @@ type_written (Some (t ∷ (c ∷ []))) p a q rest = at (bare_name t) (variants c
   at o m f g h = absurd (cc)
 type_written x p a q rest = absurd (cc)
 
--- ---- the names
-abbrev WritesNames : WordTable (Arguments → Checked Attribute) → Type 0
-WritesNames [] = Unit {0}
-WritesNames (entry ∷ entries) = WritesName entry.0 entry.1 × WritesNames entries
-
-names_written : WritesNames attribute_names
-names_written = (
-  one_written (codes "align") align (λ e rest. refl),
-  (
-    one_written (codes "binding") binding (λ e rest. refl),
-    (
-      one_written (codes "blend_src") blend_src (λ e rest. refl),
-      (
-        one_written (codes "group") group (λ e rest. refl),
-        (
-          one_written (codes "id") id (λ e rest. refl),
-          (
-            one_written (codes "location") location (λ e rest. refl),
-            (
-              one_written (codes "size") size (λ e rest. refl),
-              (
-                one_written (codes "if") if_attribute (λ e rest. refl),
-                (
-                  one_written (codes "elif") elif_attribute (λ e rest. refl),
-                  (
-                    none_written (codes "const") const_attribute (λ rest. refl),
-                    (
-                      none_written (codes "invariant") invariant (λ rest. refl),
-                      (
-                        none_written (codes "must_use") must_use (λ rest. refl),
-                        (
-                          none_written (codes "vertex") vertex (λ rest. refl),
-                          (
-                            none_written (codes "fragment") fragment (λ rest. refl),
-                            (
-                              none_written (codes "compute") compute (λ rest. refl),
-                              (
-                                none_written (codes "else") else_attribute (λ rest. refl),
-                                (
-                                  builtin_written,
-                                  (diagnostic_written, (interpolate_written, (size_written, (type_written, tt)))),
-                                ),
-                              ),
-                            ),
-                          ),
-                        ),
-                      ),
-                    ),
-                  ),
-                ),
-              ),
-            ),
-          ),
-        ),
-      ),
-    ),
-  ),
-)
-
 -- any other name is kept with its arguments
-name_written : (table : WordTable (Arguments → Checked Attribute)) → WritesNames table → (name : List ℕ) → WritesName name (named_attribute (look_up table name) name)
-name_written [] n name x p a q rest = let same : custom (record { name = name; arguments = x }) ≡ a = cc in ap (λ (z : Attribute). named_attribute_tokens z rest) (sym same)
-name_written (entry ∷ entries) n name x p a q rest = at (name_written entries n.1 name x p a) (bytes_eq entry.0 name) refl q where
-  Writes : Type 0
-  Writes = (rest : List Kind) → named_attribute_tokens a rest ≡ word_of name ∷ optional_tokens arguments_tokens x rest
-
-  at : (named_attribute (look_up entries name) name x ≡ right a → Writes) → (b : Bool) → bytes_eq entry.0 name ≡ b → named_attribute (cond b (Some entry.1) (look_up entries name)) name x ≡ right a
-      → named_attribute_tokens a rest ≡ word_of name ∷ optional_tokens arguments_tokens x rest
-  at others true e h = n.0 x p a h rest ∙ ap (λ (z : List ℕ). word_of z ∷ optional_tokens arguments_tokens x rest) ((bytes_eq-Decides entry.0 name).0 e)
-  at others false e h = others h rest
+custom_written : (name : List ℕ) → WritesName name (named_attribute None name)
+custom_written name x p a q rest = let same : custom (record { name = name; arguments = x }) ≡ a = cc in ap (λ (z : Attribute). named_attribute_tokens z rest) (sym same)
 
 -- an attribute is written as its name and its arguments
 pub attribute_written : (parts : AttributeParts) (a : Attribute) → PlainArguments parts.arguments → attribute_of parts ≡ right a → (rest : List Kind) → named_attribute_tokens a rest ≡ word_of parts.name ∷ optional_tokens arguments_tokens parts.arguments rest
-attribute_written parts a p h rest = name_written attribute_names names_written parts.name parts.arguments p a h rest
+attribute_written parts a p h rest =
+    of_each_name WritesName one_written none_written (builtin_written, (diagnostic_written, (interpolate_written, (size_written, (type_written, tt))))) custom_written parts.name parts.arguments p a h rest

@@ -6,6 +6,7 @@ pub mod NamedWords
 pub mod RuleNames
 pub mod Derived
 pub mod PlainNames
+pub mod AttributeNames
 pub mod AttributeTokens
 pub mod AttributeLikeness
 pub mod AttributeRules

@@ -6,7 +6,7 @@ use Rattle.wgsl_model.specs.Raw.{word_of}
 use Rattle.wgsl_model.specs.NamedValues.{InterpolationSampling, severity_text, interpolation_type_text, interpolation_sampling_text, builtin_value_text}
 use Rattle.wgsl_model.specs.Spanned.{Spanned}
 use Rattle.wgsl_model.specs.Expressions.{ExpressionNode, TypeExpression}
-use Rattle.wgsl_model.specs.Attributes.{Attribute, align, binding, blend_src, group, id, location, size, if_attribute, elif_attribute, builtin, const_attribute, invariant, must_use, vertex, fragment, compute, else_attribute, diagnostic, interpolate, workgroup_size, type_constraint, custom, Attributes}
+use Rattle.wgsl_model.specs.Attributes.{one_argument_text, no_argument_text, Attribute, with_argument, without_argument, builtin, diagnostic, interpolate, workgroup_size, type_constraint, custom, Attributes}
 use Rattle.wgsl_canonical_theory.specs.CanonicalExpressions.{Writes, optional_tokens, all_tokens, list_tokens, word_token, expression_node_tokens, type_tokens}
 
 -- a part in parentheses
@@ -40,29 +40,11 @@ types_tokens (t ∷ ts) rest = type_tokens t (further_types_tokens ts rest)
 abbrev pub arguments_tokens : Writes (List ExpressionNode)
 arguments_tokens = in_parentheses (list_tokens expression_node_tokens)
 
--- a name with one argument
-abbrev pub one_argument_tokens : List ℕ → ExpressionNode → List Kind → List Kind
-one_argument_tokens name e rest = word_of name ∷ in_parentheses expression_node_tokens e rest
-
 -- an attribute without its `@`
 abbrev pub named_attribute_tokens : Attribute → List Kind → List Kind
-named_attribute_tokens (align e) rest = one_argument_tokens (codes "align") e rest
-named_attribute_tokens (binding e) rest = one_argument_tokens (codes "binding") e rest
-named_attribute_tokens (blend_src e) rest = one_argument_tokens (codes "blend_src") e rest
-named_attribute_tokens (group e) rest = one_argument_tokens (codes "group") e rest
-named_attribute_tokens (id e) rest = one_argument_tokens (codes "id") e rest
-named_attribute_tokens (location e) rest = one_argument_tokens (codes "location") e rest
-named_attribute_tokens (size e) rest = one_argument_tokens (codes "size") e rest
-named_attribute_tokens (if_attribute e) rest = one_argument_tokens (codes "if") e rest
-named_attribute_tokens (elif_attribute e) rest = one_argument_tokens (codes "elif") e rest
+named_attribute_tokens (with_argument name e) rest = word_of (one_argument_text name) ∷ in_parentheses expression_node_tokens e rest
+named_attribute_tokens (without_argument name) rest = word_of (no_argument_text name) ∷ rest
 named_attribute_tokens (builtin b) rest = word_of (codes "builtin") ∷ in_parentheses word_token (builtin_value_text b) rest
-named_attribute_tokens const_attribute rest = word_of (codes "const") ∷ rest
-named_attribute_tokens invariant rest = word_of (codes "invariant") ∷ rest
-named_attribute_tokens must_use rest = word_of (codes "must_use") ∷ rest
-named_attribute_tokens vertex rest = word_of (codes "vertex") ∷ rest
-named_attribute_tokens fragment rest = word_of (codes "fragment") ∷ rest
-named_attribute_tokens compute rest = word_of (codes "compute") ∷ rest
-named_attribute_tokens else_attribute rest = word_of (codes "else") ∷ rest
 named_attribute_tokens (diagnostic d) rest = word_of (codes "diagnostic") ∷ (plain SymParenLeft ∷ (word_of (severity_text d.severity) ∷ behind_comma rule_tokens d.rule (plain SymParenRight ∷ rest)))
 named_attribute_tokens (interpolate i) rest =
     word_of (codes "interpolate") ∷ (plain SymParenLeft ∷ (word_of (interpolation_type_text i.ty) ∷ optional_tokens (behind_comma (λ (s : InterpolationSampling). word_token (interpolation_sampling_text s))) i.sampling (plain SymParenRight ∷ rest)))

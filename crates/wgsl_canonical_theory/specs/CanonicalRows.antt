@@ -7,7 +7,7 @@ use Rattle.wgsl_model.specs.Operators.{UnaryOperator.negation, BinaryOperator.su
 use Rattle.wgsl_model.specs.NamedValues.{DiagnosticSeverity.off}
 use Rattle.wgsl_model.specs.Spanned.{spanned}
 use Rattle.wgsl_model.specs.Expressions.{LiteralExpression.boolean, LiteralExpression.abstract_int, ExpressionNode, expression_node, Expression, FunctionCall.call, TypeExpression, TypeExpression.type_expression, TemplateArguments.no_template, template_of, expressions_of}
-use Rattle.wgsl_model.specs.Attributes.{Attribute.size, Attribute.const_attribute, Attribute.type_constraint}
+use Rattle.wgsl_model.specs.Attributes.{OneArgument.size, NoArgument.const_attribute, Attribute.with_argument, Attribute.without_argument, Attribute.type_constraint}
 use Rattle.wgsl_model.specs.Statements as tree
 use Rattle.wgsl_model.specs.Units as units
 use Rattle.wgsl_model.specs.WithoutSpans.{no_span}
@@ -104,10 +104,10 @@ abbrev pub unit_tree : units.TranslationUnit
 unit_tree = record {
   global_directives = units.diagnostic (record { severity = off; rule_name = codes "a.b" }) ∷ [];
   global_declarations = spanned units.void no_span
-      ∷ spanned (units.structure (record { ident = codes "S"; members = spanned (record { attributes = spanned (size (number_at 16)) no_span ∷ []; ident = codes "x"; ty = type_of_name (codes "f32") }) no_span ∷ [] })) no_span
+      ∷ spanned (units.structure (record { ident = codes "S"; members = spanned (record { attributes = spanned (with_argument size (number_at 16)) no_span ∷ []; ident = codes "x"; ty = type_of_name (codes "f32") }) no_span ∷ [] })) no_span
       ∷ spanned units.void no_span
       ∷ spanned (units.function (record {
-        attributes = spanned const_attribute no_span ∷ spanned (type_constraint (record { ident = codes "T"; variants = type_of_name (codes "A") ∷ type_of_name (codes "B") ∷ [] })) no_span ∷ [];
+        attributes = spanned (without_argument const_attribute) no_span ∷ spanned (type_constraint (record { ident = codes "T"; variants = type_of_name (codes "A") ∷ type_of_name (codes "B") ∷ [] })) no_span ∷ [];
         ident = codes "f";
         parameters = [];
         return_attributes = [];

@@ -6,7 +6,7 @@ use Rattle.wgsl_model.specs.Faults.{attribute_kind, var_template_kind}
 use Rattle.wgsl_model.specs.NamedValues.{AccessMode.read_write, AddressSpace.storage}
 use Rattle.wgsl_model.specs.Spanned.{Spanned, spanned}
 use Rattle.wgsl_model.specs.Expressions.{Expression, TypeExpression.type_expression, TemplateArguments.no_template, template_of}
-use Rattle.wgsl_model.specs.Attributes.{Attribute}
+use Rattle.wgsl_model.specs.Attributes.{OneArgument, NoArgument, Attribute}
 use Rattle.wgsl_model.specs.Statements.{DeclarationKind, StatementNode.statement_node}
 use Rattle.wgsl_model.specs.Units.{GlobalDeclaration}
 use Rattle.wgsl_model.specs.StatementParts.{compound_of, return_of}
@@ -20,7 +20,7 @@ struct_with_a_last_comma_tokens = (sign KwStruct 0 6) ∷ (word (codes "S") 7 8)
 abbrev pub struct_with_a_last_comma_tree : Spanned GlobalDeclaration
 struct_with_a_last_comma_tree = spanned (struct_of (
   word (codes "S") 7 8,
-  (spanned (record { attributes = spanned (Attribute.size (number_at 16 17 19)) (span 11 20) ∷ []; ident = codes "x"; ty = (type_expression (codes "f32") no_template) }) (span 11 27))
+  (spanned (record { attributes = spanned (Attribute.with_argument OneArgument.size (number_at 16 17 19)) (span 11 20) ∷ []; ident = codes "x"; ty = (type_expression (codes "f32") no_template) }) (span 11 27))
       ∷ (spanned (record { attributes = []; ident = codes "y"; ty = type_expression (codes "array") (template_of (Some ((name_at (codes "f32") 38 41) ∷ ((number_at 4 43 44) ∷ [])))) }) (span 29 45) ∷ []),
 )) (span 0 48)
 
@@ -29,7 +29,7 @@ abbrev pub entry_point_tokens : List Token
 entry_point_tokens = (sign SymAttr 0 1) ∷ (word (codes "fragment") 1 9) ∷ (sign KwFn 10 12) ∷ (word (codes "frag_main") 13 22) ∷ (sign SymParenLeft 22 23) ∷ (sign SymParenRight 23 24) ∷ (sign SymArrow 25 27) ∷ (sign SymAttr 28 29) ∷ (word (codes "location") 29 37) ∷ (sign SymParenLeft 37 38) ∷ (number_of 0 38 39) ∷ (sign SymParenRight 39 40) ∷ (word (codes "vec4f") 41 46) ∷ (sign SymBraceLeft 47 48) ∷ (sign KwReturn 49 55) ∷ (word (codes "vec4") 56 60) ∷ (sign SymParenLeft 60 61) ∷ (number_of 1 61 62) ∷ (sign SymParenRight 62 63) ∷ (sign SymSemicolon 63 64) ∷ (sign SymBraceRight 65 66) ∷ []
 
 abbrev pub entry_point_tree : Spanned GlobalDeclaration
-entry_point_tree = spanned (function_of (spanned (Attribute.fragment) (span 0 9) ∷ []) (word (codes "frag_main") 13 22) [] (Some (spanned (Attribute.location (number_at 0 38 39)) (span 28 40) ∷ [], (type_expression (codes "vec4f") no_template)))
+entry_point_tree = spanned (function_of (spanned (Attribute.without_argument NoArgument.fragment) (span 0 9) ∷ []) (word (codes "frag_main") 13 22) [] (Some (spanned (Attribute.with_argument OneArgument.location (number_at 0 38 39)) (span 28 40) ∷ [], (type_expression (codes "vec4f") no_template)))
     (compound_of [] (statement_node (return_of (Some (at (Expression.function_call (call_at (codes "vec4") None ((number_at 1 61 62) ∷ []))) 56 63))) (span 49 64) ∷ []))) (span 0 66)
 
 -- @const fn f() {}
@@ -37,7 +37,7 @@ abbrev pub keyword_as_an_attribute_tokens : List Token
 keyword_as_an_attribute_tokens = (sign SymAttr 0 1) ∷ (sign KwConst 1 6) ∷ (sign KwFn 7 9) ∷ (word (codes "f") 10 11) ∷ (sign SymParenLeft 11 12) ∷ (sign SymParenRight 12 13) ∷ (sign SymBraceLeft 14 15) ∷ (sign SymBraceRight 15 16) ∷ []
 
 abbrev pub keyword_as_an_attribute_tree : Spanned GlobalDeclaration
-keyword_as_an_attribute_tree = spanned (function_of (spanned (Attribute.const_attribute) (span 0 6) ∷ []) (word (codes "f") 10 11) [] None (compound_of [] [])) (span 0 16)
+keyword_as_an_attribute_tree = spanned (function_of (spanned (Attribute.without_argument NoArgument.const_attribute) (span 0 6) ∷ []) (word (codes "f") 10 11) [] None (compound_of [] [])) (span 0 16)
 
 -- @type(T, i32 | f32) fn f() {}
 abbrev pub reserved_word_as_an_attribute_tokens : List Token

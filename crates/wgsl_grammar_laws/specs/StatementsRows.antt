@@ -5,7 +5,7 @@ use Rattle.wgsl_model.specs.Classes.{SymAttr, SymBraceLeft, SymBraceRight, SymCo
 use Rattle.wgsl_model.specs.Operators.{BinaryOperator.less_than, AssignmentOperator.equal, AssignmentOperator.plus_equal}
 use Rattle.wgsl_model.specs.Spanned.{spanned}
 use Rattle.wgsl_model.specs.Expressions.{LiteralExpression.boolean, Expression}
-use Rattle.wgsl_model.specs.Attributes.{Attribute}
+use Rattle.wgsl_model.specs.Attributes.{OneArgument, Attribute}
 use Rattle.wgsl_model.specs.Statements.{DeclarationKind, CaseSelector, StatementNode, StatementNode.statement_node, Statement, ElseIfClause, ElseClause, ForStatement, maybe_statement}
 use Rattle.wgsl_model.specs.StatementParts.{declaration_of, compound_of, assignment_of, increment_of, return_of, if_of, clause_of, switch_of, loop_of, continuing_part}
 use Rattle.wgsl_grammar_laws.specs.RowParts.{span, sign, word, number_of, at, name_at, number_at, call_at}
@@ -60,7 +60,7 @@ abbrev pub attribute_of_a_block_tokens : List Token
 attribute_of_a_block_tokens = (sign SymAttr 0 1) ∷ (sign KwIf 1 3) ∷ (sign SymParenLeft 3 4) ∷ (word (codes "a") 4 5) ∷ (sign SymParenRight 5 6) ∷ (sign SymBraceLeft 7 8) ∷ (sign SymBraceRight 8 9) ∷ []
 
 abbrev pub attribute_of_a_block_tree : StatementNode
-attribute_of_a_block_tree = statement_node (Statement.compound (compound_of (spanned (Attribute.if_attribute (name_at (codes "a") 4 5)) (span 0 6) ∷ []) [])) (span 0 9)
+attribute_of_a_block_tree = statement_node (Statement.compound (compound_of (spanned (Attribute.with_argument OneArgument.if_attribute (name_at (codes "a") 4 5)) (span 0 6) ∷ []) [])) (span 0 9)
 
 -- switch x { default: {} }
 abbrev pub clause_of_a_default_tokens : List Token

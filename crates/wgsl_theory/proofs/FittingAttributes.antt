@@ -6,7 +6,7 @@ use Rattle.wgsl_model.specs.Kind.{plain}
 use Rattle.wgsl_model.specs.NamedValues.{InterpolationSampling, severity_text, interpolation_type_text, interpolation_sampling_text, builtin_value_text}
 use Rattle.wgsl_model.specs.Spanned.{Spanned}
 use Rattle.wgsl_model.specs.Expressions.{ExpressionNode, TypeExpression}
-use Rattle.wgsl_model.specs.Attributes.{Attribute, align, binding, blend_src, group, id, location, size, if_attribute, elif_attribute, builtin, const_attribute, invariant, must_use, vertex, fragment, compute, else_attribute, diagnostic, interpolate, workgroup_size, type_constraint, custom, Attributes}
+use Rattle.wgsl_model.specs.Attributes.{one_argument_text, no_argument_text, Attribute, with_argument, without_argument, builtin, diagnostic, interpolate, workgroup_size, type_constraint, custom, Attributes}
 use Rattle.wgsl_theory.proofs.Pieces.{Piece, render, FitsBefore, Fits}
 use Rattle.wgsl_theory.proofs.Printing.{Puts}
 use Rattle.wgsl_theory.proofs.Ends.{EndsName, IsNameText}
@@ -15,9 +15,9 @@ use Rattle.wgsl_theory.proofs.SoundExpressions.{IsSoundNode, IsSoundType, Closed
 use Rattle.wgsl_theory.proofs.FittingSigns.{before_name, left_paren_fits, right_paren_fits, comma_fits}
 use Rattle.wgsl_theory.proofs.FittingExpressions.{closed_by_paren, closed_by_comma, ends_at_paren, ends_at_point, expression_node_fits, type_fits}
 use Rattle.wgsl_theory.proofs.SoundUnits.{IfSome, Every, Either, IsSoundRule, IsSoundAttribute, AreSoundAttributes}
-use Rattle.wgsl_theory.proofs.WrittenWords.{builtin_value_name, severity_name, interpolation_type_name, interpolation_sampling_name, align_name, binding_name, blend_src_name, group_name, id_name, location_name, size_name, if_name, elif_name, builtin_name, const_name, invariant_name, must_use_name, vertex_name, fragment_name, compute_name, else_name, diagnostic_name, interpolate_name, workgroup_size_name, type_name}
+use Rattle.wgsl_theory.proofs.WrittenWords.{builtin_value_name, severity_name, interpolation_type_name, interpolation_sampling_name, one_argument_name, no_argument_name, builtin_name, diagnostic_name, interpolate_name, workgroup_size_name, type_name}
 use Rattle.wgsl_theory.proofs.PiecesOfExpressions.{sign, name, comma, expression_node_pieces, type_pieces}
-use Rattle.wgsl_theory.proofs.PiecesOfAttributes.{optional_pieces, further_pieces, list_pieces, behind_comma_pieces, rule_pieces_from, rule_pieces, further_types_pieces, types_pieces, arguments_pieces, one_argument_pieces, named_attribute_pieces, attribute_pieces, further_attributes_pieces, attributes_pieces}
+use Rattle.wgsl_theory.proofs.PiecesOfAttributes.{optional_pieces, further_pieces, list_pieces, behind_comma_pieces, rule_pieces_from, rule_pieces, further_types_pieces, types_pieces, arguments_pieces, named_attribute_pieces, attribute_pieces, further_attributes_pieces, attributes_pieces}
 
 -- ---- lists
 
@@ -91,9 +91,6 @@ paren_fits rest f = (right_paren_fits (render rest), f)
 opened_fits : (text : List ℕ) (rest : List Piece) → IsNameText text → Fits rest → Fits (name text (sign (codes "(") SymParenLeft rest))
 opened_fits text rest n f = (name_fits text _ n (ends_at_paren rest), (left_paren_fits (render rest), f))
 
-one_argument_fits : (text : List ℕ) (e : ExpressionNode) (rest : List Piece) → IsNameText text → IsSoundNode e → Fits rest → Fits (one_argument_pieces text e rest)
-one_argument_fits text e rest n s f = opened_fits text (expression_node_pieces e (sign (codes ")") SymParenRight rest)) n (node_fits e (sign (codes ")") SymParenRight rest) s (closed_by_paren rest) (paren_fits rest f))
-
 one_name_fits : (text word_in : List ℕ) (rest : List Piece) → IsNameText text → IsNameText word_in → Fits rest → Fits (name text (sign (codes "(") SymParenLeft (name word_in (sign (codes ")") SymParenRight rest))))
 one_name_fits text word_in rest n m f = opened_fits text (name word_in (sign (codes ")") SymParenRight rest)) n (plain_name_fits word_in (sign (codes ")") SymParenRight rest) m (closed_by_paren rest) (paren_fits rest f))
 
@@ -101,23 +98,11 @@ alone_fits : (text : List ℕ) (rest : List Piece) → IsNameText text → EndsN
 alone_fits text rest n e f = (name_fits text (render rest) n e, f)
 
 named_attribute_fits : (a : Attribute) (rest : List Piece) → IsSoundAttribute a → EndsName (render rest) → Fits rest → Fits (named_attribute_pieces a rest)
-named_attribute_fits (align e) rest s n f = one_argument_fits (codes "align") e rest align_name s f
-named_attribute_fits (binding e) rest s n f = one_argument_fits (codes "binding") e rest binding_name s f
-named_attribute_fits (blend_src e) rest s n f = one_argument_fits (codes "blend_src") e rest blend_src_name s f
-named_attribute_fits (group e) rest s n f = one_argument_fits (codes "group") e rest group_name s f
-named_attribute_fits (id e) rest s n f = one_argument_fits (codes "id") e rest id_name s f
-named_attribute_fits (location e) rest s n f = one_argument_fits (codes "location") e rest location_name s f
-named_attribute_fits (size e) rest s n f = one_argument_fits (codes "size") e rest size_name s f
-named_attribute_fits (if_attribute e) rest s n f = one_argument_fits (codes "if") e rest if_name s f
-named_attribute_fits (elif_attribute e) rest s n f = one_argument_fits (codes "elif") e rest elif_name s f
+named_attribute_fits (with_argument text e) rest s n f =
+    let last = sign (codes ")") SymParenRight rest in
+    opened_fits (one_argument_text text) (expression_node_pieces e last) (one_argument_name text) (node_fits e last s (closed_by_paren rest) (paren_fits rest f))
+named_attribute_fits (without_argument text) rest s n f = alone_fits (no_argument_text text) rest (no_argument_name text) n f
 named_attribute_fits (builtin b) rest s n f = one_name_fits (codes "builtin") (builtin_value_text b) rest builtin_name (builtin_value_name b) f
-named_attribute_fits const_attribute rest s n f = alone_fits (codes "const") rest const_name n f
-named_attribute_fits invariant rest s n f = alone_fits (codes "invariant") rest invariant_name n f
-named_attribute_fits must_use rest s n f = alone_fits (codes "must_use") rest must_use_name n f
-named_attribute_fits vertex rest s n f = alone_fits (codes "vertex") rest vertex_name n f
-named_attribute_fits fragment rest s n f = alone_fits (codes "fragment") rest fragment_name n f
-named_attribute_fits compute rest s n f = alone_fits (codes "compute") rest compute_name n f
-named_attribute_fits else_attribute rest s n f = alone_fits (codes "else") rest else_name n f
 named_attribute_fits (diagnostic d) rest s n f =
     let more = rule_pieces d.rule (sign (codes ")") SymParenRight rest) in
     opened_fits (codes "diagnostic") (name (severity_text d.severity) (comma more)) diagnostic_name (plain_name_fits (severity_text d.severity) (comma more) (severity_name d.severity) (closed_by_comma more)

@@ -9,12 +9,12 @@ use Rattle.wgsl_model.specs.Raw.{word_of}
 use Rattle.wgsl_model.specs.NamedValues.{InterpolationSampling, severity_text, interpolation_type_text, interpolation_sampling_text, builtin_value_text}
 use Rattle.wgsl_model.specs.Spanned.{Spanned}
 use Rattle.wgsl_model.specs.Expressions.{ExpressionNode, TypeExpression}
-use Rattle.wgsl_model.specs.Attributes.{Attribute, align, binding, blend_src, group, id, location, size, if_attribute, elif_attribute, builtin, const_attribute, invariant, must_use, vertex, fragment, compute, else_attribute, diagnostic, interpolate, workgroup_size, type_constraint, custom, Attributes}
+use Rattle.wgsl_model.specs.Attributes.{one_argument_text, no_argument_text, Attribute, with_argument, without_argument, builtin, diagnostic, interpolate, workgroup_size, type_constraint, custom, Attributes}
 use Rattle.wgsl_model.specs.Joining.{joined}
 use Rattle.wgsl_model.specs.PrintedExpressions.{print_type}
-use Rattle.wgsl_model.specs.PrintedAttributes.{print_one_argument, print_sampling, print_further, print_arguments, print_attribute, print_attributes}
+use Rattle.wgsl_model.specs.PrintedAttributes.{print_sampling, print_further, print_arguments, print_attribute, print_attributes}
 use Rattle.wgsl_canonical_theory.specs.CanonicalExpressions.{Writes, optional_tokens, list_tokens, further_tokens, word_token, expression_node_tokens}
-use Rattle.wgsl_canonical_theory.specs.CanonicalAttributes.{behind_comma, rule_tokens_from, rule_tokens, further_types_tokens, types_tokens, arguments_tokens, one_argument_tokens, named_attribute_tokens, attributes_tokens}
+use Rattle.wgsl_canonical_theory.specs.CanonicalAttributes.{behind_comma, rule_tokens_from, rule_tokens, further_types_tokens, types_tokens, arguments_tokens, named_attribute_tokens, attributes_tokens}
 use Rattle.wgsl_theory.proofs.Pieces.{space}
 use Rattle.wgsl_theory.proofs.Printing.{Puts, Prints, none_prints, ◌before◌, word_prints, space_prints}
 use Rattle.wgsl_theory.proofs.PiecesOfExpressions.{sign, name, comma, expression_node_pieces, type_pieces, name_prints, comma_prints, expression_node_prints, type_prints}
@@ -72,29 +72,11 @@ types_pieces (t ∷ ts) rest = type_pieces t (further_types_pieces ts rest)
 abbrev pub arguments_pieces : List ExpressionNode → Puts
 arguments_pieces es rest = sign (codes "(") SymParenLeft (list_pieces expression_node_pieces es (sign (codes ")") SymParenRight rest))
 
--- a name with one argument
-abbrev pub one_argument_pieces : List ℕ → ExpressionNode → Puts
-one_argument_pieces text e rest = name text (sign (codes "(") SymParenLeft (expression_node_pieces e (sign (codes ")") SymParenRight rest)))
-
 -- an attribute without its `@`
 abbrev pub named_attribute_pieces : Attribute → Puts
-named_attribute_pieces (align e) rest = one_argument_pieces (codes "align") e rest
-named_attribute_pieces (binding e) rest = one_argument_pieces (codes "binding") e rest
-named_attribute_pieces (blend_src e) rest = one_argument_pieces (codes "blend_src") e rest
-named_attribute_pieces (group e) rest = one_argument_pieces (codes "group") e rest
-named_attribute_pieces (id e) rest = one_argument_pieces (codes "id") e rest
-named_attribute_pieces (location e) rest = one_argument_pieces (codes "location") e rest
-named_attribute_pieces (size e) rest = one_argument_pieces (codes "size") e rest
-named_attribute_pieces (if_attribute e) rest = one_argument_pieces (codes "if") e rest
-named_attribute_pieces (elif_attribute e) rest = one_argument_pieces (codes "elif") e rest
+named_attribute_pieces (with_argument text e) rest = name (one_argument_text text) (sign (codes "(") SymParenLeft (expression_node_pieces e (sign (codes ")") SymParenRight rest)))
+named_attribute_pieces (without_argument text) rest = name (no_argument_text text) rest
 named_attribute_pieces (builtin b) rest = name (codes "builtin") (sign (codes "(") SymParenLeft (name (builtin_value_text b) (sign (codes ")") SymParenRight rest)))
-named_attribute_pieces const_attribute rest = name (codes "const") rest
-named_attribute_pieces invariant rest = name (codes "invariant") rest
-named_attribute_pieces must_use rest = name (codes "must_use") rest
-named_attribute_pieces vertex rest = name (codes "vertex") rest
-named_attribute_pieces fragment rest = name (codes "fragment") rest
-named_attribute_pieces compute rest = name (codes "compute") rest
-named_attribute_pieces else_attribute rest = name (codes "else") rest
 named_attribute_pieces (diagnostic d) rest =
     name (codes "diagnostic") (sign (codes "(") SymParenLeft (name (severity_text d.severity) (comma (rule_pieces d.rule (sign (codes ")") SymParenRight rest)))))
 named_attribute_pieces (interpolate i) rest =
@@ -162,27 +144,10 @@ size_prints (Some e) = comma_prints before expression_node_prints e
 at_prints : {n : ℕ} (text : List ℕ) → Prints n (codes "@" ++ text) (λ rest. sign (codes "@") SymAttr (name text rest)) (λ rest. plain SymAttr ∷ (word_of text ∷ rest))
 at_prints text = word_prints before name_prints text
 
-one_argument_prints : {n : ℕ} (text : List ℕ) (e : ExpressionNode) → Prints n (print_one_argument (codes "@" ++ text) e) (λ rest. sign (codes "@") SymAttr (one_argument_pieces text e rest)) (λ rest. plain SymAttr ∷ one_argument_tokens text e rest)
-one_argument_prints text e = at_prints text before word_prints before expression_node_prints e before word_prints
-
 attribute_prints : {n : ℕ} (a : Attribute) → Prints n (print_attribute a) (λ rest. sign (codes "@") SymAttr (named_attribute_pieces a rest)) (λ rest. plain SymAttr ∷ named_attribute_tokens a rest)
-attribute_prints (align e) = one_argument_prints (codes "align") e
-attribute_prints (binding e) = one_argument_prints (codes "binding") e
-attribute_prints (blend_src e) = one_argument_prints (codes "blend_src") e
-attribute_prints (group e) = one_argument_prints (codes "group") e
-attribute_prints (id e) = one_argument_prints (codes "id") e
-attribute_prints (location e) = one_argument_prints (codes "location") e
-attribute_prints (size e) = one_argument_prints (codes "size") e
-attribute_prints (if_attribute e) = one_argument_prints (codes "if") e
-attribute_prints (elif_attribute e) = one_argument_prints (codes "elif") e
+attribute_prints (with_argument text e) = at_prints (one_argument_text text) before word_prints before expression_node_prints e before word_prints
+attribute_prints (without_argument text) = at_prints (no_argument_text text)
 attribute_prints (builtin b) = (at_prints (codes "builtin") before word_prints) before name_prints (builtin_value_text b) before word_prints
-attribute_prints const_attribute = at_prints (codes "const")
-attribute_prints invariant = at_prints (codes "invariant")
-attribute_prints must_use = at_prints (codes "must_use")
-attribute_prints vertex = at_prints (codes "vertex")
-attribute_prints fragment = at_prints (codes "fragment")
-attribute_prints compute = at_prints (codes "compute")
-attribute_prints else_attribute = at_prints (codes "else")
 attribute_prints (diagnostic d) = (at_prints (codes "diagnostic") before word_prints) before name_prints (severity_text d.severity) before comma_prints before rule_prints d.rule before word_prints
 attribute_prints (interpolate i) = (at_prints (codes "interpolate") before word_prints) before name_prints (interpolation_type_text i.ty) before sampling_prints i.sampling before word_prints
 attribute_prints (workgroup_size w) = (at_prints (codes "workgroup_size") before word_prints) before expression_node_prints w.x before size_prints w.y before size_prints w.z before word_prints

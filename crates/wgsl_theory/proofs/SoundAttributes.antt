@@ -1,14 +1,15 @@
 -- An attribute whose name and arguments are sound is sound.
-use Rattle.std.proofs.Common.{ℕ, Bool, true, false, cond, sym, subst, List, [], ◌∷◌, ◌++◌, Option, Some, None, append_assoc, append-nil}
-use Rattle.std.specs.Prelude.{codes, bytes_eq, option_map}
+use Rattle.std.proofs.Common.{ℕ, sym, subst, List, [], ◌∷◌, ◌++◌, Option, Some, None, append_assoc, append-nil}
+use Rattle.std.specs.Prelude.{codes, option_map}
 use Rattle.wgsl_model.specs.Words.{look_up}
-use Rattle.wgsl_model.specs.NamedValues.{WordTable, DiagnosticSeverity, severities, InterpolationType, interpolation_types, InterpolationSampling, interpolation_samplings, builtin_values}
+use Rattle.wgsl_model.specs.NamedValues.{DiagnosticSeverity, severities, InterpolationType, interpolation_types, InterpolationSampling, interpolation_samplings, builtin_values}
 use Rattle.wgsl_model.specs.Operators.{bitwise_or}
 use Rattle.wgsl_model.specs.Expressions.{ExpressionNode, expression_node, Expression, named_component, binary, type_or_identifier, TypeExpression, type_expression, no_template}
-use Rattle.wgsl_model.specs.Attributes.{Attribute, align, binding, blend_src, group, id, location, size, if_attribute, elif_attribute, builtin, const_attribute, invariant, must_use, vertex, fragment, compute, else_attribute, interpolate, custom}
+use Rattle.wgsl_model.specs.Attributes.{OneArgument, NoArgument, Attribute, with_argument, without_argument, builtin, interpolate, custom}
 use Rattle.wgsl_model.specs.Spanned.{Spanned}
 use Rattle.wgsl_model.specs.Checks.{Checked, right, wrong, right_in, right_or, given_or, bare_name_in, bare_name, bare_word, rule_name, variants_in, variants, Arguments, with_one, with_none, builtin_attribute, severity_and_rule, diagnostic_attribute, type_and_sampling, interpolate_attribute, workgroup_size_attribute, name_and_variants, type_attribute, attribute_names, named_attribute, AttributeParts, attribute_of, attribute_node}
 use Rattle.wgsl_canonical_theory.proofs.Words.{NoPeriod}
+use Rattle.wgsl_canonical_theory.proofs.AttributeNames.{of_each_name}
 use Rattle.wgsl_theory.proofs.NoPeriods.{name_has_no_period}
 use Rattle.wgsl_theory.proofs.Ends.{IsNameText}
 use Rattle.wgsl_theory.proofs.SoundExpressions.{IsSoundNode, IsSoundExpression, IsSoundType}
@@ -77,15 +78,15 @@ AreSoundArguments = IfSome (λ (es : List ExpressionNode). Every IsSoundNode es)
 abbrev Makes : (Arguments → Checked Attribute) → Type 0
 Makes f = (a : Arguments) → AreSoundArguments a → IsSoundChecked (f a)
 
-one_makes : (f : ExpressionNode → Attribute) → ((e : ExpressionNode) → IsSoundNode e → IsSoundAttribute (f e)) → Makes (with_one f)
-one_makes f h None s = tt
-one_makes f h (Some []) s = tt
-one_makes f h (Some (e ∷ [])) s = h e s.0
-one_makes f h (Some (e ∷ (d ∷ es))) s = tt
+one_makes : (name : OneArgument) → Makes (with_one (with_argument name))
+one_makes name None s = tt
+one_makes name (Some []) s = tt
+one_makes name (Some (e ∷ [])) s = s.0
+one_makes name (Some (e ∷ (d ∷ es))) s = tt
 
-none_makes : (a : Attribute) → IsSoundAttribute a → Makes (with_none a)
-none_makes a h None s = h
-none_makes a h (Some es) s = tt
+none_makes : (name : NoArgument) → Makes (with_none (without_argument name))
+none_makes name None s = tt
+none_makes name (Some es) s = tt
 
 right_or_sound : {A : Type 0} (o : Option A) (f : A → Attribute) (text : List ℕ) → ((x : A) → IsSoundAttribute (f x)) → IsSoundChecked (right_or o f text)
 right_or_sound None f text h = tt
@@ -141,69 +142,10 @@ type_makes (Some (e ∷ [])) s = tt
 type_makes (Some (e ∷ (r ∷ []))) s = name_and_variants_sound (bare_name e) (variants r) (bare_name_sound e s.0) (variants_sound r s.1.0)
 type_makes (Some (e ∷ (r ∷ (d ∷ es)))) s = tt
 
--- what every name of a table makes is sound
-abbrev AllMake : WordTable (Arguments → Checked Attribute) → Type 0
-AllMake [] = Unit {0}
-AllMake (e ∷ es) = Makes e.1 × AllMake es
-
-names_make : AllMake attribute_names
-names_make = (
-  one_makes align (λ e s. s),
-  (
-    one_makes binding (λ e s. s),
-    (
-      one_makes blend_src (λ e s. s),
-      (
-        one_makes group (λ e s. s),
-        (
-          one_makes id (λ e s. s),
-          (
-            one_makes location (λ e s. s),
-            (
-              one_makes size (λ e s. s),
-              (
-                one_makes if_attribute (λ e s. s),
-                (
-                  one_makes elif_attribute (λ e s. s),
-                  (
-                    none_makes const_attribute tt,
-                    (
-                      none_makes invariant tt,
-                      (
-                        none_makes must_use tt,
-                        (
-                          none_makes vertex tt,
-                          (
-                            none_makes fragment tt,
-                            (
-                              none_makes compute tt,
-                              (
-                                none_makes else_attribute tt,
-                                (builtin_makes, (diagnostic_makes, (interpolate_makes, (workgroup_size_makes, (type_makes, tt))))),
-                              ),
-                            ),
-                          ),
-                        ),
-                      ),
-                    ),
-                  ),
-                ),
-              ),
-            ),
-          ),
-        ),
-      ),
-    ),
-  ),
-)
-
-found_makes : (es : WordTable (Arguments → Checked Attribute)) → AllMake es → (text : List ℕ) (a : Arguments) → IsNameText text → AreSoundArguments a → IsSoundChecked (named_attribute (look_up es text) text a)
-found_makes [] m text a n s = (n, s)
-found_makes (e ∷ es) m text a n s = go (found_makes es m.1 text a n s) (bytes_eq e.0 text)
-  where
-    go : IsSoundChecked (named_attribute (look_up es text) text a) → (b : Bool) → IsSoundChecked (named_attribute (cond b (Some e.1) (look_up es text)) text a)
-    go more true = m.0 a s
-    go more false = more
+-- whatever the name, which is sound itself
+name_makes : (name : List ℕ) → IsNameText name → Makes (named_attribute (look_up attribute_names name) name)
+name_makes = of_each_name (λ name check. IsNameText name → Makes check) (λ name n. one_makes name) (λ name n. none_makes name)
+    ((λ n. builtin_makes), ((λ n. diagnostic_makes), ((λ n. interpolate_makes), ((λ n. workgroup_size_makes), ((λ n. type_makes), tt))))) (λ name n a s. (n, s))
 
 -- an attribute, or a name with its arguments
 given_sound : (c : Checked Attribute) (x : Attribute) → IsSoundChecked c → IsSoundAttribute x → IsSoundAttribute (given_or x (right_in c))
@@ -211,4 +153,4 @@ given_sound (right a) x s t = s
 given_sound (wrong text) x s t = t
 
 pub attribute_sound : (p : Spanned AttributeParts) → IsNameText p.node.name → AreSoundArguments p.node.arguments → IsSoundAttribute (attribute_node p).node
-attribute_sound p n s = given_sound (attribute_of p.node) (custom (record { name = p.node.name; arguments = p.node.arguments })) (found_makes attribute_names names_make p.node.name p.node.arguments n s) (n, s)
+attribute_sound p n s = given_sound (attribute_of p.node) (custom (record { name = p.node.name; arguments = p.node.arguments })) (name_makes p.node.name n p.node.arguments s) (n, s)

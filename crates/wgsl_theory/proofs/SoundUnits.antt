@@ -2,7 +2,7 @@
 use Rattle.std.proofs.Common.{ℕ, ◌==◌, Bool, true, false, List, [], ◌∷◌, ◌++◌, Option, Some, None}
 use Rattle.wgsl_model.specs.Spanned.{Spanned}
 use Rattle.wgsl_model.specs.Expressions.{ExpressionNode, expression_node, Expression, literal, unary, binary}
-use Rattle.wgsl_model.specs.Attributes.{Attribute, align, binding, blend_src, group, id, location, size, if_attribute, elif_attribute, diagnostic, workgroup_size, type_constraint, custom, Attributes}
+use Rattle.wgsl_model.specs.Attributes.{Attribute, with_argument, diagnostic, workgroup_size, type_constraint, custom, Attributes}
 use Rattle.wgsl_model.specs.Statements.{Declaration, BreakIfStatement, CaseSelector, default_selector, expression_selector, statement_node, Statement, compound, assignment, increment, decrement, if_statement, switch_statement, loop_statement, for_statement, while_statement, return_statement, function_call_statement, const_assert, declaration, CompoundStatement, compound_statement, IfStatement, if_else, IfClause, if_clause, ElseIfClause, else_if_clause, ElseClause, else_clause, SwitchStatement, switch, SwitchClause, switch_clause, LoopStatement, repeat, ContinuingStatement, continuing, ForStatement, repeat_for, WhileStatement, repeat_while, StatementNodes, no_statements, statement_before, ElseIfClauses, no_else_ifs, else_if_before, MaybeElseClause, no_else, one_else, SwitchClauses, no_clauses, clause_before, MaybeContinuing, no_continuing, one_continuing, MaybeStatement, no_statement, one_statement}
 use Rattle.wgsl_model.specs.Units as units
 use Rattle.wgsl_model.specs.Units.{GlobalDirective, StructMember, FormalParameter, Function, GlobalDeclaration, TranslationUnit}
@@ -36,15 +36,7 @@ IsSoundRule before [] = IsNameText before
 IsSoundRule before (c ∷ cs) = Either (c == 46) (IsNameText before × IsNameText cs) (IsSoundRule (before ++ (c ∷ [])) cs)
 
 abbrev pub IsSoundAttribute : Attribute → Type 0
-IsSoundAttribute (align e) = IsSoundNode e
-IsSoundAttribute (binding e) = IsSoundNode e
-IsSoundAttribute (blend_src e) = IsSoundNode e
-IsSoundAttribute (group e) = IsSoundNode e
-IsSoundAttribute (id e) = IsSoundNode e
-IsSoundAttribute (location e) = IsSoundNode e
-IsSoundAttribute (size e) = IsSoundNode e
-IsSoundAttribute (if_attribute e) = IsSoundNode e
-IsSoundAttribute (elif_attribute e) = IsSoundNode e
+IsSoundAttribute (with_argument name e) = IsSoundNode e
 IsSoundAttribute (diagnostic d) = IsSoundRule [] d.rule
 IsSoundAttribute (workgroup_size w) = IsSoundNode w.x × IfSome IsSoundNode w.y × IfSome IsSoundNode w.z
 IsSoundAttribute (type_constraint t) = IsNameText t.ident × Every IsSoundType t.variants

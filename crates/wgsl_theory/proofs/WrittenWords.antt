@@ -4,6 +4,7 @@ use Rattle.std.specs.Prelude.{codes}
 use Rattle.wgsl_model.specs.Classes.{KwAlias, KwBreak, KwCase, KwConst, KwConstAssert, KwContinue, KwContinuing, KwDefault, KwDiagnostic, KwDiscard, KwElse, KwEnable, KwFn, KwFor, KwIf, KwLet, KwLoop, KwOverride, KwRequires, KwReturn, KwStruct, KwSwitch, KwVar, KwWhile}
 use Rattle.wgsl_model.specs.Kind.{plain}
 use Rattle.wgsl_model.specs.NamedValues.{BuiltinValue, vertex_index, builtin_value_text, DiagnosticSeverity, error, severity_text, AccessMode, read, access_mode_text, AddressSpace, function, address_space_text, InterpolationType, perspective, interpolation_type_text, InterpolationSampling, center, interpolation_sampling_text}
+use Rattle.wgsl_model.specs.Attributes.{OneArgument, align, one_argument_text, NoArgument, const_attribute, no_argument_text}
 use Rattle.wgsl_theory.proofs.Pieces.{FitsBefore}
 use Rattle.wgsl_theory.proofs.Ends.{EndsName, IsNameText}
 use Rattle.wgsl_theory.proofs.FittingWords.{name_fits, word_name}
@@ -36,56 +37,16 @@ interpolation_sampling_name _ = word_name _ refl
 
 -- ---- names of attributes
 
-pub align_name : IsNameText (codes "align")
-align_name = word_name (codes "align") refl
+pub one_argument_name : (name : OneArgument) → IsNameText (one_argument_text name)
+one_argument_name align = word_name _ refl
+one_argument_name _ = word_name _ refl
 
-pub binding_name : IsNameText (codes "binding")
-binding_name = word_name (codes "binding") refl
-
-pub blend_src_name : IsNameText (codes "blend_src")
-blend_src_name = word_name (codes "blend_src") refl
-
-pub group_name : IsNameText (codes "group")
-group_name = word_name (codes "group") refl
-
-pub id_name : IsNameText (codes "id")
-id_name = word_name (codes "id") refl
-
-pub location_name : IsNameText (codes "location")
-location_name = word_name (codes "location") refl
-
-pub size_name : IsNameText (codes "size")
-size_name = word_name (codes "size") refl
-
-pub if_name : IsNameText (codes "if")
-if_name = word_name (codes "if") refl
-
-pub elif_name : IsNameText (codes "elif")
-elif_name = word_name (codes "elif") refl
+pub no_argument_name : (name : NoArgument) → IsNameText (no_argument_text name)
+no_argument_name const_attribute = word_name _ refl
+no_argument_name _ = word_name _ refl
 
 pub builtin_name : IsNameText (codes "builtin")
 builtin_name = word_name (codes "builtin") refl
-
-pub const_name : IsNameText (codes "const")
-const_name = word_name (codes "const") refl
-
-pub invariant_name : IsNameText (codes "invariant")
-invariant_name = word_name (codes "invariant") refl
-
-pub must_use_name : IsNameText (codes "must_use")
-must_use_name = word_name (codes "must_use") refl
-
-pub vertex_name : IsNameText (codes "vertex")
-vertex_name = word_name (codes "vertex") refl
-
-pub fragment_name : IsNameText (codes "fragment")
-fragment_name = word_name (codes "fragment") refl
-
-pub compute_name : IsNameText (codes "compute")
-compute_name = word_name (codes "compute") refl
-
-pub else_name : IsNameText (codes "else")
-else_name = word_name (codes "else") refl
 
 pub diagnostic_name : IsNameText (codes "diagnostic")
 diagnostic_name = word_name (codes "diagnostic") refl

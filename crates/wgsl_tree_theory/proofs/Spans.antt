@@ -76,23 +76,9 @@ arguments_bare None = refl
 arguments_bare (Some es) = λ i. codes "(" ++ joined (codes ", ") (nodes_bare es i) ++ codes ")"
 
 attribute_bare : (a : tree.Attribute) → print_attribute (bare_attribute a) ≡ print_attribute a
-attribute_bare (tree.align e) = λ i. codes "@align" ++ codes "(" ++ node_bare e i ++ codes ")"
-attribute_bare (tree.binding e) = λ i. codes "@binding" ++ codes "(" ++ node_bare e i ++ codes ")"
-attribute_bare (tree.blend_src e) = λ i. codes "@blend_src" ++ codes "(" ++ node_bare e i ++ codes ")"
-attribute_bare (tree.group e) = λ i. codes "@group" ++ codes "(" ++ node_bare e i ++ codes ")"
-attribute_bare (tree.id e) = λ i. codes "@id" ++ codes "(" ++ node_bare e i ++ codes ")"
-attribute_bare (tree.location e) = λ i. codes "@location" ++ codes "(" ++ node_bare e i ++ codes ")"
-attribute_bare (tree.size e) = λ i. codes "@size" ++ codes "(" ++ node_bare e i ++ codes ")"
-attribute_bare (tree.if_attribute e) = λ i. codes "@if" ++ codes "(" ++ node_bare e i ++ codes ")"
-attribute_bare (tree.elif_attribute e) = λ i. codes "@elif" ++ codes "(" ++ node_bare e i ++ codes ")"
+attribute_bare (tree.with_argument name e) = λ i. codes "@" ++ tree.one_argument_text name ++ codes "(" ++ node_bare e i ++ codes ")"
+attribute_bare (tree.without_argument name) = refl
 attribute_bare (tree.builtin value) = refl
-attribute_bare tree.const_attribute = refl
-attribute_bare tree.invariant = refl
-attribute_bare tree.must_use = refl
-attribute_bare tree.vertex = refl
-attribute_bare tree.fragment = refl
-attribute_bare tree.compute = refl
-attribute_bare tree.else_attribute = refl
 attribute_bare (tree.diagnostic d) = refl
 attribute_bare (tree.interpolate j) = refl
 attribute_bare (tree.workgroup_size w) = λ i. codes "@workgroup_size(" ++ node_bare w.x i ++ further_bare w.y i ++ further_bare w.z i ++ codes ")"
