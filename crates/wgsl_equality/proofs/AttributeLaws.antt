@@ -1,7 +1,7 @@
 -- The code of an attribute has all but its spans.
 use Rattle.std.specs.Prelude.{ℕ, true, [], ◌∷◌, map, Option, Some, None, ◌≡◌, ◌↔◌}
 use Rattle.std.proofs.Common.{refl, ap}
-use Rattle.wgsl_model.specs.Attributes.{Attribute, align, binding, blend_src, group, id, location, size, if_attribute, elif_attribute, builtin, const_attribute, invariant, must_use, vertex, fragment, compute, else_attribute, Attribute.diagnostic, Attribute.interpolate, Attribute.workgroup_size, Attribute.type_constraint, Attribute.custom, Attributes, DiagnosticAttribute, InterpolateAttribute, WorkgroupSizeAttribute, TypeConstraint, CustomAttribute}
+use Rattle.wgsl_model.specs.Attributes.{OneArgument, one_argument_attributes, align, NoArgument, no_argument_attributes, const_attribute, Attribute, with_argument, without_argument, builtin, Attribute.diagnostic, Attribute.interpolate, Attribute.workgroup_size, Attribute.type_constraint, Attribute.custom, Attributes, DiagnosticAttribute, InterpolateAttribute, WorkgroupSizeAttribute, TypeConstraint, CustomAttribute}
 use Rattle.wgsl_model.specs.NamedValues.{InterpolationSampling}
 use Rattle.wgsl_model.specs.Spanned.{Spanned}
 use Rattle.wgsl_model.specs.WithoutSpans.{no_span, bare_spanned, bare_expression_node, bare_type, bare_workgroup_size, bare_type_constraint, bare_custom, bare_attribute, bare_attributes}
@@ -9,7 +9,7 @@ use Rattle.wgsl_equality.specs.Code.{Code, number, text, pair, same, list_code, 
 use Rattle.wgsl_equality.specs.Laws.{same_is}
 use Rattle.wgsl_equality.specs.Expressions.{expression_node_code, type_code}
 use Rattle.wgsl_equality.specs.NamedValues.{interpolation_sampling_number}
-use Rattle.wgsl_equality.specs.Attributes.{diagnostic_code, interpolate_code, workgroup_size_code, type_constraint_code, custom_code, attribute_code, attributes_code}
+use Rattle.wgsl_equality.specs.Attributes.{one_argument_number, no_argument_number, diagnostic_code, interpolate_code, workgroup_size_code, type_constraint_code, custom_code, attribute_code, attributes_code}
 use Rattle.wgsl_equality.proofs.Parts.{value_at, number_of, text_of, option_of, option_decoded, option_coded, list_of, list_decoded, list_coded}
 use Rattle.wgsl_equality.proofs.ExpressionLaws.{node_of, node_decoded, node_coded, type_of, type_decoded, type_coded}
 use Rattle.wgsl_equality.proofs.NamedValueLaws.{severity_of, severity_decoded, interpolation_type_of, interpolation_type_decoded, interpolation_sampling_of, interpolation_sampling_decoded, builtin_value_of, builtin_value_decoded}
@@ -80,20 +80,27 @@ custom_coded c =
     let nodes = list_coded expression_node_code bare_expression_node node_coded in
     ap (pair (text c.name)) (option_coded (list_code expression_node_code) (map bare_expression_node) nodes c.arguments)
 
+-- a name, read back
+abbrev one_argument_of : ℕ → OneArgument
+one_argument_of = value_at align one_argument_attributes
+
+one_argument_decoded : (name : OneArgument) → one_argument_of (one_argument_number name) ≡ name
+one_argument_decoded align = refl
+one_argument_decoded _ = refl
+
+abbrev no_argument_of : ℕ → NoArgument
+no_argument_of = value_at const_attribute no_argument_attributes
+
+no_argument_decoded : (name : NoArgument) → no_argument_of (no_argument_number name) ≡ name
+no_argument_decoded const_attribute = refl
+no_argument_decoded _ = refl
+
 -- an attribute, read back
 abbrev attribute_at : ℕ → Code → Attribute
 attribute_at = value_at (λ c. custom (custom_of c)) (
-    (λ c. align (node_of c)) ∷
-    (λ c. binding (node_of c)) ∷
-    (λ c. blend_src (node_of c)) ∷
-    (λ c. group (node_of c)) ∷
-    (λ c. id (node_of c)) ∷
-    (λ c. location (node_of c)) ∷
-    (λ c. size (node_of c)) ∷
-    (λ c. if_attribute (node_of c)) ∷
-    (λ c. elif_attribute (node_of c)) ∷
+    (λ c. with_argument (one_argument_of (number_of (first_of c))) (node_of (second_of c))) ∷
+    (λ c. without_argument (no_argument_of (number_of c))) ∷
     (λ c. builtin (builtin_value_of (number_of c))) ∷
-    (λ _. const_attribute) ∷ (λ _. invariant) ∷ (λ _. must_use) ∷ (λ _. vertex) ∷ (λ _. fragment) ∷ (λ _. compute) ∷ (λ _. else_attribute) ∷
     (λ c. diagnostic (diagnostic_of c)) ∷
     (λ c. interpolate (interpolate_of c)) ∷
     (λ c. workgroup_size (workgroup_size_of c)) ∷
@@ -103,23 +110,9 @@ abbrev attribute_of : Code → Attribute
 attribute_of c = attribute_at (number_of (first_of c)) (second_of c)
 
 attribute_decoded : (a : Attribute) → attribute_of (attribute_code a) ≡ bare_attribute a
-attribute_decoded (align e) = ap align (node_decoded e)
-attribute_decoded (binding e) = ap binding (node_decoded e)
-attribute_decoded (blend_src e) = ap blend_src (node_decoded e)
-attribute_decoded (group e) = ap group (node_decoded e)
-attribute_decoded (id e) = ap id (node_decoded e)
-attribute_decoded (location e) = ap location (node_decoded e)
-attribute_decoded (size e) = ap size (node_decoded e)
-attribute_decoded (if_attribute e) = ap if_attribute (node_decoded e)
-attribute_decoded (elif_attribute e) = ap elif_attribute (node_decoded e)
+attribute_decoded (with_argument name e) = λ i. with_argument (one_argument_decoded name i) (node_decoded e i)
+attribute_decoded (without_argument name) = ap without_argument (no_argument_decoded name)
 attribute_decoded (builtin b) = ap builtin (builtin_value_decoded b)
-attribute_decoded const_attribute = refl
-attribute_decoded invariant = refl
-attribute_decoded must_use = refl
-attribute_decoded vertex = refl
-attribute_decoded fragment = refl
-attribute_decoded compute = refl
-attribute_decoded else_attribute = refl
 attribute_decoded (diagnostic d) = ap diagnostic (diagnostic_decoded d)
 attribute_decoded (interpolate t) = ap interpolate (interpolate_decoded t)
 attribute_decoded (workgroup_size w) = ap workgroup_size (workgroup_size_decoded w)
@@ -127,28 +120,11 @@ attribute_decoded (type_constraint t) = ap type_constraint (type_constraint_deco
 attribute_decoded (custom c) = ap custom (custom_decoded c)
 
 pub attribute_coded : (a : Attribute) → attribute_code (bare_attribute a) ≡ attribute_code a
-attribute_coded (align e) = ap (pair (number 0)) (node_coded e)
-attribute_coded (binding e) = ap (pair (number 1)) (node_coded e)
-attribute_coded (blend_src e) = ap (pair (number 2)) (node_coded e)
-attribute_coded (group e) = ap (pair (number 3)) (node_coded e)
-attribute_coded (id e) = ap (pair (number 4)) (node_coded e)
-attribute_coded (location e) = ap (pair (number 5)) (node_coded e)
-attribute_coded (size e) = ap (pair (number 6)) (node_coded e)
-attribute_coded (if_attribute e) = ap (pair (number 7)) (node_coded e)
-attribute_coded (elif_attribute e) = ap (pair (number 8)) (node_coded e)
-attribute_coded (builtin b) = refl
-attribute_coded const_attribute = refl
-attribute_coded invariant = refl
-attribute_coded must_use = refl
-attribute_coded vertex = refl
-attribute_coded fragment = refl
-attribute_coded compute = refl
-attribute_coded else_attribute = refl
-attribute_coded (diagnostic d) = refl
-attribute_coded (interpolate t) = refl
-attribute_coded (workgroup_size w) = ap (pair (number 19)) (workgroup_size_coded w)
-attribute_coded (type_constraint t) = ap (pair (number 20)) (type_constraint_coded t)
-attribute_coded (custom c) = ap (pair (number 21)) (custom_coded c)
+attribute_coded (with_argument name e) = ap (λ c. pair (number 0) (pair (number (one_argument_number name)) c)) (node_coded e)
+attribute_coded (workgroup_size w) = ap (pair (number 5)) (workgroup_size_coded w)
+attribute_coded (type_constraint t) = ap (pair (number 6)) (type_constraint_coded t)
+attribute_coded (custom c) = ap (pair (number 7)) (custom_coded c)
+attribute_coded a = refl
 
 -- attributes, each with where it stands
 abbrev spanned_code : Spanned Attribute → Code
