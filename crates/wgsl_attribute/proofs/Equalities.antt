@@ -93,50 +93,14 @@ customs_same a b =
     λ i. pointwise ◌==◌ (string_bytes a.name) (string_bytes b.name) && arguments i
 
 pub attributes_same : (a b : Attribute) → equal_attributes a b ≡ same (attribute_code (attribute_view a)) (attribute_code (attribute_view b))
-attributes_same (attribute.Align e) (attribute.Align f) = refl
-attributes_same (attribute.Align e) other = refl
-attributes_same (attribute.Binding e) (attribute.Binding f) = refl
-attributes_same (attribute.Binding e) other = refl
-attributes_same (attribute.BlendSrc e) (attribute.BlendSrc f) = refl
-attributes_same (attribute.BlendSrc e) other = refl
-attributes_same (attribute.Group e) (attribute.Group f) = refl
-attributes_same (attribute.Group e) other = refl
-attributes_same (attribute.Id e) (attribute.Id f) = refl
-attributes_same (attribute.Id e) other = refl
-attributes_same (attribute.Location e) (attribute.Location f) = refl
-attributes_same (attribute.Location e) other = refl
-attributes_same (attribute.Size e) (attribute.Size f) = refl
-attributes_same (attribute.Size e) other = refl
-attributes_same (attribute.If e) (attribute.If f) = refl
-attributes_same (attribute.If e) other = refl
-attributes_same (attribute.Elif e) (attribute.Elif f) = refl
-attributes_same (attribute.Elif e) other = refl
 attributes_same (attribute.Builtin e) (attribute.Builtin f) = λ i. builtin_tag e i == builtin_tag f i
-attributes_same (attribute.Builtin e) other = refl
-attributes_same attribute.Const attribute.Const = refl
-attributes_same attribute.Const other = refl
-attributes_same attribute.Invariant attribute.Invariant = refl
-attributes_same attribute.Invariant other = refl
-attributes_same attribute.MustUse attribute.MustUse = refl
-attributes_same attribute.MustUse other = refl
-attributes_same attribute.Vertex attribute.Vertex = refl
-attributes_same attribute.Vertex other = refl
-attributes_same attribute.Fragment attribute.Fragment = refl
-attributes_same attribute.Fragment other = refl
-attributes_same attribute.Compute attribute.Compute = refl
-attributes_same attribute.Compute other = refl
-attributes_same attribute.Else attribute.Else = refl
-attributes_same attribute.Else other = refl
 attributes_same (attribute.Diagnostic e) (attribute.Diagnostic f) = diagnostics_same e f
-attributes_same (attribute.Diagnostic e) other = refl
 attributes_same (attribute.Interpolate e) (attribute.Interpolate f) = interpolations_same e f
-attributes_same (attribute.Interpolate e) other = refl
 attributes_same (attribute.WorkgroupSize e) (attribute.WorkgroupSize f) = workgroup_sizes_same e f
-attributes_same (attribute.WorkgroupSize e) other = refl
 attributes_same (attribute.TypeConstraint e) (attribute.TypeConstraint f) = type_constraints_same e f
-attributes_same (attribute.TypeConstraint e) other = refl
 attributes_same (attribute.Custom e) (attribute.Custom f) = customs_same e f
-attributes_same (attribute.Custom e) other = refl
+attributes_same a (attribute.Custom f) = refl
+attributes_same a b = refl
 
 -- lists of attributes
 pub attribute_lists_same : (xs ys : List (Spanned Attribute)) → pointwise (λ x y. equal_attributes (spanned_node x) (spanned_node y)) xs ys ≡ same (attributes_code (attributes_view xs)) (attributes_code (attributes_view ys))

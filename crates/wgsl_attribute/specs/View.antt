@@ -38,23 +38,23 @@ abbrev pub custom_view : CustomAttribute → plain.CustomAttribute
 custom_view c = record { name = string_bytes c.name; arguments = option_map expressions_view c.arguments }
 
 abbrev pub attribute_view : Attribute → plain.Attribute
-attribute_view (attribute.Align e) = plain.align (expression_node_view e)
-attribute_view (attribute.Binding e) = plain.binding (expression_node_view e)
-attribute_view (attribute.BlendSrc e) = plain.blend_src (expression_node_view e)
-attribute_view (attribute.Group e) = plain.group (expression_node_view e)
-attribute_view (attribute.Id e) = plain.id (expression_node_view e)
-attribute_view (attribute.Location e) = plain.location (expression_node_view e)
-attribute_view (attribute.Size e) = plain.size (expression_node_view e)
-attribute_view (attribute.If e) = plain.if_attribute (expression_node_view e)
-attribute_view (attribute.Elif e) = plain.elif_attribute (expression_node_view e)
+attribute_view (attribute.Align e) = plain.with_argument plain.align (expression_node_view e)
+attribute_view (attribute.Binding e) = plain.with_argument plain.binding (expression_node_view e)
+attribute_view (attribute.BlendSrc e) = plain.with_argument plain.blend_src (expression_node_view e)
+attribute_view (attribute.Group e) = plain.with_argument plain.group (expression_node_view e)
+attribute_view (attribute.Id e) = plain.with_argument plain.id (expression_node_view e)
+attribute_view (attribute.Location e) = plain.with_argument plain.location (expression_node_view e)
+attribute_view (attribute.Size e) = plain.with_argument plain.size (expression_node_view e)
+attribute_view (attribute.If e) = plain.with_argument plain.if_attribute (expression_node_view e)
+attribute_view (attribute.Elif e) = plain.with_argument plain.elif_attribute (expression_node_view e)
 attribute_view (attribute.Builtin b) = plain.builtin (builtin_value_view b)
-attribute_view attribute.Const = plain.const_attribute
-attribute_view attribute.Invariant = plain.invariant
-attribute_view attribute.MustUse = plain.must_use
-attribute_view attribute.Vertex = plain.vertex
-attribute_view attribute.Fragment = plain.fragment
-attribute_view attribute.Compute = plain.compute
-attribute_view attribute.Else = plain.else_attribute
+attribute_view attribute.Const = plain.without_argument plain.const_attribute
+attribute_view attribute.Invariant = plain.without_argument plain.invariant
+attribute_view attribute.MustUse = plain.without_argument plain.must_use
+attribute_view attribute.Vertex = plain.without_argument plain.vertex
+attribute_view attribute.Fragment = plain.without_argument plain.fragment
+attribute_view attribute.Compute = plain.without_argument plain.compute
+attribute_view attribute.Else = plain.without_argument plain.else_attribute
 attribute_view (attribute.Diagnostic a) = plain.diagnostic (diagnostic_view a)
 attribute_view (attribute.Interpolate a) = plain.interpolate (interpolate_view a)
 attribute_view (attribute.WorkgroupSize a) = plain.workgroup_size (workgroup_size_view a)
