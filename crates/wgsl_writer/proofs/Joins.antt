@@ -1,7 +1,6 @@
 -- Texts with separators, one more at a time.
 use Rattle.std.proofs.Common.{ℕ, zero, suc, ◌+◌, ◌<◌, ◌≡◌, refl, sym, ◌∙◌, ap, List, [], ◌∷◌, ◌++◌, Option, None, Some, Result, length, take, map, get_or, arith}
 use Rattle.std.proofs.lemmas.List.{take_more, length-take-le, append-nil, append_assoc}
-use Rattle.std.proofs.lemmas.Grind.{flat_map-append}
 use Rattle.std.proofs.Output.{then_text_assoc, displays_on_ok_of_eq}
 use Rattle.std.specs.List.{flat_map, join_by}
 use Rattle.std.specs.Fmt.{◌++?◌, DisplaysOnOk}
@@ -18,22 +17,7 @@ before separator (suc k) = separator
 pub before_next : (sep : List ℕ) (k : ℕ) → before sep (k + 1) ≡ sep
 before_next sep k = let e : k + 1 ≡ suc k = omega arith in ap (before sep) e
 
--- a list of texts, one more at a time
-
-join_by_append : {X : Type 0} (f : X → List ℕ) (sep : List ℕ) (xs : List X) (x : X) → join_by f sep (xs ++ (x ∷ [])) ≡ join_by f sep xs ++ (before sep (length xs) ++ f x)
-join_by_append f sep [] x = append-nil (f x)
-join_by_append f sep (y ∷ xs) x =
-    ap (λ u. f y ++ u) (flat_map-append (λ z. sep ++ f z) xs (x ∷ []))
-    ∙ ap (λ u. f y ++ (flat_map (λ z. sep ++ f z) xs ++ u)) (append-nil (sep ++ f x))
-    ∙ sym (append_assoc (f y) (flat_map (λ z. sep ++ f z) xs) (sep ++ f x))
-    ∙ ap (λ s. (f y ++ flat_map (λ z. sep ++ f z) xs) ++ (s ++ f x)) refl
-
-pub join_by_more : {X : Type 0} (f : X → List ℕ) (sep : List ℕ) (xs : List X) (k : ℕ) (x : X) → k < length xs → x ≡ get_or xs k x → join_by f sep (take (k + 1) xs) ≡ join_by f sep (take k xs) ++ (before sep k ++ f x)
-join_by_more f sep xs k x h e =
-    ap (join_by f sep) (take_more xs k x h ∙ ap (λ z. take k xs ++ (z ∷ [])) (sym e)) ∙ join_by_append f sep (take k xs) x
-    ∙ ap (λ n. join_by f sep (take k xs) ++ (before sep n ++ f x)) (length-take-le k xs (omega (arith, h)))
-
--- the same where an item may have no text
+-- a list of items that may have no text, one more at a time
 
 none_last : (t : Option (List ℕ)) → t ++? Some [] ≡ Some [] ++? (Some [] ++? t)
 none_last None = refl
