@@ -31,9 +31,5 @@ module _ {X : Type 0} (code : X → Code) where
       → all_same xs ys ≡ all_same (drop i xs) (drop i ys) → same (code x) (code y) ≡ false → all_same xs ys ≡ false
   next_differs xs ys i x y lx ly ex ey so differ = so ∙ next_same xs ys i x y lx ly ex ey ∙ ap (λ b. b && all_same (drop (i + 1) xs) (drop (i + 1) ys)) differ
 
-  pub next_agrees : (xs ys : List X) (i : ℕ) (x y : X) → i < length xs → i < length ys → x ≡ get_or xs i x → y ≡ get_or ys i y
-      → all_same xs ys ≡ all_same (drop i xs) (drop i ys) → same (code x) (code y) ≡ true → all_same xs ys ≡ all_same (drop (i + 1) xs) (drop (i + 1) ys)
-  next_agrees xs ys i x y lx ly ex ey so agree = so ∙ next_same xs ys i x y lx ly ex ey ∙ ap (λ b. b && all_same (drop (i + 1) xs) (drop (i + 1) ys)) agree
-
   pub none_left : (xs ys : List X) (i : ℕ) → length xs ≤ i → length ys ≤ i → all_same xs ys ≡ all_same (drop i xs) (drop i ys) → all_same xs ys ≡ true
   none_left xs ys i lx ly so = so ∙ (λ t. all_same (drop_of_length-le xs lx t) (drop_of_length-le ys ly t))
