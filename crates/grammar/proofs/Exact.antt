@@ -1,7 +1,7 @@
 -- The reader takes exactly what is derived, and at most one value is derived.
-use Rattle.std.proofs.Common.{◌≡◌, ℕ, suc, ◌+◌, Bool, true, false, List, [], ◌∷◌, ◌++◌, length, inl, inr, refl, sym, ap, subst, ◌∙◌, append_assoc, append-nil, arith, length-append, ◌*◌, ap₂, le_refl}
+use Rattle.std.proofs.Common.{◌≡◌, ℕ, suc, ◌+◌, List, [], ◌∷◌, ◌++◌, length, inl, inr, refl, sym, ap, subst, ◌∙◌, append_assoc, append-nil, arith, length-append, ◌*◌, ap₂, le_refl}
 use Rattle.grammar.specs.Tokens.{Token}
-use Rattle.grammar.specs.Grammar.{Grammar, Mode, Mode.unchecked, Part, Derives, IsSentence, IsViable}
+use Rattle.grammar.specs.Grammar.{Grammar, Mode, Mode.unchecked, Part, Derives, IsViable}
 use Rattle.grammar.specs.Tables.{Tables, Passes}
 use Rattle.grammar.specs.Reading.{Outcome, Outcome.ok, Outcome.stuck, Outcome.bad, Outcome.out, read, read_all}
 use Rattle.grammar.proofs.Beginnings.{Sane}
@@ -86,23 +86,3 @@ pub part_front : {N : Type 0} {Value : N → Type 0} (M : Mode) (body : (n : N) 
 part_front M body n v ts us d =
     let w = part_is_front unchecked body n v ts us (loosen M body n v ts us d) in
     (w.0, w.1, ([], (v, subst (λ (x : List Token). Derives unchecked body n v x) (sym (append-nil w.0)) w.2)))
-
--- ---- a sentence is shown by reading it
-abbrev pub takes_all : {A : Type 0} → Outcome A → Bool
-takes_all (ok v []) = true
-takes_all (ok v (t ∷ us)) = false
-takes_all (stuck us) = false
-takes_all (bad x us) = false
-takes_all out = false
-
-pub all_taken : {A : Type 0} (m : Outcome A) → takes_all m ≡ true → (v : A) × (m ≡ ok v [])
-all_taken (ok v []) e = (v, refl)
-all_taken (ok v (t ∷ us)) e = absurd cc
-all_taken (stuck us) e = absurd cc
-all_taken (bad x us) e = absurd cc
-all_taken out e = absurd cc
-
-pub sentence : {N : Type 0} {Value : N → Type 0} (T : Tables N) (body : (n : N) → Grammar N Value (Value n)) (k : ℕ) (n : N) (ts : List Token) → takes_all (read T unchecked body k n ts) ≡ true → (ts : List Token) × IsSentence body n ts
-sentence T body k n ts e =
-    let w = all_taken (read T unchecked body k n ts) e in
-    (ts, (w.0, of_ok (λ v us. Part unchecked body n v ts us) (read T unchecked body k n ts) w.0 [] (sound_read T unchecked body k n ts) w.1))

@@ -13,7 +13,6 @@ pub mod Anchors
 pub mod Faults
 pub mod First
 pub mod Outcomes
-pub mod Cut
 pub mod States
 pub mod Lists
 pub mod Named

@@ -13,7 +13,7 @@ use Rattle.grammar.proofs.Beginnings.{cond_yes, cond_no}
 use Rattle.grammar.proofs.Depth.{unroll}
 use Rattle.grammar.proofs.Guards.{guarded_alone}
 use Rattle.grammar.proofs.Lists.{separated}
-use Rattle.grammar.proofs.Named.{answers, EndsApart, one_token_ends_apart}
+use Rattle.grammar.proofs.Named.{answers}
 use Rattle.grammar.proofs.Outcomes.{IsTested}
 use Rattle.grammar.proofs.States.{reads_is}
 use Rattle.grammar.proofs.Words.{all_sentences}
@@ -172,12 +172,6 @@ tokens_are_refused = refl
 -- what is answered is true, however the list ended
 units_are_answered : (wording : Wording) (ts : List Token) (ending : Ending) → Answers body apart wording unit ts ending (answer wording ts ending (reads tables body 2 unit (start_state ts)))
 units_are_answered wording ts ending = answers tables body 2 apart tested wording unit ts ending
-
--- and no other fault is named
-faults_end_apart : EndsApart body apart
-faults_end_apart = one_token_ends_apart tables body 2 apart passes name
-    (elim [ unit ↦ inl (λ v s. refl) | declaration ↦ inl (λ v s. refl) | names ↦ inl (λ v s. refl) | more_names ↦ inl (λ v s. refl) | name ↦ inr refl ])
-    (λ t xs ys d. let first = unroll unchecked body name t xs ys d in (t, first.1.1))
 
 -- the names behind those that were read so far
 abbrev names_from : List Token → State → Read (List Token)

@@ -1,8 +1,8 @@
 -- The reader over states is the reader over lists.
-use Rattle.std.proofs.Common.{◌≡◌, ℕ, zero, suc, ◌+◌, ◌-◌, ◌*◌, ◌<◌, ◌≤◌, Bool, true, false, cond, eqb, List, [], ◌∷◌, ◌++◌, length, map, slice_index_or, inl, inr, refl, sym, ap, ap₂, subst, ◌∙◌, arith, append_assoc, length-append}
+use Rattle.std.proofs.Common.{◌≡◌, ℕ, zero, suc, ◌+◌, ◌*◌, ◌<◌, ◌≤◌, Bool, true, false, cond, eqb, List, [], ◌∷◌, ◌++◌, length, inl, inr, refl, sym, ap, ap₂, subst, ◌∙◌, arith, append_assoc, length-append}
 use Rattle.std.specs.Prelude.{Option, Some, None}
 use Rattle.grammar.specs.Tokens.{Token, Span, span_of, last_end, tokens_between, span_between}
-use Rattle.grammar.specs.Grammar.{Grammar, Grammar.empty, Grammar.token, Grammar.sequence, Grammar.choice, Grammar.mapped, Grammar.node, Grammar.checked, Grammar.symbol, Grammar.left_chain, Mode.full, is_among, Means, Part, Derives}
+use Rattle.grammar.specs.Grammar.{Grammar, Grammar.empty, Grammar.token, Grammar.sequence, Grammar.choice, Grammar.mapped, Grammar.node, Grammar.checked, Grammar.symbol, Grammar.left_chain, Mode.full, is_among, Means, Part}
 use Rattle.grammar.specs.Tables.{Tables, nullable, first, decides, spans_tokens, Passes}
 use Rattle.grammar.specs.Reading.{Outcome, Outcome.ok, Outcome.stuck, Outcome.bad, Outcome.out, bind, judge, chooses, take_token, loop, run, read_all}
 use Rattle.grammar.specs.States.{State, Read, Read.done, Read.stop, ◌>>=◌, refused, is_at, is_any, first_start, start_of, first_of, after, take, take_any, judged, span_from, turns_in, turns, go, placed, tag, reads}
@@ -11,7 +11,6 @@ use Rattle.grammar.proofs.Beginnings.{pick, pick_no, Begins, begins, begins_with
 use Rattle.grammar.proofs.Sound.{OfOk, of_ok, of_map, IsSound, sound, sound_read}
 use Rattle.grammar.proofs.Frame.{tokens_append, framed, framed_part}
 use Rattle.grammar.proofs.Step.{sane, step}
-use Rattle.grammar.proofs.Exact.{accepts}
 
 -- ---- places
 tokens_are : (xs p us : List Token) → xs ≡ p ++ us → tokens_between xs us ≡ p
@@ -20,14 +19,6 @@ tokens_are xs p us e = ap (λ (x : List Token). tokens_between x us) e ∙ token
 last_append : (e : ℕ) (p q : List Token) → last_end e (p ++ q) ≡ last_end (last_end e p) q
 last_append e [] q = refl
 last_append e (t ∷ p) q = last_append t.end p q
-
--- where the last of a list of items ends, each seen as a token
-pub last_end_is : {A : Type 0} (view : A → Token) (items : List A) (x : A) (place : ℕ) → 0 < length items → x ≡ slice_index_or items (length items - 1) x → last_end place (map view items) ≡ (view x).end
-last_end_is view [] x place k e = absurd (omega (arith, k))
-last_end_is view (y ∷ []) x place k e = ap (λ (z : _). (view z).end) (sym e)
-last_end_is view (y ∷ (z ∷ items)) x place k e =
-    last_end_is view (z ∷ items) x (view y).end (omega arith)
-    (e ∙ (let n : length (y ∷ (z ∷ items)) - 1 ≡ suc (length (z ∷ items) - 1) = omega arith in ap (λ (i : ℕ). slice_index_or (y ∷ (z ∷ items)) i x) n))
 
 -- the tokens before us were taken
 abbrev Advance : List Token → List Token → Type 0
@@ -265,14 +256,3 @@ pub read_is_part : {N : Type 0} {Value : N → Type 0} (T : Tables N) (body : (n
 unfolding reads
 read_is_part T body R n s v s' e =
     of_ok (λ v us. Part full body n v s.rest us) (read_all T full body R n s.rest) v s'.rest (all_sound T body R n s.rest) (tag_done s (read_all T full body R n s.rest) v s' e)
-
--- what is read of all tokens is derived
-pub read_is_derived : {N : Type 0} {Value : N → Type 0} (T : Tables N) (body : (n : N) → Grammar N Value (Value n)) (R : ℕ)
-    → (n : N) (s : State) (v : Value n) (s' : State) → reads T body R n s ≡ done v s' → s'.rest ≡ [] → Derives full body n v s.rest
-read_is_derived T body R n s v s' e h = subst (Part full body n v s.rest) h (read_is_part T body R n s v s' e)
-
--- what is derived is read
-pub derived_is_read : {N : Type 0} {Value : N → Type 0} (T : Tables N) (body : (n : N) → Grammar N Value (Value n)) (R : ℕ) → Passes T body R
-    → (n : N) (s : State) (v : Value n) → Derives full body n v s.rest → reads T body R n s ≡ done v (placed s [])
-unfolding reads
-derived_is_read T body R p n s v d = ap (tag s) (accepts T full body R p n v s.rest d)
