@@ -13,6 +13,7 @@ pub mod Anchors
 pub mod Faults
 pub mod First
 pub mod Outcomes
+pub mod Binding
 pub mod States
 pub mod Lists
 pub mod Named

@@ -1,20 +1,8 @@
 -- Lists whose rule ends with the list itself, read with an accumulator of what was read so far.
-use Rattle.std.proofs.Common.{◌≡◌, ℕ, Bool, true, false, cond, List, [], ◌∷◌, ◌++◌, refl, sym, ap, ap₂, ◌∙◌, append_assoc, append-nil}
+use Rattle.std.proofs.Common.{◌≡◌, ℕ, cond, List, [], ◌∷◌, ◌++◌, refl, sym, ap, ap₂, ◌∙◌, append_assoc, append-nil}
 use Rattle.grammar.specs.Tokens.{Token}
 use Rattle.grammar.specs.States.{State, Read, Read.done, Read.stop, ◌>>=◌, is_at, take}
-
--- ---- what comes behind a reading
-bind_associates : {A B C : Type 0} (m : Read A) (f : A → State → Read B) (g : B → State → Read C) → ((m >>= f) >>= g) ≡ (m >>= λ a s. f a s >>= g)
-bind_associates (done a s) f g = refl
-bind_associates (stop e) f g = refl
-
-bind_alike : {A B : Type 0} (m : Read A) (f f' : A → State → Read B) → ((a : A) (s : State) → f a s ≡ f' a s) → (m >>= f) ≡ (m >>= f')
-bind_alike (done a s) f f' h = h a s
-bind_alike (stop e) f f' h = refl
-
-bind_cond : {A B : Type 0} (b : Bool) (x y : Read A) (f : A → State → Read B) → (cond b x y >>= f) ≡ cond b (x >>= f) (y >>= f)
-bind_cond true x y f = refl
-bind_cond false x y f = refl
+use Rattle.grammar.proofs.Binding.{bind_associates, bind_alike, bind_cond}
 
 -- ---- what a rule makes of its parts
 -- nothing, of the token that closes
@@ -44,11 +32,11 @@ abbrev items_closed : {A : Type 0} → List A → Token → State → Read (List
 items_closed l t s = done l s
 
 none_behind : {A : Type 0} (l : List A) (m : Read Token) → ((m >>= no_items) >>= put_behind l) ≡ (m >>= items_closed l)
-none_behind l m = bind_associates m no_items (put_behind l) ∙ bind_alike m _ _ (λ t s. ap (λ x. done x s) (append-nil l))
+none_behind l m = bind_associates m no_items (put_behind l) ∙ bind_alike m _ _ (λ t s is. ap (λ x. done x s) (append-nil l))
 
 one_behind : {A : Type 0} (l : List A) (e : A) (m : Read (List A)) → (((m >>= paired e) >>= item_first) >>= put_behind l) ≡ (m >>= put_behind (l ++ e ∷ []))
 one_behind l e m =
-    bind_associates (m >>= paired e) item_first (put_behind l) ∙ bind_associates m (paired e) _ ∙ bind_alike m _ _ (λ k s. ap (λ x. done x s) (sym (append_assoc l (e ∷ []) k)))
+    bind_associates (m >>= paired e) item_first (put_behind l) ∙ bind_associates m (paired e) _ ∙ bind_alike m _ _ (λ k s is. ap (λ x. done x s) (sym (append_assoc l (e ∷ []) k)))
 
 first_behind : {A : Type 0} (l : List A) (m : Read A) (rest : State → Read (List A))
     → (((m >>= λ e s. rest s >>= paired e) >>= item_first) >>= put_behind l) ≡ (m >>= λ e s. rest s >>= put_behind (l ++ e ∷ []))
@@ -76,7 +64,7 @@ pub separated : {A : Type 0} (rest more : State → Read (List A)) (one : State 
     (one s >>= λ e s'. cond (is_at comma s') (take comma s' >>= λ t s''. rest s'' >>= put_behind (l ++ e ∷ [])) (take close s' >>= items_closed (l ++ e ∷ [])))
 separated rest more one comma close h k l s =
     ap (λ m. m >>= put_behind l) (h s) ∙ bind_cond (is_at close s) _ _ (put_behind l) ∙ ap₂ (cond (is_at close s)) (none_behind l (take close s))
-    (first_behind l (one s) more ∙ bind_alike (one s) _ _ (λ e s'.
+    (first_behind l (one s) more ∙ bind_alike (one s) _ _ (λ e s' is.
     ap (λ m. m >>= put_behind (l ++ e ∷ [])) (k s') ∙ bind_cond (is_at comma s') _ _ _ ∙ ap₂ (cond (is_at comma s')) (token_behind _ (take comma s') rest) (none_behind _ (take close s'))))
 
 -- from no items on

@@ -5,9 +5,10 @@ use Rattle.grammar.specs.Tokens.{Token, Span, span_of, last_end, tokens_between,
 use Rattle.grammar.specs.Grammar.{Grammar, Grammar.empty, Grammar.token, Grammar.sequence, Grammar.choice, Grammar.mapped, Grammar.node, Grammar.checked, Grammar.symbol, Grammar.left_chain, Mode.full, is_among, Means, Part}
 use Rattle.grammar.specs.Tables.{Tables, nullable, first, decides, spans_tokens, Passes}
 use Rattle.grammar.specs.Reading.{Outcome, Outcome.ok, Outcome.stuck, Outcome.bad, Outcome.out, bind, judge, chooses, take_token, loop, run, read_all}
-use Rattle.grammar.specs.States.{State, Read, Read.done, Read.stop, ◌>>=◌, refused, is_at, is_any, first_start, start_of, first_of, after, take, take_any, judged, span_from, turns_in, turns, go, placed, tag, reads}
+use Rattle.grammar.specs.States.{State, Read, Read.done, ◌>>=◌, refused, is_at, is_any, first_start, start_of, first_of, after, take, take_any, judged, span_from, turns_in, turns, go, placed, tag, reads}
 use Rattle.grammar.proofs.Sets.{and_true, not_true}
 use Rattle.grammar.proofs.Beginnings.{pick, pick_no, Begins, begins, begins_within}
+use Rattle.grammar.proofs.Binding.{bind_alike}
 use Rattle.grammar.proofs.Sound.{OfOk, of_ok, of_map, IsSound, sound, sound_read}
 use Rattle.grammar.proofs.Frame.{tokens_append, framed, framed_part}
 use Rattle.grammar.proofs.Step.{sane, step}
@@ -200,10 +201,6 @@ reads_is T body R p n s = ap (tag s) (step T full body R p n s.rest) ∙ run_is_
 -- each part takes a token
 abbrev pub Shortens : {A : Type 0} → (State → Read A) → Type 0
 Shortens {A} r = (s : State) (a : A) (s' : State) → r s ≡ done a s' → length s'.rest < length s.rest
-
-bind_alike : {A B : Type 0} (m : Read A) (f f' : A → State → Read B) → ((a : A) (s : State) → m ≡ done a s → f a s ≡ f' a s) → (m >>= f) ≡ (m >>= f')
-bind_alike (done a s) f f' h = h a s refl
-bind_alike (stop e) f f' h = refl
 
 none_any : (cs : List ℕ) (s : State) → length s.rest ≤ 0 → is_any cs s ≡ false
 none_any cs s h = sym (any_is cs s) ∙ no_token s.rest h
