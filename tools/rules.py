@@ -1,13 +1,13 @@
 #!/usr/bin/env python3
-"""Writes, for each symbol of the factored grammar, the word for what its right side reads
-and the equation that the symbol reads just that.
+"""Writes, for each symbol of the factored grammar that some crate cites, the word for what its
+right side reads and the equation that the symbol reads just that.
 
 Run it at the top of the repository:
 
     tools/rules.py crates/wgsl_grammar_theory
 
-It reads the names of the symbols from the definitions. Nothing rests on it: the prover
-checks every equation.
+It reads the names of the symbols from the definitions, and in all crates which are cited.
+Nothing rests on it: the prover checks every equation.
 """
 import re
 import sys
@@ -48,16 +48,35 @@ def groups(crate):
     ]
 
 
+def cited(crate, group):
+    """The symbols of a group whose word or equation is cited in some crate."""
+    forms = ("*/src/**/*.rt", "*/specs/**/*.antt", "*/proofs/**/*.antt")
+    paths = [path for form in forms for path in crate.parent.glob(form)]
+    cites = re.compile(rf"{group}(?:Rules|Equations)(?:::|\.)(\w+|\{{[^}}]*\}})")
+    written = (f"{group}Rules", f"{group}Equations")
+    found = [names for path in paths if path.stem not in written for names in cites.findall(path.read_text())]
+    return {name[:-3] for names in found for name in re.findall(r"\w+_(?:at|is)\b", names)}
+
+
 def names(prefix, symbols):
-    return ", ".join(prefix + symbol for symbol in symbols)
+    return [prefix + symbol for symbol in symbols]
+
+
+def listed(*groups):
+    return ", ".join(name for group in groups for name in group)
+
+
+def factored(parts, *further):
+    """What is imported of the factored grammar: of the further symbols nothing, where none is written."""
+    return ["FactoredSymbol.of"] + (["FactoredSymbol.further", *further, *names("Further.", parts)] if parts else [])
 
 
 def rules(what, symbols, parts):
     words = [(s, f"Value {s}", f"of {s}") for s in symbols] + [(p, f"FurtherValue {p}", f"further {p}") for p in parts]
-    head = f"""-- What the symbols of {what} read by their right sides, each as a word of its own, which no computation opens; written by tools/rules.py.
+    head = f"""-- What the symbols of {what} that are cited read by their right sides, each as a word of its own, which no computation opens; written by tools/rules.py.
 use Rattle.grammar.specs.States.{{State, Read, go}}
-use Rattle.wgsl_model.specs.Symbols.{{Value, {names("Symbol.", symbols)}}}
-use Rattle.wgsl_grammar_theory.specs.Factored.{{FactoredSymbol.of, FactoredSymbol.further, FurtherValue, {names("Further.", parts)}, body}}
+use Rattle.wgsl_model.specs.Symbols.{{{listed(["Value"], names("Symbol.", symbols))}}}
+use Rattle.wgsl_grammar_theory.specs.Factored.{{{listed(factored(parts, "FurtherValue"), ["body"])}}}
 use Rattle.wgsl_grammar_theory.specs.Tables.{{tables}}
 use Rattle.wgsl_grammar_theory.specs.Reader.{{reader}}
 """
@@ -68,11 +87,11 @@ use Rattle.wgsl_grammar_theory.specs.Reader.{{reader}}
 
 def equations(group, what, symbols, parts):
     words = [(s, f"of {s}") for s in symbols] + [(p, f"further {p}") for p in parts]
-    head = f"""-- Each symbol of {what} reads what its right side reads; written by tools/rules.py.
+    head = f"""-- Each symbol of {what} that is cited reads what its right side reads; written by tools/rules.py.
 use Rattle.std.proofs.Common.{{◌≡◌}}
 use Rattle.grammar.specs.States.{{State}}
-use Rattle.wgsl_model.specs.Symbols.{{{names("Symbol.", symbols)}}}
-use Rattle.wgsl_grammar_theory.specs.Factored.{{FactoredSymbol.of, FactoredSymbol.further, {names("Further.", parts)}}}
+use Rattle.wgsl_model.specs.Symbols.{{{listed(names("Symbol.", symbols))}}}
+use Rattle.wgsl_grammar_theory.specs.Factored.{{{listed(factored(parts))}}}
 use Rattle.wgsl_grammar_theory.specs.Reader.{{reader}}
 use Rattle.wgsl_grammar_theory.specs.{group}Rules.{{{", ".join(name + "_at" for name, _ in words)}}}
 use Rattle.wgsl_grammar_theory.proofs.Reader.{{step}}
@@ -85,6 +104,8 @@ use Rattle.wgsl_grammar_theory.proofs.Reader.{{step}}
 def main():
     crate = Path(sys.argv[1])
     for group, what, symbols, parts in groups(crate):
+        used = cited(crate, group)
+        symbols, parts = [s for s in symbols if s in used], [p for p in parts if p in used]
         (crate / "specs" / f"{group}Rules.antt").write_text(rules(what, symbols, parts))
         (crate / "proofs" / f"{group}Equations.antt").write_text(equations(group, what, symbols, parts))
 

@@ -122,11 +122,6 @@ two_shrinks P Q H E a xs ms d f ys (b, e, q) =
 pub two_placed : (P : ExpressionRelation) (Q : ItemRelation) → AllPlaced P → AllEnded Q → AllPlaced (Two P Q)
 two_placed P Q H E v xs ys (p, e, (ms, d, q)) = subst (λ (z : ExpressionNode). Placed z xs ys) e (binary_placed p.0 p.1 xs ms ys (H p.0 xs ms d) (E p.1 ms ys q))
 
--- two growths after one another
-pub grown_twice : (B P : ExpressionRelation) (F G : GrowthRelation) → Grows B P F → (v : ExpressionNode) (xs ys : List Token) → Grown B G v xs ys
-    → (a : ExpressionNode) × (f g : Growth) × (ms us : List Token) × P a xs ms × F f ms us × G g us ys × (g (f a) ≡ v)
-grown_twice B P F G H v xs ys (b, g, us, d, r, e) = let i = H b xs us d in (i.0, i.1, g, i.2, us, i.3, i.4, r, ap g i.5 ∙ e)
-
 -- ---- components behind a base
 abbrev pub ComponentOf : Type 0
 ComponentOf = ExpressionNode → Expression

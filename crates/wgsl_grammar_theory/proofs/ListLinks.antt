@@ -14,10 +14,6 @@ Relation {N} Value = (n : N) → Value n → List Token → List Token → Type 
 abbrev pub Turns : {N : Type 0} {Value : N → Type 0} (M : Mode) (D : Relation Value) {A : Type 0} → Grammar N Value A → Grammar N Value A → Type 0
 Turns M D {A} g h = (v : A) (xs ys : List Token) → Means M D g v xs ys → Means M D h v xs ys
 
--- the same, over two relations
-abbrev pub Leads : {N N' : Type 0} {Value : N → Type 0} {Value' : N' → Type 0} (M : Mode) (D : Relation Value) (E : Relation Value') {A : Type 0} → Grammar N Value A → Grammar N' Value' A → Type 0
-Leads M D E {A} g h = (v : A) (xs ys : List Token) → Means M D g v xs ys → Means M E h v xs ys
-
 -- one token of a class
 abbrev pub IsToken : ℕ → Token → List Token → List Token → Type 0
 IsToken c t xs ys = (is_among t.class (c ∷ []) ≡ true) × (xs ≡ t ∷ ys)

@@ -1,10 +1,10 @@
--- Each symbol of attributes and statements reads what its right side reads; written by tools/rules.py.
+-- Each symbol of attributes and statements that is cited reads what its right side reads; written by tools/rules.py.
 use Rattle.std.proofs.Common.{◌≡◌}
 use Rattle.grammar.specs.States.{State}
-use Rattle.wgsl_model.specs.Symbols.{Symbol.attribute, Symbol.compound_statement, Symbol.statement, Symbol.return_statement, Symbol.if_statement, Symbol.switch_statement, Symbol.loop_statement, Symbol.for_statement, Symbol.while_statement, Symbol.call_statement, Symbol.var_statement, Symbol.value_statement, Symbol.break_statement, Symbol.continue_statement, Symbol.discard_statement, Symbol.assignment, Symbol.phony_assignment, Symbol.increment, Symbol.decrement, Symbol.const_assert, Symbol.switch_clause, Symbol.case_selector, Symbol.continuing_statement, Symbol.for_init, Symbol.for_update, Symbol.var_template, Symbol.typed_ident}
+use Rattle.wgsl_model.specs.Symbols.{Symbol.attribute, Symbol.compound_statement, Symbol.statement, Symbol.return_statement, Symbol.var_statement, Symbol.value_statement, Symbol.break_statement, Symbol.continue_statement, Symbol.discard_statement, Symbol.phony_assignment, Symbol.const_assert, Symbol.switch_clause, Symbol.case_selector, Symbol.continuing_statement, Symbol.for_init, Symbol.for_update, Symbol.var_template, Symbol.typed_ident}
 use Rattle.wgsl_grammar_theory.specs.Factored.{FactoredSymbol.of, FactoredSymbol.further, Further.selectors, Further.attribute_list, Further.statement_rest, Further.loop_rest, Further.continuing_rest, Further.clause_rest, Further.else_rest, Further.init_part, Further.condition_part, Further.update_part, Further.if_part, Further.switch_part, Further.loop_part, Further.for_part, Further.while_part, Further.block_part, Further.left_side_rest, Further.other_left_side, Further.name_rest_statement, Further.simple_statement, Further.other_statement}
 use Rattle.wgsl_grammar_theory.specs.Reader.{reader}
-use Rattle.wgsl_grammar_theory.specs.StatementRules.{attribute_at, compound_statement_at, statement_at, return_statement_at, if_statement_at, switch_statement_at, loop_statement_at, for_statement_at, while_statement_at, call_statement_at, var_statement_at, value_statement_at, break_statement_at, continue_statement_at, discard_statement_at, assignment_at, phony_assignment_at, increment_at, decrement_at, const_assert_at, switch_clause_at, case_selector_at, continuing_statement_at, for_init_at, for_update_at, var_template_at, typed_ident_at, selectors_at, attribute_list_at, statement_rest_at, loop_rest_at, continuing_rest_at, clause_rest_at, else_rest_at, init_part_at, condition_part_at, update_part_at, if_part_at, switch_part_at, loop_part_at, for_part_at, while_part_at, block_part_at, left_side_rest_at, other_left_side_at, name_rest_statement_at, simple_statement_at, other_statement_at}
+use Rattle.wgsl_grammar_theory.specs.StatementRules.{attribute_at, compound_statement_at, statement_at, return_statement_at, var_statement_at, value_statement_at, break_statement_at, continue_statement_at, discard_statement_at, phony_assignment_at, const_assert_at, switch_clause_at, case_selector_at, continuing_statement_at, for_init_at, for_update_at, var_template_at, typed_ident_at, selectors_at, attribute_list_at, statement_rest_at, loop_rest_at, continuing_rest_at, clause_rest_at, else_rest_at, init_part_at, condition_part_at, update_part_at, if_part_at, switch_part_at, loop_part_at, for_part_at, while_part_at, block_part_at, left_side_rest_at, other_left_side_at, name_rest_statement_at, simple_statement_at, other_statement_at}
 use Rattle.wgsl_grammar_theory.proofs.Reader.{step}
 
 pub attribute_is : (s : State) → reader (of attribute) s ≡ attribute_at s
@@ -22,30 +22,6 @@ statement_is s = step (of statement) s
 pub return_statement_is : (s : State) → reader (of return_statement) s ≡ return_statement_at s
 unfolding return_statement_at
 return_statement_is s = step (of return_statement) s
-
-pub if_statement_is : (s : State) → reader (of if_statement) s ≡ if_statement_at s
-unfolding if_statement_at
-if_statement_is s = step (of if_statement) s
-
-pub switch_statement_is : (s : State) → reader (of switch_statement) s ≡ switch_statement_at s
-unfolding switch_statement_at
-switch_statement_is s = step (of switch_statement) s
-
-pub loop_statement_is : (s : State) → reader (of loop_statement) s ≡ loop_statement_at s
-unfolding loop_statement_at
-loop_statement_is s = step (of loop_statement) s
-
-pub for_statement_is : (s : State) → reader (of for_statement) s ≡ for_statement_at s
-unfolding for_statement_at
-for_statement_is s = step (of for_statement) s
-
-pub while_statement_is : (s : State) → reader (of while_statement) s ≡ while_statement_at s
-unfolding while_statement_at
-while_statement_is s = step (of while_statement) s
-
-pub call_statement_is : (s : State) → reader (of call_statement) s ≡ call_statement_at s
-unfolding call_statement_at
-call_statement_is s = step (of call_statement) s
 
 pub var_statement_is : (s : State) → reader (of var_statement) s ≡ var_statement_at s
 unfolding var_statement_at
@@ -67,21 +43,9 @@ pub discard_statement_is : (s : State) → reader (of discard_statement) s ≡ d
 unfolding discard_statement_at
 discard_statement_is s = step (of discard_statement) s
 
-pub assignment_is : (s : State) → reader (of assignment) s ≡ assignment_at s
-unfolding assignment_at
-assignment_is s = step (of assignment) s
-
 pub phony_assignment_is : (s : State) → reader (of phony_assignment) s ≡ phony_assignment_at s
 unfolding phony_assignment_at
 phony_assignment_is s = step (of phony_assignment) s
-
-pub increment_is : (s : State) → reader (of increment) s ≡ increment_at s
-unfolding increment_at
-increment_is s = step (of increment) s
-
-pub decrement_is : (s : State) → reader (of decrement) s ≡ decrement_at s
-unfolding decrement_at
-decrement_is s = step (of decrement) s
 
 pub const_assert_is : (s : State) → reader (of const_assert) s ≡ const_assert_at s
 unfolding const_assert_at

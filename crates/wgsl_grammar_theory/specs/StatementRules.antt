@@ -1,6 +1,6 @@
--- What the symbols of attributes and statements read by their right sides, each as a word of its own, which no computation opens; written by tools/rules.py.
+-- What the symbols of attributes and statements that are cited read by their right sides, each as a word of its own, which no computation opens; written by tools/rules.py.
 use Rattle.grammar.specs.States.{State, Read, go}
-use Rattle.wgsl_model.specs.Symbols.{Value, Symbol.attribute, Symbol.compound_statement, Symbol.statement, Symbol.return_statement, Symbol.if_statement, Symbol.switch_statement, Symbol.loop_statement, Symbol.for_statement, Symbol.while_statement, Symbol.call_statement, Symbol.var_statement, Symbol.value_statement, Symbol.break_statement, Symbol.continue_statement, Symbol.discard_statement, Symbol.assignment, Symbol.phony_assignment, Symbol.increment, Symbol.decrement, Symbol.const_assert, Symbol.switch_clause, Symbol.case_selector, Symbol.continuing_statement, Symbol.for_init, Symbol.for_update, Symbol.var_template, Symbol.typed_ident}
+use Rattle.wgsl_model.specs.Symbols.{Value, Symbol.attribute, Symbol.compound_statement, Symbol.statement, Symbol.return_statement, Symbol.var_statement, Symbol.value_statement, Symbol.break_statement, Symbol.continue_statement, Symbol.discard_statement, Symbol.phony_assignment, Symbol.const_assert, Symbol.switch_clause, Symbol.case_selector, Symbol.continuing_statement, Symbol.for_init, Symbol.for_update, Symbol.var_template, Symbol.typed_ident}
 use Rattle.wgsl_grammar_theory.specs.Factored.{FactoredSymbol.of, FactoredSymbol.further, FurtherValue, Further.selectors, Further.attribute_list, Further.statement_rest, Further.loop_rest, Further.continuing_rest, Further.clause_rest, Further.else_rest, Further.init_part, Further.condition_part, Further.update_part, Further.if_part, Further.switch_part, Further.loop_part, Further.for_part, Further.while_part, Further.block_part, Further.left_side_rest, Further.other_left_side, Further.name_rest_statement, Further.simple_statement, Further.other_statement, body}
 use Rattle.wgsl_grammar_theory.specs.Tables.{tables}
 use Rattle.wgsl_grammar_theory.specs.Reader.{reader}
@@ -17,24 +17,6 @@ statement_at s = go tables reader (body (of statement)) s
 unfoldable pub return_statement_at : State → Read (Value return_statement)
 return_statement_at s = go tables reader (body (of return_statement)) s
 
-unfoldable pub if_statement_at : State → Read (Value if_statement)
-if_statement_at s = go tables reader (body (of if_statement)) s
-
-unfoldable pub switch_statement_at : State → Read (Value switch_statement)
-switch_statement_at s = go tables reader (body (of switch_statement)) s
-
-unfoldable pub loop_statement_at : State → Read (Value loop_statement)
-loop_statement_at s = go tables reader (body (of loop_statement)) s
-
-unfoldable pub for_statement_at : State → Read (Value for_statement)
-for_statement_at s = go tables reader (body (of for_statement)) s
-
-unfoldable pub while_statement_at : State → Read (Value while_statement)
-while_statement_at s = go tables reader (body (of while_statement)) s
-
-unfoldable pub call_statement_at : State → Read (Value call_statement)
-call_statement_at s = go tables reader (body (of call_statement)) s
-
 unfoldable pub var_statement_at : State → Read (Value var_statement)
 var_statement_at s = go tables reader (body (of var_statement)) s
 
@@ -50,17 +32,8 @@ continue_statement_at s = go tables reader (body (of continue_statement)) s
 unfoldable pub discard_statement_at : State → Read (Value discard_statement)
 discard_statement_at s = go tables reader (body (of discard_statement)) s
 
-unfoldable pub assignment_at : State → Read (Value assignment)
-assignment_at s = go tables reader (body (of assignment)) s
-
 unfoldable pub phony_assignment_at : State → Read (Value phony_assignment)
 phony_assignment_at s = go tables reader (body (of phony_assignment)) s
-
-unfoldable pub increment_at : State → Read (Value increment)
-increment_at s = go tables reader (body (of increment)) s
-
-unfoldable pub decrement_at : State → Read (Value decrement)
-decrement_at s = go tables reader (body (of decrement)) s
 
 unfoldable pub const_assert_at : State → Read (Value const_assert)
 const_assert_at s = go tables reader (body (of const_assert)) s
