@@ -1,10 +1,11 @@
 -- What is known of the `<` that were tried, as more is known and read.
-use Rattle.std.proofs.Common.{◌≡◌, ◌⊎◌, ℕ, zero, suc, ◌<◌, false, List, [], ◌∷◌, ◌++◌, length, get_or, inl, inr, refl, sym, ap, subst, ◌∙◌, arith}
-use Rattle.std.proofs.lemmas.List.{length-append, get_or_default}
+use Rattle.std.proofs.Common.{◌≡◌, ◌⊎◌, ℕ, zero, suc, ◌<◌, Bool, false, List, [], ◌∷◌, ◌++◌, take, drop, length, get_or, inl, inr, refl, sym, ap, subst, ◌∙◌, arith}
+use Rattle.std.proofs.lemmas.List.{length-append, get_or_default, take-append-drop}
 use Rattle.wgsl_templates.specs.declared.kept.Piece.{Piece}
 use Rattle.wgsl_templates.specs.declared.findings.Finding.{Finding}
-use Rattle.wgsl_templates.specs.declared.findings.Finding.TheVariants.{Around, Within, List as Listed}
+use Rattle.wgsl_templates.specs.declared.findings.Finding.TheVariants.{Around, GoesOn as OneGoesOn}
 use Rattle.wgsl_templates.specs.declared.findings.Entry.{Entry}
+use Rattle.wgsl_templates.specs.Kept.{BeginWith}
 use Rattle.wgsl_templates.specs.Reached.{Reaches, GoesOn}
 use Rattle.wgsl_templates.specs.Findings.{IsEntry, IsFinding, IsRight, AreRight}
 use Rattle.wgsl_templates.proofs.Held.{held_more}
@@ -31,11 +32,19 @@ goes_on_more total pieces more text rest start end (cut, fits, reached) = (
 
 finding_more : (total : ℕ) (pieces more : List Piece) (text : List ℕ) (r : Finding) → IsFinding total pieces text r → IsFinding total (pieces ++ more) text r
 finding_more total pieces more text Around h = h
-finding_more total pieces more text (Within at start end) (none, rest, e, g) = (none, rest, e, goes_on_more total pieces more text rest start end g)
-finding_more total pieces more text (Listed at start end) (rest, e, list, g) = (rest, e, list, goes_on_more total pieces more text rest start end g)
+finding_more total pieces more text (OneGoesOn is_list at start end) (rest, e, list, g) = (rest, e, list, goes_on_more total pieces more text rest start end g)
 
-pub right_more : (total : ℕ) (source : List ℕ) (pieces more : List Piece) (entries : List Entry) → AreRight total source pieces entries → AreRight total source (pieces ++ more) entries
-right_more total source pieces more entries are i d l from after kind cut s e = finding_more total pieces more after (get_or entries i d).finding (are i d l from after kind cut s e)
+-- what was right stays so
+pub right_more : (total : ℕ) (source : List ℕ) (first pieces : List Piece) (entries : List Entry) → BeginWith first pieces → AreRight total source first entries → AreRight total source pieces entries
+right_more total source first pieces entries (more, longer) are i d l from after kind cut s e =
+    subst (λ (x : List Piece). IsFinding total x after (get_or entries i d).finding) (sym longer) (finding_more total first more after (get_or entries i d).finding (are i d l from after kind cut s e))
+
+pub right_same : (total : ℕ) (source : List ℕ) (pieces now : List Piece) (entries more : List Entry) → now ≡ pieces → more ≡ entries → AreRight total source pieces entries → AreRight total source now more
+right_same total source pieces now entries more e f are = rw (e, f) are
+
+-- what is right of the first pieces is right of all
+pub right_of_all : (total : ℕ) (source : List ℕ) (n : ℕ) (pieces : List Piece) (entries : List Entry) → AreRight total source (take n pieces) entries → AreRight total source pieces entries
+right_of_all total source n pieces entries are = right_more total source (take n pieces) pieces entries (drop n pieces, sym (take-append-drop n pieces)) are
 
 -- ---- more entries
 -- at the start there is none
@@ -57,3 +66,9 @@ one_more_right total source pieces entries e are right i d l = elim (one_of entr
   | inl k ↦ subst (λ (x : Entry). IsRight total source pieces x) (sym k.1) (are i d k.0)
   | inr k ↦ subst (λ (x : Entry). IsRight total source pieces x) (sym k) right
 ]
+
+-- a finding that has no pieces
+pub right_around : (total : ℕ) (source : List ℕ) (n : ℕ) (pieces : List Piece) (entries : List Entry) (start : ℕ) (r : Finding) → ((is_list : Bool) (at b c : ℕ) → r ≡ OneGoesOn is_list at b c → ⊥)
+    → AreRight total source (take n pieces) entries → IsRight total source pieces (record { start = start; finding = r }) → AreRight total source (take n pieces) (entries ++ record { start = start; finding = r } ∷ [])
+right_around total source n pieces entries start Around other are right = one_more_right total source (take n pieces) entries (record { start = start; finding = Around }) are right
+right_around total source n pieces entries start (OneGoesOn is_list at b c) other are right = absurd (other is_list at b c refl)

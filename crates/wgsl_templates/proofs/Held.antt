@@ -4,6 +4,7 @@ use Rattle.std.specs.List.{concat}
 use Rattle.std.proofs.lemmas.Bool.{and_parts, and_from, leb-true, le-leb}
 use Rattle.std.proofs.lemmas.List.{append-nil, append_assoc, length_push, length-take, length-take-le, take_all, take-take, take-append-le, drop-append-le, drop_more, drop_all, get_or-take}
 use Rattle.std.proofs.lemmas.List.Folds.{concat-append}
+use Rattle.grammar.proofs.Sets.{and_true}
 use Rattle.wgsl_token.specs.declared.kind.TokenKind.{TokenKind}
 use Rattle.wgsl_token.specs.View.{class_of_kind}
 use Rattle.wgsl_templates.specs.declared.kept.Piece.{Piece}
@@ -117,6 +118,15 @@ earlier_token ps k e = earlier_added 0 (length ps) ps (Token k) (omega arith) e 
 -- one stretch more
 pub earlier_stretch : (ps : List Piece) (b c : ℕ) → c ≤ length ps → are_earlier 0 ps ≡ true → are_earlier 0 (ps ++ Stretch b c ∷ []) ≡ true
 earlier_stretch ps b c l e = earlier_added 0 (length ps) ps (Stretch b c) (omega arith) e (le-leb c (length ps) l)
+
+-- fewer pieces
+fewer_earlier : (place n : ℕ) (ps : List Piece) → are_earlier place ps ≡ true → are_earlier place (take n ps) ≡ true
+fewer_earlier place zero ps e = refl
+fewer_earlier place (suc n) [] e = refl
+fewer_earlier place (suc n) (p ∷ ps) e = let t = and_true (is_earlier place p) (are_earlier (suc place) ps) e in rw (t.0, fewer_earlier (suc place) n ps t.1) refl
+
+pub earlier_cut : (ps : List Piece) (n : ℕ) → are_earlier 0 ps ≡ true → are_earlier 0 (take n ps) ≡ true
+earlier_cut ps n e = fewer_earlier 0 n ps e
 
 earlier_at : (place here : ℕ) (ps : List Piece) (i : ℕ) (d : Piece) → here ≡ place + i → are_earlier place ps ≡ true → i < length ps → is_earlier here (get_or ps i d) ≡ true
 earlier_at place here [] i d s e l = absurd (omega arith)

@@ -117,13 +117,12 @@ no_end_behind total from after kind e c n end k = n _ _ (front_list total from f
 pub goes_on_by : (total : ℕ) (text : List ℕ) (ps mid now : List Piece) (k : TokenKind) (start b e : ℕ) (word : Bool) (depth : ℕ) (rest from after place : List ℕ) (kind : Kind)
     → Reaches total text (held_from ps start) word depth rest → raw rest ≡ token kind from after → kind.class ≡ SymLessThan → (word ≡ true → HasNoEnd total after) → GoesOn total ps after place b e
     → start ≤ length ps → mid ≡ ps ++ OneToken k ∷ [] → class_of_kind k ≡ kind.class → now ≡ mid ++ Stretch b e ∷ [] → EndsWith text rest
-    → EndsWith text place × (start ≤ length now) × Reaches total text (held_from now start) false depth place
+    → EndsWith text place × Reaches total text (held_from now start) false depth place
 goes_on_by total text ps mid now k start b e word depth rest from after place kind r front less n (cut, fits, more) s one same two ends =
     let first = token_held ps mid k start one s in
     let second = stretch_held mid now b e start two first.1 (omega (arith, fits, ap length one, length-append ps (OneToken k ∷ []))) in
     let stretch : held mid b e ≡ held ps b e = ap (λ (x : List Piece). held x b e) one ∙ held_more ps (OneToken k ∷ []) b e fits in
-    let all : held_from now start ≡ (held_from ps start ++ kind.class ∷ []) ++ held ps b e = second.0 ∙ ap₂ (λ x y. x ++ y) (first.0 ∙ ap (λ c. held_from ps start ++ c ∷ []) same) stretch in (
+    let all : held_from now start ≡ (held_from ps start ++ kind.class ∷ []) ++ held ps b e = second ∙ ap₂ (λ x y. x ++ y) (first.0 ∙ ap (λ c. held_from ps start ++ c ∷ []) same) stretch in (
       joined text after place (joined text rest after ends (behind_token rest from after kind front)) cut,
-      second.1,
       subst (λ (x : List ℕ). Reaches total text x false depth place) (sym all) (takes_less total text (held_from ps start) (held ps b e) word depth rest from after place kind r front less n more),
     )

@@ -1,5 +1,5 @@
 -- What one more `<` from the right leaves of a source.
-use Rattle.std.proofs.Common.{◌≡◌, ℕ, ◌+◌, ◌*◌, ◌<◌, ◌≤◌, false, List, [], ◌∷◌, ◌++◌, Some, take, drop, chars, length, refl, sym, ap, subst, ◌∙◌, append-nil, append_assoc, arith, mul-le-mul_left}
+use Rattle.std.proofs.Common.{◌≡◌, ℕ, ◌+◌, ◌*◌, ◌<◌, ◌≤◌, true, false, List, [], ◌∷◌, ◌++◌, Some, take, drop, chars, length, refl, sym, ap, subst, ◌∙◌, append-nil, append_assoc, arith, mul-le-mul_left}
 use Rattle.std.specs.Prelude.{◌==◌, ◌^◌}
 use Rattle.std.specs.Str.{IsUtf8, IsCharBoundary, NonePass, NoCharPasses}
 use Rattle.std.specs.Str.Pattern.{RFindsChar, SplitsAroundMatch}
@@ -18,7 +18,7 @@ use Rattle.wgsl_token_theory.proofs.Unique.{marked}
 use Rattle.wgsl_template_theory.specs.Attempts.{EndsAt}
 use Rattle.wgsl_template_theory.proofs.Attempts.{none_begins, front_list}
 use Rattle.wgsl_templates.specs.declared.findings.Finding.{Finding}
-use Rattle.wgsl_templates.specs.declared.findings.Finding.TheVariants.{Around, Within, List as Listed}
+use Rattle.wgsl_templates.specs.declared.findings.Finding.TheVariants.{Around, GoesOn}
 use Rattle.wgsl_templates.specs.declared.kept.Piece.{Piece}
 use Rattle.wgsl_templates.specs.Findings.{IsFinding, listed, greater_place}
 use Rattle.wgsl_templates.specs.Readings.{costs}
@@ -154,22 +154,22 @@ pub tried_found : (source before text : List ℕ) (spans now : List Span) (attem
     → raw (chars text) ≡ token kind from after → kind.class ≡ SymLessThan → width after ≤ length source → IsFinding (length source) pieces after f → start ≡ length before → now ≡ spans ++ listed start f → Done (length source) (chars source) (chars before) now (attempts + 1)
 tried_found source before text spans now attempts start pieces from after kind Around k e r less fits h s more =
     subst (λ (x : List Span). Done (length source) (chars source) (chars before) x (attempts + 1)) (sym (more ∙ append-nil spans)) (tried_none source before text spans attempts k e (none_begins (length source) (chars text) from after kind r (λ l. h.0)))
-tried_found source before text spans now attempts start pieces from after kind (Within at b c) k e r less fits h s more =
-    subst (λ (x : List Span). Done (length source) (chars source) (chars before) x (attempts + 1)) (sym (more ∙ append-nil spans)) (tried_none source before text spans attempts k e (none_begins (length source) (chars text) from after kind r (λ l. h.0)))
-tried_found source before text spans now attempts start pieces from after kind (Listed at b c) k e r less fits (end, p, list, g) s more =
+tried_found source before text spans now attempts start pieces from after kind (GoesOn false at b c) k e r less fits (end, p, none, g) s more =
+    subst (λ (x : List Span). Done (length source) (chars source) (chars before) x (attempts + 1)) (sym (more ∙ append-nil spans)) (tried_none source before text spans attempts k e (none_begins (length source) (chars text) from after kind r (λ l. none)))
+tried_found source before text spans now attempts start pieces from after kind (GoesOn true at b c) k e r less fits (end, p, list, g) s more =
     tried_one source before text spans now attempts start (at + 1) k e (list_place (length source) (chars text) from after end kind at fits r less list p) s more
 
 -- its `>` stands in the source
 pub greater_fits : (total : ℕ) (pieces : List Piece) (after : List ℕ) (f : Finding) → width after ≤ total → IsFinding total pieces after f → 0 < total → greater_place f + 1 ≤ total
 greater_fits total pieces after Around fits h some = omega (arith, some)
-greater_fits total pieces after (Within at b c) fits h some = omega (arith, some)
-greater_fits total pieces after (Listed at b c) fits (end, p, (ts, i, l), g) some = omega (arith, p, end_place total after ts end fits i)
+greater_fits total pieces after (GoesOn false at b c) fits h some = omega (arith, some)
+greater_fits total pieces after (GoesOn true at b c) fits (end, p, (ts, i, l), g) some = omega (arith, p, end_place total after ts end fits i)
 
 -- how many lists that are
 pub listed_costs : (start : ℕ) (f : Finding) → (costs (Some f) ≡ 2 * length (listed start f)) × (length (listed start f) ≤ 1)
 listed_costs start Around = (refl, omega arith)
-listed_costs start (Within at b c) = (refl, omega arith)
-listed_costs start (Listed at b c) = (refl, omega arith)
+listed_costs start (GoesOn false at b c) = (refl, omega arith)
+listed_costs start (GoesOn true at b c) = (refl, omega arith)
 
 -- behind what has no `<`, all lists are known
 pub all_done : (source left : List ℕ) (spans : List Span) (attempts : ℕ) → IsUtf8 source → IsUtf8 left → NoCharPasses (λ d. d == 60) left → Done (length source) (chars source) (chars left) spans attempts → AreLists (width (chars source)) spans (chars source)

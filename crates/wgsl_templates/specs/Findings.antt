@@ -1,5 +1,5 @@
 -- What is known of each `<` of a source that was tried.
-use Rattle.std.specs.Prelude.{◌≡◌, ◌<◌, ◌+◌, ℕ, List, [], ◌∷◌, length, get_or}
+use Rattle.std.specs.Prelude.{◌≡◌, ◌<◌, ◌+◌, ℕ, Bool, true, false, List, [], ◌∷◌, length, get_or}
 use Rattle.wgsl_model.specs.Kind.{Kind}
 use Rattle.wgsl_model.specs.Raw.{raw, token}
 use Rattle.wgsl_model.specs.Places.{place}
@@ -8,7 +8,7 @@ use Rattle.wgsl_template_theory.specs.Attempts.{EndsAt, HasNoEnd, NoneAround}
 use Rattle.wgsl_span.specs.declared.Span.{Span}
 use Rattle.wgsl_templates.specs.declared.kept.Piece.{Piece}
 use Rattle.wgsl_templates.specs.declared.findings.Finding.{Finding}
-use Rattle.wgsl_templates.specs.declared.findings.Finding.TheVariants.{Around, Within, List as Listed}
+use Rattle.wgsl_templates.specs.declared.findings.Finding.TheVariants as finding
 use Rattle.wgsl_templates.specs.declared.findings.Entry.{Entry}
 use Rattle.wgsl_templates.specs.Reached.{GoesOn}
 
@@ -16,21 +16,24 @@ use Rattle.wgsl_templates.specs.Reached.{GoesOn}
 abbrev pub IsEntry : List Entry → ℕ → Finding → Type 0
 IsEntry entries start finding = (i : ℕ) × (i < length entries) × ((d : Entry) → get_or entries i d ≡ record { start = start; finding = finding })
 
--- what is known of the `<` before a text: no list begins at it, and none is around it; or none begins, and one in brackets around it goes on at a place; or one begins, and those around it go on at the place of its `>`
+-- a list ends at the rest whose `<` stands before the text, or none begins there
+abbrev pub IsListOrNone : Bool → ℕ → List ℕ → List ℕ → Type 0
+IsListOrNone true total text rest = EndsAt total text rest
+IsListOrNone false total text rest = HasNoEnd total text
+
+-- what is known of the `<` before a text: no list begins at it, and none is around it; or those around it go on at a place, which is that of its `>` where it begins one
 abbrev pub IsFinding : ℕ → List Piece → List ℕ → Finding → Type 0
-IsFinding total pieces text Around = NoneAround total text
-IsFinding total pieces text (Within at start end) = HasNoEnd total text × (rest : List ℕ) × (at ≡ place total rest) × GoesOn total pieces text rest start end
-IsFinding total pieces text (Listed at start end) = (rest : List ℕ) × (at ≡ place total rest) × EndsAt total text rest × GoesOn total pieces text rest start end
+IsFinding total pieces text finding.Around = NoneAround total text
+IsFinding total pieces text (finding.GoesOn is_list at start end) = (rest : List ℕ) × (at ≡ place total rest) × IsListOrNone is_list total text rest × GoesOn total pieces text rest start end
 
 -- the list that begins at the `<`
 abbrev pub listed : ℕ → Finding → List Span
-listed first Around = []
-listed first (Within at start end) = []
-listed first (Listed at start end) = record { start = first; end = at + 1 } ∷ []
+listed first (finding.GoesOn true at start end) = record { start = first; end = at + 1 } ∷ []
+listed first f = []
 
 -- the place of its `>`, or 0
 abbrev pub greater_place : Finding → ℕ
-greater_place (Listed at start end) = at
+greater_place (finding.GoesOn true at start end) = at
 greater_place f = 0
 
 -- what an entry says is right

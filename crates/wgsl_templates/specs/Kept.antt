@@ -1,5 +1,5 @@
 -- What pieces have, where one may stand for an earlier stretch of them.
-use Rattle.std.specs.Prelude.{ℕ, suc, Bool, true, ◌&&◌, nat_le, List, [], ◌∷◌, ◌++◌, take, drop}
+use Rattle.std.specs.Prelude.{◌≡◌, ℕ, suc, Bool, true, ◌&&◌, nat_le, List, [], ◌∷◌, ◌++◌, take, drop}
 use Rattle.std.specs.List.{concat}
 use Rattle.wgsl_token.specs.View.{class_of_kind}
 use Rattle.wgsl_templates.specs.declared.kept.Piece.{Piece}
@@ -32,3 +32,7 @@ is_earlier place (Stretch start end) = nat_le end place
 abbrev pub are_earlier : ℕ → List Piece → Bool
 are_earlier place [] = true
 are_earlier place (piece ∷ pieces) = is_earlier place piece && are_earlier (suc place) pieces
+
+-- pieces that begin with others
+abbrev pub BeginWith : List Piece → List Piece → Type 0
+BeginWith first pieces = (more : List Piece) × (pieces ≡ first ++ more)

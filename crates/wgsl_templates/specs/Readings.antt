@@ -1,5 +1,5 @@
 -- What reading behind a `<` comes to.
-use Rattle.std.specs.Prelude.{◌≡◌, ◌↔◌, ⊤, ℕ, false, List, Option, Some, None, chars, length}
+use Rattle.std.specs.Prelude.{◌≡◌, ◌↔◌, ⊤, ℕ, true, List, Option, Some, None, chars, length}
 use Rattle.grammar.specs.Tokens.{Token}
 use Rattle.wgsl_model.specs.Classes.{SymLessThan}
 use Rattle.wgsl_model.specs.Kind.{Kind}
@@ -16,12 +16,12 @@ use Rattle.wgsl_templates.specs.declared.findings.Finding.{Finding}
 use Rattle.wgsl_templates.specs.declared.findings.Finding.TheVariants as finding
 use Rattle.wgsl_templates.specs.Kept.{held}
 use Rattle.wgsl_templates.specs.Reached.{GoesOn}
-use Rattle.wgsl_templates.specs.Findings.{IsFinding}
+use Rattle.wgsl_templates.specs.Findings.{IsFinding, IsListOrNone}
 
 -- what is known of the token of a class that begins a text
 abbrev pub IsMet : ℕ → List Piece → ℕ → List ℕ → Met → Type 0
 IsMet total pieces class text met.Around = (class ≡ SymLessThan) × ((kind : Kind) (after : List ℕ) → raw text ≡ token kind text after → NoneAround total after)
-IsMet total pieces class text (met.GoesOn rest start end is_list) = (class ≡ SymLessThan) × ((kind : Kind) (after : List ℕ) → raw text ≡ token kind text after → (is_list ≡ false → HasNoEnd total after) × GoesOn total pieces after (chars rest.now) start end)
+IsMet total pieces class text (met.GoesOn is_list rest start end) = (class ≡ SymLessThan) × ((kind : Kind) (after : List ℕ) → raw text ≡ token kind text after → IsListOrNone is_list total after (chars rest.now) × GoesOn total pieces after (chars rest.now) start end)
 IsMet total pieces class text met.Nothing = ⊤
 
 -- what stands inside a list up to the `>`, and that tokens of the classes of what was read are a list of expressions just where that is one; or that there is no list, and as above
@@ -38,5 +38,5 @@ IsOutcome total text pieces (Some finding) = (kind : Kind) × (from after : List
 
 -- how many tokens it takes at least
 abbrev pub costs : Option Finding → ℕ
-costs (Some (finding.List at start end)) = 2
+costs (Some (finding.GoesOn true at start end)) = 2
 costs o = 0

@@ -5,7 +5,7 @@ ghost use Rattle.grammar.specs.Tokens.{Token};
 ghost use Rattle.wgsl_token_theory.proofs.Cuts.{EndsWith};
 ghost use Rattle.wgsl_templates.specs.ExpressionLists.{classes_of, IsExpressionList};
 ghost use Rattle.wgsl_comments.specs.Comments.{AreComments};
-ghost use Rattle.wgsl_templates.specs.Kept.{held};
+ghost use Rattle.wgsl_templates.specs.Kept.{BeginWith, held};
 ghost use Rattle.wgsl_templates.specs.Lists.{TellLists};
 ghost use Rattle.wgsl_templates.specs.Findings.{AreRight};
 ghost use Rattle.wgsl_templates.specs.Readings.{IsOutcome, costs};
@@ -62,7 +62,7 @@ pub(crate) fn attempt(
     requires known { AreComments (chars source.now) comments.old.found.items }
     requires right { AreRight (length source.now) (chars source.now) kept.old.pieces.items tried.now.findings.entries.items }
     ensures value { IfOk result (λ found. IsOutcome (length source.now) (chars text.now) kept.new.pieces.items found) }
-    ensures right { IfOk result (λ _. AreRight (length source.now) (chars source.now) kept.new.pieces.items tried.now.findings.entries.items) }
+    ensures more { IfOk result (λ _. BeginWith kept.old.pieces.items kept.new.pieces.items) }
     ensures known { IfOk result (λ _. AreComments (chars source.now) comments.new.found.items) }
     ensures some { IfOk result (λ found. reads.old + costs found ≤ reads.new) }
     ensures few { reads.new ≤ reads.old + length text.now + 1 }
@@ -76,7 +76,8 @@ pub(crate) fn attempt(
     let start = kept.len();
     match read(tried, comments, kept, reads, source, after)? {
         Reading::Around => Ok(Some(Finding::Around)),
-        Reading::Within(rest) => Ok(Some(Finding::Within {
+        Reading::Within(rest) => Ok(Some(Finding::GoesOn {
+            is_list: false,
             place: place(source.len(), rest),
             start,
             end: kept.len(),
@@ -85,7 +86,8 @@ pub(crate) fn attempt(
             if !is_list(kept, start, scratch)? {
                 return Ok(Some(Finding::Around));
             }
-            Ok(Some(Finding::List {
+            Ok(Some(Finding::GoesOn {
+                is_list: true,
                 place: place(source.len(), greater),
                 start,
                 end: kept.len(),

@@ -10,14 +10,9 @@ use std::alloc::{AllocError, Global};
 pub(crate) enum Finding {
     /// It begins no list, and none is around it.
     Around,
-    /// It begins no list. One in whose brackets it stands goes on at the place, behind a stretch of the kinds that are kept.
-    Within {
-        place: usize,
-        start: usize,
-        end: usize,
-    },
-    /// It begins a list, whose `>` stands at the place. The others go on there, behind such a stretch.
-    List {
+    /// It begins a list, whose `>` stands at the place, or none. A list around it goes on there, behind a stretch of the kinds that are kept; where the `<` begins none, one in whose brackets it stands.
+    GoesOn {
+        is_list: bool,
         place: usize,
         start: usize,
         end: usize,

@@ -1,6 +1,6 @@
 //! The kinds of tokens that were read, in which a stretch that was read before may stand again.
 
-ghost use Rattle.std.specs.Prelude.{◌≡◌, ◌≤◌, [], ◌∷◌, ◌++◌, length, IfOk, IsTrue};
+ghost use Rattle.std.specs.Prelude.{◌≡◌, ◌≤◌, [], ◌∷◌, ◌++◌, take, length, IfOk, IsTrue};
 ghost use Rattle.wgsl_templates.specs.ExpressionLists.{classes};
 ghost use Rattle.wgsl_templates.specs.Kept.{are_earlier, held};
 ghost use Rattle.wgsl_templates.specs.declared.kept.Piece.TheVariants.{Token, Stretch};
@@ -58,6 +58,13 @@ impl Kept {
     {
         self.pieces.push(Piece::Stretch { start, end })?;
         Ok(())
+    }
+
+    /// Forgets the pieces from a place on.
+    pub(crate) fn truncate(&mut self, len: usize)
+        ensures { self.new.pieces.items ≡ take len self.old.pieces.items }
+    {
+        self.pieces.truncate(len);
     }
 
     /// Puts the kinds of a stretch behind others.

@@ -12,6 +12,7 @@ ghost use Rattle.wgsl_templates.specs.declared.kept.Piece.TheVariants.{Token};
 ghost use Rattle.wgsl_comments.specs.Comments.{AreComments};
 ghost use Rattle.wgsl_templates.specs.Lists.{TellLists};
 ghost use Rattle.wgsl_templates.specs.TemplateEnds.{SkipsList, SkipsBehind};
+ghost use Rattle.wgsl_templates.specs.Kept.{BeginWith};
 ghost use Rattle.wgsl_templates.specs.Findings.{AreRight};
 ghost use Rattle.wgsl_templates.specs.Readings.{IsReading, IsMet};
 
@@ -104,10 +105,10 @@ enum Met<'s> {
     Around,
     /// It is a `<`, which begins a list or none. A list around it goes on at the rest, behind the stretch; where the `<` begins none, one in whose brackets it stands.
     GoesOn {
+        is_list: bool,
         rest: &'s str,
         start: usize,
         end: usize,
-        is_list: bool,
     },
     Nothing,
 }
@@ -122,21 +123,19 @@ fn look_up<'s>(findings: &Findings, source: &'s str, kind: TokenKind, text: &'s 
     }
     match findings.at(place(source.len(), text)) {
         Some(Finding::Around) => Met::Around,
-        Some(Finding::Within { place, start, end }) => match source.get(place..) {
-            Some(rest) => Met::GoesOn {
-                rest,
+        Some(
+            Finding::GoesOn {
+                is_list,
+                place,
                 start,
                 end,
-                is_list: false,
             },
-            None => Met::Nothing,
-        },
-        Some(Finding::List { place, start, end }) => match source.get(place..) {
+        ) => match source.get(place..) {
             Some(rest) => Met::GoesOn {
+                is_list,
                 rest,
                 start,
                 end,
-                is_list: true,
             },
             None => Met::Nothing,
         },
@@ -159,8 +158,8 @@ pub(crate) fn read<'s>(
     requires known { AreComments (chars source.now) comments.old.found.items }
     requires right { AreRight (length source.now) (chars source.now) kept.old.pieces.items tried.now.findings.entries.items }
     ensures value { IfOk result (λ reading. IsReading (length source.now) (chars text.now) kept.new.pieces.items (length kept.old.pieces.items) reading) }
-    ensures right { IfOk result (λ _. AreRight (length source.now) (chars source.now) kept.new.pieces.items tried.now.findings.entries.items) }
     ensures known { IfOk result (λ _. AreComments (chars source.now) comments.new.found.items) }
+    ensures more { IfOk result (λ _. BeginWith kept.old.pieces.items kept.new.pieces.items) }
     ensures some { reads.old < reads.new }
     ensures few { reads.new ≤ reads.old + length text.now + 1 }
 {
@@ -184,10 +183,10 @@ pub(crate) fn read<'s>(
         match look_up(&tried.findings, source, kind, from) {
             Met::Around => return Ok(Reading::Around),
             Met::GoesOn {
+                is_list,
                 rest: behind,
                 start,
                 end,
-                is_list,
             } => {
                 kept.push(kind)?;
                 kept.push_stretch(start, end)?;

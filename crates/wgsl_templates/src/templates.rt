@@ -74,6 +74,7 @@ pub fn discover(alloc: Global, source: &str) -> Result<Templates, AllocError>
     'characters: while let Some((before, _)) = left.rsplit_once('<') {
         let start = before.len();
         let (_, text) = source.split_at(start);
+        let read = kept.len();
         let found = attempt(
             &tried,
             &mut comments,
@@ -85,7 +86,7 @@ pub fn discover(alloc: Global, source: &str) -> Result<Templates, AllocError>
         )?;
         attempts += 1;
         if let Some(found) = found {
-            tried.add(start, found)?;
+            tried.add(&mut kept, read, start, found)?;
         }
         left = before;
     }

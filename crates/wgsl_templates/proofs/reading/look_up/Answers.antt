@@ -4,7 +4,7 @@ use Rattle.wgsl_token.specs.View.{class_of_kind}
 use Rattle.wgsl_token_theory.proofs.Cuts.{joined, behind_token}
 use Rattle.wgsl_templates.specs.declared.findings.Finding.{Finding}
 use Rattle.wgsl_templates.specs.Reached.{GoesOn}
-use Rattle.wgsl_templates.specs.Findings.{IsFinding}
+use Rattle.wgsl_templates.specs.Findings.{IsFinding, IsListOrNone}
 use Rattle.wgsl_token_theory.proofs.Places.{gets_end}
 use Rattle.wgsl_templates.proofs.Found.{entry_right}
 use Rattle.wgsl_templates.proofs.reading.look_up.Goals as goal
@@ -22,26 +22,12 @@ pub returns-in-Some : goal.returns-in-Some
 returns-in-Some c pieces are =
     let total = length c.args.source.now in
     let text = chars c.args.text.now in
-    let found = c.in-Some-Within in
-    let entry = entry_right total (chars c.args.source.now) pieces c.args.findings.now.entries.items c.place.result found.field-0 are found.ensures in (
-      eqb-true (class_of_kind c.args.kind) SymLessThan (sym c.is_less_than.ensures ∙ c.if-not-is_less_than.false),
-      λ kind after e.
-          let h = subst (λ (r : Finding). IsFinding total pieces after r) found.field-0-is (entry text after kind c.requires c.place.ensures e) in
-          let cut = joined (chars c.args.source.now) after h.1 (joined (chars c.args.source.now) text after c.requires (behind_token text text after kind e)) h.3.0 in
-          let same : chars c.in-Some.rest.now ≡ h.1 = gets_end c.args.source.now found.place h.1 c.in-Some.rest c.utf8.source cut h.2 c.in-Some.ensures.cases in
-          ((λ e. h.0), subst (λ (x : List ℕ). GoesOn total pieces after x found.start found.end) (sym same) h.3),
-    )
-
-pub returns-in-Some-get : goal.returns-in-Some-get
-returns-in-Some-get c pieces are =
-    let total = length c.args.source.now in
-    let text = chars c.args.text.now in
-    let found = c.in-Some-List in
+    let found = c.in-Some-GoesOn in
     let entry = entry_right total (chars c.args.source.now) pieces c.args.findings.now.entries.items c.place.result found.field-0 are found.ensures in (
       eqb-true (class_of_kind c.args.kind) SymLessThan (sym c.is_less_than.ensures ∙ c.if-not-is_less_than.false),
       λ kind after e.
           let h = subst (λ (r : Finding). IsFinding total pieces after r) found.field-0-is (entry text after kind c.requires c.place.ensures e) in
           let cut = joined (chars c.args.source.now) after h.0 (joined (chars c.args.source.now) text after c.requires (behind_token text text after kind e)) h.3.0 in
-          let same : chars c.in-Some-get.rest.now ≡ h.0 = gets_end c.args.source.now found.place h.0 c.in-Some-get.rest c.utf8.source cut h.1 c.in-Some-get.ensures.cases in
-          ((λ e. absurd cc), subst (λ (x : List ℕ). GoesOn total pieces after x found.start found.end) (sym same) h.3),
+          let same : chars c.in-Some.rest.now ≡ h.0 = gets_end c.args.source.now found.place h.0 c.in-Some.rest c.utf8.source cut h.1 c.in-Some.ensures.cases in
+          subst (λ (x : List ℕ). IsListOrNone found.is_list total after x × GoesOn total pieces after x found.start found.end) (sym same) (h.2, h.3),
     )

@@ -13,11 +13,13 @@ use Rattle.wgsl_template_theory.proofs.Attempts.{list_front, none_begins}
 use Rattle.wgsl_template_theory.proofs.RefutesAround as refutes
 use Rattle.wgsl_templates.specs.declared.kept.Piece.TheVariants.{Token}
 use Rattle.wgsl_templates.specs.declared.roles.Turn.TheVariants as turn
+use Rattle.wgsl_templates.specs.Findings.{IsListOrNone}
 use Rattle.wgsl_templates.specs.Reached.{Reaches}
 use Rattle.wgsl_token_theory.proofs.Places.{bytes_width}
 use Rattle.wgsl_templates.proofs.Ends.{tell_end}
+use Rattle.wgsl_templates.proofs.Found.{right_more}
 use Rattle.wgsl_templates.proofs.Fronts.{raw_again, less_first}
-use Rattle.wgsl_templates.proofs.Pieces.{held_from, nothing_held, token_held, list_held, right_pushed, right_list}
+use Rattle.wgsl_templates.proofs.Pieces.{held_from, nothing_held, token_held, list_held, begin_with_all, one_more, list_more, no_shorter}
 use Rattle.wgsl_templates.proofs.Reached.{starts, takes, takes_list, goes_on_by, ends, forget_word, reached_alike, moved, taken_within, no_end_behind}
 use Rattle.wgsl_templates.proofs.Turns.{IsTurn, turn_is}
 use Rattle.wgsl_templates.proofs.Scans.{no_token}
@@ -32,8 +34,7 @@ tokens-init c = record {
   few = omega arith;
   ends = ([], refl);
   lists = c.requires.lists;
-  right = c.requires.right;
-  longer = omega arith;
+  more = begin_with_all c.args.kept.now.pieces.items;
   reached = starts (length c.args.source.now) (chars c.args.text.now) (held_from c.args.kept.now.pieces.items (length c.args.kept.now.pieces.items)) (nothing_held c.args.kept.now.pieces.items);
 }
 
@@ -69,7 +70,7 @@ tokens-preserved-in-Some c =
     let list = list_front total from from after k found.2.0 behind (raw_again rest from after k front) found.2.1 in
     let cut = joined rest from behind (cut_at rest from after k front).0 (template_leaves total from found.2.0 behind found.2.1) in
     let start = length c.args.kept.now.pieces.items in
-    let held = list_held c.tokens.kept.pieces.items c.push_list.new.kept.pieces.items start c.in_ok-push_list.ensures c.tokens.invariant.longer in
+    let held = list_held c.tokens.kept.pieces.items c.push_list.new.kept.pieces.items start c.in_ok-push_list.ensures (no_shorter c.args.kept.now.pieces.items c.tokens.kept.pieces.items c.tokens.invariant.more) in
     record {
       text = search rules;
       within = omega (arith, c.tokens.invariant.within, subst (IsShorter (length c.tokens.rest.now)) c.in-Found.is c.in_ok-lexeme.ensures.shorter, c.in-Some.ensures.shorter);
@@ -78,9 +79,8 @@ tokens-preserved-in-Some c =
       ends = joined (chars c.args.text.now) rest behind c.tokens.invariant.ends cut;
       lists = tell_end total c.args.tried.now.lists.spans.items rest behind cut c.tokens.invariant.lists;
       known = c.in_ok-lexeme.ensures.known;
-      right = right_list total (chars c.args.source.now) c.tokens.kept.pieces.items c.push_list.new.kept.pieces.items _ _ _ c.args.tried.now.findings.entries.items c.in_ok-push_list.ensures c.tokens.invariant.right;
-      longer = held.1;
-      reached = moved total _ _ _ _ _ _ _ _ held.0 refl list.4
+      more = list_more c.args.kept.now.pieces.items c.tokens.kept.pieces.items c.push_list.new.kept.pieces.items _ _ _ c.in_ok-push_list.ensures c.tokens.invariant.more;
+      reached = moved total _ _ _ _ _ _ _ _ held refl list.4
           (takes_list total (chars c.args.text.now) (held_from c.tokens.kept.pieces.items start) c.tokens.behind_word c.tokens.depth rest from after list.1 k c.tokens.invariant.reached front found.0 list.0 list.2);
     }
 
@@ -94,7 +94,7 @@ returns-in-Around-clause-value c =
     let k = lexeme_view c.in-Found.lexeme in
     let front = sym (subst (λ s. scanned_view s ≡ raw (chars c.tokens.rest.now)) c.in-Found.is c.in_ok-lexeme.ensures.value) in
     let again = raw_again (chars c.tokens.rest.now) (chars c.in-Found.from.now) (chars c.in-Found.after.now) k front in
-    let known = c.in-Around.ensures c.tokens.kept.pieces.items c.tokens.invariant.right in
+    let known = c.in-Around.ensures c.tokens.kept.pieces.items (right_more (length c.args.source.now) (chars c.args.source.now) c.args.kept.now.pieces.items c.tokens.kept.pieces.items c.args.tried.now.findings.entries.items c.tokens.invariant.more c.requires.right) in
     let r = c.tokens.invariant.reached in
     refutes.refuted_less_refutes (length c.args.source.now) (chars c.args.text.now) r.seen c.tokens.behind_word c.tokens.depth (chars c.tokens.rest.now) (chars c.in-Found.from.now) (chars c.in-Found.after.now) k
     r.reads front (sym c.kind-kind.ensures ∙ known.0) (known.1 k (chars c.in-Found.after.now) again)
@@ -108,7 +108,7 @@ push_stretch-requires c =
     let k = lexeme_view c.in-Found.lexeme in
     let front = sym (subst (λ s. scanned_view s ≡ raw (chars c.tokens.rest.now)) c.in-Found.is c.in_ok-lexeme.ensures.value) in
     let again = raw_again rest from after k front in
-    let known = c.in-GoesOn.ensures c.tokens.kept.pieces.items c.tokens.invariant.right in
+    let known = c.in-GoesOn.ensures c.tokens.kept.pieces.items (right_more (length c.args.source.now) (chars c.args.source.now) c.args.kept.now.pieces.items c.tokens.kept.pieces.items c.args.tried.now.findings.entries.items c.tokens.invariant.more c.requires.right) in
     let here = known.1 k after again in
     omega (arith, here.1.1, ap length c.in_ok-push-in-GoesOn.ensures, length-append c.tokens.kept.pieces.items (Token c.kind-kind.result ∷ []))
 
@@ -121,23 +121,18 @@ returns-then-not-is_list-clause-value c =
     let k = lexeme_view c.in-Found.lexeme in
     let front = sym (subst (λ s. scanned_view s ≡ raw (chars c.tokens.rest.now)) c.in-Found.is c.in_ok-lexeme.ensures.value) in
     let again = raw_again rest from after k front in
-    let known = c.in-GoesOn.ensures c.tokens.kept.pieces.items c.tokens.invariant.right in
+    let known = c.in-GoesOn.ensures c.tokens.kept.pieces.items (right_more (length c.args.source.now) (chars c.args.source.now) c.args.kept.now.pieces.items c.tokens.kept.pieces.items c.args.tried.now.findings.entries.items c.tokens.invariant.more c.requires.right) in
     let here = known.1 k after again in
     let none = c.in_default-list_behind.ensures.value in
     let behind_word : c.tokens.behind_word ≡ true → HasNoEnd total after = λ w. no_end_behind total from after k again (sym c.kind-kind.ensures ∙ known.0) (none w known.0) in
     let start = length c.args.kept.now.pieces.items in
     let on = goes_on_by total (chars c.args.text.now) c.tokens.kept.pieces.items c.push.new.self.pieces.items c.push_stretch.new.self.pieces.items c.kind-kind.result start c.in-GoesOn.start c.in-GoesOn.end c.tokens.behind_word c.tokens.depth rest from after
-    (chars c.in-GoesOn.behind.now) k c.tokens.invariant.reached front (sym c.kind-kind.ensures ∙ known.0) behind_word here.1 c.tokens.invariant.longer c.in_ok-push-in-GoesOn.ensures c.kind-kind.ensures c.in_ok-push_stretch-in-GoesOn.ensures c.tokens.invariant.ends in
+    (chars c.in-GoesOn.behind.now) k c.tokens.invariant.reached front (sym c.kind-kind.ensures ∙ known.0) behind_word here.1 (no_shorter c.args.kept.now.pieces.items c.tokens.kept.pieces.items c.tokens.invariant.more) c.in_ok-push-in-GoesOn.ensures c.kind-kind.ensures c.in_ok-push_stretch-in-GoesOn.ensures c.tokens.invariant.ends in
     let r = c.tokens.invariant.reached in
     let outside = subst (λ d. ReadsTo total (chars c.args.text.now) r.seen c.tokens.behind_word d rest) c.if-depth-eq0.true r.reads in (
-      refutes.less_refutes total (chars c.args.text.now) r.seen c.tokens.behind_word rest from after k outside front (sym c.kind-kind.ensures ∙ known.0) (here.0 c.if-not-is_list.true),
-      (on.0, omega arith, subst (λ d. Reaches total (chars c.args.text.now) (held_from c.push_stretch.new.self.pieces.items start) false d (chars c.in-GoesOn.behind.now)) c.if-depth-eq0.true on.2),
+      refutes.less_refutes total (chars c.args.text.now) r.seen c.tokens.behind_word rest from after k outside front (sym c.kind-kind.ensures ∙ known.0) (subst (λ b. IsListOrNone b total after (chars c.in-GoesOn.behind.now)) c.if-not-is_list.true here.0),
+      (on.0, omega arith, subst (λ d. Reaches total (chars c.args.text.now) (held_from c.push_stretch.new.self.pieces.items start) false d (chars c.in-GoesOn.behind.now)) c.if-depth-eq0.true on.1),
     )
-
-pub returns-then-not-is_list-clause-right : goal.returns-then-not-is_list-clause-right
-returns-then-not-is_list-clause-right c =
-    right_pushed (length c.args.source.now) (chars c.args.source.now) c.push.new.self.pieces.items c.push_stretch.new.self.pieces.items _ c.args.tried.now.findings.entries.items c.in_ok-push_stretch-in-GoesOn.ensures
-    (right_pushed (length c.args.source.now) (chars c.args.source.now) c.tokens.kept.pieces.items c.push.new.self.pieces.items _ c.args.tried.now.findings.entries.items c.in_ok-push-in-GoesOn.ensures c.tokens.invariant.right)
 
 pub tokens-smaller-in-GoesOn : goal.tokens-smaller-in-GoesOn
 tokens-smaller-in-GoesOn c =
@@ -148,7 +143,7 @@ tokens-smaller-in-GoesOn c =
     let k = lexeme_view c.in-Found.lexeme in
     let front = sym (subst (λ s. scanned_view s ≡ raw (chars c.tokens.rest.now)) c.in-Found.is c.in_ok-lexeme.ensures.value) in
     let again = raw_again rest from after k front in
-    let known = c.in-GoesOn.ensures c.tokens.kept.pieces.items c.tokens.invariant.right in
+    let known = c.in-GoesOn.ensures c.tokens.kept.pieces.items (right_more (length c.args.source.now) (chars c.args.source.now) c.args.kept.now.pieces.items c.tokens.kept.pieces.items c.args.tried.now.findings.entries.items c.tokens.invariant.more c.requires.right) in
     let here = known.1 k after again in
     let one : IsUtf8 c.in-GoesOn.behind.now = search rules in
     let other : IsUtf8 c.in-Found.after.now = search rules in
@@ -163,13 +158,13 @@ tokens-preserved-in-GoesOn c =
     let k = lexeme_view c.in-Found.lexeme in
     let front = sym (subst (λ s. scanned_view s ≡ raw (chars c.tokens.rest.now)) c.in-Found.is c.in_ok-lexeme.ensures.value) in
     let again = raw_again rest from after k front in
-    let known = c.in-GoesOn.ensures c.tokens.kept.pieces.items c.tokens.invariant.right in
+    let known = c.in-GoesOn.ensures c.tokens.kept.pieces.items (right_more (length c.args.source.now) (chars c.args.source.now) c.args.kept.now.pieces.items c.tokens.kept.pieces.items c.args.tried.now.findings.entries.items c.tokens.invariant.more c.requires.right) in
     let here = known.1 k after again in
     let none = c.in_default-list_behind.ensures.value in
     let behind_word : c.tokens.behind_word ≡ true → HasNoEnd total after = λ w. no_end_behind total from after k again (sym c.kind-kind.ensures ∙ known.0) (none w known.0) in
     let start = length c.args.kept.now.pieces.items in
     let on = goes_on_by total (chars c.args.text.now) c.tokens.kept.pieces.items c.push.new.self.pieces.items c.push_stretch.new.self.pieces.items c.kind-kind.result start c.in-GoesOn.start c.in-GoesOn.end c.tokens.behind_word c.tokens.depth rest from after
-    (chars c.in-GoesOn.behind.now) k c.tokens.invariant.reached front (sym c.kind-kind.ensures ∙ known.0) behind_word here.1 c.tokens.invariant.longer c.in_ok-push-in-GoesOn.ensures c.kind-kind.ensures c.in_ok-push_stretch-in-GoesOn.ensures c.tokens.invariant.ends in
+    (chars c.in-GoesOn.behind.now) k c.tokens.invariant.reached front (sym c.kind-kind.ensures ∙ known.0) behind_word here.1 (no_shorter c.args.kept.now.pieces.items c.tokens.kept.pieces.items c.tokens.invariant.more) c.in_ok-push-in-GoesOn.ensures c.kind-kind.ensures c.in_ok-push_stretch-in-GoesOn.ensures c.tokens.invariant.ends in
     let one : IsUtf8 c.in-GoesOn.behind.now = search rules in
     let other : IsUtf8 c.in-Found.after.now = search rules in
     let shorter : length c.in-GoesOn.behind.now ≤ length c.in-Found.after.now = omega (arith, within after (chars c.in-GoesOn.behind.now) here.1.0, bytes_width c.in-GoesOn.behind.now one, bytes_width c.in-Found.after.now other) in
@@ -181,10 +176,8 @@ tokens-preserved-in-GoesOn c =
       ends = on.0;
       lists = tell_end total c.args.tried.now.lists.spans.items rest (chars c.in-GoesOn.behind.now) (joined rest after (chars c.in-GoesOn.behind.now) (behind_token rest from after k front) here.1.0) c.tokens.invariant.lists;
       known = c.in_ok-lexeme.ensures.known;
-      right = right_pushed total (chars c.args.source.now) c.push.new.self.pieces.items c.push_stretch.new.self.pieces.items _ c.args.tried.now.findings.entries.items c.in_ok-push_stretch-in-GoesOn.ensures
-          (right_pushed total (chars c.args.source.now) c.tokens.kept.pieces.items c.push.new.self.pieces.items _ c.args.tried.now.findings.entries.items c.in_ok-push-in-GoesOn.ensures c.tokens.invariant.right);
-      longer = on.1;
-      reached = on.2;
+      more = one_more c.args.kept.now.pieces.items c.push.new.self.pieces.items c.push_stretch.new.self.pieces.items _ c.in_ok-push_stretch-in-GoesOn.ensures (one_more c.args.kept.now.pieces.items c.tokens.kept.pieces.items c.push.new.self.pieces.items _ c.in_ok-push-in-GoesOn.ensures c.tokens.invariant.more);
+      reached = on.1;
     }
 
 pub returns-in-Ends-clause-value : goal.returns-in-Ends-clause-value
@@ -254,7 +247,7 @@ tokens-preserved c =
     let does = subst (λ x. IsTurn c.tokens.depth x (turn.Takes c.in-Takes.open)) same (subst (IsTurn c.tokens.depth (class_of_kind c.kind-kind.result)) (sym c.in-Takes.ensures) (turn_is c.tokens.depth (class_of_kind c.kind-kind.result))) in
     let none = c.in_default-list_behind.ensures.value in
     let start = length c.args.kept.now.pieces.items in
-    let held = token_held c.tokens.kept.pieces.items c.push-in-Found.new.self.pieces.items c.kind-kind.result start c.in_ok-push.ensures c.tokens.invariant.longer in
+    let held = token_held c.tokens.kept.pieces.items c.push-in-Found.new.self.pieces.items c.kind-kind.result start c.in_ok-push.ensures (no_shorter c.args.kept.now.pieces.items c.tokens.kept.pieces.items c.tokens.invariant.more) in
     record {
       text = search rules;
       within = omega (arith, c.tokens.invariant.within, subst (IsShorter (length c.tokens.rest.now)) c.in-Found.is c.in_ok-lexeme.ensures.shorter, taken_within c.tokens.depth k.class c.in-Takes.open does);
@@ -263,8 +256,7 @@ tokens-preserved c =
       ends = joined (chars c.args.text.now) rest after c.tokens.invariant.ends (behind_token rest from after k front);
       lists = tell_end total c.args.tried.now.lists.spans.items rest after (behind_token rest from after k front) c.tokens.invariant.lists;
       known = c.in_ok-lexeme.ensures.known;
-      right = right_pushed total (chars c.args.source.now) c.tokens.kept.pieces.items c.push-in-Found.new.self.pieces.items _ c.args.tried.now.findings.entries.items c.in_ok-push.ensures c.tokens.invariant.right;
-      longer = held.1;
+      more = one_more c.args.kept.now.pieces.items c.tokens.kept.pieces.items c.push-in-Found.new.self.pieces.items _ c.in_ok-push.ensures c.tokens.invariant.more;
       reached = moved total _ _ _ _ _ _ _ _ (held.0 ∙ ap (λ x. held_from c.tokens.kept.pieces.items start ++ x ∷ []) same) (c.is_word-behind_word.ensures ∙ ap is_word same) refl
           (takes total (chars c.args.text.now) (held_from c.tokens.kept.pieces.items start) c.tokens.behind_word c.tokens.depth c.in-Takes.open rest from after k
           c.tokens.invariant.reached front (λ w less. no_end_behind total from after k again less (none w (same ∙ less))) does);
@@ -277,7 +269,7 @@ returns c =
       value = refutes.nothing_refutes (length c.args.source.now) (chars c.args.text.now) r.seen c.tokens.behind_word c.tokens.depth (chars c.tokens.rest.now) (scanned_view c.in_ok-lexeme.field-0) r.reads (sym c.in_ok-lexeme.ensures.value)
           (λ kind from after e. no_token c.in_ok-lexeme.field-0 c.in_default.not-Found kind from after e);
       known = c.in_ok-lexeme.ensures.known;
-      right = c.tokens.invariant.right;
+      more = c.tokens.invariant.more;
       some = omega (arith, c.tokens.invariant.some, c.take.ensures.reads);
       few = omega (arith, c.tokens.invariant.few, c.take.ensures.reads);
     }

@@ -3,10 +3,9 @@ use denote.Text.{Utf8}
 use denote.Shadow.{shadow}
 use Rattle.wgsl_token_theory.proofs.Cuts.{EndsWith}
 use Rattle.wgsl_comments.specs.Comments.{AreComments}
-use Rattle.wgsl_templates.specs.Kept.{held}
+use Rattle.wgsl_templates.specs.Kept.{BeginWith, held}
 use Rattle.wgsl_templates.specs.Lists.{TellLists}
 use Rattle.wgsl_templates.specs.Reached.{Reaches}
-use Rattle.wgsl_templates.specs.Findings.{AreRight}
 use Rattle.wgsl_templates.proofs.reading.read.Given as goal
 
 abbrev pub invariant-tokens : goal.invariant-tokens
@@ -18,8 +17,7 @@ invariant-tokens l = record {
   ends : EndsWith (chars l.text) (chars l.rest);
   lists : TellLists (length l.source) l.tried.lists.spans.items (chars l.rest);
   known : AreComments (chars l.source) l.comments.found.items;
-  right : AreRight (length l.source) (chars l.source) l.kept.pieces.items l.tried.findings.entries.items;
-  longer : length l.initial.kept.pieces.items ≤ length l.kept.pieces.items;
+  more : BeginWith l.initial.kept.pieces.items l.kept.pieces.items;
   reached : Reaches (length l.source) (chars l.text) (held l.kept.pieces.items (length l.initial.kept.pieces.items) (length l.kept.pieces.items)) l.behind_word l.depth (chars l.rest);
 }
 

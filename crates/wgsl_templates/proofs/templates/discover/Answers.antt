@@ -1,10 +1,10 @@
-use Rattle.std.proofs.Common.{rules, ◌≡◌, ◌≤◌, List, [], ◌∷◌, ◌++◌, chars, length, sym, ap, subst, ◌∙◌, refl, arith, true, append-nil, ◌<◌}
+use Rattle.std.proofs.Common.{rules, ◌≡◌, ◌≤◌, List, [], ◌∷◌, ◌++◌, take, chars, length, sym, ap, subst, ◌∙◌, refl, arith, true, append-nil, ◌<◌}
 use Rattle.std.specs.Prelude.{◌^◌}
 use Rattle.std.proofs.lemmas.List.{length-append}
 use Rattle.wgsl_model.specs.Places.{place, width}
 use Rattle.wgsl_token_theory.proofs.Cuts.{joined, behind_token}
 use Rattle.wgsl_token_theory.proofs.Widths.{within}
-use Rattle.wgsl_templates.specs.declared.findings.Entry.{Entry}
+use Rattle.wgsl_templates.specs.declared.kept.Piece.{Piece}
 use Rattle.wgsl_templates.specs.Readings.{IsOutcome}
 use Rattle.wgsl_templates.specs.Findings.{AreRight, listed}
 use Rattle.wgsl_templates.specs.Spans.{is_before_all}
@@ -12,7 +12,8 @@ use Rattle.wgsl_templates.proofs.Begun.{found_right}
 use Rattle.wgsl_comments.proofs.Commented.{no_comments}
 use Rattle.wgsl_token_theory.proofs.Places.{bytes_width}
 use Rattle.wgsl_templates.proofs.Listed.{before_all, no_lists}
-use Rattle.wgsl_templates.proofs.Found.{none_right, one_more_right}
+use Rattle.wgsl_templates.proofs.Found.{none_right, right_more}
+use Rattle.wgsl_templates.proofs.Pieces.{cut_back}
 use Rattle.wgsl_templates.proofs.Stepped.{cut, ends_source, told_behind, attempts_fit, reads_fit, reads_more, tried_none, tried_found, greater_fits, listed_costs, all_done}
 use Rattle.wgsl_templates.proofs.templates.discover.Goals as goal
 
@@ -92,10 +93,11 @@ characters-preserved-in_ok-add c =
     let behind = joined source text h.2 ends (behind_token text h.1 h.2 h.0 h.3) in
     let fits : width h.2 ≤ total = omega (arith, within source h.2 behind, bytes_width c.args.source.now c.utf8.source) in
     let start = length c.in-Some.before.now in
-    let entry : Entry = record { start = start; finding = c.in-Some-found.found } in
     let same : text ≡ 60 ∷ (k.back ++ k.done) = ap chars c.split_at.ensures.back ∙ k.text in
     let all : width source ≤ total = omega (arith, bytes_width c.args.source.now c.utf8.source) in
     let right = found_right total source pieces text h.1 h.2 h.0 start c.in-Some-found.found all ends (k.at ∙ ap (place total) (sym same)) h.3 h.5 in
+    let entries = c.characters.tried.findings.entries.items in
+    let before = subst (λ (x : List Piece). AreRight total source x entries) (sym (ap (λ n. take n pieces) c.len-read.ensures ∙ cut_back c.characters.kept.pieces.items pieces c.in_ok-found.ensures.more)) c.characters.invariant.right in
     let one = ap length c.in_ok-add.ensures.lists ∙ length-append c.characters.tried.lists.spans.items (listed start c.in-Some-found.found) in
     let cost = listed_costs start c.in-Some-found.found in
     record {
@@ -104,7 +106,7 @@ characters-preserved-in_ok-add c =
       found = omega (arith, one, cost.1, c.characters.invariant.found);
       reads = reads_more c.characters.reads c.attempt.new.reads c.characters.attempts (length c.args.source.now) (length c.split_at.result.1.now) c.characters.invariant.reads (omega (arith, c.split_at.ensures.back_len)) c.attempt.ensures.few;
       known = c.in_ok-found.ensures.known;
-      right = subst (λ (entries : List Entry). AreRight total source pieces entries) (sym c.in_ok-add.ensures.findings) (one_more_right total source pieces c.characters.tried.findings.entries.items entry c.in_ok-found.ensures.right right);
+      right = c.in_ok-add.ensures.right total source before right;
       each = omega (arith, one, cost.0, c.characters.invariant.each, rw c.in-Some-found.is at c.in_ok-found.ensures.some);
     }
 
@@ -118,7 +120,7 @@ characters-preserved c =
       found = omega (arith, c.characters.invariant.found);
       reads = reads_more c.characters.reads c.attempt.new.reads c.characters.attempts (length c.args.source.now) (length c.split_at.result.1.now) c.characters.invariant.reads (omega (arith, c.split_at.ensures.back_len)) c.attempt.ensures.few;
       known = c.in_ok-found.ensures.known;
-      right = c.in_ok-found.ensures.right;
+      right = right_more (length c.args.source.now) (chars c.args.source.now) c.characters.kept.pieces.items c.attempt.new.kept.pieces.items c.characters.tried.findings.entries.items c.in_ok-found.ensures.more c.characters.invariant.right;
       each = omega (arith, c.characters.invariant.each, rw c.in_default-found.is at c.in_ok-found.ensures.some);
     }
 
