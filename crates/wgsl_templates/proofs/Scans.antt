@@ -1,13 +1,34 @@
--- What was scanned, where it is no token.
-use Rattle.std.proofs.Common.{◌≡◌, List, [], ◌∷◌, ℕ, refl, chars, drop, length, arith}
+-- What was scanned: a token at the front of a text, or none.
+use Rattle.std.proofs.Common.{◌≡◌, ◌<◌, ◌≤◌, List, [], ◌∷◌, ℕ, refl, sym, subst, chars, drop, length, arith}
 use Rattle.std.proofs.lemmas.Str.{chars-nil}
 use Rattle.std.specs.Borrow.{Bor}
 use Rattle.wgsl_model.specs.Kind.{Kind}
-use Rattle.wgsl_model.specs.Raw.{token}
+use Rattle.wgsl_model.specs.Raw.{raw, token}
 use Rattle.wgsl_scanner.specs.declared.lexeme.Lexeme.{Lexeme}
 use Rattle.wgsl_scanner.specs.declared.scan.Scanned.{Scanned}
 use Rattle.wgsl_scanner.specs.declared.scan.Scanned.TheVariants as scanned
-use Rattle.wgsl_scanner.specs.View.{scanned_view}
+use Rattle.wgsl_scanner.specs.View.{lexeme_view, scanned_view, IsShorter}
+use Rattle.wgsl_token_theory.proofs.Cuts.{EndsWith, cut_at, behind_token}
+use Rattle.wgsl_templates.proofs.Fronts.{raw_again}
+
+-- a token of a kind is the first of a text; it begins one end of the text, and another stands behind it
+pub record Taken (text from after : List ℕ) (kind : Kind) : Type 0 where
+  pub front : raw (chars text) ≡ token kind (chars from) (chars after)
+  pub again : raw (chars from) ≡ token kind (chars from) (chars after)
+  pub starts : EndsWith (chars text) (chars from)
+  pub leaves : EndsWith (chars text) (chars after)
+  pub shorter : (length from ≤ length text) × (length after < length text)
+
+pub taken : (text : List ℕ) (s : Scanned) (lexeme : Lexeme) (from after : Bor (List ℕ)) → s ≡ scanned.Found lexeme from after → scanned_view s ≡ raw (chars text) → IsShorter (length text) s → Taken text from.now after.now (lexeme_view lexeme)
+taken text s lexeme from after is view shorter =
+    let front = sym (subst (λ x. scanned_view x ≡ raw (chars text)) is view) in
+    record {
+      front = front;
+      again = raw_again (chars text) (chars from.now) (chars after.now) (lexeme_view lexeme) front;
+      starts = (cut_at (chars text) (chars from.now) (chars after.now) (lexeme_view lexeme) front).0;
+      leaves = behind_token (chars text) (chars from.now) (chars after.now) (lexeme_view lexeme) front;
+      shorter = subst (IsShorter (length text)) is shorter;
+    }
 
 pub no_token : (s : Scanned) → ((lexeme : Lexeme) (from after : Bor (List ℕ)) → s ≡ scanned.Found lexeme from after → ⊥) → (kind : Kind) (from after : List ℕ) → scanned_view s ≡ token kind from after → ⊥
 no_token scanned.NoneLeft n kind from after e = cc

@@ -1,5 +1,5 @@
 -- What a token does, by its class.
-use Rattle.std.proofs.Common.{◌≡◌, ◌⊎◌, ℕ, zero, suc, Bool, true, false, refl, inl, inr}
+use Rattle.std.proofs.Common.{◌≡◌, ◌⊎◌, ℕ, zero, suc, Bool, true, false, refl, sym, subst, inl, inr}
 use Rattle.std.specs.Prelude.{if◌then◌else◌}
 use Rattle.grammar.specs.Grammar.{is_among}
 use Rattle.wgsl_model.specs.Templates.{is_opening, is_closing, begins_with_greater, is_short_circuit}
@@ -32,5 +32,8 @@ by_tests depth c false false false false true eo el eg es em = em
 by_tests zero c false false false false false eo el eg es em = inr (inr (goes_on_zero c eo el eg es, refl))
 by_tests (suc depth) c false false false false false eo el eg es em = inr (inr (goes_on_deeper depth c eo el, refl))
 
-pub turn_is : (depth c : ℕ) → IsTurn depth c (turn depth c)
+turn_is : (depth c : ℕ) → IsTurn depth c (turn depth c)
 turn_is depth c = by_tests depth c (is_opening c) (is_closing c) (begins_with_greater c) (is_short_circuit c) (is_among c in_no_expression) refl refl refl refl refl
+
+pub turned : (depth c d : ℕ) (t : Turn) → c ≡ d → t ≡ turn depth c → IsTurn depth d t
+turned depth c d t e is = subst (λ x. IsTurn depth x t) e (subst (IsTurn depth c) (sym is) (turn_is depth c))

@@ -1,21 +1,21 @@
 use Rattle.std.proofs.Common.{◌≡◌, ◌==◌, ℕ, false, drop, sym, subst, chars, length, ◌∙◌, ap, eqb-true}
 use Rattle.grammar.proofs.Sets.{clash}
 use Rattle.wgsl_model.specs.Classes.{SymLessThan}
-use Rattle.wgsl_model.specs.Raw.{raw}
 use Rattle.wgsl_token.specs.View.{class_of_kind}
-use Rattle.wgsl_scanner.specs.View.{lexeme_view, scanned_view}
-use Rattle.wgsl_token_theory.proofs.Cuts.{joined, behind_token}
+use Rattle.wgsl_scanner.specs.View.{lexeme_view}
+use Rattle.wgsl_token_theory.proofs.Cuts.{joined}
 use Rattle.wgsl_template_theory.proofs.Attempts.{none_begins}
 use Rattle.wgsl_template_theory.proofs.RefutesAround.{closed_refutes}
 use Rattle.wgsl_templates.specs.Kept.{held}
 use Rattle.wgsl_templates.specs.Reached.{GoesOn}
 use Rattle.wgsl_templates.specs.Readings.{IsReading}
 use Rattle.wgsl_templates.proofs.Ends.{tell_end, behind_past}
+use Rattle.wgsl_templates.proofs.Scans.{taken}
 use Rattle.wgsl_templates.proofs.attempt.attempt.Goals as goal
 
 pub returns-then-not-is_less_than-clause-value : goal.returns-then-not-is_less_than-clause-value
 returns-then-not-is_less_than-clause-value c =
-    none_begins (length c.args.source.now) (chars c.args.text.now) (chars c.in-Found.from.now) (chars c.in-Found.after.now) (lexeme_view c.in-Found.lexeme) (sym (subst (λ s. scanned_view s ≡ raw (chars c.args.text.now)) c.in-Found.is c.in_ok-lexeme.ensures.value))
+    none_begins (length c.args.source.now) (chars c.args.text.now) (chars c.in-Found.from.now) (chars c.in-Found.after.now) (lexeme_view c.in-Found.lexeme) (taken c.args.text.now _ c.in-Found.lexeme c.in-Found.from c.in-Found.after c.in-Found.is c.in_ok-lexeme.ensures.value c.in_ok-lexeme.ensures.shorter).front
     (λ less. absurd (not_less (class_of_kind c.kind.result) (c.kind.ensures ∙ less) (sym c.is_less_than.ensures ∙ c.if-not-is_less_than.true)))
   where
     not_less : (class : ℕ) → class ≡ SymLessThan → (class == SymLessThan) ≡ false → ⊥
@@ -24,12 +24,12 @@ returns-then-not-is_less_than-clause-value c =
 pub read-requires-clause-ends : goal.read-requires-clause-ends
 read-requires-clause-ends c =
     joined (chars c.args.source.now) (chars c.args.text.now) (chars c.in-Found.after.now) c.requires.ends
-    (behind_token (chars c.args.text.now) (chars c.in-Found.from.now) (chars c.in-Found.after.now) (lexeme_view c.in-Found.lexeme) (sym (subst (λ s. scanned_view s ≡ raw (chars c.args.text.now)) c.in-Found.is c.in_ok-lexeme.ensures.value)))
+    (taken c.args.text.now _ c.in-Found.lexeme c.in-Found.from c.in-Found.after c.in-Found.is c.in_ok-lexeme.ensures.value c.in_ok-lexeme.ensures.shorter).leaves
 
 pub read-requires-clause-lists : goal.read-requires-clause-lists
 read-requires-clause-lists c =
     tell_end (length c.args.source.now) c.args.tried.now.lists.spans.items (drop 1 (chars c.args.text.now)) (chars c.in-Found.after.now)
-    (behind_past (chars c.args.text.now) (chars c.in-Found.from.now) (chars c.in-Found.after.now) (lexeme_view c.in-Found.lexeme) (sym (subst (λ s. scanned_view s ≡ raw (chars c.args.text.now)) c.in-Found.is c.in_ok-lexeme.ensures.value))) c.requires.lists
+    (behind_past (chars c.args.text.now) (chars c.in-Found.from.now) (chars c.in-Found.after.now) (lexeme_view c.in-Found.lexeme) (taken c.args.text.now _ c.in-Found.lexeme c.in-Found.from c.in-Found.after c.in-Found.is c.in_ok-lexeme.ensures.value c.in_ok-lexeme.ensures.shorter).front) c.requires.lists
 
 pub returns-then-not-branch-clause-value : goal.returns-then-not-branch-clause-value
 returns-then-not-branch-clause-value c =
@@ -42,7 +42,7 @@ returns-then-not-branch-clause-value c =
       lexeme_view c.in-Found.lexeme,
       chars c.in-Found.from.now,
       after,
-      sym (subst (λ s. scanned_view s ≡ raw (chars c.args.text.now)) c.in-Found.is c.in_ok-lexeme.ensures.value),
+      (taken c.args.text.now _ c.in-Found.lexeme c.in-Found.from c.in-Found.after c.in-Found.is c.in_ok-lexeme.ensures.value c.in_ok-lexeme.ensures.shorter).front,
       less,
       closed_refutes total after read.0 (chars c.in-Ends.greater.now) read.2 (λ list. let yes' = test.1 (read.4.1 list) in clash _ yes' c.if-not-branch.true),
     )
@@ -60,7 +60,7 @@ returns-else-not-branch-clause-value c =
       lexeme_view c.in-Found.lexeme,
       chars c.in-Found.from.now,
       after,
-      sym (subst (λ s. scanned_view s ≡ raw (chars c.args.text.now)) c.in-Found.is c.in_ok-lexeme.ensures.value),
+      (taken c.args.text.now _ c.in-Found.lexeme c.in-Found.from c.in-Found.after c.in-Found.is c.in_ok-lexeme.ensures.value c.in_ok-lexeme.ensures.shorter).front,
       less,
       (greater, c.place-in-Ends.ensures, (read.0, read.2, read.4.0 (test.0 c.if-not-branch.false)), on),
     )
