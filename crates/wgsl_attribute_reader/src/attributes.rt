@@ -1,6 +1,6 @@
 //! Attributes (WGSL, "Attributes").
 
-ghost use Rattle.std.specs.Prelude.{◌≡◌, ◌<◌, ◌≤◌, length, IfOk, OnOk, option_map};
+ghost use Rattle.std.specs.Prelude.{◌≡◌, ◌<◌, length, IfOk, OnOk, option_map};
 ghost use Rattle.grammar.specs.States.{first_of, after};
 ghost use Rattle.wgsl_model.specs.TokenValues.{text_of};
 ghost use Rattle.wgsl_model.specs.Faults.{invalid_attribute};
@@ -8,7 +8,7 @@ ghost use Rattle.wgsl_grammar_theory.specs.Reader.{reader};
 ghost use Rattle.wgsl_grammar_theory.specs.Factored.{FactoredSymbol.further, Further.attribute_list};
 ghost use Rattle.wgsl_span.specs.View.{span_view, spanned_view};
 ghost use Rattle.wgsl_attribute.specs.View.{attribute_view, attributes_view, expressions_view};
-ghost use Rattle.wgsl_cursor.specs.Reading.{state, Gives};
+ghost use Rattle.wgsl_cursor.specs.Reading.{state, Gives, Parses, ParsesNullable};
 ghost use Rattle.wgsl_cursor.specs.Words.{word_text};
 ghost use Rattle.wgsl_attribute_reader.specs.Known.{checked_attribute};
 ghost use Rattle.wgsl_attribute_reader.specs.Settles.{Settles};
@@ -29,8 +29,7 @@ use wgsl_token::kind::TokenKind;
 /// Attributes, none too.
 #[tactic(auto, unfolding(crate::specs::Rules::attributes_turn), using(crate::proofs::Equations::attribute_list_is, crate::proofs::Equations::attributes_are, std::proofs::lemmas::List::map_push))]
 pub fn parse_attributes(alloc: Global, tokens: &mut Cursor) -> Result<Attributes, Fault>
-    ensures value { Gives (λ attributes. attributes_view attributes.items) result (state tokens.new) (reader (further attribute_list) (state tokens.old)) }
-    ensures shorter { OnOk result (length (state tokens.new).rest ≤ length (state tokens.old).rest) }
+    ensures { ParsesNullable (λ attributes. attributes_view attributes.items) result tokens.old tokens.new (reader (further attribute_list)) }
 {
     let mut attributes = Vec::new(alloc);
     'attributes: while tokens.is_at(TokenKind::SymAttr) {
@@ -41,8 +40,7 @@ pub fn parse_attributes(alloc: Global, tokens: &mut Cursor) -> Result<Attributes
 
 #[tactic(auto, using(crate::proofs::Equations::attribute_node_is))]
 fn parse_attribute(alloc: Global, tokens: &mut Cursor) -> Result<AttributeNode, Fault>
-    ensures value { Gives (spanned_view attribute_view) result (state tokens.new) (attribute_node_at (state tokens.old)) }
-    ensures shorter { OnOk result (length (state tokens.new).rest < length (state tokens.old).rest) }
+    ensures { Parses (spanned_view attribute_view) result tokens.old tokens.new attribute_node_at }
 {
     let start = tokens.start();
     let (name, arguments) = parse_parts(alloc, tokens)?;
@@ -72,8 +70,7 @@ fn parse_optional_arguments(
     alloc: Global,
     tokens: &mut Cursor,
 ) -> Result<Option<Vec<ExpressionNode>>, Fault>
-    ensures value { Gives (option_map expressions_view) result (state tokens.new) (optional_arguments_at (state tokens.old)) }
-    ensures shorter { OnOk result (length (state tokens.new).rest ≤ length (state tokens.old).rest) }
+    ensures { ParsesNullable (option_map expressions_view) result tokens.old tokens.new optional_arguments_at }
 {
     if !tokens.is_at(TokenKind::SymParenLeft) {
         return Ok(None);

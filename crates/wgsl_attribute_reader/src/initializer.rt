@@ -1,8 +1,8 @@
 //! The value that a declaration begins with.
 
-ghost use Rattle.std.specs.Prelude.{◌<◌, ◌≤◌, length, OnOk, option_map};
+ghost use Rattle.std.specs.Prelude.{option_map};
 ghost use Rattle.wgsl_expression.specs.View.{expression_node_view};
-ghost use Rattle.wgsl_cursor.specs.Reading.{state, Gives};
+ghost use Rattle.wgsl_cursor.specs.Reading.{Parses, ParsesNullable};
 ghost use Rattle.wgsl_attribute_reader.specs.Initializers.{initializer_at, maybe_initializer_at};
 
 use std::alloc::Global;
@@ -14,8 +14,7 @@ use wgsl_token::kind::TokenKind;
 /// `=` and a value.
 #[tactic(auto, unfolding(crate::specs::Initializers::initializer_at))]
 pub fn parse_initializer(alloc: Global, tokens: &mut Cursor) -> Result<ExpressionNode, Fault>
-    ensures value { Gives expression_node_view result (state tokens.new) (initializer_at (state tokens.old)) }
-    ensures shorter { OnOk result (length (state tokens.new).rest < length (state tokens.old).rest) }
+    ensures { Parses expression_node_view result tokens.old tokens.new initializer_at }
 {
     tokens.expect(TokenKind::SymEqual)?;
     parse_expression(alloc, tokens)
@@ -27,8 +26,7 @@ pub fn parse_maybe_initializer(
     alloc: Global,
     tokens: &mut Cursor,
 ) -> Result<Option<ExpressionNode>, Fault>
-    ensures value { Gives (option_map expression_node_view) result (state tokens.new) (maybe_initializer_at (state tokens.old)) }
-    ensures shorter { OnOk result (length (state tokens.new).rest ≤ length (state tokens.old).rest) }
+    ensures { ParsesNullable (option_map expression_node_view) result tokens.old tokens.new maybe_initializer_at }
 {
     if !tokens.is_at(TokenKind::SymEqual) {
         return Ok(None);

@@ -1,6 +1,6 @@
 //! The kinds of variables, and the names and types of values (WGSL, "Variable and Value Declarations").
 
-ghost use Rattle.std.specs.Prelude.{◌≡◌, ◌<◌, length, map, MatchResult, OnOk, Some, option_map};
+ghost use Rattle.std.specs.Prelude.{◌≡◌, map, MatchResult, Some, option_map};
 ghost use Rattle.wgsl_model.specs.Checks.{right, wrong, bare_word, space_and_mode, space_in_template};
 ghost use Rattle.wgsl_model.specs.Symbols.{Symbol.typed_ident};
 ghost use Rattle.wgsl_model.specs.NamedValues.{address_spaces};
@@ -9,7 +9,7 @@ ghost use Rattle.wgsl_grammar_theory.specs.Reader.{reader};
 ghost use Rattle.wgsl_grammar_theory.specs.Factored.{FactoredSymbol.of};
 ghost use Rattle.wgsl_expression.specs.View.{ident_name, expression_node_view, template_arg_view, type_expression_view};
 ghost use Rattle.wgsl_simple_statement.specs.View.{declaration_kind_view, var_template_view};
-ghost use Rattle.wgsl_cursor.specs.Reading.{state, Gives};
+ghost use Rattle.wgsl_cursor.specs.Reading.{Parses};
 ghost use Rattle.wgsl_attribute_reader.specs.Counted.{space_with_mode};
 ghost use Rattle.wgsl_attribute_reader.specs.VarKinds.{var_kind_at};
 
@@ -27,8 +27,7 @@ use wgsl_token::kind::TokenKind;
 /// `var` and its template.
 #[tactic(auto, unfolding(crate::specs::VarKinds::var_kind_at, wgsl_grammar_theory::specs::StatementRules::var_template_at, grammar::specs::States::take), using(wgsl_grammar_theory::proofs::StatementEquations::var_template_is))]
 pub fn parse_var_kind(alloc: Global, tokens: &mut Cursor) -> Result<DeclarationKind, Fault>
-    ensures value { Gives declaration_kind_view result (state tokens.new) (var_kind_at (state tokens.old)) }
-    ensures shorter { OnOk result (length (state tokens.new).rest < length (state tokens.old).rest) }
+    ensures { Parses declaration_kind_view result tokens.old tokens.new var_kind_at }
 {
     let start = tokens.start();
     tokens.expect(TokenKind::KwVar)?;
@@ -89,8 +88,7 @@ pub fn parse_typed_ident(
     alloc: Global,
     tokens: &mut Cursor,
 ) -> Result<(Ident, Option<TypeExpression>), Fault>
-    ensures value { Gives (λ typed. (ident_name typed.0, option_map type_expression_view typed.1)) result (state tokens.new) (reader (of typed_ident) (state tokens.old)) }
-    ensures shorter { OnOk result (length (state tokens.new).rest < length (state tokens.old).rest) }
+    ensures { Parses (λ typed. (ident_name typed.0, option_map type_expression_view typed.1)) result tokens.old tokens.new (reader (of typed_ident)) }
 {
     let ident = tokens.ident()?;
     if !tokens.eat(TokenKind::SymColon) {

@@ -8,7 +8,7 @@ ghost use Rattle.wgsl_named_values.specs.View.{severity_view};
 ghost use Rattle.wgsl_unit.specs.View.{global_directive_view};
 ghost use Rattle.wgsl_grammar_theory.specs.Factored.{FactoredSymbol.of};
 ghost use Rattle.wgsl_grammar_theory.specs.Reader.{reader};
-ghost use Rattle.wgsl_cursor.specs.Reading.{state, Gives};
+ghost use Rattle.wgsl_cursor.specs.Reading.{state, Gives, Parses};
 ghost use Rattle.wgsl_declaration_reader.specs.Parts.{names_at, second_name_at};
 ghost use Rattle.wgsl_declaration_reader.specs.Names.{third_of, second_name_of, joined};
 
@@ -30,8 +30,7 @@ const DIRECTIVE: Expected = Expected::OneOf(&[
 /// where that name stands.
 #[tactic(auto, unfolding(wgsl_grammar_theory::specs::UnitRules::global_directive_at, wgsl_grammar_theory::specs::UnitRules::diagnostic_directive_at, wgsl_grammar_theory::specs::UnitRules::diagnostic_severity_at, grammar::specs::States::take), using(wgsl_grammar_theory::proofs::UnitEquations::global_directive_is, wgsl_grammar_theory::proofs::UnitEquations::diagnostic_directive_is, wgsl_grammar_theory::proofs::UnitEquations::diagnostic_severity_is))]
 pub fn parse_global_directive(alloc: Global, tokens: &mut Cursor) -> Result<GlobalDirective, Fault>
-    ensures value { Gives global_directive_view result (state tokens.new) (reader (of global_directive) (state tokens.old)) }
-    ensures shorter { OnOk result (length (state tokens.new).rest < length (state tokens.old).rest) }
+    ensures { Parses global_directive_view result tokens.old tokens.new (reader (of global_directive)) }
 {
     if tokens.is_at(TokenKind::KwEnable) {
         return parse_enable_directive(alloc, tokens);
@@ -47,8 +46,7 @@ pub fn parse_global_directive(alloc: Global, tokens: &mut Cursor) -> Result<Glob
 
 #[tactic(auto, unfolding(crate::proofs::Names::enable_directive_at), using(crate::proofs::Names::enable_directive_is))]
 fn parse_enable_directive(alloc: Global, tokens: &mut Cursor) -> Result<GlobalDirective, Fault>
-    ensures value { Gives global_directive_view result (state tokens.new) (reader (of enable_directive) (state tokens.old)) }
-    ensures shorter { OnOk result (length (state tokens.new).rest < length (state tokens.old).rest) }
+    ensures { Parses global_directive_view result tokens.old tokens.new (reader (of enable_directive)) }
 {
     tokens.expect(TokenKind::KwEnable)?;
     let extensions = parse_names(alloc, tokens)?;
@@ -57,8 +55,7 @@ fn parse_enable_directive(alloc: Global, tokens: &mut Cursor) -> Result<GlobalDi
 
 #[tactic(auto, unfolding(crate::proofs::Names::requires_directive_at), using(crate::proofs::Names::requires_directive_is))]
 fn parse_requires_directive(alloc: Global, tokens: &mut Cursor) -> Result<GlobalDirective, Fault>
-    ensures value { Gives global_directive_view result (state tokens.new) (reader (of requires_directive) (state tokens.old)) }
-    ensures shorter { OnOk result (length (state tokens.new).rest < length (state tokens.old).rest) }
+    ensures { Parses global_directive_view result tokens.old tokens.new (reader (of requires_directive)) }
 {
     tokens.expect(TokenKind::KwRequires)?;
     let extensions = parse_names(alloc, tokens)?;
@@ -68,8 +65,7 @@ fn parse_requires_directive(alloc: Global, tokens: &mut Cursor) -> Result<Global
 /// Names, one at least, with a comma after each, or after each but the last, and the `;` behind them.
 #[tactic(auto, unfolding(crate::proofs::Names::first_names, crate::proofs::Names::names_turn, grammar::specs::States::take), using(crate::proofs::Names::names_is, crate::proofs::Names::names_are, std::proofs::lemmas::List::map_push))]
 fn parse_names(alloc: Global, tokens: &mut Cursor) -> Result<Vec<String>, Fault>
-    ensures value { Gives (λ v. map string_bytes v.items) result (state tokens.new) (names_at (state tokens.old)) }
-    ensures shorter { OnOk result (length (state tokens.new).rest < length (state tokens.old).rest) }
+    ensures { Parses (λ v. map string_bytes v.items) result tokens.old tokens.new names_at }
 {
     let mut names = Vec::new(alloc);
     names.push(tokens.name()?)?;
@@ -86,8 +82,7 @@ fn parse_names(alloc: Global, tokens: &mut Cursor) -> Result<Vec<String>, Fault>
 /// A `diagnostic` with its severity and the name of its rule (WGSL, "Diagnostics").
 #[tactic(auto, unfolding(wgsl_grammar_theory::specs::UnitRules::diagnostic_directive_at, crate::specs::Parts::second_name_at, grammar::specs::States::take), using(wgsl_grammar_theory::proofs::UnitEquations::diagnostic_directive_is, crate::proofs::Names::rule_of_is))]
 fn parse_diagnostic_directive(tokens: &mut Cursor) -> Result<GlobalDirective, Fault>
-    ensures value { Gives global_directive_view result (state tokens.new) (reader (of diagnostic_directive) (state tokens.old)) }
-    ensures shorter { OnOk result (length (state tokens.new).rest < length (state tokens.old).rest) }
+    ensures { Parses global_directive_view result tokens.old tokens.new (reader (of diagnostic_directive)) }
 {
     let severity = parse_severity(tokens)?;
     tokens.expect(TokenKind::SymComma)?;

@@ -1,12 +1,12 @@
 //! Reading structures.
 
-ghost use Rattle.std.specs.Prelude.{◌<◌, length, map, OnOk};
+ghost use Rattle.std.specs.Prelude.{map};
 ghost use Rattle.wgsl_model.specs.Symbols.{Symbol.struct_declaration, Symbol.struct_member};
 ghost use Rattle.wgsl_span.specs.View.{spanned_view};
 ghost use Rattle.wgsl_unit.specs.View.{global_declaration_view, member_view};
 ghost use Rattle.wgsl_grammar_theory.specs.Factored.{FactoredSymbol.of, FactoredSymbol.further, Further.member_items};
 ghost use Rattle.wgsl_grammar_theory.specs.Reader.{reader};
-ghost use Rattle.wgsl_cursor.specs.Reading.{state, Gives};
+ghost use Rattle.wgsl_cursor.specs.Reading.{Parses};
 
 use std::alloc::Global;
 use wgsl_attribute_reader::parse_attributes;
@@ -21,8 +21,7 @@ pub fn parse_struct_declaration(
     alloc: Global,
     tokens: &mut Cursor,
 ) -> Result<GlobalDeclaration, Fault>
-    ensures value { Gives global_declaration_view result (state tokens.new) (reader (of struct_declaration) (state tokens.old)) }
-    ensures shorter { OnOk result (length (state tokens.new).rest < length (state tokens.old).rest) }
+    ensures { Parses global_declaration_view result tokens.old tokens.new (reader (of struct_declaration)) }
 {
     tokens.expect(TokenKind::KwStruct)?;
     let ident = tokens.ident()?;
@@ -34,8 +33,7 @@ pub fn parse_struct_declaration(
 /// Members, one at least, with a comma after each, or after each but the last, and the `}` behind them.
 #[tactic(auto, unfolding(crate::proofs::Turns::members_at, crate::proofs::Turns::members_turn, grammar::specs::States::take), using(crate::proofs::Turns::members_is, crate::proofs::Turns::members_are, std::proofs::lemmas::List::map_push))]
 fn parse_members(alloc: Global, tokens: &mut Cursor) -> Result<Vec<StructMemberNode>, Fault>
-    ensures value { Gives (λ v. map (spanned_view member_view) v.items) result (state tokens.new) (reader (further member_items) (state tokens.old)) }
-    ensures shorter { OnOk result (length (state tokens.new).rest < length (state tokens.old).rest) }
+    ensures { Parses (λ v. map (spanned_view member_view) v.items) result tokens.old tokens.new (reader (further member_items)) }
 {
     let mut members = Vec::new(alloc);
     members.push(parse_struct_member(alloc, tokens)?)?;
@@ -51,8 +49,7 @@ fn parse_members(alloc: Global, tokens: &mut Cursor) -> Result<Vec<StructMemberN
 
 #[tactic(auto, unfolding(wgsl_grammar_theory::specs::UnitRules::struct_member_at), using(wgsl_grammar_theory::proofs::UnitEquations::struct_member_is))]
 fn parse_struct_member(alloc: Global, tokens: &mut Cursor) -> Result<StructMemberNode, Fault>
-    ensures value { Gives (spanned_view member_view) result (state tokens.new) (reader (of struct_member) (state tokens.old)) }
-    ensures shorter { OnOk result (length (state tokens.new).rest < length (state tokens.old).rest) }
+    ensures { Parses (spanned_view member_view) result tokens.old tokens.new (reader (of struct_member)) }
 {
     let start = tokens.start();
     let attributes = parse_attributes(alloc, tokens)?;

@@ -1,13 +1,12 @@
 //! Reading the declarations of values, and further names for types.
 
-ghost use Rattle.std.specs.Prelude.{◌<◌, length, OnOk};
 ghost use Rattle.grammar.specs.Grammar.{Grammar.symbol};
 ghost use Rattle.wgsl_model.specs.Symbols.{Symbol.const_declaration, Symbol.alias_declaration};
 ghost use Rattle.wgsl_attribute.specs.View.{attributes_view};
 ghost use Rattle.wgsl_unit.specs.View.{global_declaration_view};
 ghost use Rattle.wgsl_grammar_theory.specs.Factored.{FactoredSymbol.of, FactoredSymbol.further, Further.var_part, Further.override_part};
 ghost use Rattle.wgsl_grammar_theory.specs.Reader.{reader};
-ghost use Rattle.wgsl_cursor.specs.Reading.{state, Gives};
+ghost use Rattle.wgsl_cursor.specs.Reading.{Parses};
 ghost use Rattle.wgsl_declaration_reader.specs.Parts.{behind_attributes};
 
 use std::alloc::Global;
@@ -26,8 +25,7 @@ pub fn parse_var(
     tokens: &mut Cursor,
     attributes: Attributes,
 ) -> Result<GlobalDeclaration, Fault>
-    ensures value { Gives global_declaration_view result (state tokens.new) (behind_attributes (attributes_view attributes.items) (symbol (further var_part)) (state tokens.old)) }
-    ensures shorter { OnOk result (length (state tokens.new).rest < length (state tokens.old).rest) }
+    ensures { Parses global_declaration_view result tokens.old tokens.new (behind_attributes (attributes_view attributes.items) (symbol (further var_part))) }
 {
     let kind = parse_var_kind(alloc, tokens)?;
     let (ident, ty) = parse_typed_ident(alloc, tokens)?;
@@ -49,8 +47,7 @@ pub fn parse_override(
     tokens: &mut Cursor,
     attributes: Attributes,
 ) -> Result<GlobalDeclaration, Fault>
-    ensures value { Gives global_declaration_view result (state tokens.new) (behind_attributes (attributes_view attributes.items) (symbol (further override_part)) (state tokens.old)) }
-    ensures shorter { OnOk result (length (state tokens.new).rest < length (state tokens.old).rest) }
+    ensures { Parses global_declaration_view result tokens.old tokens.new (behind_attributes (attributes_view attributes.items) (symbol (further override_part))) }
 {
     tokens.expect(TokenKind::KwOverride)?;
     let (ident, ty) = parse_typed_ident(alloc, tokens)?;
@@ -70,8 +67,7 @@ pub fn parse_const_declaration(
     alloc: Global,
     tokens: &mut Cursor,
 ) -> Result<GlobalDeclaration, Fault>
-    ensures value { Gives global_declaration_view result (state tokens.new) (reader (of const_declaration) (state tokens.old)) }
-    ensures shorter { OnOk result (length (state tokens.new).rest < length (state tokens.old).rest) }
+    ensures { Parses global_declaration_view result tokens.old tokens.new (reader (of const_declaration)) }
 {
     tokens.expect(TokenKind::KwConst)?;
     let (ident, ty) = parse_typed_ident(alloc, tokens)?;
@@ -92,8 +88,7 @@ pub fn parse_alias_declaration(
     alloc: Global,
     tokens: &mut Cursor,
 ) -> Result<GlobalDeclaration, Fault>
-    ensures value { Gives global_declaration_view result (state tokens.new) (reader (of alias_declaration) (state tokens.old)) }
-    ensures shorter { OnOk result (length (state tokens.new).rest < length (state tokens.old).rest) }
+    ensures { Parses global_declaration_view result tokens.old tokens.new (reader (of alias_declaration)) }
 {
     tokens.expect(TokenKind::KwAlias)?;
     let ident = tokens.ident()?;

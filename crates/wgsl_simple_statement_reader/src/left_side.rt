@@ -1,6 +1,6 @@
 //! Left sides of assignments.
 
-ghost use Rattle.std.specs.Prelude.{◌≡◌, ◌<◌, [], ◌∷◌, length, OnOk, IfOk};
+ghost use Rattle.std.specs.Prelude.{◌≡◌, [], ◌∷◌, IfOk};
 ghost use Rattle.grammar.specs.States.{is_any};
 ghost use Rattle.wgsl_model.specs.Classes as class;
 ghost use Rattle.wgsl_model.specs.Expressions.{expression_node};
@@ -12,7 +12,7 @@ ghost use Rattle.wgsl_named_values.specs.View.{unary_operator_view};
 ghost use Rattle.wgsl_expression.specs.View.{ident_name, expression_node_view};
 ghost use Rattle.wgsl_grammar_theory.specs.Factored.{FactoredSymbol.of, FactoredSymbol.further, Further.other_left_side};
 ghost use Rattle.wgsl_grammar_theory.specs.Reader.{reader};
-ghost use Rattle.wgsl_cursor.specs.Reading.{state, Gives};
+ghost use Rattle.wgsl_cursor.specs.Reading.{state, Parses};
 ghost use Rattle.wgsl_simple_statement_reader.specs.LeftSides.{left_name_at, parenthesized_left_side_at, unary_left_side_at};
 
 use std::alloc::{AllocError, Global};
@@ -44,8 +44,7 @@ pub fn begins_name(tokens: &Cursor) -> bool
 #[cycle(left_side)]
 #[tactic(auto, unfolding(crate::proofs::LeftSides::lhs_expression_parts), using(crate::proofs::LeftSides::lhs_expression_by_parts))]
 pub fn parse_lhs_expression(alloc: Global, tokens: &mut Cursor) -> Result<ExpressionNode, Fault>
-    ensures value { Gives expression_node_view result (state tokens.new) (reader (of lhs_expression) (state tokens.old)) }
-    ensures shorter { OnOk result (length (state tokens.new).rest < length (state tokens.old).rest) }
+    ensures { Parses expression_node_view result tokens.old tokens.new (reader (of lhs_expression)) }
 {
     if begins_name(tokens) {
         let name = parse_left_name(alloc, tokens)?;
@@ -57,8 +56,7 @@ pub fn parse_lhs_expression(alloc: Global, tokens: &mut Cursor) -> Result<Expres
 /// A name.
 #[tactic(auto, unfolding(crate::specs::LeftSides::left_name_at))]
 fn parse_left_name(alloc: Global, tokens: &mut Cursor) -> Result<ExpressionNode, Fault>
-    ensures value { Gives expression_node_view result (state tokens.new) (left_name_at (state tokens.old)) }
-    ensures shorter { OnOk result (length (state tokens.new).rest < length (state tokens.old).rest) }
+    ensures { Parses expression_node_view result tokens.old tokens.new left_name_at }
 {
     let start = tokens.start();
     let ident = tokens.ident()?;
@@ -80,8 +78,7 @@ pub fn left_name(alloc: Global, ident: Ident, span: Span) -> Result<ExpressionNo
 #[cycle(left_side)]
 #[tactic(auto, unfolding(crate::proofs::LeftSides::other_left_side_parts, crate::specs::LeftSides::unary_left_side_at, grammar::specs::States::take), using(crate::proofs::LeftSides::other_left_side_by_parts))]
 pub fn parse_other_left_side(alloc: Global, tokens: &mut Cursor) -> Result<ExpressionNode, Fault>
-    ensures value { Gives expression_node_view result (state tokens.new) (reader (further other_left_side) (state tokens.old)) }
-    ensures shorter { OnOk result (length (state tokens.new).rest < length (state tokens.old).rest) }
+    ensures { Parses expression_node_view result tokens.old tokens.new (reader (further other_left_side)) }
 {
     if tokens.is_at(TokenKind::SymParenLeft) {
         let base = parse_parenthesized_left_side(alloc, tokens)?;
@@ -107,8 +104,7 @@ fn parse_parenthesized_left_side(
     alloc: Global,
     tokens: &mut Cursor,
 ) -> Result<ExpressionNode, Fault>
-    ensures value { Gives expression_node_view result (state tokens.new) (parenthesized_left_side_at (state tokens.old)) }
-    ensures shorter { OnOk result (length (state tokens.new).rest < length (state tokens.old).rest) }
+    ensures { Parses expression_node_view result tokens.old tokens.new parenthesized_left_side_at }
 {
     let start = tokens.start();
     tokens.expect(TokenKind::SymParenLeft)?;
@@ -127,8 +123,7 @@ fn parse_unary_left_side(
     kind: TokenKind,
     operator: UnaryOperator,
 ) -> Result<ExpressionNode, Fault>
-    ensures value { Gives expression_node_view result (state tokens.new) (unary_left_side_at (class_of_kind kind) (unary_operator_view operator) (state tokens.old)) }
-    ensures shorter { OnOk result (length (state tokens.new).rest < length (state tokens.old).rest) }
+    ensures { Parses expression_node_view result tokens.old tokens.new (unary_left_side_at (class_of_kind kind) (unary_operator_view operator)) }
 {
     let start = tokens.start();
     tokens.expect(kind)?;

@@ -1,6 +1,6 @@
 //! Calls, assignments, increments and decrements, without their `;`.
 
-ghost use Rattle.std.specs.Prelude.{◌≡◌, ◌<◌, ◌≤◌, [], ◌∷◌, length, map, OnOk, option_map};
+ghost use Rattle.std.specs.Prelude.{◌≡◌, [], ◌∷◌, map, option_map};
 ghost use Rattle.grammar.specs.States.{is_any};
 ghost use Rattle.wgsl_model.specs.Classes as class;
 ghost use Rattle.wgsl_model.specs.Symbols.{Symbol.phony_assignment};
@@ -9,7 +9,7 @@ ghost use Rattle.wgsl_expression.specs.View.{ident_name, expression_node_view, t
 ghost use Rattle.wgsl_statement.specs.View.{statement_view};
 ghost use Rattle.wgsl_grammar_theory.specs.Factored.{FactoredSymbol.of, FactoredSymbol.further, Further.left_side_rest, Further.simple_statement};
 ghost use Rattle.wgsl_grammar_theory.specs.Reader.{reader};
-ghost use Rattle.wgsl_cursor.specs.Reading.{state, Gives};
+ghost use Rattle.wgsl_cursor.specs.Reading.{state, Parses, ParsesNullable};
 ghost use Rattle.wgsl_simple_statement_reader.specs.Given.{given};
 ghost use Rattle.wgsl_simple_statement_reader.specs.SimpleStatements.{named_statement_at, maybe_template_list_at, call_rest_at, assignment_operator_at, underscore_left_side_at, assignment_classes};
 
@@ -59,8 +59,7 @@ const LEFT_SIDE_REST: Expected = Expected::OneOf(&[
 /// A call, an assignment, an increment or a decrement.
 #[tactic(auto, unfolding(crate::proofs::SimpleStatements::simple_statement_parts, wgsl_grammar_theory::specs::StatementRules::phony_assignment_at, crate::specs::SimpleStatements::underscore_left_side_at, grammar::specs::States::take), using(crate::proofs::SimpleStatements::simple_statement_by_parts, wgsl_grammar_theory::proofs::StatementEquations::phony_assignment_is))]
 pub fn parse_simple_statement(alloc: Global, tokens: &mut Cursor) -> Result<Statement, Fault>
-    ensures value { Gives statement_view result (state tokens.new) (reader (further simple_statement) (state tokens.old)) }
-    ensures shorter { OnOk result (length (state tokens.new).rest < length (state tokens.old).rest) }
+    ensures { Parses statement_view result tokens.old tokens.new (reader (further simple_statement)) }
 {
     if begins_name(tokens) {
         return parse_named_statement(alloc, tokens);
@@ -87,8 +86,7 @@ fn begins_other_left_side(tokens: &Cursor) -> bool
 /// A statement that begins with a name.
 #[tactic(auto, unfolding(crate::proofs::SimpleStatements::named_statement_parts), using(crate::proofs::SimpleStatements::named_statement_by_parts))]
 fn parse_named_statement(alloc: Global, tokens: &mut Cursor) -> Result<Statement, Fault>
-    ensures value { Gives statement_view result (state tokens.new) (named_statement_at (state tokens.old)) }
-    ensures shorter { OnOk result (length (state tokens.new).rest < length (state tokens.old).rest) }
+    ensures { Parses statement_view result tokens.old tokens.new named_statement_at }
 {
     let start = tokens.start();
     let ident = tokens.ident()?;
@@ -110,8 +108,7 @@ fn begins_call_rest(tokens: &Cursor) -> bool
 /// What follows the name in a call.
 #[tactic(auto, unfolding(crate::specs::SimpleStatements::call_rest_at), using(crate::proofs::Made::call_is, wgsl_statement::proofs::StatementViews::is_function_call))]
 fn parse_call_rest(alloc: Global, tokens: &mut Cursor, ident: Ident) -> Result<Statement, Fault>
-    ensures value { Gives statement_view result (state tokens.new) (call_rest_at (ident_name ident) (state tokens.old)) }
-    ensures shorter { OnOk result (length (state tokens.new).rest < length (state tokens.old).rest) }
+    ensures { Parses statement_view result tokens.old tokens.new (call_rest_at (ident_name ident)) }
 {
     let template_args = parse_maybe_template_list(alloc, tokens)?;
     let arguments = parse_arguments(alloc, tokens)?;
@@ -132,8 +129,7 @@ fn parse_maybe_template_list(
     alloc: Global,
     tokens: &mut Cursor,
 ) -> Result<Option<Vec<TemplateArg>>, Fault>
-    ensures value { Gives (option_map (λ args. map template_arg_view args.items)) result (state tokens.new) (maybe_template_list_at (state tokens.old)) }
-    ensures shorter { OnOk result (length (state tokens.new).rest ≤ length (state tokens.old).rest) }
+    ensures { ParsesNullable (option_map (λ args. map template_arg_view args.items)) result tokens.old tokens.new maybe_template_list_at }
 {
     if !tokens.is_at(TokenKind::TemplateArgsStart) {
         return Ok(None);
@@ -148,8 +144,7 @@ fn parse_left_side_rest(
     tokens: &mut Cursor,
     left: ExpressionNode,
 ) -> Result<Statement, Fault>
-    ensures value { Gives statement_view result (state tokens.new) (given (expression_node_view left) (reader (further left_side_rest)) (state tokens.old)) }
-    ensures shorter { OnOk result (length (state tokens.new).rest < length (state tokens.old).rest) }
+    ensures { Parses statement_view result tokens.old tokens.new (given (expression_node_view left) (reader (further left_side_rest))) }
 {
     if begins_assignment(tokens) {
         let operator = parse_assignment_operator(tokens)?;
@@ -189,8 +184,7 @@ fn begins_assignment(tokens: &Cursor) -> bool
 /// `=` or a compound operator.
 #[tactic(auto, unfolding(crate::specs::SimpleStatements::assignment_operator_at, grammar::specs::States::take))]
 fn parse_assignment_operator(tokens: &mut Cursor) -> Result<AssignmentOperator, Fault>
-    ensures value { Gives assignment_operator_view result (state tokens.new) (assignment_operator_at (state tokens.old)) }
-    ensures shorter { OnOk result (length (state tokens.new).rest < length (state tokens.old).rest) }
+    ensures { Parses assignment_operator_view result tokens.old tokens.new assignment_operator_at }
 {
     if tokens.eat(TokenKind::SymEqual) {
         return Ok(AssignmentOperator::Equal);
@@ -229,8 +223,7 @@ fn parse_assignment_operator(tokens: &mut Cursor) -> Result<AssignmentOperator, 
 /// An assignment to `_`.
 #[tactic(auto, unfolding(wgsl_grammar_theory::specs::StatementRules::phony_assignment_at, crate::specs::SimpleStatements::underscore_left_side_at, wgsl_attribute_reader::specs::Initializers::initializer_at), using(wgsl_grammar_theory::proofs::StatementEquations::phony_assignment_is, wgsl_statement::proofs::StatementViews::is_assignment))]
 fn parse_phony_assignment(alloc: Global, tokens: &mut Cursor) -> Result<Statement, Fault>
-    ensures value { Gives statement_view result (state tokens.new) (reader (of phony_assignment) (state tokens.old)) }
-    ensures shorter { OnOk result (length (state tokens.new).rest < length (state tokens.old).rest) }
+    ensures { Parses statement_view result tokens.old tokens.new (reader (of phony_assignment)) }
 {
     let lhs = parse_underscore(alloc, tokens)?;
     let rhs = parse_initializer(alloc, tokens)?;
@@ -244,8 +237,7 @@ fn parse_phony_assignment(alloc: Global, tokens: &mut Cursor) -> Result<Statemen
 /// `_` as a left side.
 #[tactic(auto, unfolding(crate::specs::SimpleStatements::underscore_left_side_at))]
 fn parse_underscore(alloc: Global, tokens: &mut Cursor) -> Result<ExpressionNode, Fault>
-    ensures value { Gives expression_node_view result (state tokens.new) (underscore_left_side_at (state tokens.old)) }
-    ensures shorter { OnOk result (length (state tokens.new).rest < length (state tokens.old).rest) }
+    ensures { Parses expression_node_view result tokens.old tokens.new underscore_left_side_at }
 {
     let start = tokens.start();
     tokens.expect(TokenKind::SymUnderscore)?;

@@ -1,6 +1,6 @@
 //! Declarations of values, `return`, and the statements of one word or one expression.
 
-ghost use Rattle.std.specs.Prelude.{◌≡◌, ◌<◌, ◌≤◌, [], ◌∷◌, length, OnOk, option_map};
+ghost use Rattle.std.specs.Prelude.{◌≡◌, [], ◌∷◌, option_map};
 ghost use Rattle.grammar.specs.States.{is_any};
 ghost use Rattle.wgsl_model.specs.Classes as class;
 ghost use Rattle.wgsl_model.specs.Symbols.{Symbol.return_statement, Symbol.var_statement, Symbol.value_statement, Symbol.break_statement, Symbol.continue_statement, Symbol.discard_statement, Symbol.const_assert};
@@ -10,7 +10,7 @@ ghost use Rattle.wgsl_statement.specs.View.{statement_view};
 ghost use Rattle.wgsl_grammar_theory.specs.Factored.{FactoredSymbol.of};
 ghost use Rattle.wgsl_grammar_theory.specs.Tables.{begin_expressions};
 ghost use Rattle.wgsl_grammar_theory.specs.Reader.{reader};
-ghost use Rattle.wgsl_cursor.specs.Reading.{state, Gives};
+ghost use Rattle.wgsl_cursor.specs.Reading.{state, Parses, ParsesNullable};
 ghost use Rattle.wgsl_simple_statement_reader.specs.Values.{maybe_expression_at, value_kind_at};
 
 use std::alloc::Global;
@@ -33,8 +33,7 @@ const VALUE_STATEMENT: Expected = Expected::OneOf(&[TokenKind::KwConst, TokenKin
 /// `return`, with a value if there is one.
 #[tactic(auto, unfolding(wgsl_grammar_theory::specs::StatementRules::return_statement_at, crate::specs::Values::maybe_expression_at), using(wgsl_grammar_theory::proofs::StatementEquations::return_statement_is, wgsl_statement::proofs::StatementViews::is_return))]
 pub fn parse_return_statement(alloc: Global, tokens: &mut Cursor) -> Result<Statement, Fault>
-    ensures value { Gives statement_view result (state tokens.new) (reader (of return_statement) (state tokens.old)) }
-    ensures shorter { OnOk result (length (state tokens.new).rest < length (state tokens.old).rest) }
+    ensures { Parses statement_view result tokens.old tokens.new (reader (of return_statement)) }
 {
     tokens.expect(TokenKind::KwReturn)?;
     let expression = parse_maybe_expression(alloc, tokens)?;
@@ -47,8 +46,7 @@ fn parse_maybe_expression(
     alloc: Global,
     tokens: &mut Cursor,
 ) -> Result<Option<ExpressionNode>, Fault>
-    ensures value { Gives (option_map expression_node_view) result (state tokens.new) (maybe_expression_at (state tokens.old)) }
-    ensures shorter { OnOk result (length (state tokens.new).rest ≤ length (state tokens.old).rest) }
+    ensures { ParsesNullable (option_map expression_node_view) result tokens.old tokens.new maybe_expression_at }
 {
     if !begins_expression(tokens) {
         return Ok(None);
@@ -81,8 +79,7 @@ fn begins_expression(tokens: &Cursor) -> bool
 /// A `var`, without its `;`.
 #[tactic(auto, unfolding(wgsl_grammar_theory::specs::StatementRules::var_statement_at, wgsl_attribute_reader::specs::VarKinds::var_kind_at, wgsl_attribute_reader::specs::Initializers::maybe_initializer_at), using(wgsl_grammar_theory::proofs::StatementEquations::var_statement_is, wgsl_statement::proofs::StatementViews::is_declaration))]
 pub fn parse_var_statement(alloc: Global, tokens: &mut Cursor) -> Result<Statement, Fault>
-    ensures value { Gives statement_view result (state tokens.new) (reader (of var_statement) (state tokens.old)) }
-    ensures shorter { OnOk result (length (state tokens.new).rest < length (state tokens.old).rest) }
+    ensures { Parses statement_view result tokens.old tokens.new (reader (of var_statement)) }
 {
     let kind = parse_var_kind(alloc, tokens)?;
     let (ident, ty) = parse_typed_ident(alloc, tokens)?;
@@ -99,8 +96,7 @@ pub fn parse_var_statement(alloc: Global, tokens: &mut Cursor) -> Result<Stateme
 /// A `let` or `const`, without its `;`.
 #[tactic(auto, unfolding(wgsl_grammar_theory::specs::StatementRules::value_statement_at, crate::specs::Values::value_kind_at, wgsl_attribute_reader::specs::Initializers::initializer_at), using(wgsl_grammar_theory::proofs::StatementEquations::value_statement_is, wgsl_statement::proofs::StatementViews::is_declaration))]
 pub fn parse_value_statement(alloc: Global, tokens: &mut Cursor) -> Result<Statement, Fault>
-    ensures value { Gives statement_view result (state tokens.new) (reader (of value_statement) (state tokens.old)) }
-    ensures shorter { OnOk result (length (state tokens.new).rest < length (state tokens.old).rest) }
+    ensures { Parses statement_view result tokens.old tokens.new (reader (of value_statement)) }
 {
     let kind = parse_value_kind(tokens)?;
     let (ident, ty) = parse_typed_ident(alloc, tokens)?;
@@ -124,8 +120,7 @@ pub fn begins_value_statement(tokens: &Cursor) -> bool
 /// `let` or `const`.
 #[tactic(auto, unfolding(crate::specs::Values::value_kind_at, grammar::specs::States::take))]
 fn parse_value_kind(tokens: &mut Cursor) -> Result<DeclarationKind, Fault>
-    ensures value { Gives declaration_kind_view result (state tokens.new) (value_kind_at (state tokens.old)) }
-    ensures shorter { OnOk result (length (state tokens.new).rest < length (state tokens.old).rest) }
+    ensures { Parses declaration_kind_view result tokens.old tokens.new value_kind_at }
 {
     if tokens.eat(TokenKind::KwLet) {
         return Ok(DeclarationKind::Let);
@@ -139,8 +134,7 @@ fn parse_value_kind(tokens: &mut Cursor) -> Result<DeclarationKind, Fault>
 /// `break`, without its `;`.
 #[tactic(auto, unfolding(wgsl_grammar_theory::specs::StatementRules::break_statement_at), using(wgsl_grammar_theory::proofs::StatementEquations::break_statement_is, wgsl_statement::proofs::StatementViews::is_break))]
 pub fn parse_break_statement(tokens: &mut Cursor) -> Result<Statement, Fault>
-    ensures value { Gives statement_view result (state tokens.new) (reader (of break_statement) (state tokens.old)) }
-    ensures shorter { OnOk result (length (state tokens.new).rest < length (state tokens.old).rest) }
+    ensures { Parses statement_view result tokens.old tokens.new (reader (of break_statement)) }
 {
     tokens.expect(TokenKind::KwBreak)?;
     Ok(Statement::Break(BreakStatement {}))
@@ -149,8 +143,7 @@ pub fn parse_break_statement(tokens: &mut Cursor) -> Result<Statement, Fault>
 /// `continue`, without its `;`.
 #[tactic(auto, unfolding(wgsl_grammar_theory::specs::StatementRules::continue_statement_at), using(wgsl_grammar_theory::proofs::StatementEquations::continue_statement_is, wgsl_statement::proofs::StatementViews::is_continue))]
 pub fn parse_continue_statement(tokens: &mut Cursor) -> Result<Statement, Fault>
-    ensures value { Gives statement_view result (state tokens.new) (reader (of continue_statement) (state tokens.old)) }
-    ensures shorter { OnOk result (length (state tokens.new).rest < length (state tokens.old).rest) }
+    ensures { Parses statement_view result tokens.old tokens.new (reader (of continue_statement)) }
 {
     tokens.expect(TokenKind::KwContinue)?;
     Ok(Statement::Continue(ContinueStatement {}))
@@ -159,8 +152,7 @@ pub fn parse_continue_statement(tokens: &mut Cursor) -> Result<Statement, Fault>
 /// `discard`, without its `;`.
 #[tactic(auto, unfolding(wgsl_grammar_theory::specs::StatementRules::discard_statement_at), using(wgsl_grammar_theory::proofs::StatementEquations::discard_statement_is, wgsl_statement::proofs::StatementViews::is_discard))]
 pub fn parse_discard_statement(tokens: &mut Cursor) -> Result<Statement, Fault>
-    ensures value { Gives statement_view result (state tokens.new) (reader (of discard_statement) (state tokens.old)) }
-    ensures shorter { OnOk result (length (state tokens.new).rest < length (state tokens.old).rest) }
+    ensures { Parses statement_view result tokens.old tokens.new (reader (of discard_statement)) }
 {
     tokens.expect(TokenKind::KwDiscard)?;
     Ok(Statement::Discard(DiscardStatement {}))
@@ -169,8 +161,7 @@ pub fn parse_discard_statement(tokens: &mut Cursor) -> Result<Statement, Fault>
 /// A `const_assert`, without its `;`.
 #[tactic(auto, unfolding(wgsl_grammar_theory::specs::StatementRules::const_assert_at), using(wgsl_grammar_theory::proofs::StatementEquations::const_assert_is))]
 pub fn parse_const_assert(alloc: Global, tokens: &mut Cursor) -> Result<ConstAssert, Fault>
-    ensures value { Gives assert_view result (state tokens.new) (reader (of const_assert) (state tokens.old)) }
-    ensures shorter { OnOk result (length (state tokens.new).rest < length (state tokens.old).rest) }
+    ensures { Parses assert_view result tokens.old tokens.new (reader (of const_assert)) }
 {
     tokens.expect(TokenKind::KwConstAssert)?;
     let expression = parse_expression(alloc, tokens)?;

@@ -1,12 +1,12 @@
 //! `break` and `break if` in a `continuing`.
 
-ghost use Rattle.std.specs.Prelude.{◌≡◌, ◌<◌, length, OnOk, IfOk};
+ghost use Rattle.std.specs.Prelude.{◌≡◌, IfOk};
 ghost use Rattle.wgsl_model.specs.Statements as plain;
 ghost use Rattle.wgsl_model.specs.StatementParts.{placed_statement};
 ghost use Rattle.wgsl_span.specs.View.{span_view};
 ghost use Rattle.wgsl_simple_statement.specs.View.{break_if_view};
 ghost use Rattle.wgsl_statement.specs.View.{statement_node_view};
-ghost use Rattle.wgsl_cursor.specs.Reading.{state, Gives};
+ghost use Rattle.wgsl_cursor.specs.Reading.{Parses};
 ghost use Rattle.wgsl_statement_part_reader.specs.Plain.{break_if_rest_at};
 
 use std::alloc::{AllocError, Global};
@@ -28,8 +28,7 @@ pub fn break_node(alloc: Global, span: Span) -> Result<StatementNode, AllocError
 /// A `break if` behind its `break`, and the `}` behind it.
 #[tactic(auto, unfolding(crate::specs::Plain::break_if_rest_at))]
 pub fn parse_break_if_rest(alloc: Global, tokens: &mut Cursor) -> Result<BreakIfStatement, Fault>
-    ensures value { Gives break_if_view result (state tokens.new) (break_if_rest_at (state tokens.old)) }
-    ensures shorter { OnOk result (length (state tokens.new).rest < length (state tokens.old).rest) }
+    ensures { Parses break_if_view result tokens.old tokens.new break_if_rest_at }
 {
     tokens.expect(TokenKind::KwIf)?;
     let expression = parse_expression(alloc, tokens)?;

@@ -1,6 +1,6 @@
 //! What stands before the block of a clause of `switch`.
 
-ghost use Rattle.std.specs.Prelude.{◌≡◌, ◌<◌, ◌≤◌, Some, None, cond, length, map, OnOk};
+ghost use Rattle.std.specs.Prelude.{◌≡◌, ◌≤◌, Some, None, cond, length, map};
 ghost use Rattle.grammar.specs.States.{Read.done, is_at, is_any, first_of};
 ghost use Rattle.wgsl_model.specs.Classes as class;
 ghost use Rattle.wgsl_model.specs.Symbols.{Symbol.case_selector};
@@ -8,7 +8,7 @@ ghost use Rattle.wgsl_simple_statement.specs.View.{selector_view};
 ghost use Rattle.wgsl_grammar_theory.specs.Factored.{FactoredSymbol.of, FactoredSymbol.further, Further.selectors};
 ghost use Rattle.wgsl_grammar_theory.specs.Tables.{begin_case_selector};
 ghost use Rattle.wgsl_grammar_theory.specs.Reader.{reader};
-ghost use Rattle.wgsl_cursor.specs.Reading.{state, Gives};
+ghost use Rattle.wgsl_cursor.specs.Reading.{state, Parses};
 ghost use Rattle.wgsl_statement_part_reader.specs.Clauses.{maybe_colon_at, clause_head_at};
 
 use std::alloc::Global;
@@ -23,8 +23,7 @@ const SWITCH_CLAUSE: Expected = Expected::OneOf(&[TokenKind::KwCase, TokenKind::
 /// `case` with its selectors, or `default`, and a `:` if there is one.
 #[tactic(auto, unfolding(crate::specs::Clauses::clause_head_at, grammar::specs::States::take))]
 pub fn parse_clause_head(alloc: Global, tokens: &mut Cursor) -> Result<Vec<CaseSelector>, Fault>
-    ensures value { Gives (λ selectors. map selector_view selectors.items) result (state tokens.new) (clause_head_at (state tokens.old)) }
-    ensures shorter { OnOk result (length (state tokens.new).rest < length (state tokens.old).rest) }
+    ensures { Parses (λ selectors. map selector_view selectors.items) result tokens.old tokens.new clause_head_at }
 {
     if tokens.eat(TokenKind::KwCase) {
         let selectors = parse_selectors(alloc, tokens)?;
@@ -50,8 +49,7 @@ fn skip_colon(tokens: &mut Cursor)
 /// Selectors with commas between, also behind the last.
 #[tactic(auto, unfolding(crate::proofs::Selectors::selectors_parts, crate::proofs::Selectors::selectors_turn, grammar::specs::States::take), using(crate::proofs::Selectors::selectors_by_parts, crate::proofs::Selectors::selectors_are, std::proofs::lemmas::List::map_push))]
 fn parse_selectors(alloc: Global, tokens: &mut Cursor) -> Result<Vec<CaseSelector>, Fault>
-    ensures value { Gives (λ selectors. map selector_view selectors.items) result (state tokens.new) (reader (further selectors) (state tokens.old)) }
-    ensures shorter { OnOk result (length (state tokens.new).rest < length (state tokens.old).rest) }
+    ensures { Parses (λ selectors. map selector_view selectors.items) result tokens.old tokens.new (reader (further selectors)) }
 {
     let mut selectors = Vec::new(alloc);
     selectors.push(parse_case_selector(alloc, tokens)?)?;
@@ -67,8 +65,7 @@ fn parse_selectors(alloc: Global, tokens: &mut Cursor) -> Result<Vec<CaseSelecto
 /// `default`, or an expression.
 #[tactic(auto, unfolding(wgsl_grammar_theory::specs::StatementRules::case_selector_at, grammar::specs::States::take), using(wgsl_grammar_theory::proofs::StatementEquations::case_selector_is))]
 fn parse_case_selector(alloc: Global, tokens: &mut Cursor) -> Result<CaseSelector, Fault>
-    ensures value { Gives selector_view result (state tokens.new) (reader (of case_selector) (state tokens.old)) }
-    ensures shorter { OnOk result (length (state tokens.new).rest < length (state tokens.old).rest) }
+    ensures { Parses selector_view result tokens.old tokens.new (reader (of case_selector)) }
 {
     if tokens.eat(TokenKind::KwDefault) {
         return Ok(CaseSelector::Default);

@@ -1,12 +1,12 @@
 //! The header of `for`.
 
-ghost use Rattle.std.specs.Prelude.{◌<◌, length, OnOk, option_map};
+ghost use Rattle.std.specs.Prelude.{option_map};
 ghost use Rattle.wgsl_model.specs.Symbols.{Symbol.for_init, Symbol.for_update};
 ghost use Rattle.wgsl_expression.specs.View.{expression_node_view};
 ghost use Rattle.wgsl_statement.specs.View.{statement_view, statement_node_view};
 ghost use Rattle.wgsl_grammar_theory.specs.Factored.{FactoredSymbol.of, FactoredSymbol.further, Further.init_part, Further.condition_part, Further.update_part};
 ghost use Rattle.wgsl_grammar_theory.specs.Reader.{reader};
-ghost use Rattle.wgsl_cursor.specs.Reading.{state, Gives};
+ghost use Rattle.wgsl_cursor.specs.Reading.{Parses};
 ghost use Rattle.wgsl_statement_part_reader.specs.Heads.{for_header_at};
 ghost use Rattle.wgsl_statement_part_reader.specs.Plain.{init_statement_at};
 
@@ -31,8 +31,7 @@ pub type ForHeader = (
 /// `for` and its header in parentheses.
 #[tactic(auto, unfolding(crate::specs::Heads::for_header_at))]
 pub fn parse_for_header(alloc: Global, tokens: &mut Cursor) -> Result<ForHeader, Fault>
-    ensures value { Gives (λ header. (option_map statement_node_view header.0, (option_map expression_node_view header.1, option_map statement_node_view header.2))) result (state tokens.new) (for_header_at (state tokens.old)) }
-    ensures shorter { OnOk result (length (state tokens.new).rest < length (state tokens.old).rest) }
+    ensures { Parses (λ header. (option_map statement_node_view header.0, (option_map expression_node_view header.1, option_map statement_node_view header.2))) result tokens.old tokens.new for_header_at }
 {
     tokens.expect(TokenKind::KwFor)?;
     tokens.expect(TokenKind::SymParenLeft)?;
@@ -45,8 +44,7 @@ pub fn parse_for_header(alloc: Global, tokens: &mut Cursor) -> Result<ForHeader,
 /// What is done before the first turn, if anything, and its `;`.
 #[tactic(auto, unfolding(wgsl_grammar_theory::specs::StatementRules::init_part_at, grammar::specs::States::take), using(wgsl_grammar_theory::proofs::StatementEquations::init_part_is))]
 fn parse_init_part(alloc: Global, tokens: &mut Cursor) -> Result<Option<StatementNode>, Fault>
-    ensures value { Gives (option_map statement_node_view) result (state tokens.new) (reader (further init_part) (state tokens.old)) }
-    ensures shorter { OnOk result (length (state tokens.new).rest < length (state tokens.old).rest) }
+    ensures { Parses (option_map statement_node_view) result tokens.old tokens.new (reader (further init_part)) }
 {
     if tokens.eat(TokenKind::SymSemicolon) {
         return Ok(None);
@@ -59,8 +57,7 @@ fn parse_init_part(alloc: Global, tokens: &mut Cursor) -> Result<Option<Statemen
 /// What is done before the first turn.
 #[tactic(auto, unfolding(wgsl_grammar_theory::specs::StatementRules::for_init_at, crate::specs::Plain::init_statement_at), using(wgsl_grammar_theory::proofs::StatementEquations::for_init_is))]
 fn parse_for_init(alloc: Global, tokens: &mut Cursor) -> Result<StatementNode, Fault>
-    ensures value { Gives statement_node_view result (state tokens.new) (reader (of for_init) (state tokens.old)) }
-    ensures shorter { OnOk result (length (state tokens.new).rest < length (state tokens.old).rest) }
+    ensures { Parses statement_node_view result tokens.old tokens.new (reader (of for_init)) }
 {
     let start = tokens.start();
     let statement = parse_init_statement(alloc, tokens)?;
@@ -70,8 +67,7 @@ fn parse_for_init(alloc: Global, tokens: &mut Cursor) -> Result<StatementNode, F
 /// What is done before the first turn, without its place.
 #[tactic(auto, unfolding(crate::specs::Plain::init_statement_at))]
 fn parse_init_statement(alloc: Global, tokens: &mut Cursor) -> Result<Statement, Fault>
-    ensures value { Gives statement_view result (state tokens.new) (init_statement_at (state tokens.old)) }
-    ensures shorter { OnOk result (length (state tokens.new).rest < length (state tokens.old).rest) }
+    ensures { Parses statement_view result tokens.old tokens.new init_statement_at }
 {
     if tokens.is_at(TokenKind::KwVar) {
         return parse_var_statement(alloc, tokens);
@@ -85,8 +81,7 @@ fn parse_init_statement(alloc: Global, tokens: &mut Cursor) -> Result<Statement,
 /// The condition, if there is one, and its `;`.
 #[tactic(auto, unfolding(wgsl_grammar_theory::specs::StatementRules::condition_part_at, grammar::specs::States::take), using(wgsl_grammar_theory::proofs::StatementEquations::condition_part_is))]
 fn parse_condition_part(alloc: Global, tokens: &mut Cursor) -> Result<Option<ExpressionNode>, Fault>
-    ensures value { Gives (option_map expression_node_view) result (state tokens.new) (reader (further condition_part) (state tokens.old)) }
-    ensures shorter { OnOk result (length (state tokens.new).rest < length (state tokens.old).rest) }
+    ensures { Parses (option_map expression_node_view) result tokens.old tokens.new (reader (further condition_part)) }
 {
     if tokens.eat(TokenKind::SymSemicolon) {
         return Ok(None);
@@ -99,8 +94,7 @@ fn parse_condition_part(alloc: Global, tokens: &mut Cursor) -> Result<Option<Exp
 /// What is done after each turn, if anything, and the `)`.
 #[tactic(auto, unfolding(wgsl_grammar_theory::specs::StatementRules::update_part_at, grammar::specs::States::take), using(wgsl_grammar_theory::proofs::StatementEquations::update_part_is))]
 fn parse_update_part(alloc: Global, tokens: &mut Cursor) -> Result<Option<StatementNode>, Fault>
-    ensures value { Gives (option_map statement_node_view) result (state tokens.new) (reader (further update_part) (state tokens.old)) }
-    ensures shorter { OnOk result (length (state tokens.new).rest < length (state tokens.old).rest) }
+    ensures { Parses (option_map statement_node_view) result tokens.old tokens.new (reader (further update_part)) }
 {
     if tokens.eat(TokenKind::SymParenRight) {
         return Ok(None);
@@ -113,8 +107,7 @@ fn parse_update_part(alloc: Global, tokens: &mut Cursor) -> Result<Option<Statem
 /// What is done after each turn.
 #[tactic(auto, unfolding(wgsl_grammar_theory::specs::StatementRules::for_update_at), using(wgsl_grammar_theory::proofs::StatementEquations::for_update_is))]
 fn parse_for_update(alloc: Global, tokens: &mut Cursor) -> Result<StatementNode, Fault>
-    ensures value { Gives statement_node_view result (state tokens.new) (reader (of for_update) (state tokens.old)) }
-    ensures shorter { OnOk result (length (state tokens.new).rest < length (state tokens.old).rest) }
+    ensures { Parses statement_node_view result tokens.old tokens.new (reader (of for_update)) }
 {
     let start = tokens.start();
     let update = parse_simple_statement(alloc, tokens)?;

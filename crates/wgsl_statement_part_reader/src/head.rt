@@ -1,10 +1,9 @@
 //! What stands before a block or between its attributes and its statements.
 
-ghost use Rattle.std.specs.Prelude.{◌<◌, length, OnOk};
 ghost use Rattle.wgsl_token.specs.View.{class_of_kind};
 ghost use Rattle.wgsl_expression.specs.View.{expression_node_view};
 ghost use Rattle.wgsl_attribute.specs.View.{attributes_view};
-ghost use Rattle.wgsl_cursor.specs.Reading.{state, Gives};
+ghost use Rattle.wgsl_cursor.specs.Reading.{Parses};
 ghost use Rattle.wgsl_statement_part_reader.specs.Heads.{condition_at, block_start_at, block_start_after_at, switch_head_at};
 
 use std::alloc::Global;
@@ -22,8 +21,7 @@ pub fn parse_condition(
     tokens: &mut Cursor,
     keyword: TokenKind,
 ) -> Result<ExpressionNode, Fault>
-    ensures value { Gives expression_node_view result (state tokens.new) (condition_at (class_of_kind keyword) (state tokens.old)) }
-    ensures shorter { OnOk result (length (state tokens.new).rest < length (state tokens.old).rest) }
+    ensures { Parses expression_node_view result tokens.old tokens.new (condition_at (class_of_kind keyword)) }
 {
     tokens.expect(keyword)?;
     parse_expression(alloc, tokens)
@@ -32,8 +30,7 @@ pub fn parse_condition(
 /// Attributes and the `{` behind them.
 #[tactic(auto, unfolding(crate::specs::Heads::block_start_at))]
 pub fn parse_block_start(alloc: Global, tokens: &mut Cursor) -> Result<Attributes, Fault>
-    ensures value { Gives (λ attributes. attributes_view attributes.items) result (state tokens.new) (block_start_at (state tokens.old)) }
-    ensures shorter { OnOk result (length (state tokens.new).rest < length (state tokens.old).rest) }
+    ensures { Parses (λ attributes. attributes_view attributes.items) result tokens.old tokens.new block_start_at }
 {
     let attributes = parse_attributes(alloc, tokens)?;
     tokens.expect(TokenKind::SymBraceLeft)?;
@@ -47,8 +44,7 @@ pub fn parse_block_start_after(
     tokens: &mut Cursor,
     keyword: TokenKind,
 ) -> Result<Attributes, Fault>
-    ensures value { Gives (λ attributes. attributes_view attributes.items) result (state tokens.new) (block_start_after_at (class_of_kind keyword) (state tokens.old)) }
-    ensures shorter { OnOk result (length (state tokens.new).rest < length (state tokens.old).rest) }
+    ensures { Parses (λ attributes. attributes_view attributes.items) result tokens.old tokens.new (block_start_after_at (class_of_kind keyword)) }
 {
     tokens.expect(keyword)?;
     parse_block_start(alloc, tokens)
@@ -60,8 +56,7 @@ pub fn parse_switch_head(
     alloc: Global,
     tokens: &mut Cursor,
 ) -> Result<(ExpressionNode, Attributes), Fault>
-    ensures value { Gives (λ head. (expression_node_view head.0, attributes_view head.1.items)) result (state tokens.new) (switch_head_at (state tokens.old)) }
-    ensures shorter { OnOk result (length (state tokens.new).rest < length (state tokens.old).rest) }
+    ensures { Parses (λ head. (expression_node_view head.0, attributes_view head.1.items)) result tokens.old tokens.new switch_head_at }
 {
     tokens.expect(TokenKind::KwSwitch)?;
     let expression = parse_expression(alloc, tokens)?;

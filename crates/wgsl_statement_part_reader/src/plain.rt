@@ -1,10 +1,10 @@
 //! The statements that a `;` ends.
 
-ghost use Rattle.std.specs.Prelude.{◌≡◌, ◌<◌, length, OnOk};
+ghost use Rattle.std.specs.Prelude.{◌≡◌};
 ghost use Rattle.grammar.specs.States.{is_any};
 ghost use Rattle.wgsl_statement.specs.View.{statement_view, statement_node_view};
 ghost use Rattle.wgsl_grammar_theory.specs.Tables.{begin_for_update};
-ghost use Rattle.wgsl_cursor.specs.Reading.{state, Gives};
+ghost use Rattle.wgsl_cursor.specs.Reading.{state, Parses};
 ghost use Rattle.wgsl_statement_part_reader.specs.Plain.{attributed_classes, ended_break_at, plain_statement_at, assert_statement_at, unattributed_statement_at};
 
 use std::alloc::Global;
@@ -46,8 +46,7 @@ const STATEMENT: Expected = Expected::OneOf(&[
 /// `break` with its `;`.
 #[tactic(auto, unfolding(crate::specs::Plain::ended_break_at))]
 pub fn parse_ended_break(alloc: Global, tokens: &mut Cursor) -> Result<StatementNode, Fault>
-    ensures value { Gives statement_node_view result (state tokens.new) (ended_break_at (state tokens.old)) }
-    ensures shorter { OnOk result (length (state tokens.new).rest < length (state tokens.old).rest) }
+    ensures { Parses statement_node_view result tokens.old tokens.new ended_break_at }
 {
     let start = tokens.start();
     let break_statement = parse_break_statement(tokens)?;
@@ -71,8 +70,7 @@ pub fn begins_attributed_statement(tokens: &Cursor) -> bool
 /// A statement that has no attributes, other than `break`, with its `;`, without its place.
 #[tactic(auto, unfolding(crate::specs::Plain::unattributed_statement_at, grammar::specs::States::take))]
 pub fn parse_unattributed_statement(alloc: Global, tokens: &mut Cursor) -> Result<Statement, Fault>
-    ensures value { Gives statement_view result (state tokens.new) (unattributed_statement_at (state tokens.old)) }
-    ensures shorter { OnOk result (length (state tokens.new).rest < length (state tokens.old).rest) }
+    ensures { Parses statement_view result tokens.old tokens.new unattributed_statement_at }
 {
     if tokens.eat(TokenKind::SymSemicolon) {
         return Ok(Statement::Void);
@@ -90,8 +88,7 @@ pub fn parse_unattributed_statement(alloc: Global, tokens: &mut Cursor) -> Resul
 /// A statement that a `;` ends, without it, but for `break` and `return`.
 #[tactic(auto, unfolding(crate::specs::Plain::plain_statement_at, crate::specs::Plain::assert_statement_at, wgsl_grammar_theory::specs::StatementRules::const_assert_at, grammar::specs::States::take), using(wgsl_grammar_theory::proofs::StatementEquations::const_assert_is))]
 fn parse_plain_statement(alloc: Global, tokens: &mut Cursor) -> Result<Statement, Fault>
-    ensures value { Gives statement_view result (state tokens.new) (plain_statement_at (state tokens.old)) }
-    ensures shorter { OnOk result (length (state tokens.new).rest < length (state tokens.old).rest) }
+    ensures { Parses statement_view result tokens.old tokens.new plain_statement_at }
 {
     if tokens.is_at(TokenKind::KwVar) {
         return parse_var_statement(alloc, tokens);
@@ -129,8 +126,7 @@ fn begins_simple_statement(tokens: &Cursor) -> bool
 /// A `const_assert` as a statement.
 #[tactic(auto, unfolding(crate::specs::Plain::assert_statement_at), using(wgsl_statement::proofs::StatementViews::is_const_assert))]
 fn parse_assert_statement(alloc: Global, tokens: &mut Cursor) -> Result<Statement, Fault>
-    ensures value { Gives statement_view result (state tokens.new) (assert_statement_at (state tokens.old)) }
-    ensures shorter { OnOk result (length (state tokens.new).rest < length (state tokens.old).rest) }
+    ensures { Parses statement_view result tokens.old tokens.new assert_statement_at }
 {
     Ok(Statement::ConstAssert(parse_const_assert(alloc, tokens)?))
 }

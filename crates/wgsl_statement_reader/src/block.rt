@@ -1,12 +1,12 @@
 //! Blocks.
 
-ghost use Rattle.std.specs.Prelude.{◌<◌, length, map, OnOk};
+ghost use Rattle.std.specs.Prelude.{map};
 ghost use Rattle.wgsl_model.specs.Symbols.{Symbol.compound_statement};
 ghost use Rattle.wgsl_attribute.specs.View.{attributes_view};
 ghost use Rattle.wgsl_statement.specs.View.{statement_view, statement_node_view, compound_statement_view};
 ghost use Rattle.wgsl_grammar_theory.specs.Factored.{FactoredSymbol.of, FactoredSymbol.further, Further.block_part, Further.statement_rest};
 ghost use Rattle.wgsl_grammar_theory.specs.Reader.{reader};
-ghost use Rattle.wgsl_cursor.specs.Reading.{state, Gives};
+ghost use Rattle.wgsl_cursor.specs.Reading.{Parses};
 ghost use Rattle.wgsl_simple_statement_reader.specs.Given.{given};
 
 use crate::statement::parse_statement;
@@ -24,8 +24,7 @@ pub fn parse_compound_statement(
     alloc: Global,
     tokens: &mut Cursor,
 ) -> Result<CompoundStatement, Fault>
-    ensures value { Gives compound_statement_view result (state tokens.new) (reader (of compound_statement) (state tokens.old)) }
-    ensures shorter { OnOk result (length (state tokens.new).rest < length (state tokens.old).rest) }
+    ensures { Parses compound_statement_view result tokens.old tokens.new (reader (of compound_statement)) }
 {
     let attributes = parse_block_start(alloc, tokens)?;
     let statements = parse_statement_rest(alloc, tokens)?;
@@ -43,8 +42,7 @@ pub fn parse_block_part(
     tokens: &mut Cursor,
     attributes: Attributes,
 ) -> Result<Statement, Fault>
-    ensures value { Gives statement_view result (state tokens.new) (given (attributes_view attributes.items) (reader (further block_part)) (state tokens.old)) }
-    ensures shorter { OnOk result (length (state tokens.new).rest < length (state tokens.old).rest) }
+    ensures { Parses statement_view result tokens.old tokens.new (given (attributes_view attributes.items) (reader (further block_part))) }
 {
     tokens.expect(TokenKind::SymBraceLeft)?;
     let statements = parse_statement_rest(alloc, tokens)?;
@@ -58,8 +56,7 @@ pub fn parse_block_part(
 #[cycle(statement)]
 #[tactic(auto, unfolding(crate::proofs::Blocks::statements_turn, grammar::specs::States::take), using(crate::proofs::Blocks::statement_rest_from, crate::proofs::Blocks::statements_are, std::proofs::lemmas::List::map_push))]
 fn parse_statement_rest(alloc: Global, tokens: &mut Cursor) -> Result<Vec<StatementNode>, Fault>
-    ensures value { Gives (λ statements. map statement_node_view statements.items) result (state tokens.new) (reader (further statement_rest) (state tokens.old)) }
-    ensures shorter { OnOk result (length (state tokens.new).rest < length (state tokens.old).rest) }
+    ensures { Parses (λ statements. map statement_node_view statements.items) result tokens.old tokens.new (reader (further statement_rest)) }
 {
     let mut statements = Vec::new(alloc);
     'statements: while !tokens.eat(TokenKind::SymBraceRight) {

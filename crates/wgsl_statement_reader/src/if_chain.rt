@@ -1,11 +1,11 @@
 //! `if` and its `else` parts.
 
-ghost use Rattle.std.specs.Prelude.{◌<◌, ◌≤◌, length, map, OnOk, option_map};
+ghost use Rattle.std.specs.Prelude.{map, option_map};
 ghost use Rattle.wgsl_attribute.specs.View.{attributes_view};
 ghost use Rattle.wgsl_statement.specs.View.{statement_view, else_if_clause_view, else_clause_view};
 ghost use Rattle.wgsl_grammar_theory.specs.Factored.{FactoredSymbol.further, Further.if_part, Further.else_rest};
 ghost use Rattle.wgsl_grammar_theory.specs.Reader.{reader};
-ghost use Rattle.wgsl_cursor.specs.Reading.{state, Gives};
+ghost use Rattle.wgsl_cursor.specs.Reading.{Parses, ParsesNullable};
 ghost use Rattle.wgsl_simple_statement_reader.specs.Given.{given};
 
 use crate::block::parse_compound_statement;
@@ -25,8 +25,7 @@ pub fn parse_if_part(
     tokens: &mut Cursor,
     attributes: Attributes,
 ) -> Result<Statement, Fault>
-    ensures value { Gives statement_view result (state tokens.new) (given (attributes_view attributes.items) (reader (further if_part)) (state tokens.old)) }
-    ensures shorter { OnOk result (length (state tokens.new).rest < length (state tokens.old).rest) }
+    ensures { Parses statement_view result tokens.old tokens.new (given (attributes_view attributes.items) (reader (further if_part))) }
 {
     let expression = parse_condition(alloc, tokens, TokenKind::KwIf)?;
     let body = parse_compound_statement(alloc, tokens)?;
@@ -46,8 +45,7 @@ fn parse_else_rest(
     alloc: Global,
     tokens: &mut Cursor,
 ) -> Result<(Vec<ElseIfClause>, Option<ElseClause>), Fault>
-    ensures value { Gives (λ rest. (map else_if_clause_view rest.0.items, option_map else_clause_view rest.1)) result (state tokens.new) (reader (further else_rest) (state tokens.old)) }
-    ensures shorter { OnOk result (length (state tokens.new).rest ≤ length (state tokens.old).rest) }
+    ensures { ParsesNullable (λ rest. (map else_if_clause_view rest.0.items, option_map else_clause_view rest.1)) result tokens.old tokens.new (reader (further else_rest)) }
 {
     let mut clauses = Vec::new(alloc);
     'clauses: while tokens.eat(TokenKind::KwElse) {

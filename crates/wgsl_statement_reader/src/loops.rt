@@ -1,13 +1,13 @@
 //! `loop` with its `continuing`, `while` and `for`.
 
-ghost use Rattle.std.specs.Prelude.{◌<◌, length, map, OnOk, option_map};
+ghost use Rattle.std.specs.Prelude.{map, option_map};
 ghost use Rattle.wgsl_model.specs.Symbols.{Symbol.continuing_statement};
 ghost use Rattle.wgsl_attribute.specs.View.{attributes_view};
 ghost use Rattle.wgsl_simple_statement.specs.View.{break_if_view};
 ghost use Rattle.wgsl_statement.specs.View.{statement_view, statement_node_view, continuing_statement_view};
 ghost use Rattle.wgsl_grammar_theory.specs.Factored.{FactoredSymbol.of, FactoredSymbol.further, Further.loop_part, Further.loop_rest, Further.continuing_rest, Further.while_part, Further.for_part};
 ghost use Rattle.wgsl_grammar_theory.specs.Reader.{reader};
-ghost use Rattle.wgsl_cursor.specs.Reading.{state, Gives};
+ghost use Rattle.wgsl_cursor.specs.Reading.{Parses};
 ghost use Rattle.wgsl_simple_statement_reader.specs.Given.{given};
 
 use crate::block::parse_compound_statement;
@@ -33,8 +33,7 @@ pub fn parse_loop_part(
     tokens: &mut Cursor,
     attributes: Attributes,
 ) -> Result<Statement, Fault>
-    ensures value { Gives statement_view result (state tokens.new) (given (attributes_view attributes.items) (reader (further loop_part)) (state tokens.old)) }
-    ensures shorter { OnOk result (length (state tokens.new).rest < length (state tokens.old).rest) }
+    ensures { Parses statement_view result tokens.old tokens.new (given (attributes_view attributes.items) (reader (further loop_part))) }
 {
     let body_attributes = parse_block_start_after(alloc, tokens, TokenKind::KwLoop)?;
     let (statements, continuing) = parse_loop_rest(alloc, tokens)?;
@@ -55,8 +54,7 @@ fn parse_loop_rest(
     alloc: Global,
     tokens: &mut Cursor,
 ) -> Result<(Vec<StatementNode>, Option<ContinuingStatement>), Fault>
-    ensures value { Gives (λ rest. (map statement_node_view rest.0.items, option_map continuing_statement_view rest.1)) result (state tokens.new) (reader (further loop_rest) (state tokens.old)) }
-    ensures shorter { OnOk result (length (state tokens.new).rest < length (state tokens.old).rest) }
+    ensures { Parses (λ rest. (map statement_node_view rest.0.items, option_map continuing_statement_view rest.1)) result tokens.old tokens.new (reader (further loop_rest)) }
 {
     let mut statements = Vec::new(alloc);
     'statements: while !tokens.eat(TokenKind::SymBraceRight) {
@@ -77,8 +75,7 @@ fn parse_continuing_statement(
     alloc: Global,
     tokens: &mut Cursor,
 ) -> Result<ContinuingStatement, Fault>
-    ensures value { Gives continuing_statement_view result (state tokens.new) (reader (of continuing_statement) (state tokens.old)) }
-    ensures shorter { OnOk result (length (state tokens.new).rest < length (state tokens.old).rest) }
+    ensures { Parses continuing_statement_view result tokens.old tokens.new (reader (of continuing_statement)) }
 {
     let attributes = parse_block_start_after(alloc, tokens, TokenKind::KwContinuing)?;
     let (statements, break_if) = parse_continuing_rest(alloc, tokens)?;
@@ -98,8 +95,7 @@ fn parse_continuing_rest(
     alloc: Global,
     tokens: &mut Cursor,
 ) -> Result<(Vec<StatementNode>, Option<BreakIfStatement>), Fault>
-    ensures value { Gives (λ rest. (map statement_node_view rest.0.items, option_map break_if_view rest.1)) result (state tokens.new) (reader (further continuing_rest) (state tokens.old)) }
-    ensures shorter { OnOk result (length (state tokens.new).rest < length (state tokens.old).rest) }
+    ensures { Parses (λ rest. (map statement_node_view rest.0.items, option_map break_if_view rest.1)) result tokens.old tokens.new (reader (further continuing_rest)) }
 {
     let mut statements = Vec::new(alloc);
     'statements: while !tokens.eat(TokenKind::SymBraceRight) {
@@ -125,8 +121,7 @@ pub fn parse_while_part(
     tokens: &mut Cursor,
     attributes: Attributes,
 ) -> Result<Statement, Fault>
-    ensures value { Gives statement_view result (state tokens.new) (given (attributes_view attributes.items) (reader (further while_part)) (state tokens.old)) }
-    ensures shorter { OnOk result (length (state tokens.new).rest < length (state tokens.old).rest) }
+    ensures { Parses statement_view result tokens.old tokens.new (given (attributes_view attributes.items) (reader (further while_part))) }
 {
     let condition = parse_condition(alloc, tokens, TokenKind::KwWhile)?;
     let body = parse_compound_statement(alloc, tokens)?;
@@ -145,8 +140,7 @@ pub fn parse_for_part(
     tokens: &mut Cursor,
     attributes: Attributes,
 ) -> Result<Statement, Fault>
-    ensures value { Gives statement_view result (state tokens.new) (given (attributes_view attributes.items) (reader (further for_part)) (state tokens.old)) }
-    ensures shorter { OnOk result (length (state tokens.new).rest < length (state tokens.old).rest) }
+    ensures { Parses statement_view result tokens.old tokens.new (given (attributes_view attributes.items) (reader (further for_part))) }
 {
     let (initializer, condition, update) = parse_for_header(alloc, tokens)?;
     let body = parse_compound_statement(alloc, tokens)?;

@@ -1,12 +1,11 @@
 //! Statements.
 
-ghost use Rattle.std.specs.Prelude.{◌<◌, length, OnOk};
 ghost use Rattle.wgsl_model.specs.Symbols.{Symbol.statement};
 ghost use Rattle.wgsl_attribute.specs.View.{attributes_view};
 ghost use Rattle.wgsl_statement.specs.View.{statement_view, statement_node_view};
 ghost use Rattle.wgsl_grammar_theory.specs.Factored.{FactoredSymbol.of, FactoredSymbol.further, Further.other_statement};
 ghost use Rattle.wgsl_grammar_theory.specs.Reader.{reader};
-ghost use Rattle.wgsl_cursor.specs.Reading.{state, Gives};
+ghost use Rattle.wgsl_cursor.specs.Reading.{Parses};
 ghost use Rattle.wgsl_simple_statement_reader.specs.Given.{given};
 ghost use Rattle.wgsl_statement_reader.specs.Statements.{statement_part_at, attributed_statement_at, unplaced_statement_at};
 
@@ -40,8 +39,7 @@ const ATTRIBUTED_STATEMENT: Expected = Expected::OneOf(&[
 #[cycle(statement)]
 #[tactic(auto, unfolding(wgsl_grammar_theory::specs::StatementRules::statement_at, wgsl_statement_part_reader::specs::Plain::ended_break_at), using(wgsl_grammar_theory::proofs::StatementEquations::statement_is))]
 pub fn parse_statement(alloc: Global, tokens: &mut Cursor) -> Result<StatementNode, Fault>
-    ensures value { Gives statement_node_view result (state tokens.new) (reader (of statement) (state tokens.old)) }
-    ensures shorter { OnOk result (length (state tokens.new).rest < length (state tokens.old).rest) }
+    ensures { Parses statement_node_view result tokens.old tokens.new (reader (of statement)) }
 {
     if tokens.is_at(TokenKind::KwBreak) {
         return parse_ended_break(alloc, tokens);
@@ -53,8 +51,7 @@ pub fn parse_statement(alloc: Global, tokens: &mut Cursor) -> Result<StatementNo
 #[cycle(statement)]
 #[tactic(auto, unfolding(crate::proofs::Statements::other_statement_parts), using(crate::proofs::Statements::other_statement_by_parts))]
 pub fn parse_other_statement(alloc: Global, tokens: &mut Cursor) -> Result<StatementNode, Fault>
-    ensures value { Gives statement_node_view result (state tokens.new) (reader (further other_statement) (state tokens.old)) }
-    ensures shorter { OnOk result (length (state tokens.new).rest < length (state tokens.old).rest) }
+    ensures { Parses statement_node_view result tokens.old tokens.new (reader (further other_statement)) }
 {
     let start = tokens.start();
     let statement = parse_unplaced_statement(alloc, tokens)?;
@@ -65,8 +62,7 @@ pub fn parse_other_statement(alloc: Global, tokens: &mut Cursor) -> Result<State
 #[cycle(statement)]
 #[tactic(auto, unfolding(crate::specs::Statements::unplaced_statement_at))]
 fn parse_unplaced_statement(alloc: Global, tokens: &mut Cursor) -> Result<Statement, Fault>
-    ensures value { Gives statement_view result (state tokens.new) (unplaced_statement_at (state tokens.old)) }
-    ensures shorter { OnOk result (length (state tokens.new).rest < length (state tokens.old).rest) }
+    ensures { Parses statement_view result tokens.old tokens.new unplaced_statement_at }
 {
     if begins_attributed_statement(tokens) {
         return parse_attributed_statement(alloc, tokens);
@@ -78,8 +74,7 @@ fn parse_unplaced_statement(alloc: Global, tokens: &mut Cursor) -> Result<Statem
 #[cycle(statement)]
 #[tactic(auto, unfolding(crate::specs::Statements::attributed_statement_at))]
 fn parse_attributed_statement(alloc: Global, tokens: &mut Cursor) -> Result<Statement, Fault>
-    ensures value { Gives statement_view result (state tokens.new) (attributed_statement_at (state tokens.old)) }
-    ensures shorter { OnOk result (length (state tokens.new).rest < length (state tokens.old).rest) }
+    ensures { Parses statement_view result tokens.old tokens.new attributed_statement_at }
 {
     let attributes = parse_attributes(alloc, tokens)?;
     parse_statement_part(alloc, tokens, attributes)
@@ -93,8 +88,7 @@ fn parse_statement_part(
     tokens: &mut Cursor,
     attributes: Attributes,
 ) -> Result<Statement, Fault>
-    ensures value { Gives statement_view result (state tokens.new) (given (attributes_view attributes.items) statement_part_at (state tokens.old)) }
-    ensures shorter { OnOk result (length (state tokens.new).rest < length (state tokens.old).rest) }
+    ensures { Parses statement_view result tokens.old tokens.new (given (attributes_view attributes.items) statement_part_at) }
 {
     if tokens.is_at(TokenKind::KwIf) {
         return parse_if_part(alloc, tokens, attributes);

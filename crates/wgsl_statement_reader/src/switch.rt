@@ -1,12 +1,12 @@
 //! `switch` with its clauses.
 
-ghost use Rattle.std.specs.Prelude.{◌<◌, length, map, OnOk};
+ghost use Rattle.std.specs.Prelude.{map};
 ghost use Rattle.wgsl_model.specs.Symbols.{Symbol.switch_clause};
 ghost use Rattle.wgsl_attribute.specs.View.{attributes_view};
 ghost use Rattle.wgsl_statement.specs.View.{statement_view, switch_clause_view};
 ghost use Rattle.wgsl_grammar_theory.specs.Factored.{FactoredSymbol.of, FactoredSymbol.further, Further.switch_part};
 ghost use Rattle.wgsl_grammar_theory.specs.Reader.{reader};
-ghost use Rattle.wgsl_cursor.specs.Reading.{state, Gives};
+ghost use Rattle.wgsl_cursor.specs.Reading.{Parses};
 ghost use Rattle.wgsl_simple_statement_reader.specs.Given.{given};
 ghost use Rattle.wgsl_statement_reader.specs.Switches.{clauses_at};
 
@@ -26,8 +26,7 @@ pub fn parse_switch_part(
     tokens: &mut Cursor,
     attributes: Attributes,
 ) -> Result<Statement, Fault>
-    ensures value { Gives statement_view result (state tokens.new) (given (attributes_view attributes.items) (reader (further switch_part)) (state tokens.old)) }
-    ensures shorter { OnOk result (length (state tokens.new).rest < length (state tokens.old).rest) }
+    ensures { Parses statement_view result tokens.old tokens.new (given (attributes_view attributes.items) (reader (further switch_part))) }
 {
     let (expression, body_attributes) = parse_switch_head(alloc, tokens)?;
     let clauses = parse_clauses(alloc, tokens)?;
@@ -43,8 +42,7 @@ pub fn parse_switch_part(
 #[cycle(statement)]
 #[tactic(auto, unfolding(crate::proofs::Switches::clauses_parts, crate::proofs::Switches::clauses_turn, grammar::specs::States::take), using(crate::proofs::Switches::clauses_by_parts, crate::proofs::Switches::clauses_are, std::proofs::lemmas::List::map_push))]
 fn parse_clauses(alloc: Global, tokens: &mut Cursor) -> Result<Vec<SwitchClause>, Fault>
-    ensures value { Gives (λ clauses. map switch_clause_view clauses.items) result (state tokens.new) (clauses_at (state tokens.old)) }
-    ensures shorter { OnOk result (length (state tokens.new).rest < length (state tokens.old).rest) }
+    ensures { Parses (λ clauses. map switch_clause_view clauses.items) result tokens.old tokens.new clauses_at }
 {
     let mut clauses = Vec::new(alloc);
     let first = parse_switch_clause(alloc, tokens)?;
@@ -59,8 +57,7 @@ fn parse_clauses(alloc: Global, tokens: &mut Cursor) -> Result<Vec<SwitchClause>
 #[cycle(statement)]
 #[tactic(auto, unfolding(crate::proofs::Switches::switch_clause_parts), using(crate::proofs::Switches::switch_clause_by_parts, crate::proofs::MadeStatements::switch_clause_is))]
 fn parse_switch_clause(alloc: Global, tokens: &mut Cursor) -> Result<SwitchClause, Fault>
-    ensures value { Gives switch_clause_view result (state tokens.new) (reader (of switch_clause) (state tokens.old)) }
-    ensures shorter { OnOk result (length (state tokens.new).rest < length (state tokens.old).rest) }
+    ensures { Parses switch_clause_view result tokens.old tokens.new (reader (of switch_clause)) }
 {
     let case_selectors = parse_clause_head(alloc, tokens)?;
     let body = parse_compound_statement(alloc, tokens)?;

@@ -1,6 +1,6 @@
 //! Reading functions.
 
-ghost use Rattle.std.specs.Prelude.{◌≡◌, ◌<◌, ◌≤◌, length, map, OnOk, option_map};
+ghost use Rattle.std.specs.Prelude.{◌≡◌, map, option_map};
 ghost use Rattle.grammar.specs.Grammar.{Grammar.symbol};
 ghost use Rattle.wgsl_model.specs.Symbols.{Symbol.formal_parameter};
 ghost use Rattle.wgsl_expression.specs.View.{type_expression_view};
@@ -8,7 +8,7 @@ ghost use Rattle.wgsl_attribute.specs.View.{attributes_view};
 ghost use Rattle.wgsl_unit.specs.View.{global_declaration_view, parameter_view};
 ghost use Rattle.wgsl_grammar_theory.specs.Factored.{FactoredSymbol.of, FactoredSymbol.further, Further.function_part, Further.parameter_rest};
 ghost use Rattle.wgsl_grammar_theory.specs.Reader.{reader};
-ghost use Rattle.wgsl_cursor.specs.Reading.{state, Gives};
+ghost use Rattle.wgsl_cursor.specs.Reading.{Parses, ParsesNullable};
 ghost use Rattle.wgsl_declaration_reader.specs.Parts.{behind_attributes};
 ghost use Rattle.wgsl_unit_reader.specs.Parts.{return_part_at};
 ghost use Rattle.wgsl_unit_reader.specs.Results.{returned_view, return_attributes, return_type};
@@ -30,8 +30,7 @@ pub fn parse_function(
     tokens: &mut Cursor,
     attributes: Attributes,
 ) -> Result<GlobalDeclaration, Fault>
-    ensures value { Gives global_declaration_view result (state tokens.new) (behind_attributes (attributes_view attributes.items) (symbol (further function_part)) (state tokens.old)) }
-    ensures shorter { OnOk result (length (state tokens.new).rest < length (state tokens.old).rest) }
+    ensures { Parses global_declaration_view result tokens.old tokens.new (behind_attributes (attributes_view attributes.items) (symbol (further function_part))) }
 {
     tokens.expect(TokenKind::KwFn)?;
     let ident = tokens.ident()?;
@@ -53,8 +52,7 @@ pub fn parse_function(
 /// Parameters, none too, with a comma after each, or after each but the last, and the `)` behind them.
 #[tactic(auto, unfolding(crate::proofs::Turns::parameters_turn, grammar::specs::States::take), using(crate::proofs::Turns::parameters_is, crate::proofs::Turns::parameters_are, std::proofs::lemmas::List::map_push))]
 fn parse_parameters(alloc: Global, tokens: &mut Cursor) -> Result<Vec<FormalParameter>, Fault>
-    ensures value { Gives (λ v. map parameter_view v.items) result (state tokens.new) (reader (further parameter_rest) (state tokens.old)) }
-    ensures shorter { OnOk result (length (state tokens.new).rest < length (state tokens.old).rest) }
+    ensures { Parses (λ v. map parameter_view v.items) result tokens.old tokens.new (reader (further parameter_rest)) }
 {
     let mut parameters = Vec::new(alloc);
     'parameters: while !tokens.eat(TokenKind::SymParenRight) {
@@ -69,8 +67,7 @@ fn parse_parameters(alloc: Global, tokens: &mut Cursor) -> Result<Vec<FormalPara
 
 #[tactic(auto, unfolding(wgsl_grammar_theory::specs::UnitRules::formal_parameter_at), using(wgsl_grammar_theory::proofs::UnitEquations::formal_parameter_is))]
 fn parse_formal_parameter(alloc: Global, tokens: &mut Cursor) -> Result<FormalParameter, Fault>
-    ensures value { Gives parameter_view result (state tokens.new) (reader (of formal_parameter) (state tokens.old)) }
-    ensures shorter { OnOk result (length (state tokens.new).rest < length (state tokens.old).rest) }
+    ensures { Parses parameter_view result tokens.old tokens.new (reader (of formal_parameter)) }
 {
     let attributes = parse_attributes(alloc, tokens)?;
     let ident = tokens.ident()?;
@@ -89,8 +86,7 @@ fn parse_return_part(
     alloc: Global,
     tokens: &mut Cursor,
 ) -> Result<Option<(Attributes, TypeExpression)>, Fault>
-    ensures value { Gives returned_view result (state tokens.new) (return_part_at (state tokens.old)) }
-    ensures shorter { OnOk result (length (state tokens.new).rest ≤ length (state tokens.old).rest) }
+    ensures { ParsesNullable returned_view result tokens.old tokens.new return_part_at }
 {
     if !tokens.eat(TokenKind::SymArrow) {
         return Ok(None);

@@ -1,6 +1,6 @@
 //! Reading modules and their declarations.
 
-ghost use Rattle.std.specs.Prelude.{◌≡◌, ◌<◌, ◌≤◌, length, map, OnOk};
+ghost use Rattle.std.specs.Prelude.{◌≡◌, map};
 ghost use Rattle.grammar.specs.States.{is_any};
 ghost use Rattle.wgsl_model.specs.Symbols.{Symbol.unit, Symbol.global_declaration};
 ghost use Rattle.wgsl_span.specs.View.{spanned_view};
@@ -8,7 +8,7 @@ ghost use Rattle.wgsl_unit.specs.View.{global_directive_view, global_declaration
 ghost use Rattle.wgsl_grammar_theory.specs.Factored.{FactoredSymbol.of, FactoredSymbol.further, Further.directive_list, Further.declaration_list};
 ghost use Rattle.wgsl_grammar_theory.specs.Tables.{begin_global_directive, begin_global_declaration};
 ghost use Rattle.wgsl_grammar_theory.specs.Reader.{reader};
-ghost use Rattle.wgsl_cursor.specs.Reading.{state, Gives};
+ghost use Rattle.wgsl_cursor.specs.Reading.{state, Parses, ParsesNullable};
 ghost use Rattle.wgsl_unit_reader.specs.Parts.{begin_attributed_declaration, unplaced_declaration_at, attributed_declaration_at, const_assert_declaration_at};
 
 use crate::function::parse_function;
@@ -35,8 +35,7 @@ const ATTRIBUTED_DECLARATION: Expected = Expected::OneOf(&[
 /// A module: its directives, then its declarations. Whatever begins neither is left (WGSL, "WGSL Module").
 #[tactic(auto, unfolding(wgsl_grammar_theory::specs::UnitRules::unit_at), using(wgsl_grammar_theory::proofs::UnitEquations::unit_is))]
 pub fn parse_translation_unit(alloc: Global, tokens: &mut Cursor) -> Result<TranslationUnit, Fault>
-    ensures value { Gives unit_view result (state tokens.new) (reader (of unit) (state tokens.old)) }
-    ensures shorter { OnOk result (length (state tokens.new).rest ≤ length (state tokens.old).rest) }
+    ensures { ParsesNullable unit_view result tokens.old tokens.new (reader (of unit)) }
 {
     let global_directives = parse_global_directives(alloc, tokens)?;
     let global_declarations = parse_global_declarations(alloc, tokens)?;
@@ -51,8 +50,7 @@ fn parse_global_directives(
     alloc: Global,
     tokens: &mut Cursor,
 ) -> Result<Vec<GlobalDirective>, Fault>
-    ensures value { Gives (λ v. map global_directive_view v.items) result (state tokens.new) (reader (further directive_list) (state tokens.old)) }
-    ensures shorter { OnOk result (length (state tokens.new).rest ≤ length (state tokens.old).rest) }
+    ensures { ParsesNullable (λ v. map global_directive_view v.items) result tokens.old tokens.new (reader (further directive_list)) }
 {
     let mut directives = Vec::new(alloc);
     'directives: while begins_directive(tokens) {
@@ -75,8 +73,7 @@ fn parse_global_declarations(
     alloc: Global,
     tokens: &mut Cursor,
 ) -> Result<Vec<GlobalDeclarationNode>, Fault>
-    ensures value { Gives (λ v. map (spanned_view global_declaration_view) v.items) result (state tokens.new) (reader (further declaration_list) (state tokens.old)) }
-    ensures shorter { OnOk result (length (state tokens.new).rest ≤ length (state tokens.old).rest) }
+    ensures { ParsesNullable (λ v. map (spanned_view global_declaration_view) v.items) result tokens.old tokens.new (reader (further declaration_list)) }
 {
     let mut declarations = Vec::new(alloc);
     'declarations: while begins_declaration(tokens) {
@@ -107,8 +104,7 @@ pub fn parse_global_declaration(
     alloc: Global,
     tokens: &mut Cursor,
 ) -> Result<GlobalDeclarationNode, Fault>
-    ensures value { Gives (spanned_view global_declaration_view) result (state tokens.new) (reader (of global_declaration) (state tokens.old)) }
-    ensures shorter { OnOk result (length (state tokens.new).rest < length (state tokens.old).rest) }
+    ensures { Parses (spanned_view global_declaration_view) result tokens.old tokens.new (reader (of global_declaration)) }
 {
     let start = tokens.start();
     let declaration = parse_unplaced_declaration(alloc, tokens)?;
@@ -121,8 +117,7 @@ fn parse_unplaced_declaration(
     alloc: Global,
     tokens: &mut Cursor,
 ) -> Result<GlobalDeclaration, Fault>
-    ensures value { Gives global_declaration_view result (state tokens.new) (unplaced_declaration_at (state tokens.old)) }
-    ensures shorter { OnOk result (length (state tokens.new).rest < length (state tokens.old).rest) }
+    ensures { Parses global_declaration_view result tokens.old tokens.new unplaced_declaration_at }
 {
     if tokens.eat(TokenKind::SymSemicolon) {
         return Ok(GlobalDeclaration::Void);
@@ -161,8 +156,7 @@ fn parse_attributed_declaration(
     alloc: Global,
     tokens: &mut Cursor,
 ) -> Result<GlobalDeclaration, Fault>
-    ensures value { Gives global_declaration_view result (state tokens.new) (attributed_declaration_at (state tokens.old)) }
-    ensures shorter { OnOk result (length (state tokens.new).rest < length (state tokens.old).rest) }
+    ensures { Parses global_declaration_view result tokens.old tokens.new attributed_declaration_at }
 {
     let attributes = parse_attributes(alloc, tokens)?;
     if tokens.is_at(TokenKind::KwVar) {
@@ -182,8 +176,7 @@ fn parse_const_assert_declaration(
     alloc: Global,
     tokens: &mut Cursor,
 ) -> Result<GlobalDeclaration, Fault>
-    ensures value { Gives global_declaration_view result (state tokens.new) (const_assert_declaration_at (state tokens.old)) }
-    ensures shorter { OnOk result (length (state tokens.new).rest < length (state tokens.old).rest) }
+    ensures { Parses global_declaration_view result tokens.old tokens.new const_assert_declaration_at }
 {
     let assertion = parse_const_assert(alloc, tokens)?;
     tokens.expect(TokenKind::SymSemicolon)?;
