@@ -1,3 +1,4 @@
+pub mod Fronts
 mod PrintedRows
 mod SnippetRows
 mod PathRows

@@ -1,21 +1,10 @@
 -- Where the longest spelling cuts a text.
-use Rattle.std.proofs.Common.{◌≡◌, ℕ, zero, suc, ◌-◌, ap, subst, List, [], ◌∷◌, ◌++◌, length, Option, Some, None, ◌∙◌, arith, length-append}
-use Rattle.std.specs.Prelude.{take}
+use Rattle.std.proofs.Common.{◌≡◌, ℕ, ap, subst, List, ◌∷◌, ◌++◌, Option, Some, None, ◌∙◌}
 use Rattle.wgsl_model.specs.Kind.{Kind}
 use Rattle.wgsl_model.specs.Pattern.{Pattern, after_spelling, spells, IsLongest, FollowsLongest}
 use Rattle.wgsl_model.specs.Spelling.{spelling}
-use Rattle.wgsl_model.specs.Raw.{token, front, value, spelled, valued, raw_at}
-use Rattle.wgsl_theory.proofs.Longest.{after_longest_is}
-
-take-front : (xs ys : List ℕ) (n : ℕ) → n ≡ length xs → take n (xs ++ ys) ≡ xs
-take-front [] ys zero e = λ i. []
-take-front [] ys (suc n) e = absurd (omega (arith, e))
-take-front (x ∷ xs) ys zero e = absurd (omega (arith, e))
-take-front (x ∷ xs) ys (suc n) e = ap (λ zs. x ∷ zs) (take-front xs ys n (omega (arith, e)))
-
--- what stands before a rest
-pub front-of : (xs ys : List ℕ) → front (xs ++ ys) ys ≡ xs
-front-of xs ys = take-front xs ys (length (xs ++ ys) - length ys) (omega (arith, length-append xs ys))
+use Rattle.wgsl_model.specs.Raw.{token, value, spelled, valued, raw_at}
+use Rattle.wgsl_model.proofs.Fronts.{front-append, after_longest_is}
 
 longest_front : (r : Pattern) (text rest : List ℕ) (o : Option (List ℕ)) → o ≡ Some rest → FollowsLongest (spells r) text o → (word : List ℕ) × IsLongest (spells r) text word rest
 longest_front r text rest None e h = absurd (cc)
@@ -30,4 +19,4 @@ longest_spelling r text rest e = longest_front r text rest (after_spelling r tex
 pub found : (c : ℕ) (cs rest : List ℕ) (kind : Kind) → after_spelling spelling ((c ∷ cs) ++ rest) ≡ Some rest → value (c ∷ cs) ≡ Some kind → raw_at ((c ∷ cs) ++ rest) ≡ token kind ((c ∷ cs) ++ rest) rest
 found c cs rest kind e v =
     let text : List ℕ = (c ∷ cs) ++ rest in
-    ap (spelled text (cs ++ rest)) e ∙ ap (λ w. valued text rest (value w)) (front-of (c ∷ cs) rest) ∙ ap (valued text rest) v
+    ap (spelled text (cs ++ rest)) e ∙ ap (λ w. valued text rest (value w)) (front-append (c ∷ cs) rest) ∙ ap (valued text rest) v

@@ -1,5 +1,4 @@
 pub mod Split
-pub mod Longest
 pub mod Cut
 pub mod Decimal
 pub mod Characters

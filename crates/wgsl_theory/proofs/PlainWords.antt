@@ -25,7 +25,8 @@ use Rattle.wgsl_canonical_theory.proofs.TextWords.{IsNamed, text_in, WordsArePla
 use Rattle.wgsl_canonical_theory.proofs.DerivedAgain.{unit_again}
 use Rattle.wgsl_theory.proofs.NoPeriods.{word_has_no_period}
 use Rattle.wgsl_theory.proofs.Signs.{begins_name}
-use Rattle.wgsl_theory.proofs.Cut.{front-of, longest_spelling}
+use Rattle.wgsl_model.proofs.Fronts.{front-append}
+use Rattle.wgsl_theory.proofs.Cut.{longest_spelling}
 
 -- ---- words
 
@@ -47,7 +48,7 @@ value_plain (c ∷ cs) kind s h n = go (begins_name c) _ refl h where
 words_are_plain : WordsArePlain
 words_are_plain text rest kind e v n =
     let found = longest_spelling spelling text rest e in
-    let word : front text rest ≡ found.0 = ap (λ all. front all rest) found.1.whole ∙ front-of found.0 rest in
+    let word : front text rest ≡ found.0 = ap (λ all. front all rest) found.1.whole ∙ front-append found.0 rest in
     value_plain found.0 kind found.1.passes (ap value (sym word) ∙ v) n
 
 -- ---- modules

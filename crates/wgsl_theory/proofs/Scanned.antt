@@ -29,7 +29,8 @@ use Rattle.wgsl_model.specs.Written.{keyword_classes}
 use Rattle.wgsl_canonical_theory.specs.CanonicalUnits.{without_place}
 use Rattle.wgsl_canonical_theory.proofs.ExpressionRules.{literal_classes}
 use Rattle.wgsl_canonical_theory.proofs.TextWords.{valued_kind}
-use Rattle.wgsl_theory.proofs.Cut.{front-of, longest_spelling}
+use Rattle.wgsl_model.proofs.Fronts.{front-append}
+use Rattle.wgsl_theory.proofs.Cut.{longest_spelling}
 use Rattle.wgsl_theory.proofs.Numerals.{integer_spelled, signed_spelled, unsigned_spelled, without_last-append}
 use Rattle.wgsl_theory.proofs.Scalars.{spelled_scalars}
 use Rattle.wgsl_theory.proofs.Spellings.{IsSpelling, IsSpelled}
@@ -230,7 +231,7 @@ spelled_scanned : (o : Option (List ℕ)) (c : ℕ) (cs from after : List ℕ) (
 spelled_scanned None c cs from after kind e h = absurd (cc)
 spelled_scanned (Some rest) c cs from after kind e h =
     let f = longest_spelling spelling (c ∷ cs) rest e in
-    let word : front (c ∷ cs) rest ≡ f.0 = ap (λ text. front text rest) f.1.whole ∙ front-of f.0 rest in
+    let word : front (c ∷ cs) rest ≡ f.0 = ap (λ text. front text rest) f.1.whole ∙ front-append f.0 rest in
     value_scanned f.0 kind f.1.passes (ap value (sym word) ∙ valued_kind (value (front (c ∷ cs) rest)) (c ∷ cs) rest from after kind h)
 
 raw_at_scanned : (text from after : List ℕ) (kind : Kind) → raw_at text ≡ token kind from after → IsScanned kind

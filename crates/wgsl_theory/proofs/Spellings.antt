@@ -5,7 +5,7 @@ use Rattle.wgsl_model.specs.Kind.{Kind}
 use Rattle.wgsl_model.specs.Pattern.{spells, after_longest, after_spelling, FollowsLongest}
 use Rattle.wgsl_model.specs.Spelling.{spelling}
 use Rattle.wgsl_model.specs.Raw.{Raw.token, raw_at, value}
-use Rattle.wgsl_theory.proofs.Longest.{after_longest_is}
+use Rattle.wgsl_model.proofs.Fronts.{after_longest_is}
 use Rattle.wgsl_theory.proofs.Cut.{found}
 use Rattle.wgsl_theory.proofs.Pieces.{Begins, Stands, stands}
 
