@@ -5,7 +5,7 @@ use Rattle.std.specs.Char.{encode_utf8}
 use Rattle.std.specs.Str.{IsUtf8, IsCharBoundary, encode_utf8_all}
 use Rattle.std.proofs.lemmas.Str.{encodes-chars, encodes-append, chars_from_encodes, IsCharBoundary-at_seam}
 use Rattle.wgsl_model.specs.Numbers.{without_last}
-use Rattle.wgsl_scanner.proofs.Cut.{take-append_front}
+use Rattle.wgsl_model.proofs.Fronts.{take-append_front}
 
 -- a text takes as many bytes as its characters
 pub length-chars : (text : List ℕ) → IsUtf8 text → length (encode_utf8_all (chars text)) ≡ length text

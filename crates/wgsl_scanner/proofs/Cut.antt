@@ -4,15 +4,7 @@ use Rattle.wgsl_model.specs.Kind.{Kind}
 use Rattle.wgsl_model.specs.Pattern.{after_spelling}
 use Rattle.wgsl_model.specs.Raw.{invalid, front, value, spelled, valued, raw_at}
 use Rattle.wgsl_model.specs.Spelling.{spelling}
-
-pub take-append_front : (xs ys : List ℕ) (n : ℕ) → n ≡ length xs → take n (xs ++ ys) ≡ xs
-take-append_front [] ys zero e = refl
-take-append_front [] ys (suc n) e = absurd (omega (arith, e))
-take-append_front (x ∷ xs) ys zero e = absurd (omega (arith, e))
-take-append_front (x ∷ xs) ys (suc n) e = ap (λ zs. x ∷ zs) (take-append_front xs ys n (omega (arith, e)))
-
-pub front-append : (xs ys : List ℕ) → front (xs ++ ys) ys ≡ xs
-front-append xs ys = take-append_front xs ys (length (xs ++ ys) - length ys) (omega (arith, length-append xs ys))
+use Rattle.wgsl_model.proofs.Fronts.{front-append}
 
 -- what stands before a rest is a front
 pub front-whole : (xs text rest : List ℕ) → text ≡ xs ++ rest → text ≡ front text rest ++ rest

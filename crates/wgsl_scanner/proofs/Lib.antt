@@ -1,6 +1,5 @@
 pub mod Derivative
 pub mod Steps
-pub mod Longest
 pub mod Walk
 pub mod Classed
 pub mod Cut

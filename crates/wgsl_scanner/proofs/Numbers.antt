@@ -19,7 +19,8 @@ use Rattle.wgsl_scanner.proofs.Derivative.{after}
 use Rattle.wgsl_scanner.proofs.Walk.{after_spelling-go, other_than, at_code, run_of, run_is}
 use Rattle.wgsl_scanner.proofs.Classed.{first_spelled, first_spelled-nil, first_spelled-cons, after_each, longest_of, union_of, rest_of, IsCut, after_spelling-union, after_spelling-either, longest-cut}
 use Rattle.wgsl_scanner.proofs.NumberStates.{numbers, digits_left, zero_left, point_left, period_left, class_and_rest, digits-longest, zero-longest, point-longest, point_or_period-longest}
-use Rattle.wgsl_scanner.proofs.Cut.{found, front-append, front-whole}
+use Rattle.wgsl_model.proofs.Fronts.{front-append}
+use Rattle.wgsl_scanner.proofs.Cut.{found, front-whole}
 use Rattle.wgsl_scanner.proofs.CharacterClasses.{digit_not_start, is_digit-decimal, is_digit-hexadecimal, skip_digits-is}
 
 -- ---- the class of a number tells what it stands for

@@ -12,7 +12,8 @@ use Rattle.wgsl_scanner.specs.Scanning.{after_word}
 use Rattle.wgsl_scanner.proofs.Derivative.{after}
 use Rattle.wgsl_scanner.proofs.Steps.{after_spelling-nil}
 use Rattle.wgsl_scanner.proofs.Walk.{after_spelling-stop, after_spelling-go, other_than, at_code, run_of, run_is, after_spelling-run, IsPast, past}
-use Rattle.wgsl_scanner.proofs.Cut.{front-whole, front-append}
+use Rattle.wgsl_model.proofs.Fronts.{front-append}
+use Rattle.wgsl_scanner.proofs.Cut.{front-whole}
 use Rattle.wgsl_scanner.proofs.CharacterClasses.{start_not_digit}
 
 -- more of a word may follow
