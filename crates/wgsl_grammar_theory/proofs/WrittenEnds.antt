@@ -5,7 +5,7 @@ use Rattle.grammar.specs.Tokens.{Token}
 use Rattle.grammar.specs.Tables.{disjoint}
 use Rattle.grammar.proofs.Sets.{implied}
 use Rattle.wgsl_model.specs.Classes.{SymAttr, SymBraceRight, SymParenRight, SymSemicolon, KwVar, TemplateArgsEnd}
-use Rattle.wgsl_model.specs.Symbols.{Dialect.whole, Symbol, Symbol.ident, Symbol.type_specifier, Symbol.template_list, Symbol.expressions, Symbol.call, Symbol.arguments, Symbol.literal, Symbol.primary_expression, Symbol.singular_expression, Symbol.component, Symbol.unary_expression, Symbol.multiplicative_expression, Symbol.negated_expression, Symbol.additive_expression, Symbol.shift_expression, Symbol.relational_expression, Symbol.expression, Symbol.compound_statement, Symbol.statement, Symbol.if_statement, Symbol.switch_statement, Symbol.loop_statement, Symbol.for_statement, Symbol.while_statement, Symbol.global_declaration, Symbol.var_declaration, Symbol.const_declaration, Symbol.override_declaration, Symbol.alias_declaration, Symbol.struct_declaration, Symbol.function_declaration, Symbol.global_directive, Symbol.enable_directive, Symbol.requires_directive, Symbol.diagnostic_directive, Symbol.unit, Value}
+use Rattle.wgsl_model.specs.Symbols.{Dialect.whole, Symbol, Symbol.ident, Symbol.type_specifier, Symbol.template_list, Symbol.expressions, Symbol.call, Symbol.arguments, Symbol.literal, Symbol.primary_expression, Symbol.singular_expression, Symbol.component, Symbol.unary_expression, Symbol.multiplicative_expression, Symbol.negated_expression, Symbol.additive_expression, Symbol.shift_expression, Symbol.relational_expression, Symbol.expression, Symbol.compound_statement, Symbol.statement, Symbol.if_statement, Symbol.switch_statement, Symbol.loop_statement, Symbol.for_statement, Symbol.while_statement, Symbol.switch_clause, Symbol.continuing_statement, Symbol.global_declaration, Symbol.var_declaration, Symbol.const_declaration, Symbol.override_declaration, Symbol.alias_declaration, Symbol.struct_declaration, Symbol.function_declaration, Symbol.global_directive, Symbol.enable_directive, Symbol.requires_directive, Symbol.diagnostic_directive, Symbol.unit, Value}
 use Rattle.wgsl_model.specs.Written.{written}
 use Rattle.wgsl_grammar_theory.proofs.LevelLinks.{taking, written_takes}
 use Rattle.wgsl_grammar_theory.proofs.Avoids.{NoneOf, none_of, takes_only, only_part, EndsWith, ends, ending_part}
@@ -65,7 +65,7 @@ templates_end n e = absurd cc
 pub template_closes : (v : Value template_list) (xs ys : List Token) → Part unchecked written template_list v xs ys → (p : List Token) × (xs ≡ p ++ ys) × EndsWith (TemplateArgsEnd ∷ []) p
 template_closes = ending_part unchecked written (TemplateArgsEnd ∷ []) templates taking (written_takes whole) templates_end template_list refl
 
--- ---- statements, declarations, directives and modules end with `;` or `}`
+-- ---- statements, clauses, declarations, directives and modules end with `;` or `}`
 abbrev pub closing : Symbol → Bool
 closing compound_statement = true
 closing statement = true
@@ -74,6 +74,8 @@ closing switch_statement = true
 closing loop_statement = true
 closing for_statement = true
 closing while_statement = true
+closing switch_clause = true
+closing continuing_statement = true
 closing global_declaration = true
 closing var_declaration = true
 closing const_declaration = true

@@ -2,9 +2,10 @@
 use Rattle.std.proofs.Common.{Bool, true, false}
 use Rattle.grammar.specs.Grammar.{Grammar.symbol}
 use Rattle.wgsl_model.specs.Symbols.{Symbol, component, expressions, statement, global_declaration, unit}
+use Rattle.wgsl_grammar_theory.proofs.WrittenEnds.{closing}
 use Rattle.wgsl_canonical_theory.specs.CanonicalUnits.{kept_declaration_tokens}
 use Rattle.wgsl_template_theory.proofs.Edits.{widen}
-use Rattle.wgsl_template_theory.proofs.EditWays.{ends, Changes, edit_write, kept_statement_tokens}
+use Rattle.wgsl_template_theory.proofs.EditWays.{Changes, edit_write, kept_statement_tokens}
 
 -- what is written, with what else is known
 pub finished : {A B C E F : Type 0} → A × B × C → F → A × E → A × B × F × E
@@ -20,7 +21,7 @@ IsTurned unit = ⊥
 IsTurned n = Unit {0}
 
 -- of each of them, with any kind before it
-pub symbol_edits : (n : Symbol) → IsTurned n → {b : Bool} → Changes (ends n) b (symbol n) (edit_write n)
+pub symbol_edits : (n : Symbol) → IsTurned n → {b : Bool} → Changes (closing n) b (symbol n) (edit_write n)
 symbol_edits component k = absurd k
 symbol_edits expressions k = absurd k
 symbol_edits statement k = absurd k

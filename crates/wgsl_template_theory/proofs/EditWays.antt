@@ -10,7 +10,8 @@ use Rattle.wgsl_model.specs.Expressions.{ExpressionNode, Expression}
 use Rattle.wgsl_model.specs.Statements.{StatementNode, statement_node}
 use Rattle.wgsl_model.specs.PrintedStatements as statements
 use Rattle.wgsl_model.specs.PrintedUnits as units
-use Rattle.wgsl_model.specs.Symbols.{Symbol, expressions, component, negated_expression, compound_statement, statement, return_statement, if_statement, switch_statement, loop_statement, for_statement, while_statement, call_statement, var_statement, value_statement, break_statement, continue_statement, discard_statement, assignment, phony_assignment, increment, decrement, switch_clause, continuing_statement, global_declaration, var_declaration, const_declaration, override_declaration, alias_declaration, struct_declaration, function_declaration, global_directive, enable_directive, requires_directive, diagnostic_directive, unit, Value, Rule}
+use Rattle.wgsl_model.specs.Symbols.{Symbol, expressions, component, negated_expression, statement, return_statement, if_statement, switch_statement, loop_statement, for_statement, while_statement, call_statement, var_statement, value_statement, break_statement, continue_statement, discard_statement, assignment, phony_assignment, increment, decrement, global_declaration, var_declaration, const_declaration, override_declaration, alias_declaration, struct_declaration, function_declaration, unit, Value, Rule}
+use Rattle.wgsl_grammar_theory.proofs.WrittenEnds.{closing}
 use Rattle.wgsl_canonical_theory.specs.CanonicalExpressions.{Writes, optional_tokens, all_tokens, list_tokens, expression_tokens, expression_node_tokens}
 use Rattle.wgsl_canonical_theory.specs.CanonicalStatements.{end_token, unended_tokens}
 use Rattle.wgsl_canonical_theory.specs.CanonicalUnits.{kept_declaration_tokens, without_place}
@@ -31,31 +32,6 @@ edit_write statement = kept_statement_tokens
 edit_write global_declaration = kept_declaration_tokens
 edit_write negated_expression = λ v rest. plain SymMinus ∷ expression_node_tokens v rest
 edit_write n = write n
-
--- the symbols whose last token is a stop
-abbrev pub ends : Symbol → Bool
-ends compound_statement = true
-ends statement = true
-ends if_statement = true
-ends switch_statement = true
-ends loop_statement = true
-ends for_statement = true
-ends while_statement = true
-ends switch_clause = true
-ends continuing_statement = true
-ends global_declaration = true
-ends var_declaration = true
-ends const_declaration = true
-ends override_declaration = true
-ends alias_declaration = true
-ends struct_declaration = true
-ends function_declaration = true
-ends global_directive = true
-ends enable_directive = true
-ends requires_directive = true
-ends diagnostic_directive = true
-ends unit = true
-ends n = false
 
 -- the symbols whose tokens stand behind a stop or nothing
 abbrev pub starts : Symbol → Bool
@@ -101,7 +77,7 @@ Filled n v = Unit {0}
 abbrev pub IsEdited : (n : Symbol) → Value n → List Token → List Token → Type 0
 IsEdited component v xs ys = TurnsComponent v xs ys
 IsEdited expressions v xs ys = Unit {0}
-IsEdited n v xs ys = Turns (ends n) (starts n) (edit_write n) v xs ys
+IsEdited n v xs ys = Turns (closing n) (starts n) (edit_write n) v xs ys
 
 -- a value that a symbol derives from tokens whose words have the classes of their spellings
 abbrev pub Edited : (n : Symbol) → Value n → List Token → List Token → Type 0

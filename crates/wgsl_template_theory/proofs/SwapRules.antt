@@ -4,12 +4,12 @@ use Rattle.grammar.specs.Tokens.{Token, Fault, Span, span_between}
 use Rattle.grammar.specs.Grammar.{Grammar, Grammar.empty, Grammar.token, Grammar.sequence, Grammar.choice, Grammar.mapped, Grammar.node, Grammar.checked, Grammar.symbol, Grammar.left_chain, Mode.full, Chain, Chain.base, Chain.more, Means, is_among}
 use Rattle.grammar.specs.Notation.{list}
 use Rattle.grammar.specs.Tables.{disjoint}
-use Rattle.grammar.proofs.Sets.{and_true, apart}
+use Rattle.grammar.proofs.Sets.{and_true, apart, implied}
 use Rattle.grammar.proofs.Depth.{roll, unroll}
 use Rattle.grammar.proofs.Frame.{part_is_front, front_is_part}
 use Rattle.wgsl_model.specs.Classes.{SymComma, Ident, ReservedWord, TemplateArgsStart, TemplateArgsEnd}
 use Rattle.wgsl_model.specs.Expressions.{ExpressionNode}
-use Rattle.wgsl_model.specs.Symbols.{Symbol, Symbol.ident, Symbol.type_specifier, Symbol.template_list, Symbol.expressions, Symbol.call, Symbol.arguments, Symbol.literal, Symbol.primary_expression, Symbol.singular_expression, Symbol.component, Symbol.unary_expression, Symbol.multiplicative_expression, Symbol.negated_expression, Symbol.additive_expression, Symbol.shift_expression, Symbol.relational_expression, Symbol.expression, Value}
+use Rattle.wgsl_model.specs.Symbols.{Symbol, Symbol.ident, Symbol.template_list, Symbol.expressions, Symbol.expression, Value}
 use Rattle.wgsl_model.specs.Written.{written}
 use Rattle.wgsl_grammar_theory.proofs.WrittenEnds.{in_expression}
 use Rattle.wgsl_token_theory.proofs.Decided.{IsList}
@@ -143,22 +143,7 @@ template_rule v xs ys here d zs s = elim (begins xs zs s d.0.0 d.2.0 d.2.1.1) [
 rules : (n : Symbol) (v : Value n) (xs ys : List Token) → D n v xs ys → Means full Known (written n) v xs ys → Known n v xs ys
 rules ident v xs ys here d e zs s = ident_rule v xs ys d zs s
 rules template_list v xs ys here d e zs s = template_rule v xs ys (unroll full written template_list v xs ys here) d zs s
-rules type_specifier v xs ys here d e zs s = steady_rule type_specifier refl v xs ys d zs s
-rules expressions v xs ys here d e zs s = steady_rule expressions refl v xs ys d zs s
-rules call v xs ys here d e zs s = steady_rule call refl v xs ys d zs s
-rules arguments v xs ys here d e zs s = steady_rule arguments refl v xs ys d zs s
-rules literal v xs ys here d e zs s = steady_rule literal refl v xs ys d zs s
-rules primary_expression v xs ys here d e zs s = steady_rule primary_expression refl v xs ys d zs s
-rules singular_expression v xs ys here d e zs s = steady_rule singular_expression refl v xs ys d zs s
-rules component v xs ys here d e zs s = steady_rule component refl v xs ys d zs s
-rules unary_expression v xs ys here d e zs s = steady_rule unary_expression refl v xs ys d zs s
-rules multiplicative_expression v xs ys here d e zs s = steady_rule multiplicative_expression refl v xs ys d zs s
-rules negated_expression v xs ys here d e zs s = steady_rule negated_expression refl v xs ys d zs s
-rules additive_expression v xs ys here d e zs s = steady_rule additive_expression refl v xs ys d zs s
-rules shift_expression v xs ys here d e zs s = steady_rule shift_expression refl v xs ys d zs s
-rules relational_expression v xs ys here d e zs s = steady_rule relational_expression refl v xs ys d zs s
-rules expression v xs ys here d e zs s = steady_rule expression refl v xs ys d zs s
-rules m v xs ys here d e zs s = absurd cc
+rules n v xs ys here d e zs s = steady_rule n (implied (in_expression n) (is_steady (written n)) refl e) v xs ys d zs s
 
 -- what stands in expressions stands there too with template lists in place of others
 pub swapped_derives : (n : Symbol) → in_expression n ≡ true → (v : Value n) (xs ys : List Token) → D n v xs ys → (zs : List Token) → Swapped xs zs → Also (D n) zs ys
