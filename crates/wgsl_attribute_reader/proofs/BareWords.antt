@@ -7,7 +7,8 @@ use Rattle.std.specs.Str.{bytes_eq}
 use Rattle.std.proofs.lemmas.Slice.Eq.{bytes_eq-Decides}
 use Rattle.wgsl_model.specs.Words.{look_up}
 use Rattle.wgsl_model.specs.Expressions.{ExpressionNode}
-use Rattle.wgsl_model.specs.Checks.{bare_name, bare_word}
+use Rattle.wgsl_model.specs.Attributes.{Attribute, custom}
+use Rattle.wgsl_model.specs.Checks.{Checked, right, bare_name, bare_word, Arguments, attribute_names, named_attribute}
 use Rattle.wgsl_model.specs.NamedValues as plain
 use Rattle.wgsl_model.specs.NamedValues.{WordTable, error, severities, read, access_modes, function, address_spaces, perspective, interpolation_types, center, interpolation_samplings, vertex_index, builtin_values, severity_text, access_mode_text, address_space_text, interpolation_type_text, interpolation_sampling_text, builtin_value_text}
 use Rattle.wgsl_named_values.specs.declared.severity.DiagnosticSeverity.{DiagnosticSeverity}
@@ -18,34 +19,39 @@ use Rattle.wgsl_named_values.specs.declared.interpolation.InterpolationSampling.
 use Rattle.wgsl_named_values.specs.declared.builtin.BuiltinValue.{BuiltinValue}
 use Rattle.wgsl_expression.specs.declared.ident.Ident.{Ident}
 use Rattle.wgsl_expression.specs.View.{ident_name}
+use Rattle.wgsl_attribute_reader.specs.Known.{checked_attribute}
 use Rattle.wgsl_named_values.specs.View.{severity_view, access_mode_view, address_space_view, interpolation_type_view, interpolation_sampling_view, builtin_value_view}
 
--- each word of a table is a text
-abbrev pub Spells : {A B : Type 0} → (B → List ℕ) → List (List ℕ × A) → Type 0
-Spells text [] = Unit {0}
-Spells {A} {B} text (entry ∷ entries) = ((b : B) × (entry.0 ≡ text b)) × Spells text entries
+-- a word that is none of a table's
+abbrev pub Differs : {A : Type 0} → List ℕ → WordTable A → Type 0
+Differs word [] = Unit {0}
+Differs word (entry ∷ entries) = (word ≡ entry.0 → ⊥) × Differs word entries
 
 passed : {A : Type 0} (b : Bool) (x : A) (y : Option A) → (b ≡ true → ⊥) → y ≡ None → (if b then Some x else y) ≡ None
 passed true x y n e = absurd (n refl)
 passed false x y n e = e
 
--- a word that is none of the texts stands in no such table
-pub absent : {A B : Type 0} (text : B → List ℕ) (words : List (List ℕ × A)) → Spells text words → (word : List ℕ) → ((b : B) → word ≡ text b → ⊥) → look_up words word ≡ None
-absent text [] h word n = refl
-absent text (entry ∷ entries) h word n =
-    passed (bytes_eq entry.0 word) entry.1 (look_up entries word) (λ e. n h.0.0 (sym ((bytes_eq-Decides entry.0 word).0 e) ∙ h.0.1)) (absent text entries h.1 word n)
+-- it stands for nothing
+pub absent : {A : Type 0} (word : List ℕ) (words : WordTable A) → Differs word words → look_up words word ≡ None
+absent word [] d = refl
+absent word (entry ∷ entries) d = passed (bytes_eq entry.0 word) entry.1 (look_up entries word) (λ e. d.0 (sym ((bytes_eq-Decides entry.0 word).0 e))) (absent word entries d.1)
+
+-- so a name that is none of the attributes' keeps its arguments
+pub custom_is : (name : List ℕ) (arguments : Arguments) → Differs name attribute_names → checked_attribute name arguments ≡ right (custom (record { name = name; arguments = arguments }))
+unfolding checked_attribute
+custom_is name arguments d = ap (λ (check : Option (Arguments → Checked Attribute)). named_attribute check name arguments) (absent name attribute_names d)
 
 -- each word of a table is its own value's text
 abbrev pub OwnTexts : {A : Type 0} → (A → List ℕ) → WordTable A → Type 0
 OwnTexts {A} text words = map (λ (entry : List ℕ × A). entry.0) words ≡ map (λ (entry : List ℕ × A). text entry.1) words
 
-spelled : {A : Type 0} (text : A → List ℕ) (words : WordTable A) → OwnTexts text words → Spells text words
-spelled text [] h = tt
-spelled text (entry ∷ entries) h = ((entry.1, cc), spelled text entries (cc))
+differs : {A : Type 0} (text : A → List ℕ) (words : WordTable A) → OwnTexts text words → (word : List ℕ) → ((a : A) → word ≡ text a → ⊥) → Differs word words
+differs text [] own word n = tt
+differs text (entry ∷ entries) own word n = (λ e. n entry.1 (e ∙ cc), differs text entries (cc) word n)
 
 -- so a word that is none of the texts stands for no value
 pub unnamed : {A : Type 0} (text : A → List ℕ) (words : WordTable A) → OwnTexts text words → (word : List ℕ) → ((a : A) → word ≡ text a → ⊥) → look_up words word ≡ None
-unnamed text words own = absent text words (spelled text words own)
+unnamed text words own word n = absent word words (differs text words own word n)
 
 -- the value that a bare name stands for is the one that is found
 named : {A B E : Type 0} (text : B → List ℕ) (words : WordTable B) (view : A → B) → OwnTexts text words → ((b : B) → look_up words (text b) ≡ Some b)

@@ -12,10 +12,11 @@ use std::alloc::AllocError;
 use wgsl_attribute::Attribute;
 use wgsl_expression::ExpressionNode;
 
-/// Why arguments make no value: what is wrong with them, or that memory ran out.
+/// Why arguments make no value: the name that they are behind and what is wrong with them, or that
+/// memory ran out.
 #[derive(Drop)]
 pub(crate) enum Refusal {
-    Arguments(&'static str),
+    Arguments(&'static str, &'static str),
     OutOfMemory,
 }
 
@@ -63,39 +64,42 @@ pub(crate) fn up_to_three(
 
 /// The only argument.
 pub(crate) fn only_argument(
+    name: &'static str,
     arguments: Option<Vec<ExpressionNode>>,
 ) -> Result<ExpressionNode, Refusal>
-    ensures { Makes expression_node_view result (only_argument (option_map expressions_view arguments)) }
+    ensures { Makes name.now expression_node_view result (only_argument (option_map expressions_view arguments)) }
 {
     match up_to_three(arguments) {
         Some((argument, None, None)) => Ok(argument),
-        _ => Err(Refusal::Arguments("expected 1 argument")),
+        _ => Err(Refusal::Arguments(name, "expected 1 argument")),
     }
 }
 
 /// Two arguments.
 pub(crate) fn two_arguments(
+    name: &'static str,
     arguments: Option<Vec<ExpressionNode>>,
 ) -> Result<(ExpressionNode, ExpressionNode), Refusal>
-    ensures { Makes (λ two. (expression_node_view two.0, expression_node_view two.1)) result (two_arguments (option_map expressions_view arguments)) }
+    ensures { Makes name.now (λ two. (expression_node_view two.0, expression_node_view two.1)) result (two_arguments (option_map expressions_view arguments)) }
 {
     if let Some((first, second, None)) = up_to_three(arguments) {
         if let Some(second) = second {
             return Ok((first, second));
         }
     }
-    Err(Refusal::Arguments("expected 2 arguments"))
+    Err(Refusal::Arguments(name, "expected 2 arguments"))
 }
 
 /// An attribute without arguments.
 pub(crate) fn no_arguments(
+    name: &'static str,
     arguments: Option<Vec<ExpressionNode>>,
     attribute: Attribute,
 ) -> Result<Attribute, Refusal>
-    ensures { Makes attribute_view result (with_none (attribute_view attribute) (option_map expressions_view arguments)) }
+    ensures { Makes name.now attribute_view result (with_none (attribute_view attribute) (option_map expressions_view arguments)) }
 {
     match arguments {
         None => Ok(attribute),
-        Some(_) => Err(Refusal::Arguments("expected 0 arguments")),
+        Some(_) => Err(Refusal::Arguments(name, "expected 0 arguments")),
     }
 }

@@ -15,10 +15,9 @@ ghost use Rattle.wgsl_attribute_reader.specs.Settles.{Settles};
 ghost use Rattle.wgsl_attribute_reader.specs.Rules.{attribute_node_at, attribute_parts_at, optional_arguments_at};
 
 use crate::arguments::Refusal;
-use crate::checks::known_attribute;
-use crate::names::KnownAttribute;
+use crate::checks::make_attribute;
 use std::alloc::Global;
-use wgsl_attribute::{Attribute, AttributeNode, Attributes, CustomAttribute};
+use wgsl_attribute::{Attribute, AttributeNode, Attributes};
 use wgsl_cursor::{Cursor, Fault, Word};
 use wgsl_error::{Error, ErrorKind};
 use wgsl_expression::ExpressionNode;
@@ -78,8 +77,7 @@ fn parse_optional_arguments(
     Ok(Some(parse_arguments(alloc, tokens)?))
 }
 
-/// The attribute that a name makes of its arguments. One that is not known keeps them as they are.
-#[tactic(auto, using(crate::proofs::KnownNames::known_is, crate::proofs::KnownNames::unknown_is))]
+/// The attribute that a name makes of its arguments, or the fault of one that makes none.
 fn checked_attribute(
     alloc: Global,
     name: Word,
@@ -88,17 +86,11 @@ fn checked_attribute(
 ) -> Result<Attribute, Fault>
     ensures { Settles attribute_view result (checked_attribute (word_text name) (option_map expressions_view arguments)) (λ text. invalid_attribute (word_text name) text (span_view span)) }
 {
-    let Some(known) = KnownAttribute::from_name(name.as_str()) else {
-        return Ok(Attribute::Custom(CustomAttribute {
-            name: name.into_string(alloc)?,
-            arguments,
-        }));
-    };
-    match known_attribute(alloc, known, arguments) {
+    match make_attribute(alloc, name, arguments) {
         Ok(attribute) => Ok(attribute),
         Err(Refusal::OutOfMemory) => Err(Fault::OutOfMemory),
-        Err(Refusal::Arguments(text)) => Err(Fault::Checked(Error {
-            error: ErrorKind::Attribute(known.name(), text),
+        Err(Refusal::Arguments(name, text)) => Err(Fault::Checked(Error {
+            error: ErrorKind::Attribute(name, text),
             span,
         })),
     }

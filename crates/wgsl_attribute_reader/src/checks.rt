@@ -4,7 +4,8 @@ ghost use Rattle.std.specs.Prelude.{◌≡◌, IfOk, option_map, map};
 ghost use Rattle.wgsl_model.specs.Checks.{builtin_attribute, diagnostic_attribute, interpolate_attribute, workgroup_size_attribute, type_attribute, variants, variants_in};
 ghost use Rattle.wgsl_expression.specs.View.{expression_view, type_expression_view};
 ghost use Rattle.wgsl_attribute.specs.View.{attribute_view, expressions_view, interpolate_view};
-ghost use Rattle.wgsl_attribute_reader.specs.Known.{known_check};
+ghost use Rattle.wgsl_cursor.specs.Words.{word_text};
+ghost use Rattle.wgsl_attribute_reader.specs.Known.{checked_attribute};
 ghost use Rattle.wgsl_attribute_reader.specs.Counted.{interpolation};
 ghost use Rattle.wgsl_attribute_reader.specs.Makes.{Makes};
 
@@ -13,79 +14,91 @@ use crate::bare::{
     bare_builtin_value, bare_interpolation_sampling, bare_interpolation_type, bare_name,
     bare_severity, rule_name,
 };
-use crate::names::KnownAttribute;
 use std::alloc::{AllocError, Global};
 use wgsl_attribute::{
-    Attribute, DiagnosticAttribute, InterpolateAttribute, TypeConstraint, WorkgroupSizeAttribute,
+    Attribute, CustomAttribute, DiagnosticAttribute, InterpolateAttribute, TypeConstraint,
+    WorkgroupSizeAttribute,
 };
+use wgsl_cursor::Word;
 use wgsl_expression::{BinaryExpression, Expression, ExpressionNode, TypeExpression};
 use wgsl_named_values::BinaryOperator;
 
-/// The attribute of a known name and its arguments.
-#[tactic(auto, using(crate::proofs::Counts::with_one_is))]
-pub(crate) fn known_attribute(
+/// The attribute that a name makes of its arguments. One that is not known keeps them as they are.
+#[tactic(auto, unfolding(crate::specs::Known::checked_attribute), using(crate::proofs::Counts::with_one_is))]
+pub(crate) fn make_attribute(
     alloc: Global,
-    known: KnownAttribute,
+    name: Word,
     arguments: Option<Vec<ExpressionNode>>,
 ) -> Result<Attribute, Refusal>
-    ensures { Makes attribute_view result (known_check known (option_map expressions_view arguments)) }
+    ensures { Makes (word_text name) attribute_view result (checked_attribute (word_text name) (option_map expressions_view arguments)) }
 {
-    match known {
-        KnownAttribute::Align => Ok(Attribute::Align(only_argument(arguments)?)),
-        KnownAttribute::Binding => Ok(Attribute::Binding(only_argument(arguments)?)),
-        KnownAttribute::BlendSrc => Ok(Attribute::BlendSrc(only_argument(arguments)?)),
-        KnownAttribute::Group => Ok(Attribute::Group(only_argument(arguments)?)),
-        KnownAttribute::Id => Ok(Attribute::Id(only_argument(arguments)?)),
-        KnownAttribute::Location => Ok(Attribute::Location(only_argument(arguments)?)),
-        KnownAttribute::Size => Ok(Attribute::Size(only_argument(arguments)?)),
-        KnownAttribute::If => Ok(Attribute::If(only_argument(arguments)?)),
-        KnownAttribute::Elif => Ok(Attribute::Elif(only_argument(arguments)?)),
-        KnownAttribute::Const => no_arguments(arguments, Attribute::Const),
-        KnownAttribute::Invariant => no_arguments(arguments, Attribute::Invariant),
-        KnownAttribute::MustUse => no_arguments(arguments, Attribute::MustUse),
-        KnownAttribute::Vertex => no_arguments(arguments, Attribute::Vertex),
-        KnownAttribute::Fragment => no_arguments(arguments, Attribute::Fragment),
-        KnownAttribute::Compute => no_arguments(arguments, Attribute::Compute),
-        KnownAttribute::Else => no_arguments(arguments, Attribute::Else),
-        KnownAttribute::Builtin => builtin(arguments),
-        KnownAttribute::Diagnostic => diagnostic(alloc, arguments),
-        KnownAttribute::Interpolate => interpolate(arguments),
-        KnownAttribute::WorkgroupSize => workgroup_size(arguments),
-        KnownAttribute::Type => type_constraint(alloc, arguments),
+    match name.as_str() {
+        "align" => Ok(Attribute::Align(only_argument("align", arguments)?)),
+        "binding" => Ok(Attribute::Binding(only_argument("binding", arguments)?)),
+        "blend_src" => Ok(Attribute::BlendSrc(only_argument("blend_src", arguments)?)),
+        "group" => Ok(Attribute::Group(only_argument("group", arguments)?)),
+        "id" => Ok(Attribute::Id(only_argument("id", arguments)?)),
+        "location" => Ok(Attribute::Location(only_argument("location", arguments)?)),
+        "size" => Ok(Attribute::Size(only_argument("size", arguments)?)),
+        "if" => Ok(Attribute::If(only_argument("if", arguments)?)),
+        "elif" => Ok(Attribute::Elif(only_argument("elif", arguments)?)),
+        "const" => no_arguments("const", arguments, Attribute::Const),
+        "invariant" => no_arguments("invariant", arguments, Attribute::Invariant),
+        "must_use" => no_arguments("must_use", arguments, Attribute::MustUse),
+        "vertex" => no_arguments("vertex", arguments, Attribute::Vertex),
+        "fragment" => no_arguments("fragment", arguments, Attribute::Fragment),
+        "compute" => no_arguments("compute", arguments, Attribute::Compute),
+        "else" => no_arguments("else", arguments, Attribute::Else),
+        "builtin" => builtin("builtin", arguments),
+        "diagnostic" => diagnostic(alloc, "diagnostic", arguments),
+        "interpolate" => interpolate("interpolate", arguments),
+        "workgroup_size" => workgroup_size("workgroup_size", arguments),
+        "type" => type_constraint(alloc, "type", arguments),
+        _ => Ok(Attribute::Custom(CustomAttribute {
+            name: name.into_string(alloc)?,
+            arguments,
+        })),
     }
 }
 
 #[tactic(auto, using(crate::proofs::Counts::builtin_is))]
-fn builtin(arguments: Option<Vec<ExpressionNode>>) -> Result<Attribute, Refusal>
-    ensures { Makes attribute_view result (builtin_attribute (option_map expressions_view arguments)) }
+fn builtin(name: &'static str, arguments: Option<Vec<ExpressionNode>>) -> Result<Attribute, Refusal>
+    ensures { Makes name.now attribute_view result (builtin_attribute (option_map expressions_view arguments)) }
 {
-    match bare_builtin_value(only_argument(arguments)?) {
+    match bare_builtin_value(only_argument(name, arguments)?) {
         Some(value) => Ok(Attribute::Builtin(value)),
-        None => Err(Refusal::Arguments("the argument is not a valid built-in value name")),
+        None => Err(Refusal::Arguments(name, "the argument is not a valid built-in value name")),
     }
 }
 
 #[tactic(auto, using(crate::proofs::Counts::diagnostic_is))]
-fn diagnostic(alloc: Global, arguments: Option<Vec<ExpressionNode>>) -> Result<Attribute, Refusal>
-    ensures { Makes attribute_view result (diagnostic_attribute (option_map expressions_view arguments)) }
+fn diagnostic(
+    alloc: Global,
+    name: &'static str,
+    arguments: Option<Vec<ExpressionNode>>,
+) -> Result<Attribute, Refusal>
+    ensures { Makes name.now attribute_view result (diagnostic_attribute (option_map expressions_view arguments)) }
 {
-    let (severity, rule) = two_arguments(arguments)?;
+    let (severity, rule) = two_arguments(name, arguments)?;
     let Some(severity) = bare_severity(severity) else {
-        return Err(Refusal::Arguments("invalid arguments"));
+        return Err(Refusal::Arguments(name, "invalid arguments"));
     };
     match rule_name(alloc, rule)? {
         Some(rule) => Ok(Attribute::Diagnostic(DiagnosticAttribute { severity, rule })),
-        None => Err(Refusal::Arguments("invalid arguments")),
+        None => Err(Refusal::Arguments(name, "invalid arguments")),
     }
 }
 
 #[tactic(auto, using(crate::proofs::Counts::interpolate_is))]
-fn interpolate(arguments: Option<Vec<ExpressionNode>>) -> Result<Attribute, Refusal>
-    ensures { Makes attribute_view result (interpolate_attribute (option_map expressions_view arguments)) }
+fn interpolate(
+    name: &'static str,
+    arguments: Option<Vec<ExpressionNode>>,
+) -> Result<Attribute, Refusal>
+    ensures { Makes name.now attribute_view result (interpolate_attribute (option_map expressions_view arguments)) }
 {
     match interpolation(arguments) {
         Some(interpolation) => Ok(Attribute::Interpolate(interpolation)),
-        None => Err(Refusal::Arguments("invalid arguments")),
+        None => Err(Refusal::Arguments(name, "invalid arguments")),
     }
 }
 
@@ -105,29 +118,33 @@ fn interpolation(arguments: Option<Vec<ExpressionNode>>) -> Option<InterpolateAt
 }
 
 #[tactic(auto, using(crate::proofs::Counts::workgroup_size_is))]
-fn workgroup_size(arguments: Option<Vec<ExpressionNode>>) -> Result<Attribute, Refusal>
-    ensures { Makes attribute_view result (workgroup_size_attribute (option_map expressions_view arguments)) }
+fn workgroup_size(
+    name: &'static str,
+    arguments: Option<Vec<ExpressionNode>>,
+) -> Result<Attribute, Refusal>
+    ensures { Makes name.now attribute_view result (workgroup_size_attribute (option_map expressions_view arguments)) }
 {
     match up_to_three(arguments) {
         Some((x, y, z)) => Ok(Attribute::WorkgroupSize(WorkgroupSizeAttribute { x, y, z })),
-        None => Err(Refusal::Arguments("expected 1-3 arguments")),
+        None => Err(Refusal::Arguments(name, "expected 1-3 arguments")),
     }
 }
 
 #[tactic(auto, using(crate::proofs::Counts::type_is))]
 fn type_constraint(
     alloc: Global,
+    name: &'static str,
     arguments: Option<Vec<ExpressionNode>>,
 ) -> Result<Attribute, Refusal>
-    ensures { Makes attribute_view result (type_attribute (option_map expressions_view arguments)) }
+    ensures { Makes name.now attribute_view result (type_attribute (option_map expressions_view arguments)) }
 {
-    let (name, constraint) = two_arguments(arguments)?;
-    let Some(ident) = bare_name(name) else {
-        return Err(Refusal::Arguments("invalid first argument (type name)"));
+    let (ident, constraint) = two_arguments(name, arguments)?;
+    let Some(ident) = bare_name(ident) else {
+        return Err(Refusal::Arguments(name, "invalid first argument (type name)"));
     };
     match variants(alloc, constraint.into_inner())? {
         Some(variants) => Ok(Attribute::TypeConstraint(TypeConstraint { ident, variants })),
-        None => Err(Refusal::Arguments("invalid second argument (type constraint)")),
+        None => Err(Refusal::Arguments(name, "invalid second argument (type constraint)")),
     }
 }
 

@@ -6,7 +6,6 @@ mod attributes;
 mod bare;
 mod checks;
 mod initializer;
-mod names;
 mod values;
 
 pub use attributes::parse_attributes;

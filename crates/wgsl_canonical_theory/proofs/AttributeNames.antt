@@ -1,4 +1,4 @@
--- What holds of each name, and what it makes of arguments, in the table of attributes, and of every other name.
+-- What holds of each attribute that has a check of its own, and of any other name, holds of every name.
 use Rattle.std.proofs.Common.{◌≡◌, ℕ, ◌+◌, Bool, true, false, cond, List, [], ◌∷◌, ◌++◌, length, drop, Some, None, refl, subst}
 use Rattle.std.specs.Prelude.{bytes_eq}
 use Rattle.std.proofs.lemmas.Slice.Eq.{bytes_eq-Decides}
