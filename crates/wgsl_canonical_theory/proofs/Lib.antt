@@ -5,6 +5,7 @@ pub mod Rules
 pub mod NamedWords
 pub mod RuleNames
 pub mod Derived
+pub mod Gives
 pub mod PlainNames
 pub mod AttributeNames
 pub mod AttributeTokens

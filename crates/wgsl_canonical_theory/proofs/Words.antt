@@ -7,6 +7,7 @@ use Rattle.wgsl_model.specs.Classes.{Ident, ReservedWord}
 use Rattle.wgsl_model.specs.Raw.{word_of}
 use Rattle.wgsl_model.specs.TokenValues.{text_of}
 use Rattle.wgsl_model.specs.Written.{keyword_classes}
+use Rattle.wgsl_grammar_theory.proofs.Avoids.{AllOf}
 use Rattle.wgsl_canonical_theory.specs.CanonicalUnits.{without_place}
 
 -- no byte of a text is `.`
@@ -20,5 +21,4 @@ IsWord t = is_among t.class (Ident ∷ ReservedWord ∷ keyword_classes) ≡ tru
 
 -- all tokens of a list are so
 abbrev pub AllWords : List Token → Type 0
-AllWords [] = Unit {0}
-AllWords (t ∷ ts) = IsWord t × AllWords ts
+AllWords = AllOf IsWord

@@ -11,18 +11,18 @@ use Rattle.grammar.proofs.Anchors.{last_append}
 use Rattle.wgsl_grammar_theory.proofs.Taking.{surely_takes, Shorter, shorter, shorter_within}
 
 -- ---- tokens of some classes
--- what holds of the class of each token
-abbrev pub AllOf : (ℕ → Type 0) → List Token → Type 0
+-- what holds of each token
+abbrev pub AllOf : (Token → Type 0) → List Token → Type 0
 AllOf Q [] = Unit {0}
-AllOf Q (t ∷ ts) = Q t.class × AllOf Q ts
+AllOf Q (t ∷ ts) = Q t × AllOf Q ts
 
-all_append : (Q : ℕ → Type 0) (p q : List Token) → AllOf Q p → AllOf Q q → AllOf Q (p ++ q)
+pub all_append : (Q : Token → Type 0) (p q : List Token) → AllOf Q p → AllOf Q q → AllOf Q (p ++ q)
 all_append Q [] q n m = m
 all_append Q (t ∷ p) q n m = (n.0, all_append Q p q n.1 m)
 
 -- no token of some classes
 abbrev pub NoneOf : List ℕ → List Token → Type 0
-NoneOf cs = AllOf (λ (c : ℕ). is_among c cs ≡ false)
+NoneOf cs = AllOf (λ (t : Token). is_among t.class cs ≡ false)
 
 -- a test of lists of classes, and what holds of each class of those that pass it
 pub record ClassTest (Q : ℕ → Type 0) : Type 0 where
@@ -45,14 +45,14 @@ takes_only test K (symbol n) = K n
 takes_only test K (left_chain f g h) = takes_only test K g && takes_only test K h
 
 abbrev pub TakingOnly : {A : Type 0} → (ℕ → Type 0) → (A → List Token → List Token → Type 0) → Type 0
-TakingOnly {A} Q P = (v : A) (xs ys : List Token) → P v xs ys → (p : List Token) × (xs ≡ p ++ ys) × AllOf Q p
+TakingOnly {A} Q P = (v : A) (xs ys : List Token) → P v xs ys → (p : List Token) × (xs ≡ p ++ ys) × AllOf (λ (t : Token). Q t.class) p
 
 only_chain : (Q : ℕ → Type 0) {A B : Type 0} (f : A → B → Span → A) (P : A → List Token → List Token → Type 0) (R : B → List Token → List Token → Type 0) → TakingOnly Q P → TakingOnly Q R
-    → (xs : List Token) (v : A) (ys : List Token) → Chain f P R xs v ys → (p : List Token) × (xs ≡ p ++ ys) × AllOf Q p
+    → (xs : List Token) (v : A) (ys : List Token) → Chain f P R xs v ys → (p : List Token) × (xs ≡ p ++ ys) × AllOf (λ (t : Token). Q t.class) p
 only_chain Q f P R H K xs _ _ (base v ys d) = H v xs ys d
 only_chain Q f P R H K xs _ _ (more a b ys zs c d) =
     let w = only_chain Q f P R H K xs a ys c in let u = K b ys zs d in
-    (w.0 ++ u.0, joined w.0 u.0 xs ys zs w.1 u.1, all_append Q w.0 u.0 w.2 u.2)
+    (w.0 ++ u.0, joined w.0 u.0 xs ys zs w.1 u.1, all_append (λ (t : Token). Q t.class) w.0 u.0 w.2 u.2)
 
 pub taking_only : {N : Type 0} {Value : N → Type 0} (M : Mode) (D : (n : N) → Value n → List Token → List Token → Type 0) {Q : ℕ → Type 0} (T : ClassTest Q) (K : N → Bool) → ((n : N) → K n ≡ true → TakingOnly Q (D n))
     → {A : Type 0} (g : Grammar N Value A) → takes_only T.test K g ≡ true → TakingOnly Q (Means M D g)
@@ -61,7 +61,7 @@ taking_only M D T K H (token s) e v xs ys d = (v ∷ [], d.1, (T.passed v.class 
 taking_only M D {Q} T K H (sequence g h) e v xs ys (ms, d, i) =
     let t = and_true (takes_only T.test K g) (takes_only T.test K h) e in
     let w = taking_only M D T K H g t.0 v.0 xs ms d in let u = taking_only M D T K H h t.1 v.1 ms ys i in
-    (w.0 ++ u.0, joined w.0 u.0 xs ms ys w.1 u.1, all_append Q w.0 u.0 w.2 u.2)
+    (w.0 ++ u.0, joined w.0 u.0 xs ms ys w.1 u.1, all_append (λ (t : Token). Q t.class) w.0 u.0 w.2 u.2)
 taking_only M D T K H (choice g h) e v xs ys (inl d) = taking_only M D T K H g (and_true (takes_only T.test K g) (takes_only T.test K h) e).0 v xs ys d
 taking_only M D T K H (choice g h) e v xs ys (inr d) = taking_only M D T K H h (and_true (takes_only T.test K g) (takes_only T.test K h) e).1 v xs ys d
 taking_only M D T K H (mapped f g) e v xs ys d = taking_only M D T K H g e d.0 xs ys d.2
@@ -80,7 +80,7 @@ only_part {N} {Value} M body rule {Q} T K R H n e v xs ys d =
     least M body Holds (λ m w us vs i k. taking_only M Holds T K (λ o f x ws zs j. j f) (rule m) (implied (K m) (takes_only T.test K (rule m)) (H m) k) w us vs (R Holds m w us vs i)) n v xs ys d e
   where
     Holds : (n : N) → Value n → List Token → List Token → Type 0
-    Holds n v xs ys = K n ≡ true → (p : List Token) × (xs ≡ p ++ ys) × AllOf Q p
+    Holds n v xs ys = K n ≡ true → (p : List Token) × (xs ≡ p ++ ys) × AllOf (λ (t : Token). Q t.class) p
 
 -- ---- a last token of some classes
 -- nothing, or a list that ends with a token of the classes

@@ -33,7 +33,7 @@ all_go_by : (n : Symbol) → (not (in_expression n) || takes_only (all_pass (λ 
 all_go_by ident = refl
 all_go_by n = refl
 
-none_stops : (p : List Token) → AllOf (λ (c : ℕ). is_stop_role (role c) ≡ false) p → NoStop (map without_place p)
+none_stops : (p : List Token) → AllOf (λ (t : Token). is_stop_role (role t.class) ≡ false) p → NoStop (map without_place p)
 none_stops [] h = tt
 none_stops (t ∷ p) h = (h.0, none_stops p h.1)
 

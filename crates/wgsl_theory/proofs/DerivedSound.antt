@@ -2,20 +2,20 @@
 use Rattle.std.proofs.Common.{◌≡◌, ℕ, ◌==◌, Bool, true, false, cond, refl, List, [], ◌∷◌, Option, Some, None}
 use Rattle.grammar.specs.Tokens.{Token}
 use Rattle.grammar.specs.Grammar.{Grammar.symbol, Grammar.left_chain}
-use Rattle.grammar.specs.Notation.{list}
-use Rattle.wgsl_model.specs.Classes.{SymBraceLeft, SymBraceRight, SymSemicolon, SymEqual, SymPlusEqual, SymMinusEqual, SymTimesEqual, SymDivisionEqual, SymModuloEqual, SymAndEqual, SymOrEqual, SymXorEqual, SymShiftRightAssign, SymShiftLeftAssign, KwConst, KwElse, KwFor, KwIf, KwLet, KwLoop, KwReturn, KwSwitch, KwWhile, SymAnd, SymAndAnd, SymAttr, SymBang, SymBracketLeft, SymBracketRight, SymComma, SymEqualEqual, SymForwardSlash, SymGreaterThan, SymGreaterThanEqual, SymLessThan, SymLessThanEqual, SymMinus, SymMinusMinus, SymModulo, SymNotEqual, SymOr, SymOrOr, SymParenLeft, SymParenRight, SymPeriod, SymPlus, SymShiftLeft, SymShiftRight, SymStar, SymTilde, SymXor, Ident, ReservedWord, TemplateArgsStart, TemplateArgsEnd}
-use Rattle.wgsl_model.specs.Operators.{logical_negation, negation, bitwise_complement, address_of, indirection, BinaryOperator, short_circuit_or, short_circuit_and, addition, subtraction, multiplication, division, remainder, equality, inequality, less_than, less_than_equal, greater_than, greater_than_equal, bitwise_or, bitwise_and, bitwise_xor, shift_left, shift_right, equal, plus_equal, minus_equal, times_equal, division_equal, modulo_equal, and_equal, or_equal, xor_equal, shift_right_assign, shift_left_assign}
+use Rattle.grammar.specs.Notation.{◌or◌, ◌means◌, list}
+use Rattle.wgsl_model.specs.Classes.{SymBraceLeft, SymBraceRight, SymSemicolon, SymEqual, KwConst, KwElse, KwFor, KwIf, KwLet, KwLoop, KwReturn, KwSwitch, KwWhile, SymAnd, SymAndAnd, SymAttr, SymBracketLeft, SymBracketRight, SymComma, SymMinusMinus, SymOr, SymOrOr, SymParenLeft, SymParenRight, SymPeriod, SymShiftLeft, SymShiftRight, SymStar, SymXor, Ident, ReservedWord, TemplateArgsStart, TemplateArgsEnd}
+use Rattle.wgsl_model.specs.Operators.{address_of, indirection, BinaryOperator, short_circuit_or, short_circuit_and, subtraction, bitwise_or, bitwise_and, bitwise_xor, shift_left, shift_right}
 use Rattle.wgsl_model.specs.Spanned.{Spanned}
 use Rattle.wgsl_model.specs.Expressions.{ExpressionNode, expression_node, Expression, expressions_of, template_of}
 use Rattle.wgsl_model.specs.Attributes.{Attribute}
 use Rattle.wgsl_model.specs.Statements as tree
 use Rattle.wgsl_model.specs.Statements.{DeclarationKind, StatementNode, statement_node, Statement, ElseIfClause, ElseClause, else_clause, SwitchClause, ContinuingStatement, statements_of, else_ifs_of, else_of, clauses_of, continuing_of, maybe_statement}
 use Rattle.wgsl_model.specs.TokenValues.{text_of, literal_of}
-use Rattle.wgsl_model.specs.Checks.{unreserved, attribute_parts, attribute_fault, attribute_node, var_kind_of}
+use Rattle.wgsl_model.specs.Checks.{unreserved, attribute_parts, attribute_fault, attribute_node}
 use Rattle.wgsl_model.specs.ExpressionParts.{placed_expression, type_of, call_of, index_of, component_of, with_component, unary_of, binary_of, operation_of, negation_of, negated_product_of, two, two_or_more, unary_operator, multiplicative_operator, additive_operator, relational_operator}
 use Rattle.wgsl_model.specs.StatementParts.{placed_statement, variable_at, parenthesized_at, declaration_of, compound_of, assignment_of, call_statement_of, return_of, if_of, switch_of, loop_of, for_of, while_of, attributes, statements, initializer, var_kind, assignment_operator, else_if, else_block}
 use Rattle.wgsl_model.specs.UnitParts.{rule_of, texts_of}
-use Rattle.wgsl_model.specs.Symbols.{Rule, ident, type_specifier, template_list, call, arguments, literal, primary_expression, singular_expression, component, unary_expression, multiplicative_expression, negated_expression, additive_expression, shift_expression, relational_expression, expression, lhs_expression, attribute, compound_statement, statement, return_statement, if_statement, switch_statement, loop_statement, for_statement, while_statement, call_statement, var_statement, value_statement, break_statement, continue_statement, discard_statement, assignment, phony_assignment, increment, decrement, const_assert, switch_clause, continuing_statement, for_init, for_update, var_template, typed_ident}
+use Rattle.wgsl_model.specs.Symbols.{Rule, ident, type_specifier, template_list, call, arguments, literal, primary_expression, singular_expression, component, unary_expression, multiplicative_expression, negated_expression, additive_expression, shift_expression, relational_expression, expression, lhs_expression, attribute, compound_statement, statement, return_statement, if_statement, switch_statement, loop_statement, for_statement, while_statement, call_statement, var_statement, value_statement, break_statement, continue_statement, discard_statement, assignment, phony_assignment, increment, decrement, const_assert, switch_clause, continuing_statement, for_init, for_update, typed_ident}
 use Rattle.wgsl_model.specs.Written.{written}
 use Rattle.wgsl_canonical_theory.proofs.ExpressionRules.{literal_classes}
 use Rattle.wgsl_theory.proofs.Ends.{IsNameText}
@@ -23,7 +23,8 @@ use Rattle.wgsl_theory.proofs.SoundExpressions.{IsSoundLiteral, IsPrimary, IsPri
 use Rattle.wgsl_theory.proofs.SoundUnits.{EndsWithNameNode, IfSome, Every, IsSoundRule, IsSoundAttribute, AreSoundAttributes, IsSoundStatement, AreSoundStatements, IsSoundCompound, AreSoundElseIfs, IsSoundElseIf, IsSoundElse, IsSoundElseClause, AreSoundClauses, IsSoundClause, IsSoundMaybeContinuing, IsSoundContinuing, IsSoundPart}
 use Rattle.wgsl_theory.proofs.Scanned.{word_classes}
 use Rattle.wgsl_theory.proofs.SoundAttributes.{one_name_rule, two_names_rule, attribute_sound}
-use Rattle.wgsl_theory.proofs.SoundRules.{IsSoundStatementNode, Sound, Gives, token_sound, symbol_sound, then_sound, or_sound, gives_sound, makes_sound, check_sound, weaker_sound, sign_before, sign_behind, means_sound, optional_sound, chain_sound, many_sound, several_sound, list_sound, list_or_none_sound}
+use Rattle.wgsl_canonical_theory.proofs.Gives.{anything, token_sound, symbol_sound, then_sound, or_sound, gives_sound, makes_sound, check_sound, weaker_sound, chain_sound, sign_before, sign_behind, means_sound}
+use Rattle.wgsl_theory.proofs.SoundRules.{IsSoundStatementNode, Sound, Gives, optional_sound, many_sound, several_sound, list_sound, list_or_none_sound}
 
 -- ---- lists, as they stand in a tree
 
@@ -131,58 +132,40 @@ primary_operand (Expression.type_or_identifier t) p = p
 primary_operand_node : (e : ExpressionNode) → IsPrimaryNode e → IsOperandNode e
 primary_operand_node (expression_node e span) p = primary_operand e p
 
--- operators hold nothing
-abbrev pub Anything : {A : Type 0} → A → Type 0
-Anything a = Unit {0}
-
-unary_operator_gives : Gives unary_operator Anything
-unary_operator_gives = or_sound (means_sound SymMinus negation Anything tt) (or_sound (means_sound SymBang logical_negation Anything tt) (or_sound (means_sound SymTilde bitwise_complement Anything tt)
-    (or_sound (means_sound SymStar indirection Anything tt) (means_sound SymAnd address_of Anything tt))))
-
 pub unary_expression_gives : Gives (written unary_expression) (Sound unary_expression)
 unary_expression_gives = or_sound (weaker_sound (symbol_sound singular_expression) (Sound unary_expression) (λ e h. (primary_operand_node e h.0, h.1)))
-    (makes_sound (then_sound unary_operator_gives (symbol_sound unary_expression)) unary_of (Sound unary_expression) (λ p s h. (tt, h.1)))
+    (makes_sound (then_sound (anything unary_operator) (symbol_sound unary_expression)) unary_of (Sound unary_expression) (λ p s h. (tt, h.1)))
 
 -- a sound operand
 operand_gives : Gives (symbol unary_expression) IsSoundNode
 operand_gives = weaker_sound (symbol_sound unary_expression) IsSoundNode (λ e h. h.1)
-
-multiplicative_operator_gives : Gives multiplicative_operator Anything
-multiplicative_operator_gives = or_sound (means_sound SymStar multiplication Anything tt) (or_sound (means_sound SymForwardSlash division Anything tt) (means_sound SymModulo remainder Anything tt))
-
-additive_operator_gives : Gives additive_operator Anything
-additive_operator_gives = or_sound (means_sound SymPlus addition Anything tt) (means_sound SymMinus subtraction Anything tt)
-
-relational_operator_gives : Gives relational_operator Anything
-relational_operator_gives = or_sound (means_sound SymLessThan less_than Anything tt) (or_sound (means_sound SymGreaterThan greater_than Anything tt) (or_sound (means_sound SymLessThanEqual less_than_equal Anything tt)
-    (or_sound (means_sound SymGreaterThanEqual greater_than_equal Anything tt) (or_sound (means_sound SymEqualEqual equality Anything tt) (means_sound SymNotEqual inequality Anything tt)))))
 
 -- an operator and an operand
 abbrev IsSoundBehind : BinaryOperator × ExpressionNode → Type 0
 IsSoundBehind p = Unit {0} × IsSoundNode p.1
 
 pub multiplicative_expression_gives : Gives (written multiplicative_expression) (Sound multiplicative_expression)
-multiplicative_expression_gives = chain_sound operand_gives (then_sound multiplicative_operator_gives operand_gives) binary_of (λ a b s h k. (h, k.1))
+multiplicative_expression_gives = chain_sound operand_gives (then_sound (anything multiplicative_operator) operand_gives) binary_of (λ a b s h k. (h, k.1))
 
 pub negated_expression_gives : Gives (written negated_expression) (Sound negated_expression)
-negated_expression_gives = chain_sound (makes_sound (sign_before SymMinusMinus (symbol_sound unary_expression)) negation_of IsSoundNode (λ e s h. h)) (then_sound multiplicative_operator_gives operand_gives) negated_product_of (λ a b s h k. (h, k.1))
+negated_expression_gives = chain_sound (makes_sound (sign_before SymMinusMinus (symbol_sound unary_expression)) negation_of IsSoundNode (λ e s h. h)) (then_sound (anything multiplicative_operator) operand_gives) negated_product_of (λ a b s h k. (h, k.1))
 
 pub additive_expression_gives : Gives (written additive_expression) (Sound additive_expression)
 additive_expression_gives = chain_sound (symbol_sound multiplicative_expression)
-    (or_sound (then_sound additive_operator_gives (symbol_sound multiplicative_expression)) (gives_sound (symbol_sound negated_expression) (λ (e : ExpressionNode). (subtraction, e)) IsSoundBehind (λ e h. (tt, h)))) binary_of (λ a b s h k. (h, k.1))
+    (or_sound (then_sound (anything additive_operator) (symbol_sound multiplicative_expression)) (gives_sound (symbol_sound negated_expression) (λ (e : ExpressionNode). (subtraction, e)) IsSoundBehind (λ e h. (tt, h)))) binary_of (λ a b s h k. (h, k.1))
 
 two_gives : (class : ℕ) (operator : BinaryOperator) {x : Rule ExpressionNode} → Gives x IsSoundNode → Gives (two class operator x) IsSoundNode
-two_gives class operator G = makes_sound (then_sound G (then_sound (means_sound class operator Anything tt) G)) operation_of IsSoundNode (λ p s h. (h.0, h.1.1))
+two_gives class operator G = makes_sound (then_sound G (then_sound (anything (class means operator)) G)) operation_of IsSoundNode (λ p s h. (h.0, h.1.1))
 
 two_or_more_gives : (class : ℕ) (operator : BinaryOperator) {x : Rule ExpressionNode} → Gives x IsSoundNode → Gives (two_or_more class operator x) IsSoundNode
-two_or_more_gives class operator G = chain_sound (two_gives class operator G) (then_sound (means_sound class operator Anything tt) G) binary_of (λ a b s h k. (h, k.1))
+two_or_more_gives class operator G = chain_sound (two_gives class operator G) (then_sound (anything (class means operator)) G) binary_of (λ a b s h k. (h, k.1))
 
 pub shift_expression_gives : Gives (written shift_expression) (Sound shift_expression)
 shift_expression_gives = or_sound (symbol_sound additive_expression) (or_sound (two_gives SymShiftLeft shift_left operand_gives) (two_gives SymShiftRight shift_right operand_gives))
 
 pub relational_expression_gives : Gives (written relational_expression) (Sound relational_expression)
 relational_expression_gives = or_sound (symbol_sound shift_expression)
-    (makes_sound (then_sound (symbol_sound shift_expression) (then_sound relational_operator_gives (symbol_sound shift_expression))) operation_of IsSoundNode (λ p s h. (h.0, h.1.1)))
+    (makes_sound (then_sound (symbol_sound shift_expression) (then_sound (anything relational_operator) (symbol_sound shift_expression))) operation_of IsSoundNode (λ p s h. (h.0, h.1.1)))
 
 pub expression_gives : Gives (written expression) (Sound expression)
 expression_gives = or_sound (symbol_sound relational_expression)
@@ -199,8 +182,8 @@ left_chain_gives G = weaker_sound (chain_sound G (symbol_sound component) with_c
 pub lhs_expression_gives : Gives (written lhs_expression) (Sound lhs_expression)
 lhs_expression_gives = or_sound (left_chain_gives (makes_sound (symbol_sound ident) variable_at IsSoundLeft (λ t s h. (tt, tt, (h, tt)))))
     (or_sound (left_chain_gives (makes_sound (sign_before SymParenLeft (sign_behind SymParenRight (symbol_sound lhs_expression))) parenthesized_at IsSoundLeft (λ e s h. (tt, tt, h.2))))
-    (or_sound (makes_sound (then_sound (means_sound SymStar indirection Anything tt) (symbol_sound lhs_expression)) unary_of (Sound lhs_expression) (λ p s h. (tt, h.1.1, (h.1.0, h.1.2))))
-    (makes_sound (then_sound (means_sound SymAnd address_of Anything tt) (symbol_sound lhs_expression)) unary_of (Sound lhs_expression) (λ p s h. (tt, h.1.1, (h.1.0, h.1.2))))))
+    (or_sound (makes_sound (then_sound (anything (SymStar means indirection)) (symbol_sound lhs_expression)) unary_of (Sound lhs_expression) (λ p s h. (tt, h.1.1, (h.1.0, h.1.2))))
+    (makes_sound (then_sound (anything (SymAnd means address_of)) (symbol_sound lhs_expression)) unary_of (Sound lhs_expression) (λ p s h. (tt, h.1.1, (h.1.0, h.1.2))))))
 
 -- ---- attributes
 
@@ -218,9 +201,6 @@ statements_give = many_sound (symbol_sound statement)
 
 pub initializer_gives : Gives initializer IsSoundNode
 initializer_gives = sign_before SymEqual (symbol_sound expression)
-
-pub var_kind_gives : Gives var_kind Anything
-var_kind_gives = gives_sound (symbol_sound var_template) var_kind_of Anything (λ v h. tt)
 
 pub compound_statement_gives : Gives (written compound_statement) (Sound compound_statement)
 compound_statement_gives = gives_sound (then_sound attributes_give (sign_before SymBraceLeft (sign_behind SymBraceRight statements_give))) (λ p. compound_of p.0 p.1) IsSoundCompound (λ p h. (h.0, statements_sound p.1 h.1))
@@ -285,18 +265,12 @@ pub call_statement_gives : Gives (written call_statement) (Sound call_statement)
 call_statement_gives = gives_sound (symbol_sound call) call_statement_of IsSoundStatement (λ c h. h)
 
 pub var_statement_gives : Gives (written var_statement) (Sound var_statement)
-var_statement_gives = gives_sound (then_sound var_kind_gives (then_sound (symbol_sound typed_ident) (optional_sound initializer_gives)))
+var_statement_gives = gives_sound (then_sound (anything var_kind) (then_sound (symbol_sound typed_ident) (optional_sound initializer_gives)))
     (λ p. Statement.declaration (declaration_of [] p.0 p.1.0 p.1.1)) IsSoundStatement (λ p h. (tt, h.1.0.0, h.1.0.1, h.1.1))
 
 pub value_statement_gives : Gives (written value_statement) (Sound value_statement)
-value_statement_gives = gives_sound (then_sound (or_sound (means_sound KwLet DeclarationKind.let_kind Anything tt) (means_sound KwConst DeclarationKind.const_kind Anything tt)) (then_sound (symbol_sound typed_ident) initializer_gives))
+value_statement_gives = gives_sound (then_sound (anything (KwLet means DeclarationKind.let_kind or KwConst means DeclarationKind.const_kind)) (then_sound (symbol_sound typed_ident) initializer_gives))
     (λ p. Statement.declaration (declaration_of [] p.0 p.1.0 (Some p.1.1))) IsSoundStatement (λ p h. (tt, h.1.0.0, h.1.0.1, h.1.1))
 
-assignment_operator_gives : Gives assignment_operator Anything
-assignment_operator_gives = or_sound (means_sound SymEqual equal Anything tt) (or_sound (means_sound SymPlusEqual plus_equal Anything tt) (or_sound (means_sound SymMinusEqual minus_equal Anything tt)
-    (or_sound (means_sound SymTimesEqual times_equal Anything tt) (or_sound (means_sound SymDivisionEqual division_equal Anything tt) (or_sound (means_sound SymModuloEqual modulo_equal Anything tt)
-    (or_sound (means_sound SymAndEqual and_equal Anything tt) (or_sound (means_sound SymOrEqual or_equal Anything tt) (or_sound (means_sound SymXorEqual xor_equal Anything tt)
-    (or_sound (means_sound SymShiftRightAssign shift_right_assign Anything tt) (means_sound SymShiftLeftAssign shift_left_assign Anything tt))))))))))
-
 pub assignment_gives : Gives (written assignment) (Sound assignment)
-assignment_gives = gives_sound (then_sound (symbol_sound lhs_expression) (then_sound assignment_operator_gives (symbol_sound expression))) (λ p. assignment_of p.0 p.1.0 p.1.1) IsSoundStatement (λ p h. (h.0.2, h.1.1))
+assignment_gives = gives_sound (then_sound (symbol_sound lhs_expression) (then_sound (anything assignment_operator) (symbol_sound expression))) (λ p. assignment_of p.0 p.1.0 p.1.1) IsSoundStatement (λ p h. (h.0.2, h.1.1))

@@ -5,7 +5,7 @@ use Rattle.std.specs.Str.{IsUtf8, chars}
 use Rattle.std.proofs.lemmas.Str.{IsUtf8-from_ascii, chars-IsAscii}
 use Rattle.unicode_ident.proofs.IdentLemmas.{is_xid_start-ascii}
 use Rattle.grammar.specs.Tokens.{Token}
-use Rattle.grammar.specs.Grammar.{Mode.full, Part}
+use Rattle.grammar.specs.Grammar.{Mode.full, Grammar.token}
 use Rattle.grammar.specs.Notation.{◌means◌}
 use Rattle.grammar.proofs.Depth.{least}
 use Rattle.wgsl_model.specs.Classes.{SymArrow, SymBraceLeft, SymBraceRight, SymColon, SymComma, SymEqual, SymMinusMinus, SymParenLeft, SymParenRight, SymPeriod, SymPlusPlus, SymSemicolon, SymUnderscore, KwAlias, KwBreak, KwCase, KwConst, KwConstAssert, KwContinue, KwContinuing, KwDefault, KwDiagnostic, KwDiscard, KwEnable, KwFn, KwIf, KwOverride, KwRequires, KwStruct, KwVar}
@@ -22,9 +22,9 @@ use Rattle.wgsl_model.specs.TokenList.{width}
 use Rattle.grammar.specs.Faults.{Ending.finished}
 use Rattle.wgsl_model.specs.TokenValues.{text_of}
 use Rattle.wgsl_model.specs.Checks.{var_fault, severity_fault}
-use Rattle.wgsl_model.specs.StatementParts.{placed_statement, underscore_at, assignment_of, increment_of, decrement_of, assert_of, clause_of, continuing_part, break_if}
+use Rattle.wgsl_model.specs.StatementParts.{placed_statement, underscore_at, assignment_of, increment_of, decrement_of, assert_of, clause_of, continuing_part, break_if, var_kind}
 use Rattle.wgsl_model.specs.UnitParts.{attributed_ident, member_of, parameter_of, value_of, alias_of, struct_of, return_part, function_of, enable_of, requires_of, diagnostic_of}
-use Rattle.wgsl_model.specs.Symbols.{Symbol, ident, type_specifier, template_list, expressions, call, arguments, literal, primary_expression, singular_expression, component, unary_expression, multiplicative_expression, negated_expression, additive_expression, shift_expression, relational_expression, expression, lhs_expression, attribute, compound_statement, statement, return_statement, if_statement, switch_statement, loop_statement, for_statement, while_statement, call_statement, var_statement, value_statement, break_statement, continue_statement, discard_statement, assignment, phony_assignment, increment, decrement, const_assert, switch_clause, case_selector, continuing_statement, for_init, for_update, var_template, typed_ident, struct_member, formal_parameter, global_declaration, var_declaration, const_declaration, override_declaration, alias_declaration, struct_declaration, function_declaration, diagnostic_severity, global_directive, enable_directive, requires_directive, diagnostic_directive, unit, Value}
+use Rattle.wgsl_model.specs.Symbols.{Symbol, ident, type_specifier, template_list, expressions, call, arguments, literal, primary_expression, singular_expression, component, unary_expression, multiplicative_expression, negated_expression, additive_expression, shift_expression, relational_expression, expression, lhs_expression, attribute, compound_statement, statement, return_statement, if_statement, switch_statement, loop_statement, for_statement, while_statement, call_statement, var_statement, value_statement, break_statement, continue_statement, discard_statement, assignment, phony_assignment, increment, decrement, const_assert, switch_clause, case_selector, continuing_statement, for_init, for_update, var_template, typed_ident, struct_member, formal_parameter, global_declaration, var_declaration, const_declaration, override_declaration, alias_declaration, struct_declaration, function_declaration, diagnostic_severity, global_directive, enable_directive, requires_directive, diagnostic_directive, unit}
 use Rattle.wgsl_model.specs.Written.{written}
 use Rattle.wgsl_canonical_theory.specs.CanonicalUnits.{canonical}
 use Rattle.wgsl_template_theory.proofs.LexedAlong.{Along}
@@ -35,8 +35,9 @@ use Rattle.wgsl_theory.proofs.SoundExpressions.{IsSoundNode, IsSoundType}
 use Rattle.wgsl_theory.proofs.SoundUnits.{IfSome, Every, AreSoundAttributes, IsSoundSelector, IsSoundStatement, IsSoundClause, IsSoundContinuing, IsSoundDirective, IsSoundMember, IsSoundParameter, IsSoundGlobal, IsSoundUnit}
 use Rattle.wgsl_theory.proofs.FittingUnits.{sound_utf8, sound_along}
 use Rattle.wgsl_theory.proofs.Scanned.{tokens_scanned}
-use Rattle.wgsl_theory.proofs.SoundRules.{IsSoundStatementNode, Sound, FromScanned, Gives, symbol_sound, then_sound, or_sound, gives_sound, makes_sound, check_sound, weaker_sound, sign_before, sign_behind, means_sound, optional_sound, many_sound, list_sound, list_or_none_sound, any_token}
-use Rattle.wgsl_theory.proofs.DerivedSound.{texts_sound, rule_of_sound, statements_sound, list_gives, attributes_give, statements_give, initializer_gives, var_kind_gives, additive_expression_gives, arguments_gives, assignment_gives, attribute_gives, call_gives, call_statement_gives, component_gives, compound_statement_gives, expression_gives, for_statement_gives, ident_gives, if_statement_gives, lhs_expression_gives, literal_gives, loop_statement_gives, multiplicative_expression_gives, negated_expression_gives, primary_expression_gives, relational_expression_gives, return_statement_gives, shift_expression_gives, singular_expression_gives, statement_gives, switch_statement_gives, template_list_gives, type_specifier_gives, unary_expression_gives, value_statement_gives, var_statement_gives, while_statement_gives}
+use Rattle.wgsl_canonical_theory.proofs.Gives.{Given, symbol_sound, then_sound, or_sound, gives_sound, makes_sound, check_sound, weaker_sound, anything, sign_before, sign_behind, means_sound}
+use Rattle.wgsl_theory.proofs.SoundRules.{IsSoundStatementNode, IsFromText, Sound, Gives, optional_sound, many_sound, list_sound, list_or_none_sound}
+use Rattle.wgsl_theory.proofs.DerivedSound.{texts_sound, rule_of_sound, statements_sound, list_gives, attributes_give, statements_give, initializer_gives, additive_expression_gives, arguments_gives, assignment_gives, attribute_gives, call_gives, call_statement_gives, component_gives, compound_statement_gives, expression_gives, for_statement_gives, ident_gives, if_statement_gives, lhs_expression_gives, literal_gives, loop_statement_gives, multiplicative_expression_gives, negated_expression_gives, primary_expression_gives, relational_expression_gives, return_statement_gives, shift_expression_gives, singular_expression_gives, statement_gives, switch_statement_gives, template_list_gives, type_specifier_gives, unary_expression_gives, value_statement_gives, var_statement_gives, while_statement_gives}
 
 -- ---- statements
 
@@ -56,7 +57,7 @@ underscore_name = record {
 }
 
 phony_assignment_gives : Gives (written phony_assignment) (Sound phony_assignment)
-phony_assignment_gives = gives_sound (then_sound (makes_sound (any_token (SymUnderscore ∷ [])) underscore_at IsSoundNode (λ t s h. (underscore_name, tt))) initializer_gives) (λ p. assignment_of p.0 equal p.1) IsSoundStatement (λ p h. (h.0, h.1))
+phony_assignment_gives = gives_sound (then_sound (makes_sound (anything (token (SymUnderscore ∷ []))) underscore_at IsSoundNode (λ t s h. (underscore_name, tt))) initializer_gives) (λ p. assignment_of p.0 equal p.1) IsSoundStatement (λ p h. (h.0, h.1))
 
 increment_gives : Gives (written increment) (Sound increment)
 increment_gives = gives_sound (sign_behind SymPlusPlus (symbol_sound lhs_expression)) increment_of IsSoundStatement (λ e h. (h.1, h.2))
@@ -69,8 +70,8 @@ const_assert_gives = gives_sound (sign_before KwConstAssert (symbol_sound expres
 
 switch_clause_gives : Gives (written switch_clause) (Sound switch_clause)
 switch_clause_gives = or_sound
-    (gives_sound (sign_before KwCase (then_sound (list_sound SymComma (symbol_sound case_selector)) (then_sound (optional_sound (any_token (SymColon ∷ []))) (symbol_sound compound_statement)))) (λ p. clause_of p.0 p.1.1) IsSoundClause (λ p h. (h.0, h.1.1)))
-    (gives_sound (sign_before KwDefault (then_sound (optional_sound (any_token (SymColon ∷ []))) (symbol_sound compound_statement))) (λ p. clause_of (CaseSelector.default_selector ∷ []) p.1) IsSoundClause (λ p h. ((tt, tt), h.1)))
+    (gives_sound (sign_before KwCase (then_sound (list_sound SymComma (symbol_sound case_selector)) (then_sound (optional_sound (anything (token (SymColon ∷ [])))) (symbol_sound compound_statement)))) (λ p. clause_of p.0 p.1.1) IsSoundClause (λ p h. (h.0, h.1.1)))
+    (gives_sound (sign_before KwDefault (then_sound (optional_sound (anything (token (SymColon ∷ [])))) (symbol_sound compound_statement))) (λ p. clause_of (CaseSelector.default_selector ∷ []) p.1) IsSoundClause (λ p h. ((tt, tt), h.1)))
 
 case_selector_gives : Gives (written case_selector) (Sound case_selector)
 case_selector_gives = or_sound (means_sound KwDefault CaseSelector.default_selector IsSoundSelector tt) (gives_sound (symbol_sound expression) CaseSelector.expression_selector IsSoundSelector (λ e h. h))
@@ -114,7 +115,7 @@ global_declaration_gives = makes_sound
     spanned (Sound global_declaration) (λ d s h. h)
 
 var_declaration_gives : Gives (written var_declaration) (Sound var_declaration)
-var_declaration_gives = gives_sound (then_sound attributes_give (then_sound var_kind_gives (then_sound (symbol_sound typed_ident) (sign_behind SymSemicolon (optional_sound initializer_gives)))))
+var_declaration_gives = gives_sound (then_sound attributes_give (then_sound (anything var_kind) (then_sound (symbol_sound typed_ident) (sign_behind SymSemicolon (optional_sound initializer_gives)))))
     (λ p. value_of p.0 p.1.0 p.1.1.0 p.1.1.1) IsSoundGlobal (λ p h. (h.0, h.1.1.0.0, h.1.1.0.1, h.1.1.1))
 
 const_declaration_gives : Gives (written const_declaration) (Sound const_declaration)
@@ -161,7 +162,7 @@ requires_directive_gives = gives_sound (sign_before KwRequires (sign_behind SymS
 diagnostic_directive_gives : Gives (written diagnostic_directive) (Sound diagnostic_directive)
 diagnostic_directive_gives = gives_sound
     (then_sound (sign_behind SymComma (symbol_sound diagnostic_severity)) (then_sound (symbol_sound ident) (then_sound (optional_sound (sign_before SymPeriod (symbol_sound ident)))
-    (sign_behind SymSemicolon (sign_behind SymParenRight (optional_sound (any_token (SymComma ∷ []))))))))
+    (sign_behind SymSemicolon (sign_behind SymParenRight (optional_sound (anything (token (SymComma ∷ [])))))))))
     (λ p. diagnostic_of p.0 p.1.0 p.1.1.0) IsSoundDirective (λ p h. rule_of_sound p.1.0 p.1.1.0 h.1.0 h.1.1.0)
 
 unit_gives : Gives (written unit) (Sound unit)
@@ -230,13 +231,9 @@ rules requires_directive = requires_directive_gives
 rules diagnostic_directive = diagnostic_directive_gives
 rules unit = unit_gives
 
--- what a symbol derives from tokens of a text is sound
-derived_sound : (n : Symbol) (v : Value n) (xs ys : List Token) → Part full written n v xs ys → FromScanned n v xs ys
-derived_sound n v xs ys d = least full written FromScanned (λ m w us vs e. (rules m).sound w us vs e) n v xs ys d
-
 -- a module that a text derives
 unit_sound : (source : List ℕ) (u : TranslationUnit) → IsUnit source u → IsSoundUnit u
-unit_sound source u (ts, tokens, d) = (derived_sound unit u ts [] d (tokens_scanned (width source) source ts finished tokens)).1
+unit_sound source u (ts, tokens, d) = (least full written (Given IsFromText Sound) (λ n v xs ys m. (rules n).sound v xs ys m) unit u ts [] d (tokens_scanned (width source) source ts finished tokens)).1
 
 -- its printed text
 pub unit_utf8 : (source : List ℕ) (u : TranslationUnit) → IsUnit source u → IsUtf8 (print_unit u)

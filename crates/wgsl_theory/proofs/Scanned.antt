@@ -26,6 +26,7 @@ use Rattle.wgsl_model.specs.TokenValues as values
 use Rattle.wgsl_model.specs.TokenValues.{literal_of}
 use Rattle.wgsl_model.specs.Trivia.{after_trivia, outside}
 use Rattle.wgsl_model.specs.Written.{keyword_classes}
+use Rattle.wgsl_grammar_theory.proofs.Avoids.{AllOf, all_append}
 use Rattle.wgsl_canonical_theory.specs.CanonicalUnits.{without_place}
 use Rattle.wgsl_canonical_theory.proofs.ExpressionRules.{literal_classes}
 use Rattle.wgsl_canonical_theory.proofs.TextWords.{valued_kind}
@@ -240,12 +241,7 @@ raw_at_scanned (c ∷ cs) from after kind h = spelled_scanned (after_spelling sp
 
 -- each token holds what a token of a text holds
 abbrev pub AllScanned : List Token → Type 0
-AllScanned [] = Unit {0}
-AllScanned (t ∷ ts) = IsScanned (without_place t) × AllScanned ts
-
-AllScanned-append : (ts us : List Token) → AllScanned ts → AllScanned us → AllScanned (ts ++ us)
-AllScanned-append [] us h k = k
-AllScanned-append (t ∷ ts) us h k = (h.0, AllScanned-append ts us h.1 k)
+AllScanned = AllOf (λ (t : Token). IsScanned (without_place t))
 
 raw_scanned : (text from after : List ℕ) (kind : Kind) → raw text ≡ token kind from after → IsScanned kind
 raw_scanned text from after kind h = raw_at_scanned (after_trivia outside text) from after kind h
@@ -263,17 +259,17 @@ inside_scanned total R s depth text ts end (at_greater t e after kind r g) = tt
 inside_scanned total R s depth text ts end (at_opening d t from after e kind us r g h) = (raw_scanned t from after kind r, inside_scanned total R s (suc d) after us e h)
 inside_scanned total R s depth text ts end (at_closing d t from after e kind us r g h) = (raw_scanned t from after kind r, inside_scanned total R s d after us e h)
 inside_scanned total R s depth text ts end (at_template d t from after rest e kind us vs r w k h) =
-    (raw_scanned t from after kind r, AllScanned-append us vs (s after us rest k) (inside_scanned total R s d rest vs e h))
+    (raw_scanned t from after kind r, all_append (λ (t : Token). IsScanned (without_place t)) us vs (s after us rest k) (inside_scanned total R s d rest vs e h))
 inside_scanned total R s depth text ts end (at_other d t from after e kind us r g n h) = (raw_scanned t from after kind r, inside_scanned total R s d after us e h)
 
 template_scanned : (bound total : ℕ) → ScannedBy (TemplateUpTo bound total)
 template_scanned zero total text ts rest h = absurd h
 template_scanned (suc bound) total text ts rest (enclosed t from after end kind us v r c h d) =
-    (mark_scanned TemplateArgsStart refl refl, AllScanned-append us _ (inside_scanned total (TemplateUpTo bound total) (template_scanned bound total) 0 after us end h) (mark_scanned TemplateArgsEnd refl refl, tt))
+    (mark_scanned TemplateArgsStart refl refl, all_append (λ (t : Token). IsScanned (without_place t)) us _ (inside_scanned total (TemplateUpTo bound total) (template_scanned bound total) 0 after us end h) (mark_scanned TemplateArgsEnd refl refl, tt))
 
 pub tokens_scanned : (total : ℕ) (text : List ℕ) (ts : List Token) (e : Ending) → TokensOf total text ts e → AllScanned ts
 tokens_scanned total text ts e (at_end s h) = tt
 tokens_scanned total text ts e (at_fault s from after h) = tt
 tokens_scanned total text ts e (before_template s from after rest kind us vs f h w t more) =
-    (raw_scanned s from after kind h, AllScanned-append us vs (template_scanned (length after) total after us rest t) (tokens_scanned total rest vs f more))
+    (raw_scanned s from after kind h, all_append (λ (t : Token). IsScanned (without_place t)) us vs (template_scanned (length after) total after us rest t) (tokens_scanned total rest vs f more))
 tokens_scanned total text ts e (before_more s from after kind us f h n more) = (raw_scanned s from after kind h, tokens_scanned total after us f more)
