@@ -59,10 +59,15 @@ pub mod syntax {
     };
 }
 
-/// What a node of a tree can do, and what makes a type of one's own a node: `BareNode` for one without attributes, or
-/// `SyntaxNode` itself, whose calls on a list of attributes are `has_attribute` and `retain_nodes`.
+/// What a node of a tree can do, and what makes a type of one's own a node: `NodeName` and `NodeAttributes`, in whose
+/// place `UnnamedNode` and `UnattributedNode` stand for a node without the one or the other, and `BareNode` for one
+/// without both. A node that has a span writes `SyntaxNode` itself, whose calls on a list of attributes are
+/// `has_attribute` and `retain_nodes`.
 pub mod syntax_node {
-    pub use wgsl_syntax_node::{BareNode, SyntaxNode, has_attribute, no_attributes, retain_nodes};
+    pub use wgsl_syntax_node::{
+        BareNode, NodeAttributes, NodeName, SyntaxNode, UnattributedNode, UnnamedNode,
+        has_attribute, no_attributes, retain_nodes,
+    };
 }
 
 /// Reading modules, and the parts of modules that are read by themselves, from texts and from lists of tokens.
