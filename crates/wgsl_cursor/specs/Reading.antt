@@ -1,5 +1,5 @@
 -- What functions returned, and what is read.
-use Rattle.std.specs.Prelude.{◌≡◌, ℕ, map, Result, Ok, Err}
+use Rattle.std.specs.Prelude.{◌≡◌, ◌<◌, ◌≤◌, ℕ, length, map, Result, Ok, Err, OnOk}
 use Rattle.grammar.specs.States.{State, Read, Read.done, Read.stop, Stop, Stop.unexpected, Stop.ended, Stop.faulty, Stop.never}
 use Rattle.wgsl_span.specs.declared.Span.{Span}
 use Rattle.wgsl_error.specs.View.{fault_view}
@@ -32,3 +32,13 @@ Fails e read = read ≡ stop (stop_of e)
 abbrev pub Gives : {X Y : Type 0} → (X → Y) → Result X Fault → State → Read Y → Type 0
 Gives view (Ok x) left read = read ≡ done (view x) left
 Gives view (Err e) left read = Fails e read
+
+-- What a function returned, seen by view, between these places, is what a rule reads there, and is read of one token or more.
+pub record Parses {X Y : Type 0} (view : X → Y) (result : Result X Fault) (before after : Cursor) (read : State → Read Y) : Type 0 where
+  pub value : Gives view result (state after) (read (state before))
+  pub shorter : OnOk result (length (state after).rest < length (state before).rest)
+
+-- The same of a rule that may read no token.
+pub record ParsesNullable {X Y : Type 0} (view : X → Y) (result : Result X Fault) (before after : Cursor) (read : State → Read Y) : Type 0 where
+  pub value : Gives view result (state after) (read (state before))
+  pub shorter : OnOk result (length (state after).rest ≤ length (state before).rest)

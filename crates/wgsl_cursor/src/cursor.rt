@@ -10,7 +10,7 @@ ghost use Rattle.wgsl_token.specs.Placed.{placed_view};
 ghost use Rattle.wgsl_expression.specs.View.{ident_name, literal_view};
 ghost use Rattle.wgsl_grammar_theory.specs.Factored.{FactoredSymbol.of};
 ghost use Rattle.wgsl_grammar_theory.specs.Reader.{reader};
-ghost use Rattle.wgsl_cursor.specs.Reading.{state, span_back, Gives, Fails};
+ghost use Rattle.wgsl_cursor.specs.Reading.{state, span_back, Gives, Fails, Parses};
 ghost use Rattle.wgsl_cursor.specs.Words.{word_text, attribute_name_at};
 
 use crate::expected::Expected;
@@ -96,8 +96,7 @@ impl Cursor {
     /// Takes the next token, which has to be of a kind.
     #[tactic(auto, unfolding(grammar::specs::States::take))]
     pub fn expect(&mut self, kind: TokenKind) -> Result<(), Fault>
-        ensures value { Gives (λ _. first_of (state self.old)) result (state self.new) (take (class_of_kind kind) (state self.old)) }
-        ensures shorter { OnOk result (length (state self.new).rest < length (state self.old).rest) }
+        ensures { Parses (λ _. first_of (state self.old)) result self.old self.new (take (class_of_kind kind)) }
     {
         if self.eat(kind) {
             return Ok(());
@@ -181,8 +180,7 @@ impl Cursor {
     /// Takes a literal. `expected` is what could stand in its place.
     #[tactic(auto, unfolding(wgsl_grammar_theory::specs::ExpressionRules::literal_at, grammar::specs::States::is_at, grammar::specs::States::first_of, grammar::specs::States::after), using(wgsl_grammar_theory::proofs::ExpressionEquations::literal_is))]
     pub fn literal(&mut self, expected: Expected) -> Result<LiteralExpression, Fault>
-        ensures value { Gives literal_view result (state self.new) (reader (of literal) (state self.old)) }
-        ensures shorter { OnOk result (length (state self.new).rest < length (state self.old).rest) }
+        ensures { Parses literal_view result self.old self.new (reader (of literal)) }
     {
         match self.tokens.pop_front() {
             None => Err(Fault::UnexpectedEnd(expected)),
