@@ -1,11 +1,11 @@
 //! The arguments of calls.
 
-ghost use Rattle.std.specs.Prelude.{◌<◌, length, map, OnOk};
+ghost use Rattle.std.specs.Prelude.{map};
 ghost use Rattle.wgsl_model.specs.Symbols.{Symbol.arguments};
 ghost use Rattle.wgsl_grammar_theory.specs.Factored.{FactoredSymbol.of};
 ghost use Rattle.wgsl_grammar_theory.specs.Reader.{reader};
 ghost use Rattle.wgsl_expression.specs.View.{expression_node_view};
-ghost use Rattle.wgsl_cursor.specs.Reading.{state, Gives};
+ghost use Rattle.wgsl_cursor.specs.Reading.{Parses};
 
 use crate::expression::parse_expression;
 use std::alloc::Global;
@@ -17,8 +17,7 @@ use wgsl_token::kind::TokenKind;
 #[cycle(expression)]
 #[tactic(auto, unfolding(wgsl_grammar_theory::specs::ExpressionRules::arguments_at, crate::proofs::Turns::arguments_turn, grammar::specs::States::take), using(wgsl_grammar_theory::proofs::ExpressionEquations::arguments_is, crate::proofs::Equations::argument_rest_is, crate::proofs::Equations::arguments_are, std::proofs::lemmas::List::map_push))]
 pub fn parse_arguments(alloc: Global, tokens: &mut Cursor) -> Result<Vec<ExpressionNode>, Fault>
-    ensures value { Gives (λ args. map expression_node_view args.items) result (state tokens.new) (reader (of arguments) (state tokens.old)) }
-    ensures shorter { OnOk result (length (state tokens.new).rest < length (state tokens.old).rest) }
+    ensures { Parses (λ args. map expression_node_view args.items) result tokens.old tokens.new (reader (of arguments)) }
 {
     tokens.expect(TokenKind::SymParenLeft)?;
     let mut arguments = Vec::new(alloc);

@@ -1,13 +1,12 @@
 //! Expressions, from comparisons to chains of one operator.
 
-ghost use Rattle.std.specs.Prelude.{◌<◌, ◌≤◌, length, OnOk};
 ghost use Rattle.wgsl_model.specs.Symbols.{Symbol.relational_expression, Symbol.expression};
 ghost use Rattle.wgsl_grammar_theory.specs.Factored.{FactoredSymbol.of};
 ghost use Rattle.wgsl_grammar_theory.specs.Reader.{reader};
 ghost use Rattle.wgsl_token.specs.View.{class_of_kind};
 ghost use Rattle.wgsl_named_values.specs.View.{binary_operator_view};
 ghost use Rattle.wgsl_expression.specs.View.{expression_node_view};
-ghost use Rattle.wgsl_cursor.specs.Reading.{state, Gives};
+ghost use Rattle.wgsl_cursor.specs.Reading.{Parses, ParsesNullable};
 ghost use Rattle.wgsl_expression_reader.specs.Rules.{relation_behind, bitwise_behind, logical_behind, logical_at, expression_behind};
 
 use crate::nodes::join;
@@ -24,8 +23,7 @@ use wgsl_token::kind::TokenKind;
 #[cycle(expression)]
 #[tactic(auto, unfolding(crate::proofs::Turns::whole_expression_at), using(crate::proofs::Equations::expression_is))]
 pub fn parse_expression(alloc: Global, tokens: &mut Cursor) -> Result<ExpressionNode, Fault>
-    ensures value { Gives expression_node_view result (state tokens.new) (reader (of expression) (state tokens.old)) }
-    ensures shorter { OnOk result (length (state tokens.new).rest < length (state tokens.old).rest) }
+    ensures { Parses expression_node_view result tokens.old tokens.new (reader (of expression)) }
 {
     let left = parse_unary_expression(alloc, tokens)?;
     parse_expression_rest(alloc, tokens, left)
@@ -39,8 +37,7 @@ fn parse_expression_rest(
     tokens: &mut Cursor,
     left: ExpressionNode,
 ) -> Result<ExpressionNode, Fault>
-    ensures value { Gives expression_node_view result (state tokens.new) (expression_behind (expression_node_view left) (state tokens.old)) }
-    ensures shorter { OnOk result (length (state tokens.new).rest ≤ length (state tokens.old).rest) }
+    ensures { ParsesNullable expression_node_view result tokens.old tokens.new (expression_behind (expression_node_view left)) }
 {
     if tokens.is_at(TokenKind::SymAnd) {
         return parse_bitwise_operands(
@@ -84,8 +81,7 @@ fn parse_bitwise_operands(
     kind: TokenKind,
     operator: BinaryOperator,
 ) -> Result<ExpressionNode, Fault>
-    ensures value { Gives expression_node_view result (state tokens.new) (bitwise_behind (class_of_kind kind) (binary_operator_view operator) (expression_node_view left) (state tokens.old)) }
-    ensures shorter { OnOk result (length (state tokens.new).rest ≤ length (state tokens.old).rest) }
+    ensures { ParsesNullable expression_node_view result tokens.old tokens.new (bitwise_behind (class_of_kind kind) (binary_operator_view operator) (expression_node_view left)) }
 {
     let mut left = left;
     'operands: while tokens.eat(kind) {
@@ -103,8 +99,7 @@ fn parse_relation_rest(
     tokens: &mut Cursor,
     left: ExpressionNode,
 ) -> Result<ExpressionNode, Fault>
-    ensures value { Gives expression_node_view result (state tokens.new) (relation_behind (expression_node_view left) (state tokens.old)) }
-    ensures shorter { OnOk result (length (state tokens.new).rest ≤ length (state tokens.old).rest) }
+    ensures { ParsesNullable expression_node_view result tokens.old tokens.new (relation_behind (expression_node_view left)) }
 {
     let Some(operator) = relational_operator(tokens) else {
         return Ok(left);
@@ -121,8 +116,7 @@ fn parse_logical_rest(
     tokens: &mut Cursor,
     left: ExpressionNode,
 ) -> Result<ExpressionNode, Fault>
-    ensures value { Gives expression_node_view result (state tokens.new) (logical_at (expression_node_view left) (state tokens.old)) }
-    ensures shorter { OnOk result (length (state tokens.new).rest ≤ length (state tokens.old).rest) }
+    ensures { ParsesNullable expression_node_view result tokens.old tokens.new (logical_at (expression_node_view left)) }
 {
     if tokens.is_at(TokenKind::SymAndAnd) {
         return parse_logical_operands(
@@ -155,8 +149,7 @@ fn parse_logical_operands(
     kind: TokenKind,
     operator: BinaryOperator,
 ) -> Result<ExpressionNode, Fault>
-    ensures value { Gives expression_node_view result (state tokens.new) (logical_behind (class_of_kind kind) (binary_operator_view operator) (expression_node_view left) (state tokens.old)) }
-    ensures shorter { OnOk result (length (state tokens.new).rest ≤ length (state tokens.old).rest) }
+    ensures { ParsesNullable expression_node_view result tokens.old tokens.new (logical_behind (class_of_kind kind) (binary_operator_view operator) (expression_node_view left)) }
 {
     let mut left = left;
     'operands: while tokens.eat(kind) {
@@ -170,8 +163,7 @@ fn parse_logical_operands(
 #[cycle(expression)]
 #[tactic(auto, unfolding(crate::proofs::Turns::relational_at), using(crate::proofs::Equations::relational_expression_is))]
 fn parse_relational_expression(alloc: Global, tokens: &mut Cursor) -> Result<ExpressionNode, Fault>
-    ensures value { Gives expression_node_view result (state tokens.new) (reader (of relational_expression) (state tokens.old)) }
-    ensures shorter { OnOk result (length (state tokens.new).rest < length (state tokens.old).rest) }
+    ensures { Parses expression_node_view result tokens.old tokens.new (reader (of relational_expression)) }
 {
     let left = parse_shift_expression(alloc, tokens)?;
     parse_relation_rest(alloc, tokens, left)

@@ -1,13 +1,13 @@
 //! Primary expressions and their components.
 
-ghost use Rattle.std.specs.Prelude.{◌≡◌, ◌<◌, ◌≤◌, [], ◌∷◌, length, OnOk};
+ghost use Rattle.std.specs.Prelude.{◌≡◌, [], ◌∷◌};
 ghost use Rattle.grammar.specs.States.{is_any};
 ghost use Rattle.wgsl_model.specs.Classes.{SymBracketLeft, SymPeriod};
 ghost use Rattle.wgsl_model.specs.Symbols.{Symbol.primary_expression, Symbol.singular_expression};
 ghost use Rattle.wgsl_grammar_theory.specs.Factored.{FactoredSymbol.of, FactoredSymbol.further, Further.components};
 ghost use Rattle.wgsl_grammar_theory.specs.Reader.{reader};
 ghost use Rattle.wgsl_expression.specs.View.{expression_view, expression_node_view};
-ghost use Rattle.wgsl_cursor.specs.Reading.{state, Gives};
+ghost use Rattle.wgsl_cursor.specs.Reading.{state, Parses, ParsesNullable};
 ghost use Rattle.wgsl_expression_reader.specs.Growing.{grown};
 ghost use Rattle.wgsl_expression_reader.specs.Rules.{primary_at, call_or_type_at, parenthesized_at, component_behind};
 
@@ -28,8 +28,7 @@ pub fn parse_singular_expression(
     alloc: Global,
     tokens: &mut Cursor,
 ) -> Result<ExpressionNode, Fault>
-    ensures value { Gives expression_node_view result (state tokens.new) (reader (of singular_expression) (state tokens.old)) }
-    ensures shorter { OnOk result (length (state tokens.new).rest < length (state tokens.old).rest) }
+    ensures { Parses expression_node_view result tokens.old tokens.new (reader (of singular_expression)) }
 {
     let primary = parse_primary_expression(alloc, tokens)?;
     parse_components(alloc, tokens, primary)
@@ -38,8 +37,7 @@ pub fn parse_singular_expression(
 #[cycle(expression)]
 #[tactic(auto, unfolding(crate::proofs::Turns::placed_primary_at), using(crate::proofs::Equations::primary_expression_is))]
 fn parse_primary_expression(alloc: Global, tokens: &mut Cursor) -> Result<ExpressionNode, Fault>
-    ensures value { Gives expression_node_view result (state tokens.new) (reader (of primary_expression) (state tokens.old)) }
-    ensures shorter { OnOk result (length (state tokens.new).rest < length (state tokens.old).rest) }
+    ensures { Parses expression_node_view result tokens.old tokens.new (reader (of primary_expression)) }
 {
     let start = tokens.start();
     let primary = parse_primary(alloc, tokens)?;
@@ -50,8 +48,7 @@ fn parse_primary_expression(alloc: Global, tokens: &mut Cursor) -> Result<Expres
 #[cycle(expression)]
 #[tactic(auto, unfolding(crate::specs::Rules::primary_at))]
 fn parse_primary(alloc: Global, tokens: &mut Cursor) -> Result<Expression, Fault>
-    ensures value { Gives expression_view result (state tokens.new) (primary_at (state tokens.old)) }
-    ensures shorter { OnOk result (length (state tokens.new).rest < length (state tokens.old).rest) }
+    ensures { Parses expression_view result tokens.old tokens.new primary_at }
 {
     if tokens.is_at(TokenKind::Ident) || tokens.is_at(TokenKind::ReservedWord) {
         return parse_call_or_type(alloc, tokens);
@@ -67,8 +64,7 @@ fn parse_primary(alloc: Global, tokens: &mut Cursor) -> Result<Expression, Fault
 #[cycle(expression)]
 #[tactic(auto, unfolding(crate::specs::Rules::call_or_type_at))]
 fn parse_call_or_type(alloc: Global, tokens: &mut Cursor) -> Result<Expression, Fault>
-    ensures value { Gives expression_view result (state tokens.new) (call_or_type_at (state tokens.old)) }
-    ensures shorter { OnOk result (length (state tokens.new).rest < length (state tokens.old).rest) }
+    ensures { Parses expression_view result tokens.old tokens.new call_or_type_at }
 {
     let ty = parse_type_specifier(alloc, tokens)?;
     if !tokens.is_at(TokenKind::SymParenLeft) {
@@ -81,8 +77,7 @@ fn parse_call_or_type(alloc: Global, tokens: &mut Cursor) -> Result<Expression, 
 #[cycle(expression)]
 #[tactic(auto, unfolding(crate::specs::Rules::parenthesized_at))]
 fn parse_parenthesized(alloc: Global, tokens: &mut Cursor) -> Result<Expression, Fault>
-    ensures value { Gives expression_view result (state tokens.new) (parenthesized_at (state tokens.old)) }
-    ensures shorter { OnOk result (length (state tokens.new).rest < length (state tokens.old).rest) }
+    ensures { Parses expression_view result tokens.old tokens.new parenthesized_at }
 {
     tokens.expect(TokenKind::SymParenLeft)?;
     let expression = parse_expression(alloc, tokens)?;
@@ -98,8 +93,7 @@ pub fn parse_components(
     tokens: &mut Cursor,
     base: ExpressionNode,
 ) -> Result<ExpressionNode, Fault>
-    ensures value { Gives expression_node_view result (state tokens.new) (grown (expression_node_view base) (reader (further components)) (state tokens.old)) }
-    ensures shorter { OnOk result (length (state tokens.new).rest ≤ length (state tokens.old).rest) }
+    ensures { ParsesNullable expression_node_view result tokens.old tokens.new (grown (expression_node_view base) (reader (further components))) }
 {
     let mut base = base;
     'components: while begins_component(tokens) {
@@ -123,8 +117,7 @@ fn parse_component(
     tokens: &mut Cursor,
     base: ExpressionNode,
 ) -> Result<ExpressionNode, Fault>
-    ensures value { Gives expression_node_view result (state tokens.new) (component_behind (expression_node_view base) (state tokens.old)) }
-    ensures shorter { OnOk result (length (state tokens.new).rest < length (state tokens.old).rest) }
+    ensures { Parses expression_node_view result tokens.old tokens.new (component_behind (expression_node_view base)) }
 {
     let start = base.span().start;
     if tokens.eat(TokenKind::SymBracketLeft) {

@@ -1,6 +1,6 @@
 //! Products, sums and shifts.
 
-ghost use Rattle.std.specs.Prelude.{◌≡◌, ◌<◌, ◌≤◌, [], ◌∷◌, length, OnOk};
+ghost use Rattle.std.specs.Prelude.{◌≡◌, [], ◌∷◌};
 ghost use Rattle.grammar.specs.States.{is_any};
 ghost use Rattle.wgsl_model.specs.Classes.{SymMinus, SymMinusMinus, SymPlus};
 ghost use Rattle.wgsl_model.specs.Faults.{next_place};
@@ -9,7 +9,7 @@ ghost use Rattle.wgsl_grammar_theory.specs.Factored.{FactoredSymbol.of};
 ghost use Rattle.wgsl_grammar_theory.specs.Reader.{reader};
 ghost use Rattle.wgsl_named_values.specs.View.{binary_operator_view};
 ghost use Rattle.wgsl_expression.specs.View.{expression_node_view};
-ghost use Rattle.wgsl_cursor.specs.Reading.{state, Gives};
+ghost use Rattle.wgsl_cursor.specs.Reading.{state, Parses, ParsesNullable};
 ghost use Rattle.wgsl_expression_reader.specs.Rules.{factors_behind, products_from, summand_at, summands_behind, sum_behind};
 
 use crate::nodes::{binary, join, unary};
@@ -26,8 +26,7 @@ use wgsl_token::kind::TokenKind;
 #[cycle(expression)]
 #[tactic(auto, unfolding(crate::proofs::Turns::shift_at), using(crate::proofs::Equations::shift_expression_is))]
 pub fn parse_shift_expression(alloc: Global, tokens: &mut Cursor) -> Result<ExpressionNode, Fault>
-    ensures value { Gives expression_node_view result (state tokens.new) (reader (of shift_expression) (state tokens.old)) }
-    ensures shorter { OnOk result (length (state tokens.new).rest < length (state tokens.old).rest) }
+    ensures { Parses expression_node_view result tokens.old tokens.new (reader (of shift_expression)) }
 {
     let left = parse_unary_expression(alloc, tokens)?;
     parse_sum_rest(alloc, tokens, left)
@@ -41,8 +40,7 @@ pub fn parse_sum_rest(
     tokens: &mut Cursor,
     left: ExpressionNode,
 ) -> Result<ExpressionNode, Fault>
-    ensures value { Gives expression_node_view result (state tokens.new) (sum_behind (expression_node_view left) (state tokens.old)) }
-    ensures shorter { OnOk result (length (state tokens.new).rest ≤ length (state tokens.old).rest) }
+    ensures { ParsesNullable expression_node_view result tokens.old tokens.new (sum_behind (expression_node_view left)) }
 {
     if tokens.eat(TokenKind::SymShiftLeft) {
         let right = parse_unary_expression(alloc, tokens)?;
@@ -64,8 +62,7 @@ fn parse_factors(
     tokens: &mut Cursor,
     left: ExpressionNode,
 ) -> Result<ExpressionNode, Fault>
-    ensures value { Gives expression_node_view result (state tokens.new) (factors_behind (expression_node_view left) (state tokens.old)) }
-    ensures shorter { OnOk result (length (state tokens.new).rest ≤ length (state tokens.old).rest) }
+    ensures { ParsesNullable expression_node_view result tokens.old tokens.new (factors_behind (expression_node_view left)) }
 {
     let mut left = left;
     'factors: while let Some(operator) = multiplicative_operator(tokens) {
@@ -83,8 +80,7 @@ fn parse_summands(
     tokens: &mut Cursor,
     left: ExpressionNode,
 ) -> Result<ExpressionNode, Fault>
-    ensures value { Gives expression_node_view result (state tokens.new) (summands_behind (expression_node_view left) (state tokens.old)) }
-    ensures shorter { OnOk result (length (state tokens.new).rest ≤ length (state tokens.old).rest) }
+    ensures { ParsesNullable expression_node_view result tokens.old tokens.new (summands_behind (expression_node_view left)) }
 {
     let mut left = left;
     'summands: while begins_summand(tokens) {
@@ -110,8 +106,7 @@ fn parse_summand(
     alloc: Global,
     tokens: &mut Cursor,
 ) -> Result<(BinaryOperator, ExpressionNode), Fault>
-    ensures value { Gives (λ summand. (binary_operator_view summand.0, expression_node_view summand.1)) result (state tokens.new) (summand_at (state tokens.old)) }
-    ensures shorter { OnOk result (length (state tokens.new).rest < length (state tokens.old).rest) }
+    ensures { Parses (λ summand. (binary_operator_view summand.0, expression_node_view summand.1)) result tokens.old tokens.new summand_at }
 {
     let Some(operator) = additive_operator(tokens) else {
         let negated = parse_negated_expression(alloc, tokens)?;
@@ -128,8 +123,7 @@ fn parse_multiplicative_expression(
     alloc: Global,
     tokens: &mut Cursor,
 ) -> Result<ExpressionNode, Fault>
-    ensures value { Gives expression_node_view result (state tokens.new) (reader (of multiplicative_expression) (state tokens.old)) }
-    ensures shorter { OnOk result (length (state tokens.new).rest < length (state tokens.old).rest) }
+    ensures { Parses expression_node_view result tokens.old tokens.new (reader (of multiplicative_expression)) }
 {
     let start = tokens.start();
     let left = parse_unary_expression(alloc, tokens)?;
@@ -140,8 +134,7 @@ fn parse_multiplicative_expression(
 #[cycle(expression)]
 #[tactic(auto, unfolding(crate::proofs::Turns::negated_product_at), using(crate::proofs::Equations::negated_expression_is))]
 fn parse_negated_expression(alloc: Global, tokens: &mut Cursor) -> Result<ExpressionNode, Fault>
-    ensures value { Gives expression_node_view result (state tokens.new) (reader (of negated_expression) (state tokens.old)) }
-    ensures shorter { OnOk result (length (state tokens.new).rest < length (state tokens.old).rest) }
+    ensures { Parses expression_node_view result tokens.old tokens.new (reader (of negated_expression)) }
 {
     let start = next_place(tokens.start());
     tokens.expect(TokenKind::SymMinusMinus)?;
@@ -167,8 +160,7 @@ fn parse_product_rest(
     start: usize,
     left: ExpressionNode,
 ) -> Result<ExpressionNode, Fault>
-    ensures value { Gives expression_node_view result (state tokens.new) (products_from start (expression_node_view left) (state tokens.old)) }
-    ensures shorter { OnOk result (length (state tokens.new).rest ≤ length (state tokens.old).rest) }
+    ensures { ParsesNullable expression_node_view result tokens.old tokens.new (products_from start (expression_node_view left)) }
 {
     let mut left = left;
     'factors: while let Some(operator) = multiplicative_operator(tokens) {

@@ -1,11 +1,11 @@
 //! Types and template lists.
 
-ghost use Rattle.std.specs.Prelude.{◌<◌, ◌≤◌, length, map, OnOk, option_map};
+ghost use Rattle.std.specs.Prelude.{map, option_map};
 ghost use Rattle.wgsl_model.specs.Symbols.{Symbol.type_specifier, Symbol.template_list};
 ghost use Rattle.wgsl_grammar_theory.specs.Factored.{FactoredSymbol.of};
 ghost use Rattle.wgsl_grammar_theory.specs.Reader.{reader};
 ghost use Rattle.wgsl_expression.specs.View.{type_expression_view, template_arg_view};
-ghost use Rattle.wgsl_cursor.specs.Reading.{state, Gives};
+ghost use Rattle.wgsl_cursor.specs.Reading.{Parses, ParsesNullable};
 ghost use Rattle.wgsl_expression_reader.specs.Rules.{optional_template_list_at};
 
 use crate::expression::parse_expression;
@@ -19,8 +19,7 @@ use wgsl_token::kind::TokenKind;
 #[cycle(expression)]
 #[tactic(auto, unfolding(wgsl_grammar_theory::specs::ExpressionRules::type_specifier_at, crate::specs::Rules::optional_template_list_at), using(wgsl_grammar_theory::proofs::ExpressionEquations::type_specifier_is))]
 pub fn parse_type_specifier(alloc: Global, tokens: &mut Cursor) -> Result<TypeExpression, Fault>
-    ensures value { Gives type_expression_view result (state tokens.new) (reader (of type_specifier) (state tokens.old)) }
-    ensures shorter { OnOk result (length (state tokens.new).rest < length (state tokens.old).rest) }
+    ensures { Parses type_expression_view result tokens.old tokens.new (reader (of type_specifier)) }
 {
     let ident = tokens.ident()?;
     let template_args = parse_optional_template_list(alloc, tokens)?;
@@ -31,8 +30,7 @@ pub fn parse_type_specifier(alloc: Global, tokens: &mut Cursor) -> Result<TypeEx
 #[cycle(expression)]
 #[tactic(auto, unfolding(crate::specs::Rules::optional_template_list_at))]
 fn parse_optional_template_list(alloc: Global, tokens: &mut Cursor) -> Result<TemplateArgs, Fault>
-    ensures value { Gives (λ args. option_map (λ args. map template_arg_view args.items) args) result (state tokens.new) (optional_template_list_at (state tokens.old)) }
-    ensures shorter { OnOk result (length (state tokens.new).rest ≤ length (state tokens.old).rest) }
+    ensures { ParsesNullable (λ args. option_map (λ args. map template_arg_view args.items) args) result tokens.old tokens.new optional_template_list_at }
 {
     if !tokens.is_at(TokenKind::TemplateArgsStart) {
         return Ok(None);
@@ -44,8 +42,7 @@ fn parse_optional_template_list(alloc: Global, tokens: &mut Cursor) -> Result<Te
 #[cycle(expression)]
 #[tactic(auto, unfolding(wgsl_grammar_theory::specs::ExpressionRules::template_list_at, crate::proofs::Turns::template_items_turn, grammar::specs::States::take), using(wgsl_grammar_theory::proofs::ExpressionEquations::template_list_is, crate::proofs::Equations::template_items_is, crate::proofs::Equations::template_items_are, std::proofs::lemmas::List::map_push))]
 pub fn parse_template_list(alloc: Global, tokens: &mut Cursor) -> Result<Vec<TemplateArg>, Fault>
-    ensures value { Gives (λ args. map template_arg_view args.items) result (state tokens.new) (reader (of template_list) (state tokens.old)) }
-    ensures shorter { OnOk result (length (state tokens.new).rest < length (state tokens.old).rest) }
+    ensures { Parses (λ args. map template_arg_view args.items) result tokens.old tokens.new (reader (of template_list)) }
 {
     tokens.expect(TokenKind::TemplateArgsStart)?;
     let mut arguments = Vec::new(alloc);

@@ -1,11 +1,10 @@
 //! Operators before operands.
 
-ghost use Rattle.std.specs.Prelude.{◌<◌, length, OnOk};
 ghost use Rattle.wgsl_model.specs.Symbols.{Symbol.unary_expression};
 ghost use Rattle.wgsl_grammar_theory.specs.Factored.{FactoredSymbol.of};
 ghost use Rattle.wgsl_grammar_theory.specs.Reader.{reader};
 ghost use Rattle.wgsl_expression.specs.View.{expression_node_view};
-ghost use Rattle.wgsl_cursor.specs.Reading.{state, Gives};
+ghost use Rattle.wgsl_cursor.specs.Reading.{Parses};
 
 use crate::nodes::unary;
 use crate::operators::unary_operator;
@@ -19,8 +18,7 @@ use wgsl_span::Spanned;
 #[cycle(expression)]
 #[tactic(auto, unfolding(crate::proofs::Turns::unary_at), using(crate::proofs::Equations::unary_expression_is))]
 pub fn parse_unary_expression(alloc: Global, tokens: &mut Cursor) -> Result<ExpressionNode, Fault>
-    ensures value { Gives expression_node_view result (state tokens.new) (reader (of unary_expression) (state tokens.old)) }
-    ensures shorter { OnOk result (length (state tokens.new).rest < length (state tokens.old).rest) }
+    ensures { Parses expression_node_view result tokens.old tokens.new (reader (of unary_expression)) }
 {
     let start = tokens.start();
     let Some(operator) = unary_operator(tokens) else {
