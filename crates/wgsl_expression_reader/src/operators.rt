@@ -1,9 +1,6 @@
 //! The operators before and between operands.
 
-ghost use Rattle.std.specs.Prelude.{◌<◌, length, OnSome};
-ghost use Rattle.grammar.specs.States.{is_any};
 ghost use Rattle.wgsl_named_values.specs.View.{unary_operator_view, binary_operator_view};
-ghost use Rattle.wgsl_cursor.specs.Reading.{state};
 ghost use Rattle.wgsl_expression_reader.specs.Taking.{Takes};
 ghost use Rattle.wgsl_expression_reader.specs.Rules.{unary_operators, multiplicative_operators, additive_operators, relational_operators, unary_operator_at, multiplicative_operator_at, additive_operator_at, relational_operator_at};
 
@@ -14,8 +11,7 @@ use wgsl_token::kind::TokenKind;
 /// Takes an operator that stands before an operand, if it is next.
 #[tactic(auto, unfolding(crate::specs::Rules::unary_operator_at, grammar::specs::States::take))]
 pub fn unary_operator(tokens: &mut Cursor) -> Option<UnaryOperator>
-    ensures value { Takes unary_operator_view result (state tokens.old) (state tokens.new) (is_any unary_operators (state tokens.old)) (unary_operator_at (state tokens.old)) }
-    ensures shorter { OnSome result (length (state tokens.new).rest < length (state tokens.old).rest) }
+    ensures { Takes unary_operator_view result tokens.old tokens.new unary_operators unary_operator_at }
 {
     if tokens.eat(TokenKind::SymMinus) {
         return Some(UnaryOperator::Negation);
@@ -38,8 +34,7 @@ pub fn unary_operator(tokens: &mut Cursor) -> Option<UnaryOperator>
 /// Takes the operator of a product, if it is next.
 #[tactic(auto, unfolding(crate::specs::Rules::multiplicative_operator_at, grammar::specs::States::take))]
 pub fn multiplicative_operator(tokens: &mut Cursor) -> Option<BinaryOperator>
-    ensures value { Takes binary_operator_view result (state tokens.old) (state tokens.new) (is_any multiplicative_operators (state tokens.old)) (multiplicative_operator_at (state tokens.old)) }
-    ensures shorter { OnSome result (length (state tokens.new).rest < length (state tokens.old).rest) }
+    ensures { Takes binary_operator_view result tokens.old tokens.new multiplicative_operators multiplicative_operator_at }
 {
     if tokens.eat(TokenKind::SymStar) {
         return Some(BinaryOperator::Multiplication);
@@ -56,8 +51,7 @@ pub fn multiplicative_operator(tokens: &mut Cursor) -> Option<BinaryOperator>
 /// Takes `+` or `-`, if it is next.
 #[tactic(auto, unfolding(crate::specs::Rules::additive_operator_at, grammar::specs::States::take))]
 pub fn additive_operator(tokens: &mut Cursor) -> Option<BinaryOperator>
-    ensures value { Takes binary_operator_view result (state tokens.old) (state tokens.new) (is_any additive_operators (state tokens.old)) (additive_operator_at (state tokens.old)) }
-    ensures shorter { OnSome result (length (state tokens.new).rest < length (state tokens.old).rest) }
+    ensures { Takes binary_operator_view result tokens.old tokens.new additive_operators additive_operator_at }
 {
     if tokens.eat(TokenKind::SymPlus) {
         return Some(BinaryOperator::Addition);
@@ -71,8 +65,7 @@ pub fn additive_operator(tokens: &mut Cursor) -> Option<BinaryOperator>
 /// Takes the operator of a comparison, if it is next.
 #[tactic(auto, unfolding(crate::specs::Rules::relational_operator_at, grammar::specs::States::take))]
 pub fn relational_operator(tokens: &mut Cursor) -> Option<BinaryOperator>
-    ensures value { Takes binary_operator_view result (state tokens.old) (state tokens.new) (is_any relational_operators (state tokens.old)) (relational_operator_at (state tokens.old)) }
-    ensures shorter { OnSome result (length (state tokens.new).rest < length (state tokens.old).rest) }
+    ensures { Takes binary_operator_view result tokens.old tokens.new relational_operators relational_operator_at }
 {
     if tokens.eat(TokenKind::SymLessThan) {
         return Some(BinaryOperator::LessThan);
