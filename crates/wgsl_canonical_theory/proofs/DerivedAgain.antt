@@ -1,8 +1,9 @@
 -- What the tokens that are written from a derived tree derive: the same tree, spans and empty items aside.
-use Rattle.std.proofs.Common.{◌≡◌, List, [], ◌∷◌, map, refl, subst}
+use Rattle.std.proofs.Common.{◌≡◌, List, [], ◌∷◌, map, refl, ap, subst, ◌∙◌}
 use Rattle.grammar.specs.Tokens.{Token}
 use Rattle.grammar.specs.Grammar.{Mode.full, Means, Derives}
 use Rattle.wgsl_model.specs.Classes.{KwBreak, KwContinue, KwDiscard}
+use Rattle.wgsl_model.specs.Statements as trees
 use Rattle.wgsl_model.specs.Units.{TranslationUnit}
 use Rattle.wgsl_model.specs.StatementsWithoutSpans.{bare_unit}
 use Rattle.wgsl_model.specs.EmptyItems.{full_unit}
@@ -43,11 +44,11 @@ rules attribute v xs ys here d = attribute_rule v xs ys here d
 rules compound_statement v xs ys here d = known_by compound_statement (written_compound_statement_reads attribute_node_reads) v tt xs ys d
 rules statement v xs ys here d = known_by statement written_statement_reads v tt xs ys d
 rules return_statement v xs ys here d = known_by return_statement written_return_statement_reads v (subst Ended d.1 (λ rest. refl)) xs ys d
-rules if_statement v xs ys here d = known_by if_statement (written_if_statement_reads attribute_node_reads) v (subst Unended d.1 (λ rest. refl)) xs ys d
-rules switch_statement v xs ys here d = known_by switch_statement (written_switch_statement_reads attribute_node_reads) v (subst Unended d.1 (λ rest. refl)) xs ys d
-rules loop_statement v xs ys here d = known_by loop_statement (written_loop_statement_reads attribute_node_reads) v (subst Unended d.1 (λ rest. refl)) xs ys d
-rules for_statement v xs ys here d = known_by for_statement (written_for_statement_reads attribute_node_reads) v (subst Unended d.1 (λ rest. refl)) xs ys d
-rules while_statement v xs ys here d = known_by while_statement (written_while_statement_reads attribute_node_reads) v (subst Unended d.1 (λ rest. refl)) xs ys d
+rules if_statement v xs ys here d = known_by if_statement (written_if_statement_reads attribute_node_reads) v (subst Unended (ap (trees.statement d.0.0) d.2.2.1 ∙ d.1) (λ rest. refl)) xs ys d
+rules switch_statement v xs ys here d = known_by switch_statement (written_switch_statement_reads attribute_node_reads) v (subst Unended (ap (trees.statement d.0.0) d.2.2.1 ∙ d.1) (λ rest. refl)) xs ys d
+rules loop_statement v xs ys here d = known_by loop_statement (written_loop_statement_reads attribute_node_reads) v (subst Unended (ap (trees.statement d.0.0) d.2.2.1 ∙ d.1) (λ rest. refl)) xs ys d
+rules for_statement v xs ys here d = known_by for_statement (written_for_statement_reads attribute_node_reads) v (subst Unended (ap (trees.statement d.0.0) d.2.2.1 ∙ d.1) (λ rest. refl)) xs ys d
+rules while_statement v xs ys here d = known_by while_statement (written_while_statement_reads attribute_node_reads) v (subst Unended (ap (trees.statement d.0.0) d.2.2.1 ∙ d.1) (λ rest. refl)) xs ys d
 rules call_statement v xs ys here d = known_by call_statement written_call_statement_reads v (subst Ended d.1 (λ rest. refl)) xs ys d
 rules var_statement v xs ys here d = known_by var_statement written_var_statement_reads v (subst Ended d.1 (λ rest. refl)) xs ys d
 rules value_statement v xs ys here d = known_by value_statement written_value_statement_reads v (subst Ended d.1 (λ rest. refl)) xs ys d

@@ -1,22 +1,22 @@
 -- What the rules of statements derive is read again. The rules with attributes take what is proved of one attribute.
-use Rattle.std.proofs.Common.{◌≡◌, true, List, [], ◌∷◌, Option, Some, refl, ap, subst, ◌∙◌, inl, inr}
+use Rattle.std.proofs.Common.{◌≡◌, true, List, [], ◌∷◌, Option, Some, refl, ap, subst, ◌∙◌, inl, inr, sym}
 use Rattle.grammar.specs.Tokens.{Token}
 use Rattle.grammar.specs.Grammar.{Grammar.symbol, Mode.full, Chain.base, Means, is_among}
 use Rattle.grammar.specs.Notation.{one_token, ◌then◌, ◌or◌, ◌gives◌, ◌makes◌, ◌▹◌, ◌◃◌, ◌means◌, optional, list}
 use Rattle.grammar.proofs.Depth.{roll}
 use Rattle.wgsl_model.specs.Classes.{SymBraceLeft, SymBraceRight, SymColon, SymComma, SymMinusMinus, SymParenLeft, SymParenRight, SymPlusPlus, SymSemicolon, SymUnderscore, KwCase, KwConst, KwConstAssert, KwContinuing, KwDefault, KwFor, KwIf, KwLet, KwLoop, KwReturn, KwSwitch, KwWhile}
-use Rattle.wgsl_model.specs.Kind.{plain}
+use Rattle.wgsl_model.specs.Kind.{plain, Kind}
 use Rattle.wgsl_model.specs.Operators.{AssignmentOperator.equal}
 use Rattle.wgsl_model.specs.Statements as tree
-use Rattle.wgsl_model.specs.Statements.{DeclarationKind.let_kind, DeclarationKind.const_kind, CompoundStatement, Statement, StatementNode.statement_node, SwitchClause, CaseSelector.default_selector, CaseSelector.expression_selector}
-use Rattle.wgsl_model.specs.StatementParts.{underscore_at, clause_of}
+use Rattle.wgsl_model.specs.Statements.{DeclarationKind.let_kind, DeclarationKind.const_kind, CompoundStatement, Statement, UnattributedStatement, StatementNode.statement_node, SwitchClause, CaseSelector.default_selector, CaseSelector.expression_selector}
+use Rattle.wgsl_model.specs.StatementParts.{attributed, underscore_at, clause_of}
 use Rattle.wgsl_model.specs.WithoutSpans.{no_span, bare_expression_node}
-use Rattle.wgsl_model.specs.StatementsWithoutSpans.{bare_statement, bare_compound, bare_switch_clause}
-use Rattle.wgsl_model.specs.EmptyItems.{full_statement, full_compound, full_switch_clause}
+use Rattle.wgsl_model.specs.StatementsWithoutSpans.{bare_statement, bare_compound, bare_switch_clause, bare_unattributed}
+use Rattle.wgsl_model.specs.EmptyItems.{full_statement, full_compound, full_switch_clause, full_unattributed}
 use Rattle.wgsl_model.specs.Symbols.{Symbol.compound_statement, Symbol.statement, Symbol.return_statement, Symbol.if_statement, Symbol.switch_statement, Symbol.loop_statement, Symbol.for_statement, Symbol.while_statement, Symbol.call_statement, Symbol.var_statement, Symbol.value_statement, Symbol.break_statement, Symbol.continue_statement, Symbol.discard_statement, Symbol.assignment, Symbol.phony_assignment, Symbol.increment, Symbol.decrement, Symbol.const_assert, Symbol.switch_clause, Symbol.case_selector, Symbol.continuing_statement, Symbol.for_init, Symbol.for_update, Symbol.typed_ident, Rule, call, expression, ident, lhs_expression, type_specifier}
 use Rattle.wgsl_model.specs.Written.{written}
 use Rattle.wgsl_canonical_theory.specs.CanonicalExpressions.{Writes, expression_node_tokens}
-use Rattle.wgsl_canonical_theory.specs.CanonicalStatements.{kind_tokens, end_token, unended_tokens, compound_tokens, switch_clause_tokens}
+use Rattle.wgsl_canonical_theory.specs.CanonicalStatements.{kind_tokens, end_token, unended_tokens, unattributed_tokens, compound_tokens, switch_clause_tokens}
 use Rattle.wgsl_canonical_theory.proofs.Words.{AllWords}
 use Rattle.wgsl_canonical_theory.proofs.Again.{D, write, Same, Ended, Unended, Finds, Again}
 use Rattle.wgsl_canonical_theory.proofs.Ways.{Outcome, Reads, found_in, first_of, class_of, then_reads, or_reads, gives_reads, makes_reads, sign_reads, before_reads, behind_reads, means_reads, optional_reads, no_sign_reads, list_reads}
@@ -31,53 +31,65 @@ pub written_continuing_statement_reads : AttributeReads → Reads (written conti
 written_continuing_statement_reads one = gives_reads (before_reads KwContinuing refl (then_reads (attributes_read one) (before_reads SymBraceLeft refl (behind_reads SymBraceRight refl (then_reads statements_read (optional_reads break_if_reads))))))
     (λ a rest. refl) (λ w a h. λ i. tree.continuing (tree.compound_statement (h.0 i) (h.1.0 i)) (h.1.1 i))
 
+-- ---- statements behind attributes
+-- statements that are the same, spans and empty items aside
+abbrev Like : Statement → Statement → Type 0
+Like w v = bare_statement w ≡ bare_statement (full_statement v)
+
+-- the same behind attributes
+abbrev LikeBehind : UnattributedStatement → UnattributedStatement → Type 0
+LikeBehind w v = bare_unattributed w ≡ bare_unattributed (full_unattributed v)
+
+attributed_reads : AttributeReads → {g : Rule UnattributedStatement} → Reads g unattributed_tokens LikeBehind → Reads (attributed tree.statement g) unended_tokens Like
+attributed_reads one G = gives_reads (then_reads (attributes_read one) G) (λ a rest. refl) (λ w a h. λ i. tree.statement (h.0 i) (h.1 i))
+
 -- ---- statements that no `;` ends
 pub written_if_statement_reads : AttributeReads → Reads (written if_statement) (write if_statement) (Same if_statement)
-written_if_statement_reads one = gives_reads (then_reads (attributes_read one) (before_reads KwIf refl (then_reads (symbol_reads expression) (then_reads (symbol_reads compound_statement) (then_reads else_ifs_read else_reads)))))
-    (λ a rest. refl) (λ w a h. λ i. tree.if_statement (tree.if_else (h.0 i) (tree.if_clause (h.1.0 i) (h.1.1.0 i)) (h.1.1.1.0 i) (h.1.1.1.1 i)))
+written_if_statement_reads one = attributed_reads one (gives_reads (before_reads KwIf refl (then_reads (symbol_reads expression) (then_reads (symbol_reads compound_statement) (then_reads else_ifs_read else_reads))))
+    (λ a rest. refl) (λ w a h. λ i. tree.if_statement (tree.if_else (tree.if_clause (h.0 i) (h.1.0 i)) (h.1.1.0 i) (h.1.1.1 i))))
 
 pub written_switch_statement_reads : AttributeReads → Reads (written switch_statement) (write switch_statement) (Same switch_statement)
-written_switch_statement_reads one = gives_reads (then_reads (attributes_read one) (before_reads KwSwitch refl (then_reads (symbol_reads expression) (then_reads (attributes_read one) (before_reads SymBraceLeft refl (behind_reads SymBraceRight refl clauses_read))))))
-    (λ a rest. refl) (λ w a h. λ i. tree.switch_statement (tree.switch (h.0 i) (h.1.0 i) (h.1.1.0 i) (h.1.1.1 i)))
+written_switch_statement_reads one = attributed_reads one (gives_reads (before_reads KwSwitch refl (then_reads (symbol_reads expression) (then_reads (attributes_read one) (before_reads SymBraceLeft refl (behind_reads SymBraceRight refl clauses_read)))))
+    (λ a rest. refl) (λ w a h. λ i. tree.switch_statement (tree.switch (h.0 i) (h.1.0 i) (h.1.1 i))))
 
 pub written_loop_statement_reads : AttributeReads → Reads (written loop_statement) (write loop_statement) (Same loop_statement)
-written_loop_statement_reads one = gives_reads (then_reads (attributes_read one) (before_reads KwLoop refl (then_reads (attributes_read one) (before_reads SymBraceLeft refl (behind_reads SymBraceRight refl (then_reads statements_read maybe_continuing_reads))))))
-    (λ a rest. refl) (λ w a h. λ i. tree.loop_statement (tree.repeat (h.0 i) (tree.compound_statement (h.1.0 i) (h.1.1.0 i)) (h.1.1.1 i)))
+written_loop_statement_reads one = attributed_reads one (gives_reads (before_reads KwLoop refl (then_reads (attributes_read one) (before_reads SymBraceLeft refl (behind_reads SymBraceRight refl (then_reads statements_read maybe_continuing_reads)))))
+    (λ a rest. refl) (λ w a h. λ i. tree.loop_statement (tree.repeat (tree.compound_statement (h.0 i) (h.1.0 i)) (h.1.1 i))))
 
 pub written_for_statement_reads : AttributeReads → Reads (written for_statement) (write for_statement) (Same for_statement)
-written_for_statement_reads one = gives_reads (then_reads (attributes_read one) (before_reads KwFor refl (before_reads SymParenLeft refl (then_reads (behind_reads SymSemicolon refl (part_reads (symbol_reads for_init)))
-    (then_reads (behind_reads SymSemicolon refl (optional_reads (symbol_reads expression))) (then_reads (behind_reads SymParenRight refl (part_reads (symbol_reads for_update))) (symbol_reads compound_statement)))))))
-    (λ a rest. refl) (λ w a h. λ i. tree.for_statement (tree.repeat_for (h.0 i) (h.1.0 i) (h.1.1.0 i) (h.1.1.1.0 i) (h.1.1.1.1 i)))
+written_for_statement_reads one = attributed_reads one (gives_reads (before_reads KwFor refl (before_reads SymParenLeft refl (then_reads (behind_reads SymSemicolon refl (part_reads (symbol_reads for_init)))
+    (then_reads (behind_reads SymSemicolon refl (optional_reads (symbol_reads expression))) (then_reads (behind_reads SymParenRight refl (part_reads (symbol_reads for_update))) (symbol_reads compound_statement))))))
+    (λ a rest. refl) (λ w a h. λ i. tree.for_statement (tree.repeat_for (h.0 i) (h.1.0 i) (h.1.1.0 i) (h.1.1.1 i))))
 
 pub written_while_statement_reads : AttributeReads → Reads (written while_statement) (write while_statement) (Same while_statement)
-written_while_statement_reads one = gives_reads (then_reads (attributes_read one) (before_reads KwWhile refl (then_reads (symbol_reads expression) (symbol_reads compound_statement)))) (λ a rest. refl) (λ w a h. λ i. tree.while_statement (tree.repeat_while (h.0 i) (h.1.0 i) (h.1.1 i)))
+written_while_statement_reads one = attributed_reads one (gives_reads (before_reads KwWhile refl (then_reads (symbol_reads expression) (symbol_reads compound_statement))) (λ a rest. refl) (λ w a h. λ i. tree.while_statement (tree.repeat_while (h.0 i) (h.1 i))))
 
 -- ---- statements that a `;` ends
 pub written_return_statement_reads : Reads (written return_statement) (write return_statement) (Same return_statement)
-written_return_statement_reads = gives_reads (before_reads KwReturn refl (optional_reads (symbol_reads expression))) (λ a rest. refl) (λ w a h. λ i. tree.return_statement (record { expression = h i }))
+written_return_statement_reads = gives_reads (before_reads KwReturn refl (optional_reads (symbol_reads expression))) (λ a rest. refl) (λ w a h. λ i. tree.unattributed (tree.return_statement (record { expression = h i })))
 
 pub written_call_statement_reads : Reads (written call_statement) (write call_statement) (Same call_statement)
-written_call_statement_reads = gives_reads (symbol_reads call) (λ a rest. refl) (λ w a h. λ i. tree.function_call_statement (record { call = h i }))
+written_call_statement_reads = gives_reads (symbol_reads call) (λ a rest. refl) (λ w a h. λ i. tree.unattributed (tree.function_call_statement (record { call = h i })))
 
 pub written_var_statement_reads : Reads (written var_statement) (write var_statement) (Same var_statement)
 written_var_statement_reads = gives_reads (then_reads var_kind_reads (then_reads (symbol_reads typed_ident) (optional_reads initializer_reads))) (λ a rest. refl)
-    (λ w a h. λ i. tree.declaration (record { attributes = []; kind = h.0 i; ident = h.1.0.0 i; ty = h.1.0.1 i; initializer = h.1.1 i }))
+    (λ w a h. λ i. tree.unattributed (tree.declaration (record { kind = h.0 i; ident = h.1.0.0 i; ty = h.1.0.1 i; initializer = h.1.1 i })))
 
 value_kind_reads : Reads (KwLet means let_kind or KwConst means const_kind) kind_tokens (λ w v. w ≡ v)
 value_kind_reads = or_reads (means_reads KwLet refl (λ rest. refl) refl) (means_reads KwConst refl (λ rest. refl) refl)
 
 pub written_value_statement_reads : Reads (written value_statement) (write value_statement) (Same value_statement)
 written_value_statement_reads = gives_reads (then_reads value_kind_reads (then_reads (symbol_reads typed_ident) initializer_reads)) (λ a rest. refl)
-    (λ w a h. λ i. tree.declaration (record { attributes = []; kind = h.0 i; ident = h.1.0.0 i; ty = h.1.0.1 i; initializer = Some (h.1.1 i) }))
+    (λ w a h. λ i. tree.unattributed (tree.declaration (record { kind = h.0 i; ident = h.1.0.0 i; ty = h.1.0.1 i; initializer = Some (h.1.1 i) })))
 
 pub written_assignment_reads : Reads (written assignment) (write assignment) (Same assignment)
-written_assignment_reads = gives_reads (then_reads (symbol_reads lhs_expression) (then_reads assignment_operator_reads (symbol_reads expression))) (λ a rest. refl) (λ w a h. λ i. tree.assignment (record { operator = h.1.0 i; lhs = h.0 i; rhs = h.1.1 i }))
+written_assignment_reads = gives_reads (then_reads (symbol_reads lhs_expression) (then_reads assignment_operator_reads (symbol_reads expression))) (λ a rest. refl) (λ w a h. λ i. tree.unattributed (tree.assignment (record { operator = h.1.0 i; lhs = h.0 i; rhs = h.1.1 i })))
 
 pub written_increment_reads : Reads (written increment) (write increment) (Same increment)
-written_increment_reads = gives_reads (behind_reads SymPlusPlus refl (symbol_reads lhs_expression)) (λ a rest. refl) (λ w a h. λ i. tree.increment (record { expression = h i }))
+written_increment_reads = gives_reads (behind_reads SymPlusPlus refl (symbol_reads lhs_expression)) (λ a rest. refl) (λ w a h. λ i. tree.unattributed (tree.increment (record { expression = h i })))
 
 pub written_decrement_reads : Reads (written decrement) (write decrement) (Same decrement)
-written_decrement_reads = gives_reads (behind_reads SymMinusMinus refl (symbol_reads lhs_expression)) (λ a rest. refl) (λ w a h. λ i. tree.decrement (record { expression = h i }))
+written_decrement_reads = gives_reads (behind_reads SymMinusMinus refl (symbol_reads lhs_expression)) (λ a rest. refl) (λ w a h. λ i. tree.unattributed (tree.decrement (record { expression = h i })))
 
 pub written_const_assert_reads : Reads (written const_assert) (write const_assert) (Same const_assert)
 written_const_assert_reads = gives_reads (before_reads KwConstAssert refl (symbol_reads expression)) (λ a rest. refl) (λ w a h. λ i. record { expression = h i })
@@ -94,7 +106,7 @@ underscore_reads : Reads (one_token SymUnderscore makes underscore_at) expressio
 underscore_reads = makes_reads (sign_reads SymUnderscore refl) (λ a span rest. refl) (λ w a s r h. refl)
 
 pub written_phony_assignment_reads : Reads (written phony_assignment) (write phony_assignment) (Same phony_assignment)
-written_phony_assignment_reads = gives_reads (then_reads underscore_reads initializer_reads) (λ a rest. refl) (λ w a h. λ i. tree.assignment (record { operator = equal; lhs = h.0 i; rhs = h.1 i }))
+written_phony_assignment_reads = gives_reads (then_reads underscore_reads initializer_reads) (λ a rest. refl) (λ w a h. λ i. tree.unattributed (tree.assignment (record { operator = equal; lhs = h.0 i; rhs = h.1 i })))
 
 -- ---- clauses: the optional colon is left out, and `default` alone is written `case default`
 -- a block behind the optional colon
@@ -150,9 +162,6 @@ written_switch_clause_reads = record { again = go } where
   go v xs ys (inr d) words = as_case v ys (default_clause_reads v xs ys d words)
 
 -- ---- statements, with the `;` that ends them and without
-abbrev Like : Statement → Statement → Type 0
-Like w v = bare_statement w ≡ bare_statement (full_statement v)
-
 abbrev ended_tokens : Writes Statement
 ended_tokens s rest = unended_tokens s (end_token s rest)
 
@@ -178,6 +187,19 @@ unended_reads {g} f = record {
       (found.0, λ us ks e. found.2 us ks (e ∙ ap (unended_tokens v) (found.1 ks)));
 }
 
+-- a block as a statement
+block_written : (b : CompoundStatement) (rest : List Kind) → ended_tokens (tree.block_statement b) rest ≡ compound_tokens b rest
+block_written (tree.compound_statement attributes ss) rest = refl
+
+block_bare : (b : CompoundStatement) → bare_statement (tree.block_statement b) ≡ tree.block_statement (bare_compound b)
+block_bare (tree.compound_statement attributes ss) = refl
+
+block_full : (b : CompoundStatement) → full_statement (tree.block_statement b) ≡ tree.block_statement (full_compound b)
+block_full (tree.compound_statement attributes ss) = refl
+
+block_reads : Reads (symbol compound_statement gives tree.block_statement) ended_tokens Like
+block_reads = gives_reads (symbol_reads compound_statement) block_written (λ w a h. block_bare w ∙ ap tree.block_statement h ∙ sym (block_bare (full_compound a)) ∙ sym (ap bare_statement (block_full a)))
+
 pub written_statement_reads : Reads (written statement) (write statement) (Same statement)
 written_statement_reads = makes_reads {writes = ended_tokens} {like = Like} (
     or_reads (means_reads SymSemicolon refl (λ rest. refl) refl)
@@ -197,8 +219,8 @@ written_statement_reads = makes_reads {writes = ended_tokens} {like = Like} (
     (or_reads (ended_reads {g = symbol phony_assignment} (λ v xs ys h. h))
     (or_reads (ended_reads {g = symbol increment} (λ v xs ys h. h))
     (or_reads (ended_reads {g = symbol decrement} (λ v xs ys h. h))
-    (or_reads (gives_reads (symbol_reads compound_statement) (λ a rest. refl) (λ w a h. λ i. tree.compound (h i)))
-    (gives_reads (behind_reads SymSemicolon refl (symbol_reads const_assert)) (λ a rest. refl) (λ w a h. λ i. tree.const_assert (h i))))))))))))))))))))
+    (or_reads block_reads
+    (gives_reads (behind_reads SymSemicolon refl (symbol_reads const_assert)) (λ a rest. refl) (λ w a h. λ i. tree.unattributed (tree.const_assert (h i)))))))))))))))))))))
     ) (λ a span rest. refl) (λ w a s r h. λ i. statement_node (h i) no_span)
 
 -- ---- statements in the header of a `for`

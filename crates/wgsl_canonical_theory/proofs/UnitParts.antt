@@ -61,45 +61,45 @@ pub returned_reads : AttributeReads → Reads (optional return_part) (optional_t
 returned_reads one = optional_reads (equal_reads (before_reads SymArrow refl (then_reads (attributes_read one) (symbol_reads type_specifier))) (λ v rest. refl) (λ w v h. λ i. (h.0 i, h.1 i)))
 
 -- a function, by its parts
-pub function_written : (attributes : Attributes) (name : Token) (parameters : List FormalParameter) (returned : Option (Attributes × TypeExpression)) (block : CompoundStatement) (rest : List Kind)
-    → function_tokens (function_parts attributes name parameters returned block) rest
-    ≡ attributes_tokens attributes (plain KwFn ∷ (word_of (text_of name) ∷ (plain SymParenLeft ∷ list_tokens parameter_tokens parameters (plain SymParenRight ∷ optional_tokens returned_tokens returned (compound_tokens block rest)))))
-function_written attributes name parameters None block rest = refl
-function_written attributes name parameters (Some r) block rest = refl
+pub function_written : (name : Token) (parameters : List FormalParameter) (returned : Option (Attributes × TypeExpression)) (block : CompoundStatement) (rest : List Kind)
+    → function_tokens (function_parts name parameters returned block) rest
+    ≡ plain KwFn ∷ (word_of (text_of name) ∷ (plain SymParenLeft ∷ list_tokens parameter_tokens parameters (plain SymParenRight ∷ optional_tokens returned_tokens returned (compound_tokens block rest))))
+function_written name parameters None block rest = refl
+function_written name parameters (Some r) block rest = refl
 
 -- a function with a name's text in place of its token
-abbrev function_with : Attributes → List ℕ → List FormalParameter → Option (Attributes × TypeExpression) → CompoundStatement → Function
-function_with attributes name parameters None block =
-    record { attributes = attributes; ident = name; parameters = parameters; return_attributes = []; return_type = None; body = block }
-function_with attributes name parameters (Some r) block =
-    record { attributes = attributes; ident = name; parameters = parameters; return_attributes = r.0; return_type = Some r.1; body = block }
+abbrev function_with : List ℕ → List FormalParameter → Option (Attributes × TypeExpression) → CompoundStatement → Function
+function_with name parameters None block =
+    record { ident = name; parameters = parameters; return_attributes = []; return_type = None; body = block }
+function_with name parameters (Some r) block =
+    record { ident = name; parameters = parameters; return_attributes = r.0; return_type = Some r.1; body = block }
 
-function_bare : (attributes : Attributes) (name : Token) (parameters : List FormalParameter) (returned : Option (Attributes × TypeExpression)) (block : CompoundStatement)
-    → bare_function (function_parts attributes name parameters returned block)
-    ≡ function_with (bare_attributes attributes) (text_of name) (map bare_parameter parameters) (option_map bare_returned returned) (bare_compound block)
-function_bare attributes name parameters None block = refl
-function_bare attributes name parameters (Some r) block = refl
+function_bare : (name : Token) (parameters : List FormalParameter) (returned : Option (Attributes × TypeExpression)) (block : CompoundStatement)
+    → bare_function (function_parts name parameters returned block)
+    ≡ function_with (text_of name) (map bare_parameter parameters) (option_map bare_returned returned) (bare_compound block)
+function_bare name parameters None block = refl
+function_bare name parameters (Some r) block = refl
 
-function_full : (attributes : Attributes) (name : Token) (parameters : List FormalParameter) (returned : Option (Attributes × TypeExpression)) (block : CompoundStatement)
-    → full_function (function_parts attributes name parameters returned block) ≡ function_parts attributes name parameters returned (full_compound block)
-function_full attributes name parameters None block = refl
-function_full attributes name parameters (Some r) block = refl
+function_full : (name : Token) (parameters : List FormalParameter) (returned : Option (Attributes × TypeExpression)) (block : CompoundStatement)
+    → full_function (function_parts name parameters returned block) ≡ function_parts name parameters returned (full_compound block)
+function_full name parameters None block = refl
+function_full name parameters (Some r) block = refl
 
 -- the parts of a function
 abbrev pub FunctionParts : Type 0
-FunctionParts = Attributes × (Token × (List FormalParameter × (Option (Attributes × TypeExpression) × CompoundStatement)))
+FunctionParts = Token × (List FormalParameter × (Option (Attributes × TypeExpression) × CompoundStatement))
 
 abbrev pub function_in : FunctionParts → Function
-function_in p = function_parts p.0 p.1.0 p.1.1.0 p.1.1.1.0 p.1.1.1.1
+function_in p = function_parts p.0 p.1.0 p.1.1.0 p.1.1.1
 
 -- functions whose parts are the same
 pub same_function : (w v : FunctionParts)
-    → bare_attributes w.0 ≡ bare_attributes v.0 → text_of w.1.0 ≡ text_of v.1.0 → map bare_parameter w.1.1.0 ≡ map bare_parameter v.1.1.0
-    → option_map bare_returned w.1.1.1.0 ≡ option_map bare_returned v.1.1.1.0 → bare_compound w.1.1.1.1 ≡ bare_compound (full_compound v.1.1.1.1)
+    → text_of w.0 ≡ text_of v.0 → map bare_parameter w.1.0 ≡ map bare_parameter v.1.0
+    → option_map bare_returned w.1.1.0 ≡ option_map bare_returned v.1.1.0 → bare_compound w.1.1.1 ≡ bare_compound (full_compound v.1.1.1)
     → bare_function (function_in w) ≡ bare_function (full_function (function_in v))
-same_function w v attributes name parameters returned block =
-    function_bare w.0 w.1.0 w.1.1.0 w.1.1.1.0 w.1.1.1.1 ∙ (λ i. function_with (attributes i) (name i) (parameters i) (returned i) (block i))
-    ∙ sym (function_bare v.0 v.1.0 v.1.1.0 v.1.1.1.0 (full_compound v.1.1.1.1)) ∙ sym (ap bare_function (function_full v.0 v.1.0 v.1.1.0 v.1.1.1.0 v.1.1.1.1))
+same_function w v name parameters returned block =
+    function_bare w.0 w.1.0 w.1.1.0 w.1.1.1 ∙ (λ i. function_with (name i) (parameters i) (returned i) (block i))
+    ∙ sym (function_bare v.0 v.1.0 v.1.1.0 (full_compound v.1.1.1)) ∙ sym (ap bare_function (function_full v.0 v.1.0 v.1.1.0 v.1.1.1))
 
 -- ---- the name of a rule
 -- `.` and a name

@@ -12,20 +12,22 @@ use Rattle.wgsl_model.specs.Raw.{word_of}
 use Rattle.wgsl_model.specs.Words.{look_up}
 use Rattle.wgsl_model.specs.NamedValues.{DiagnosticSeverity.error, severities, severity_text}
 use Rattle.wgsl_model.specs.Spanned.{Spanned}
+use Rattle.wgsl_model.specs.Attributed.{with_attributes, without_attributes}
 use Rattle.wgsl_model.specs.Statements.{DeclarationKind.const_kind, DeclarationKind.override_kind}
 use Rattle.wgsl_model.specs.Units as tree
-use Rattle.wgsl_model.specs.Units.{GlobalDeclaration}
+use Rattle.wgsl_model.specs.Units.{GlobalDeclaration, UnattributedDeclaration}
 use Rattle.wgsl_model.specs.PrintedUnits.{is_void}
 use Rattle.wgsl_model.specs.Checks.{given_or, severity_of}
 use Rattle.wgsl_model.specs.TokenValues.{text_of}
+use Rattle.wgsl_model.specs.StatementParts.{attributed}
 use Rattle.wgsl_model.specs.UnitParts.{diagnostic_of}
 use Rattle.wgsl_model.specs.WithoutSpans.{no_span, bare_spanned}
-use Rattle.wgsl_model.specs.StatementsWithoutSpans.{bare_member, bare_parameter, bare_global_declaration}
-use Rattle.wgsl_model.specs.EmptyItems.{full_declaration, full_declarations}
+use Rattle.wgsl_model.specs.StatementsWithoutSpans.{bare_member, bare_parameter, bare_global_declaration, bare_unattributed_declaration}
+use Rattle.wgsl_model.specs.EmptyItems.{full_declaration, full_declarations, full_unattributed_declaration}
 use Rattle.wgsl_model.specs.Symbols.{ident, struct_member, formal_parameter, global_declaration, var_declaration, const_declaration, override_declaration, alias_declaration, struct_declaration, function_declaration, diagnostic_severity, global_directive, enable_directive, requires_directive, diagnostic_directive, unit, Rule, compound_statement, const_assert, type_specifier, typed_ident}
 use Rattle.wgsl_model.specs.Written.{written}
 use Rattle.wgsl_canonical_theory.specs.CanonicalExpressions.{Writes, all_tokens, optional_tokens}
-use Rattle.wgsl_canonical_theory.specs.CanonicalUnits.{directive_tokens, global_declaration_tokens, kept_declaration_tokens}
+use Rattle.wgsl_canonical_theory.specs.CanonicalUnits.{directive_tokens, unattributed_declaration_tokens, global_declaration_tokens, kept_declaration_tokens}
 use Rattle.wgsl_canonical_theory.proofs.Words.{NoPeriod, AllWords}
 use Rattle.wgsl_canonical_theory.proofs.Again.{D, Again, write, Same, Known, Found, Finds}
 use Rattle.wgsl_canonical_theory.proofs.Ways.{Outcome, Reads, found_in, known_reads, words_behind, then_reads, or_reads, gives_reads, makes_reads, equal_reads, before_reads, behind_reads, means_reads, none_reads, optional_reads, no_sign_reads, all_behind, map_behind, many_reads, list_reads, list_or_none_reads}
@@ -41,44 +43,49 @@ struct_member_written one = makes_reads (attributed_ident_reads one) (λ a span 
 pub formal_parameter_written : AttributeReads → Reads (written formal_parameter) (write formal_parameter) (Same formal_parameter)
 formal_parameter_written one = gives_reads (attributed_ident_reads one) (λ a rest. refl) (λ w a h. λ i. record { attributes = h.0 i; ident = h.1.0 i; ty = h.1.1 i })
 
--- ---- declarations of values
-pub var_declaration_written : AttributeReads → Reads (written var_declaration) (write var_declaration) (Same var_declaration)
-var_declaration_written one = gives_reads (then_reads (attributes_read one) (then_reads var_kind_reads (then_reads (symbol_reads typed_ident) (behind_reads SymSemicolon refl (optional_reads initializer_reads))))) (λ a rest. refl)
-    (λ w a h. λ i. tree.declaration (record { attributes = h.0 i; kind = h.1.0 i; ident = h.1.1.0.0 i; ty = h.1.1.0.1 i; initializer = h.1.1.1 i }))
-
-pub const_declaration_written : Reads (written const_declaration) (write const_declaration) (Same const_declaration)
-const_declaration_written = gives_reads (before_reads KwConst refl (then_reads (symbol_reads typed_ident) (behind_reads SymSemicolon refl initializer_reads))) (λ a rest. refl)
-    (λ w a h. λ i. tree.declaration (record { attributes = []; kind = const_kind; ident = h.0.0 i; ty = h.0.1 i; initializer = Some (h.1 i) }))
-
-pub override_declaration_written : AttributeReads → Reads (written override_declaration) (write override_declaration) (Same override_declaration)
-override_declaration_written one = gives_reads (then_reads (attributes_read one) (before_reads KwOverride refl (then_reads (symbol_reads typed_ident) (behind_reads SymSemicolon refl (optional_reads initializer_reads))))) (λ a rest. refl)
-    (λ w a h. λ i. tree.declaration (record { attributes = h.0 i; kind = override_kind; ident = h.1.0.0 i; ty = h.1.0.1 i; initializer = h.1.1 i }))
-
--- ---- declarations of types and functions
-pub alias_declaration_written : Reads (written alias_declaration) (write alias_declaration) (Same alias_declaration)
-alias_declaration_written = gives_reads (before_reads KwAlias refl (then_reads (symbol_reads ident) (before_reads SymEqual refl (behind_reads SymSemicolon refl (symbol_reads type_specifier))))) (λ a rest. refl)
-    (λ w a h. λ i. tree.type_alias (record { ident = h.0 i; ty = h.1 i }))
-
-pub struct_declaration_written : Reads (written struct_declaration) (write struct_declaration) (Same struct_declaration)
-struct_declaration_written = gives_reads (before_reads KwStruct refl (then_reads (symbol_reads ident) (before_reads SymBraceLeft refl (behind_reads SymBraceRight refl (list_reads {bare = bare_spanned bare_member} {kept = bare_spanned bare_member} (symbol_reads struct_member)))))) (λ a rest. refl)
-    (λ w a h. λ i. tree.structure (record { ident = h.0 i; members = h.1 i }))
-
-pub function_declaration_written : AttributeReads → Reads (written function_declaration) (write function_declaration) (Same function_declaration)
-function_declaration_written one = gives_reads
-    (then_reads (attributes_read one) (before_reads KwFn refl (then_reads (symbol_reads ident) (before_reads SymParenLeft refl
-    (then_reads (behind_reads SymParenRight refl (list_or_none_reads {bare = bare_parameter} {kept = bare_parameter} (symbol_reads formal_parameter))) (then_reads (returned_reads one) (symbol_reads compound_statement)))))))
-    (λ a rest. function_written a.0 a.1.0 a.1.1.0 a.1.1.1.0 a.1.1.1.1 rest)
-    (λ w a h. ap tree.function (same_function w a h.0 h.1.0 h.1.1.0 h.1.1.1.0 h.1.1.1.1))
-
--- ---- declarations
+-- ---- declarations behind attributes
 -- declarations that are the same, spans and empty items aside
 abbrev SameDeclaration : GlobalDeclaration → GlobalDeclaration → Type 0
 SameDeclaration w v = bare_global_declaration w ≡ bare_global_declaration (full_declaration v)
 
+attributed_reads : AttributeReads → {g : Rule UnattributedDeclaration} → Reads g unattributed_declaration_tokens (λ w v. bare_unattributed_declaration w ≡ bare_unattributed_declaration (full_unattributed_declaration v))
+    → Reads (attributed with_attributes g) global_declaration_tokens SameDeclaration
+attributed_reads one G = gives_reads (then_reads (attributes_read one) G) (λ a rest. refl) (λ w a h. λ i. with_attributes (h.0 i) (h.1 i))
+
+-- ---- declarations of values
+pub var_declaration_written : AttributeReads → Reads (written var_declaration) (write var_declaration) (Same var_declaration)
+var_declaration_written one = attributed_reads one (gives_reads (then_reads var_kind_reads (then_reads (symbol_reads typed_ident) (behind_reads SymSemicolon refl (optional_reads initializer_reads)))) (λ a rest. refl)
+    (λ w a h. λ i. tree.declaration (record { kind = h.0 i; ident = h.1.0.0 i; ty = h.1.0.1 i; initializer = h.1.1 i })))
+
+pub const_declaration_written : Reads (written const_declaration) (write const_declaration) (Same const_declaration)
+const_declaration_written = gives_reads (before_reads KwConst refl (then_reads (symbol_reads typed_ident) (behind_reads SymSemicolon refl initializer_reads))) (λ a rest. refl)
+    (λ w a h. λ i. without_attributes (tree.declaration (record { kind = const_kind; ident = h.0.0 i; ty = h.0.1 i; initializer = Some (h.1 i) })))
+
+pub override_declaration_written : AttributeReads → Reads (written override_declaration) (write override_declaration) (Same override_declaration)
+override_declaration_written one = attributed_reads one (gives_reads (before_reads KwOverride refl (then_reads (symbol_reads typed_ident) (behind_reads SymSemicolon refl (optional_reads initializer_reads)))) (λ a rest. refl)
+    (λ w a h. λ i. tree.declaration (record { kind = override_kind; ident = h.0.0 i; ty = h.0.1 i; initializer = h.1 i })))
+
+-- ---- declarations of types and functions
+pub alias_declaration_written : Reads (written alias_declaration) (write alias_declaration) (Same alias_declaration)
+alias_declaration_written = gives_reads (before_reads KwAlias refl (then_reads (symbol_reads ident) (before_reads SymEqual refl (behind_reads SymSemicolon refl (symbol_reads type_specifier))))) (λ a rest. refl)
+    (λ w a h. λ i. without_attributes (tree.type_alias (record { ident = h.0 i; ty = h.1 i })))
+
+pub struct_declaration_written : Reads (written struct_declaration) (write struct_declaration) (Same struct_declaration)
+struct_declaration_written = gives_reads (before_reads KwStruct refl (then_reads (symbol_reads ident) (before_reads SymBraceLeft refl (behind_reads SymBraceRight refl (list_reads {bare = bare_spanned bare_member} {kept = bare_spanned bare_member} (symbol_reads struct_member)))))) (λ a rest. refl)
+    (λ w a h. λ i. without_attributes (tree.structure (record { ident = h.0 i; members = h.1 i })))
+
+pub function_declaration_written : AttributeReads → Reads (written function_declaration) (write function_declaration) (Same function_declaration)
+function_declaration_written one = attributed_reads one (gives_reads
+    (before_reads KwFn refl (then_reads (symbol_reads ident) (before_reads SymParenLeft refl
+    (then_reads (behind_reads SymParenRight refl (list_or_none_reads {bare = bare_parameter} {kept = bare_parameter} (symbol_reads formal_parameter))) (then_reads (returned_reads one) (symbol_reads compound_statement))))))
+    (λ a rest. function_written a.0 a.1.0 a.1.1.0 a.1.1.1 rest)
+    (λ w a h. ap tree.function (same_function w a h.0 h.1.0 h.1.1.0 h.1.1.1)))
+
+-- ---- declarations
 pub global_declaration_written : Reads (written global_declaration) (write global_declaration) (Same global_declaration)
 global_declaration_written = makes_reads {writes = global_declaration_tokens} {like = SameDeclaration}
     (or_reads (means_reads SymSemicolon refl (λ rest. refl) refl) (or_reads (symbol_reads var_declaration) (or_reads (symbol_reads const_declaration) (or_reads (symbol_reads override_declaration) (or_reads (symbol_reads alias_declaration) (or_reads (symbol_reads struct_declaration)
-    (or_reads (symbol_reads function_declaration) (gives_reads (behind_reads SymSemicolon refl (symbol_reads const_assert)) (λ a rest. refl) (λ w a h. λ i. tree.const_assert (h i))))))))))
+    (or_reads (symbol_reads function_declaration) (gives_reads (behind_reads SymSemicolon refl (symbol_reads const_assert)) (λ a rest. refl) (λ w a h. λ i. without_attributes (tree.const_assert (h i)))))))))))
     (λ a span rest. refl) (λ w a s r h. h)
 
 -- ---- directives

@@ -8,6 +8,7 @@ use Rattle.wgsl_model.specs.NamedValues.{DiagnosticSeverity.off}
 use Rattle.wgsl_model.specs.Spanned.{spanned}
 use Rattle.wgsl_model.specs.Expressions.{LiteralExpression.boolean, LiteralExpression.abstract_int, ExpressionNode, expression_node, Expression, FunctionCall.call, TypeExpression, TypeExpression.type_expression, TemplateArguments.no_template, template_of, expressions_of}
 use Rattle.wgsl_model.specs.Attributes.{OneArgument.size, NoArgument.const_attribute, Attribute.with_argument, Attribute.without_argument, Attribute.type_constraint}
+use Rattle.wgsl_model.specs.Attributed.{with_attributes, without_attributes}
 use Rattle.wgsl_model.specs.Statements as tree
 use Rattle.wgsl_model.specs.Units as units
 use Rattle.wgsl_model.specs.WithoutSpans.{no_span}
@@ -27,9 +28,9 @@ number_at n = at (Expression.literal (abstract_int (pos n)))
 abbrev type_of_name : List ℕ → TypeExpression
 type_of_name name = type_expression name no_template
 
--- a statement without its span, and a block without attributes
-abbrev stands : tree.Statement → tree.StatementNode
-stands s = tree.statement_node s no_span
+-- a statement without its span and without attributes, and a block without attributes
+abbrev stands : tree.UnattributedStatement → tree.StatementNode
+stands s = tree.statement_node (tree.unattributed s) no_span
 
 abbrev block_of : List tree.StatementNode → tree.CompoundStatement
 block_of ss = tree.compound_statement [] (tree.statements_of ss)
@@ -63,7 +64,7 @@ three_minuses_tokens = word (codes "a") ∷ plain SymMinus ∷ plain SymMinus �
 -- ---- statements
 -- switch a { case 1, default: {} default {;} }
 abbrev pub switch_tree : tree.StatementNode
-switch_tree = stands (tree.switch_statement (tree.switch [] (name_at (codes "a")) [] (tree.clauses_of (
+switch_tree = stands (tree.switch_statement (tree.switch (name_at (codes "a")) [] (tree.clauses_of (
     tree.switch_clause (tree.expression_selector (number_at 1) ∷ tree.default_selector ∷ []) (block_of [])
     ∷ tree.switch_clause (tree.default_selector ∷ []) (block_of (stands tree.void ∷ [])) ∷ []
     ))))
@@ -76,7 +77,7 @@ switch_tokens =
 
 -- loop { ; continuing { ; break if true; } }
 abbrev pub loop_tree : tree.StatementNode
-loop_tree = stands (tree.loop_statement (tree.repeat [] (block_of (stands tree.void ∷ [])) (tree.one_continuing (tree.continuing (block_of (stands tree.void ∷ [])) (Some (record { expression = at (Expression.literal (boolean true)) }))))))
+loop_tree = stands (tree.loop_statement (tree.repeat (block_of (stands tree.void ∷ [])) (tree.one_continuing (tree.continuing (block_of (stands tree.void ∷ [])) (Some (record { expression = at (Expression.literal (boolean true)) }))))))
 
 -- loop { continuing { break if true; } }
 abbrev pub loop_tokens : List Kind
@@ -84,14 +85,14 @@ loop_tokens = plain KwLoop ∷ plain SymBraceLeft ∷ plain KwContinuing ∷ pla
 
 -- for (; ; i++) { }
 abbrev pub for_tree : tree.StatementNode
-for_tree = stands (tree.for_statement (tree.repeat_for [] tree.no_statement None (tree.one_statement (stands (tree.increment (record { expression = name_at (codes "i") })))) (block_of [])))
+for_tree = stands (tree.for_statement (tree.repeat_for tree.no_statement None (tree.one_statement (stands (tree.increment (record { expression = name_at (codes "i") })))) (block_of [])))
 
 abbrev pub for_tokens : List Kind
 for_tokens = plain KwFor ∷ plain SymParenLeft ∷ plain SymSemicolon ∷ plain SymSemicolon ∷ word (codes "i") ∷ plain SymPlusPlus ∷ plain SymParenRight ∷ plain SymBraceLeft ∷ plain SymBraceRight ∷ []
 
 -- if a {} else if b {} else {}
 abbrev pub if_tree : tree.StatementNode
-if_tree = stands (tree.if_statement (tree.if_else [] (tree.if_clause (name_at (codes "a")) (block_of [])) (tree.else_ifs_of (tree.else_if_clause (name_at (codes "b")) (block_of []) ∷ [])) (tree.one_else (tree.else_clause (block_of [])))))
+if_tree = stands (tree.if_statement (tree.if_else (tree.if_clause (name_at (codes "a")) (block_of [])) (tree.else_ifs_of (tree.else_if_clause (name_at (codes "b")) (block_of []) ∷ [])) (tree.one_else (tree.else_clause (block_of [])))))
 
 abbrev pub if_tokens : List Kind
 if_tokens =
@@ -103,17 +104,16 @@ if_tokens =
 abbrev pub unit_tree : units.TranslationUnit
 unit_tree = record {
   global_directives = units.diagnostic (record { severity = off; rule_name = codes "a.b" }) ∷ [];
-  global_declarations = spanned units.void no_span
-      ∷ spanned (units.structure (record { ident = codes "S"; members = spanned (record { attributes = spanned (with_argument size (number_at 16)) no_span ∷ []; ident = codes "x"; ty = type_of_name (codes "f32") }) no_span ∷ [] })) no_span
-      ∷ spanned units.void no_span
-      ∷ spanned (units.function (record {
-        attributes = spanned (without_argument const_attribute) no_span ∷ spanned (type_constraint (record { ident = codes "T"; variants = type_of_name (codes "A") ∷ type_of_name (codes "B") ∷ [] })) no_span ∷ [];
+  global_declarations = spanned (without_attributes units.void) no_span
+      ∷ spanned (without_attributes (units.structure (record { ident = codes "S"; members = spanned (record { attributes = spanned (with_argument size (number_at 16)) no_span ∷ []; ident = codes "x"; ty = type_of_name (codes "f32") }) no_span ∷ [] }))) no_span
+      ∷ spanned (without_attributes units.void) no_span
+      ∷ spanned (with_attributes (spanned (without_argument const_attribute) no_span ∷ spanned (type_constraint (record { ident = codes "T"; variants = type_of_name (codes "A") ∷ type_of_name (codes "B") ∷ [] })) no_span ∷ []) (units.function (record {
         ident = codes "f";
         parameters = [];
         return_attributes = [];
         return_type = None;
         body = block_of [];
-      })) no_span ∷ [];
+      }))) no_span ∷ [];
 }
 
 -- diagnostic(off, a.b); struct S { @size(16) x: f32 } @const @type(T, A | B) fn f() { }

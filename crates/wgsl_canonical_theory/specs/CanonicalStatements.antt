@@ -6,7 +6,7 @@ use Rattle.wgsl_model.specs.Raw.{word_of}
 use Rattle.wgsl_model.specs.Operators.{AssignmentOperator, equal, plus_equal, minus_equal, times_equal, division_equal, modulo_equal, and_equal, or_equal, xor_equal, shift_right_assign, shift_left_assign}
 use Rattle.wgsl_model.specs.NamedValues.{AddressSpace, AccessMode, address_space_text, access_mode_text}
 use Rattle.wgsl_model.specs.Expressions.{ExpressionNode, TypeExpression}
-use Rattle.wgsl_model.specs.Statements.{DeclarationKind, const_kind, override_kind, let_kind, var_kind, Declaration, ConstAssert, BreakIfStatement, CaseSelector, default_selector, expression_selector, StatementNode, statement_node, Statement, void, compound, assignment, increment, decrement, if_statement, switch_statement, loop_statement, for_statement, while_statement, break_statement, continue_statement, discard_statement, return_statement, function_call_statement, const_assert, declaration, CompoundStatement, compound_statement, IfStatement, if_else, IfClause, if_clause, ElseIfClause, else_if_clause, ElseClause, else_clause, SwitchStatement, switch, SwitchClause, switch_clause, LoopStatement, repeat, ContinuingStatement, continuing, ForStatement, repeat_for, WhileStatement, repeat_while, StatementNodes, no_statements, statement_before, ElseIfClauses, no_else_ifs, else_if_before, MaybeElseClause, no_else, one_else, SwitchClauses, no_clauses, clause_before, MaybeContinuing, no_continuing, one_continuing, MaybeStatement, no_statement, one_statement}
+use Rattle.wgsl_model.specs.Statements.{DeclarationKind, const_kind, override_kind, let_kind, var_kind, Declaration, ConstAssert, BreakIfStatement, CaseSelector, default_selector, expression_selector, StatementNode, statement_node, Statement, statement, UnattributedStatement, void, compound, assignment, increment, decrement, if_statement, switch_statement, loop_statement, for_statement, while_statement, break_statement, continue_statement, discard_statement, return_statement, function_call_statement, const_assert, declaration, CompoundStatement, compound_statement, IfStatement, if_else, IfClause, if_clause, ElseIfClause, else_if_clause, ElseClause, else_clause, SwitchStatement, switch, SwitchClause, switch_clause, LoopStatement, repeat, ContinuingStatement, continuing, ForStatement, repeat_for, WhileStatement, repeat_while, StatementNodes, no_statements, statement_before, ElseIfClauses, no_else_ifs, else_if_before, MaybeElseClause, no_else, one_else, SwitchClauses, no_clauses, clause_before, MaybeContinuing, no_continuing, one_continuing, MaybeStatement, no_statement, one_statement}
 use Rattle.wgsl_model.specs.PrintedStatements.{is_void}
 use Rattle.wgsl_canonical_theory.specs.CanonicalExpressions.{Writes, optional_tokens, list_tokens, word_token, expression_node_tokens, call_tokens, type_tokens}
 use Rattle.wgsl_canonical_theory.specs.CanonicalAttributes.{behind_comma, attributes_tokens}
@@ -33,7 +33,7 @@ initializer_tokens e rest = plain SymEqual ∷ expression_node_tokens e rest
 
 -- the declaration of a value, without its `;`
 abbrev pub declaration_tokens : Writes Declaration
-declaration_tokens d rest = attributes_tokens d.attributes (kind_tokens d.kind (word_of d.ident ∷ optional_tokens typed_tokens d.ty (optional_tokens initializer_tokens d.initializer rest)))
+declaration_tokens d rest = kind_tokens d.kind (word_of d.ident ∷ optional_tokens typed_tokens d.ty (optional_tokens initializer_tokens d.initializer rest))
 
 -- ---- statements
 -- `const_assert` and its expression, without its `;`
@@ -65,34 +65,38 @@ break_if_tokens b rest = plain KwBreak ∷ (plain KwIf ∷ expression_node_token
 
 -- the `;` that ends a statement, if one does
 abbrev pub end_token : Writes Statement
-end_token (compound b) rest = rest
-end_token (if_statement s) rest = rest
-end_token (switch_statement s) rest = rest
-end_token (loop_statement s) rest = rest
-end_token (for_statement s) rest = rest
-end_token (while_statement s) rest = rest
+end_token (statement attributes (compound b)) rest = rest
+end_token (statement attributes (if_statement s)) rest = rest
+end_token (statement attributes (switch_statement s)) rest = rest
+end_token (statement attributes (loop_statement s)) rest = rest
+end_token (statement attributes (for_statement s)) rest = rest
+end_token (statement attributes (while_statement s)) rest = rest
 end_token s rest = plain SymSemicolon ∷ rest
 
 abbrev mutual
   -- a statement without the `;` that ends it
   pub unended_tokens : Statement → List Kind → List Kind
-  unended_tokens void rest = rest
-  unended_tokens (compound b) rest = compound_tokens b rest
-  unended_tokens (assignment a) rest = expression_node_tokens a.lhs (plain (assignment_operator_class a.operator) ∷ expression_node_tokens a.rhs rest)
-  unended_tokens (increment i) rest = expression_node_tokens i.expression (plain SymPlusPlus ∷ rest)
-  unended_tokens (decrement d) rest = expression_node_tokens d.expression (plain SymMinusMinus ∷ rest)
-  unended_tokens (if_statement s) rest = if_tokens s rest
-  unended_tokens (switch_statement s) rest = switch_tokens s rest
-  unended_tokens (loop_statement s) rest = loop_tokens s rest
-  unended_tokens (for_statement s) rest = for_tokens s rest
-  unended_tokens (while_statement s) rest = while_tokens s rest
-  unended_tokens break_statement rest = plain KwBreak ∷ rest
-  unended_tokens continue_statement rest = plain KwContinue ∷ rest
-  unended_tokens discard_statement rest = plain KwDiscard ∷ rest
-  unended_tokens (return_statement r) rest = plain KwReturn ∷ optional_tokens expression_node_tokens r.expression rest
-  unended_tokens (function_call_statement c) rest = call_tokens c.call rest
-  unended_tokens (const_assert c) rest = assert_tokens c rest
-  unended_tokens (declaration d) rest = declaration_tokens d rest
+  unended_tokens (statement attributes s) rest = attributes_tokens attributes (unattributed_tokens s rest)
+
+  -- the same without its attributes
+  pub unattributed_tokens : UnattributedStatement → List Kind → List Kind
+  unattributed_tokens void rest = rest
+  unattributed_tokens (compound ss) rest = plain SymBraceLeft ∷ statements_tokens ss (plain SymBraceRight ∷ rest)
+  unattributed_tokens (assignment a) rest = expression_node_tokens a.lhs (plain (assignment_operator_class a.operator) ∷ expression_node_tokens a.rhs rest)
+  unattributed_tokens (increment i) rest = expression_node_tokens i.expression (plain SymPlusPlus ∷ rest)
+  unattributed_tokens (decrement d) rest = expression_node_tokens d.expression (plain SymMinusMinus ∷ rest)
+  unattributed_tokens (if_statement s) rest = if_tokens s rest
+  unattributed_tokens (switch_statement s) rest = switch_tokens s rest
+  unattributed_tokens (loop_statement s) rest = loop_tokens s rest
+  unattributed_tokens (for_statement s) rest = for_tokens s rest
+  unattributed_tokens (while_statement s) rest = while_tokens s rest
+  unattributed_tokens break_statement rest = plain KwBreak ∷ rest
+  unattributed_tokens continue_statement rest = plain KwContinue ∷ rest
+  unattributed_tokens discard_statement rest = plain KwDiscard ∷ rest
+  unattributed_tokens (return_statement r) rest = plain KwReturn ∷ optional_tokens expression_node_tokens r.expression rest
+  unattributed_tokens (function_call_statement c) rest = call_tokens c.call rest
+  unattributed_tokens (const_assert c) rest = assert_tokens c rest
+  unattributed_tokens (declaration d) rest = declaration_tokens d rest
 
   -- a statement
   pub statement_tokens : StatementNode → List Kind → List Kind
@@ -111,7 +115,7 @@ abbrev mutual
   opened_tokens (compound_statement attributes ss) rest = attributes_tokens attributes (plain SymBraceLeft ∷ statements_tokens ss rest)
 
   pub if_tokens : IfStatement → List Kind → List Kind
-  if_tokens (if_else attributes first others last) rest = attributes_tokens attributes (if_clause_tokens first (else_ifs_tokens others (else_tokens last rest)))
+  if_tokens (if_else first others last) rest = if_clause_tokens first (else_ifs_tokens others (else_tokens last rest))
 
   pub if_clause_tokens : IfClause → List Kind → List Kind
   if_clause_tokens (if_clause e block) rest = plain KwIf ∷ expression_node_tokens e (compound_tokens block rest)
@@ -131,8 +135,8 @@ abbrev mutual
   else_clause_tokens (else_clause block) rest = plain KwElse ∷ compound_tokens block rest
 
   pub switch_tokens : SwitchStatement → List Kind → List Kind
-  switch_tokens (switch attributes e body_attributes cs) rest =
-      attributes_tokens attributes (plain KwSwitch ∷ expression_node_tokens e (attributes_tokens body_attributes (plain SymBraceLeft ∷ clauses_tokens cs (plain SymBraceRight ∷ rest))))
+  switch_tokens (switch e body_attributes cs) rest =
+      plain KwSwitch ∷ expression_node_tokens e (attributes_tokens body_attributes (plain SymBraceLeft ∷ clauses_tokens cs (plain SymBraceRight ∷ rest)))
 
   pub clauses_tokens : SwitchClauses → List Kind → List Kind
   clauses_tokens no_clauses rest = rest
@@ -142,7 +146,7 @@ abbrev mutual
   switch_clause_tokens (switch_clause selectors block) rest = plain KwCase ∷ list_tokens selector_tokens selectors (compound_tokens block rest)
 
   pub loop_tokens : LoopStatement → List Kind → List Kind
-  loop_tokens (repeat attributes body last) rest = attributes_tokens attributes (plain KwLoop ∷ opened_tokens body (maybe_continuing_tokens last (plain SymBraceRight ∷ rest)))
+  loop_tokens (repeat body last) rest = plain KwLoop ∷ opened_tokens body (maybe_continuing_tokens last (plain SymBraceRight ∷ rest))
 
   pub maybe_continuing_tokens : MaybeContinuing → List Kind → List Kind
   maybe_continuing_tokens no_continuing rest = rest
@@ -152,8 +156,8 @@ abbrev mutual
   continuing_tokens (continuing body condition) rest = plain KwContinuing ∷ opened_tokens body (optional_tokens break_if_tokens condition (plain SymBraceRight ∷ rest))
 
   pub for_tokens : ForStatement → List Kind → List Kind
-  for_tokens (repeat_for attributes init condition update block) rest =
-      attributes_tokens attributes (plain KwFor ∷ (plain SymParenLeft ∷ part_tokens init (plain SymSemicolon ∷ optional_tokens expression_node_tokens condition (plain SymSemicolon ∷ part_tokens update (plain SymParenRight ∷ compound_tokens block rest)))))
+  for_tokens (repeat_for init condition update block) rest =
+      plain KwFor ∷ (plain SymParenLeft ∷ part_tokens init (plain SymSemicolon ∷ optional_tokens expression_node_tokens condition (plain SymSemicolon ∷ part_tokens update (plain SymParenRight ∷ compound_tokens block rest))))
 
   -- a part of the header of a `for`, without the `;` that ends it
   pub part_tokens : MaybeStatement → List Kind → List Kind
@@ -161,4 +165,4 @@ abbrev mutual
   part_tokens (one_statement (statement_node s span)) rest = unended_tokens s rest
 
   pub while_tokens : WhileStatement → List Kind → List Kind
-  while_tokens (repeat_while attributes e block) rest = attributes_tokens attributes (plain KwWhile ∷ expression_node_tokens e (compound_tokens block rest))
+  while_tokens (repeat_while e block) rest = plain KwWhile ∷ expression_node_tokens e (compound_tokens block rest)

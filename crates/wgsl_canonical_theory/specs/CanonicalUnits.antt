@@ -9,7 +9,7 @@ use Rattle.wgsl_model.specs.NamedValues.{severity_text}
 use Rattle.wgsl_model.specs.Spanned.{Spanned}
 use Rattle.wgsl_model.specs.Expressions.{TypeExpression}
 use Rattle.wgsl_model.specs.Attributes.{Attributes}
-use Rattle.wgsl_model.specs.Units.{GlobalDirective, diagnostic, enable, requires, StructMember, FormalParameter, Function, GlobalDeclaration, void, declaration, type_alias, structure, function, const_assert, TranslationUnit}
+use Rattle.wgsl_model.specs.Units.{GlobalDirective, diagnostic, enable, requires, StructMember, FormalParameter, Function, GlobalDeclaration, UnattributedDeclaration, void, declaration, type_alias, structure, function, const_assert, TranslationUnit}
 use Rattle.wgsl_model.specs.PrintedUnits.{is_void}
 use Rattle.wgsl_model.specs.TokenList.{IsTokenList}
 use Rattle.wgsl_canonical_theory.specs.CanonicalExpressions.{Writes, all_tokens, list_tokens, word_token, type_tokens}
@@ -42,16 +42,20 @@ result_tokens attributes (Some t) rest = plain SymArrow ∷ attributes_tokens at
 -- a function
 abbrev pub function_tokens : Writes Function
 function_tokens f rest =
-    attributes_tokens f.attributes (plain KwFn ∷ (word_of f.ident ∷ (plain SymParenLeft ∷ list_tokens parameter_tokens f.parameters (plain SymParenRight ∷ result_tokens f.return_attributes f.return_type (compound_tokens f.body rest)))))
+    plain KwFn ∷ (word_of f.ident ∷ (plain SymParenLeft ∷ list_tokens parameter_tokens f.parameters (plain SymParenRight ∷ result_tokens f.return_attributes f.return_type (compound_tokens f.body rest))))
 
--- a declaration; an empty one is its `;`
+-- what stands behind the attributes of a declaration; an empty one is its `;`
+abbrev pub unattributed_declaration_tokens : Writes UnattributedDeclaration
+unattributed_declaration_tokens void rest = plain SymSemicolon ∷ rest
+unattributed_declaration_tokens (declaration d) rest = declaration_tokens d (plain SymSemicolon ∷ rest)
+unattributed_declaration_tokens (type_alias a) rest = plain KwAlias ∷ (word_of a.ident ∷ (plain SymEqual ∷ type_tokens a.ty (plain SymSemicolon ∷ rest)))
+unattributed_declaration_tokens (structure s) rest = plain KwStruct ∷ (word_of s.ident ∷ (plain SymBraceLeft ∷ list_tokens member_tokens s.members (plain SymBraceRight ∷ rest)))
+unattributed_declaration_tokens (function f) rest = function_tokens f rest
+unattributed_declaration_tokens (const_assert c) rest = assert_tokens c (plain SymSemicolon ∷ rest)
+
+-- a declaration
 abbrev pub global_declaration_tokens : Writes GlobalDeclaration
-global_declaration_tokens void rest = plain SymSemicolon ∷ rest
-global_declaration_tokens (declaration d) rest = declaration_tokens d (plain SymSemicolon ∷ rest)
-global_declaration_tokens (type_alias a) rest = plain KwAlias ∷ (word_of a.ident ∷ (plain SymEqual ∷ type_tokens a.ty (plain SymSemicolon ∷ rest)))
-global_declaration_tokens (structure s) rest = plain KwStruct ∷ (word_of s.ident ∷ (plain SymBraceLeft ∷ list_tokens member_tokens s.members (plain SymBraceRight ∷ rest)))
-global_declaration_tokens (function f) rest = function_tokens f rest
-global_declaration_tokens (const_assert c) rest = assert_tokens c (plain SymSemicolon ∷ rest)
+global_declaration_tokens d rest = attributes_tokens d.attributes (unattributed_declaration_tokens d.node rest)
 
 -- a declaration in a module, where an empty one has no tokens
 abbrev pub kept_declaration_tokens : Writes (Spanned GlobalDeclaration)

@@ -163,3 +163,6 @@ customs_equal = same_is custom_code custom_of bare_custom custom_decoded custom_
 
 pub attributes_equal : (a b : Attribute) → (same (attribute_code a) (attribute_code b) ≡ true) ↔ (bare_attribute a ≡ bare_attribute b)
 attributes_equal = same_is attribute_code attribute_of bare_attribute attribute_decoded attribute_coded
+
+pub attribute_lists_equal : (a b : Attributes) → (same (attributes_code a) (attributes_code b) ≡ true) ↔ (bare_attributes a ≡ bare_attributes b)
+attribute_lists_equal = same_is attributes_code attributes_of bare_attributes attributes_decoded attributes_coded

@@ -1,21 +1,23 @@
 -- The code of a declaration, and of a statement that holds no others, has all but its spans.
-use Rattle.std.specs.Prelude.{ℕ, true, [], ◌∷◌, Option, Some, None, ◌≡◌, ◌↔◌}
+use Rattle.std.specs.Prelude.{ℕ, true, ◌&&◌, [], ◌∷◌, Option, Some, None, ◌≡◌, ◌↔◌}
 use Rattle.std.specs.Option.{option_map}
 use Rattle.std.proofs.Common.{refl, ap}
 use Rattle.wgsl_model.specs.Operators.{AssignmentOperator, equal, plus_equal, minus_equal, times_equal, division_equal, modulo_equal, and_equal, or_equal, xor_equal, shift_right_assign, shift_left_assign}
 use Rattle.wgsl_model.specs.NamedValues.{AddressSpace, AccessMode}
+use Rattle.wgsl_model.specs.Attributed.{Attributed, with_attributes}
 use Rattle.wgsl_model.specs.Statements.{DeclarationKind, const_kind, override_kind, let_kind, var_kind, Declaration, AssignmentStatement, IncrementStatement, DecrementStatement, ReturnStatement, FunctionCallStatement, ConstAssert, BreakIfStatement, CaseSelector, default_selector, expression_selector}
 use Rattle.wgsl_model.specs.WithoutSpans.{bare_expression_node, bare_type}
-use Rattle.wgsl_model.specs.StatementsWithoutSpans.{bare_declaration, bare_assignment, bare_increment, bare_decrement, bare_return, bare_call_statement, bare_assert, bare_break_if, bare_selector}
+use Rattle.wgsl_model.specs.StatementsWithoutSpans.{bare_attributed, bare_declaration, bare_assignment, bare_increment, bare_decrement, bare_return, bare_call_statement, bare_assert, bare_break_if, bare_selector}
 use Rattle.wgsl_equality.specs.Code.{Code, number, text, pair, same, option_code}
-use Rattle.wgsl_equality.specs.Laws.{same_is}
+use Rattle.wgsl_equality.specs.Laws.{both, same_is}
 use Rattle.wgsl_equality.specs.NamedValues.{access_mode_number}
 use Rattle.wgsl_equality.specs.Expressions.{expression_node_code, type_code}
-use Rattle.wgsl_equality.specs.Declarations.{assignment_operator_number, var_template_code, declaration_kind_code, declaration_code, assignment_code, increment_code, decrement_code, return_code, call_statement_code, assert_code, break_if_code, selector_code}
+use Rattle.wgsl_equality.specs.Attributes.{attributes_code}
+use Rattle.wgsl_equality.specs.Declarations.{attributed_code, assignment_operator_number, var_template_code, declaration_kind_code, declaration_code, assignment_code, increment_code, decrement_code, return_code, call_statement_code, assert_code, break_if_code, selector_code}
 use Rattle.wgsl_equality.proofs.Parts.{value_at, number_of, text_of, option_of, option_decoded, option_coded}
 use Rattle.wgsl_equality.proofs.NamedValueLaws.{address_space_of, address_space_decoded, access_mode_of, access_mode_decoded}
 use Rattle.wgsl_equality.proofs.ExpressionLaws.{node_of, node_decoded, node_coded, call_of, call_decoded, call_coded, type_of, type_decoded, type_coded}
-use Rattle.wgsl_equality.proofs.AttributeLaws.{first_of, second_of, attributes_of, attributes_decoded, attributes_coded}
+use Rattle.wgsl_equality.proofs.AttributeLaws.{first_of, second_of, attributes_of, attributes_decoded, attributes_coded, attribute_lists_equal}
 
 abbrev assignment_operator_of : ℕ → AssignmentOperator
 assignment_operator_of = value_at shift_left_assign (equal ∷ plus_equal ∷ minus_equal ∷ times_equal ∷ division_equal ∷ modulo_equal ∷ and_equal ∷ or_equal ∷ xor_equal ∷ shift_right_assign ∷ shift_left_assign ∷ [])
@@ -62,11 +64,10 @@ declaration_kind_decoded (var_kind (Some p)) = ap (λ q. var_kind (Some q)) (var
 -- each struct, read back
 abbrev pub declaration_of : Code → Declaration
 declaration_of c = record {
-  attributes = attributes_of (first_of c);
-  kind = declaration_kind_of (first_of (second_of c));
-  ident = text_of (first_of (second_of (second_of c)));
-  ty = option_of type_of (first_of (second_of (second_of (second_of c))));
-  initializer = option_of node_of (second_of (second_of (second_of (second_of c))));
+  kind = declaration_kind_of (first_of c);
+  ident = text_of (first_of (second_of c));
+  ty = option_of type_of (first_of (second_of (second_of c)));
+  initializer = option_of node_of (second_of (second_of (second_of c)));
 }
 
 abbrev pub assignment_of : Code → AssignmentStatement
@@ -102,7 +103,6 @@ maybe_node_coded = option_coded expression_node_code bare_expression_node node_c
 
 pub declaration_decoded : (d : Declaration) → declaration_of (declaration_code d) ≡ bare_declaration d
 declaration_decoded d = λ i. record {
-  attributes = attributes_decoded d.attributes i;
   kind = declaration_kind_decoded d.kind i;
   ident = d.ident;
   ty = option_decoded type_code type_of bare_type type_decoded d.ty i;
@@ -135,7 +135,7 @@ selector_decoded default_selector = refl
 selector_decoded (expression_selector e) = ap expression_selector (node_decoded e)
 
 pub declaration_coded : (d : Declaration) → declaration_code (bare_declaration d) ≡ declaration_code d
-declaration_coded d = λ i. pair (attributes_coded d.attributes i) (pair (declaration_kind_code d.kind) (pair (text d.ident) (pair (option_coded type_code bare_type type_coded d.ty i) (maybe_node_coded d.initializer i))))
+declaration_coded d = λ i. pair (declaration_kind_code d.kind) (pair (text d.ident) (pair (option_coded type_code bare_type type_coded d.ty i) (maybe_node_coded d.initializer i)))
 
 pub assignment_coded : (a : AssignmentStatement) → assignment_code (bare_assignment a) ≡ assignment_code a
 assignment_coded a = λ i. pair (number (assignment_operator_number a.operator)) (pair (node_coded a.lhs i) (node_coded a.rhs i))
@@ -161,6 +161,25 @@ break_if_coded s = node_coded s.expression
 pub selector_coded : (s : CaseSelector) → selector_code (bare_selector s) ≡ selector_code s
 selector_coded default_selector = refl
 selector_coded (expression_selector e) = ap (pair (number 0)) (node_coded e)
+
+-- nodes, each behind its attributes
+module _ {Node : Type 0} (code : Node → Code) (bare : Node → Node) where
+  pub attributed_decoded : (tree : Code → Node) → ((n : Node) → tree (code n) ≡ bare n) → (a : Attributed Node)
+      → with_attributes (attributes_of (second_of (attributed_code code a))) (tree (first_of (attributed_code code a))) ≡ bare_attributed bare a
+  attributed_decoded tree decoded a = λ i. with_attributes (attributes_decoded a.attributes i) (decoded a.node i)
+
+  pub attributed_coded : ((n : Node) → code (bare n) ≡ code n) → (a : Attributed Node) → attributed_code code (bare_attributed bare a) ≡ attributed_code code a
+  attributed_coded coded a = λ i. pair (coded a.node i) (attributes_coded a.attributes i)
+
+  -- where the codes are the same, the two are equal with their spans aside, if that is so of the nodes
+  pub attributed_equal : ((m n : Node) → (same (code m) (code n) ≡ true) ↔ (bare m ≡ bare n)) → (a b : Attributed Node)
+      → (same (attributed_code code a) (attributed_code code b) ≡ true) ↔ (bare_attributed bare a ≡ bare_attributed bare b)
+  attributed_equal alike a b = (
+    λ e. let h = both (same (code a.node) (code b.node)) (same (attributes_code a.attributes) (attributes_code b.attributes)) e in
+        λ i. with_attributes ((attribute_lists_equal a.attributes b.attributes).0 h.1 i) ((alike a.node b.node).0 h.0 i),
+    λ e. let nodes = (alike a.node b.node).1 (ap (λ (x : Attributed Node). x.node) e) in
+        let lists = (attribute_lists_equal a.attributes b.attributes).1 (ap (λ (x : Attributed Node). x.attributes) e) in λ i. nodes i && lists i,
+  )
 
 -- where the codes are the same, the two are equal with their spans aside
 pub kinds_equal : (a b : DeclarationKind) → (same (declaration_kind_code a) (declaration_kind_code b) ≡ true) ↔ (a ≡ b)

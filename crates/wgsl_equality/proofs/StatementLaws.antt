@@ -1,14 +1,14 @@
 -- The code of a statement has all but its spans.
 use Rattle.std.specs.Prelude.{true, [], ◌∷◌, ◌≡◌, ◌↔◌}
 use Rattle.std.proofs.Common.{refl, ap}
-use Rattle.wgsl_model.specs.Statements.{StatementNode, statement_node, Statement, void, compound, assignment, increment, decrement, if_statement, switch_statement, loop_statement, for_statement, while_statement, break_statement, continue_statement, discard_statement, return_statement, function_call_statement, Statement.const_assert, Statement.declaration, CompoundStatement, compound_statement, IfStatement, if_else, IfClause, if_clause, ElseIfClause, else_if_clause, ElseClause, else_clause, SwitchStatement, switch, SwitchClause, switch_clause, LoopStatement, repeat, ContinuingStatement, continuing, ForStatement, repeat_for, WhileStatement, repeat_while, StatementNodes, no_statements, statement_before, ElseIfClauses, no_else_ifs, else_if_before, MaybeElseClause, no_else, one_else, SwitchClauses, no_clauses, clause_before, MaybeContinuing, no_continuing, one_continuing, MaybeStatement, no_statement, one_statement}
+use Rattle.wgsl_model.specs.Statements.{StatementNode, statement_node, Statement, statement, UnattributedStatement, void, compound, assignment, increment, decrement, if_statement, switch_statement, loop_statement, for_statement, while_statement, break_statement, continue_statement, discard_statement, return_statement, function_call_statement, UnattributedStatement.const_assert, UnattributedStatement.declaration, CompoundStatement, compound_statement, IfStatement, if_else, IfClause, if_clause, ElseIfClause, else_if_clause, ElseClause, else_clause, SwitchStatement, switch, SwitchClause, switch_clause, LoopStatement, repeat, ContinuingStatement, continuing, ForStatement, repeat_for, WhileStatement, repeat_while, StatementNodes, no_statements, statement_before, ElseIfClauses, no_else_ifs, else_if_before, MaybeElseClause, no_else, one_else, SwitchClauses, no_clauses, clause_before, MaybeContinuing, no_continuing, one_continuing, MaybeStatement, no_statement, one_statement}
 use Rattle.wgsl_model.specs.WithoutSpans.{no_span, bare_expression_node}
-use Rattle.wgsl_model.specs.StatementsWithoutSpans.{bare_break_if, bare_selector, bare_statement, bare_statement_node, bare_statements, bare_compound, bare_if, bare_if_clause, bare_else_if_clause, bare_else_ifs, bare_else_clause, bare_else, bare_switch, bare_clauses, bare_switch_clause, bare_loop, bare_maybe_continuing, bare_continuing, bare_for, bare_part, bare_while}
+use Rattle.wgsl_model.specs.StatementsWithoutSpans.{bare_break_if, bare_selector, bare_statement, bare_unattributed, bare_statement_node, bare_statements, bare_compound, bare_if, bare_if_clause, bare_else_if_clause, bare_else_ifs, bare_else_clause, bare_else, bare_switch, bare_clauses, bare_switch_clause, bare_loop, bare_maybe_continuing, bare_continuing, bare_for, bare_part, bare_while}
 use Rattle.wgsl_equality.specs.Code.{Code, number, pair, same}
 use Rattle.wgsl_equality.specs.Laws.{same_is}
 use Rattle.wgsl_equality.specs.Expressions.{expression_node_code}
 use Rattle.wgsl_equality.specs.Declarations.{break_if_code, selector_code}
-use Rattle.wgsl_equality.specs.Statements.{statement_code, statement_node_code, statements_code, compound_code, if_code, if_clause_code, else_if_clause_code, else_ifs_code, else_clause_code, else_code, switch_code, clauses_code, switch_clause_code, loop_code, maybe_continuing_code, continuing_code, for_code, part_code, while_code}
+use Rattle.wgsl_equality.specs.Statements.{statement_code, unattributed_code, statement_node_code, statements_code, compound_code, if_code, if_clause_code, else_if_clause_code, else_ifs_code, else_clause_code, else_code, switch_code, clauses_code, switch_clause_code, loop_code, maybe_continuing_code, continuing_code, for_code, part_code, while_code}
 use Rattle.wgsl_equality.proofs.Parts.{value_at, number_of, option_of, option_decoded, option_coded, list_of, list_decoded, list_coded}
 use Rattle.wgsl_equality.proofs.ExpressionLaws.{node_of, node_decoded, node_coded}
 use Rattle.wgsl_equality.proofs.AttributeLaws.{attributes_of, attributes_decoded, attributes_coded}
@@ -20,9 +20,13 @@ nowhere s = statement_node s no_span
 -- the tree of a code, its spans all set aside
 abbrev mutual
   statement_of : Code → Statement
-  statement_of (pair n c) = value_at {X = Unit {0} → Statement} (λ _. void) (
+  statement_of (pair s a) = statement (attributes_of a) (unattributed_of s)
+  statement_of c = statement [] void
+
+  unattributed_of : Code → UnattributedStatement
+  unattributed_of (pair n c) = value_at {X = Unit {0} → UnattributedStatement} (λ _. void) (
       (λ _. void) ∷
-      (λ _. compound (compound_of c)) ∷
+      (λ _. compound (statements_of c)) ∷
       (λ _. assignment (assignment_of c)) ∷
       (λ _. increment (increment_of c)) ∷
       (λ _. decrement (decrement_of c)) ∷
@@ -38,19 +42,19 @@ abbrev mutual
       (λ _. function_call_statement (call_statement_of c)) ∷
       (λ _. const_assert (assert_of c)) ∷
       (λ _. declaration (declaration_of c)) ∷ []) (number_of n) tt
-  statement_of c = void
+  unattributed_of c = void
 
   statements_of : Code → StatementNodes
   statements_of (pair s ss) = statement_before (nowhere (statement_of s)) (statements_of ss)
   statements_of c = no_statements
 
   pub compound_of : Code → CompoundStatement
-  compound_of (pair a ss) = compound_statement (attributes_of a) (statements_of ss)
+  compound_of (pair ss a) = compound_statement (attributes_of a) (statements_of ss)
   compound_of c = compound_statement [] no_statements
 
   if_of : Code → IfStatement
-  if_of (pair a (pair first (pair others last))) = if_else (attributes_of a) (if_clause_of first) (else_ifs_of others) (else_of last)
-  if_of c = if_else [] (if_clause (node_of c) (compound_statement [] no_statements)) no_else_ifs no_else
+  if_of (pair first (pair others last)) = if_else (if_clause_of first) (else_ifs_of others) (else_of last)
+  if_of c = if_else (if_clause (node_of c) (compound_statement [] no_statements)) no_else_ifs no_else
 
   if_clause_of : Code → IfClause
   if_clause_of (pair e block) = if_clause (node_of e) (compound_of block)
@@ -69,8 +73,8 @@ abbrev mutual
   else_of c = no_else
 
   switch_of : Code → SwitchStatement
-  switch_of (pair a (pair e (pair b cs))) = switch (attributes_of a) (node_of e) (attributes_of b) (clauses_of cs)
-  switch_of c = switch [] (node_of c) [] no_clauses
+  switch_of (pair e (pair b cs)) = switch (node_of e) (attributes_of b) (clauses_of cs)
+  switch_of c = switch (node_of c) [] no_clauses
 
   clauses_of : Code → SwitchClauses
   clauses_of (pair c cs) = clause_before (switch_clause_of c) (clauses_of cs)
@@ -81,8 +85,8 @@ abbrev mutual
   switch_clause_of c = switch_clause [] (compound_statement [] no_statements)
 
   loop_of : Code → LoopStatement
-  loop_of (pair a (pair body last)) = repeat (attributes_of a) (compound_of body) (maybe_continuing_of last)
-  loop_of c = repeat [] (compound_statement [] no_statements) no_continuing
+  loop_of (pair body last) = repeat (compound_of body) (maybe_continuing_of last)
+  loop_of c = repeat (compound_statement [] no_statements) no_continuing
 
   maybe_continuing_of : Code → MaybeContinuing
   maybe_continuing_of (pair n c) = one_continuing (continuing_of c)
@@ -93,36 +97,39 @@ abbrev mutual
   continuing_of c = continuing (compound_statement [] no_statements) (option_of break_if_of c)
 
   for_of : Code → ForStatement
-  for_of (pair a (pair init (pair condition (pair update block)))) = repeat_for (attributes_of a) (part_of init) (option_of node_of condition) (part_of update) (compound_of block)
-  for_of c = repeat_for [] no_statement (option_of node_of c) no_statement (compound_statement [] no_statements)
+  for_of (pair init (pair condition (pair update block))) = repeat_for (part_of init) (option_of node_of condition) (part_of update) (compound_of block)
+  for_of c = repeat_for no_statement (option_of node_of c) no_statement (compound_statement [] no_statements)
 
   part_of : Code → MaybeStatement
   part_of (pair n s) = one_statement (nowhere (statement_of s))
   part_of c = no_statement
 
   while_of : Code → WhileStatement
-  while_of (pair a (pair e block)) = repeat_while (attributes_of a) (node_of e) (compound_of block)
-  while_of c = repeat_while [] (node_of c) (compound_statement [] no_statements)
+  while_of (pair e block) = repeat_while (node_of e) (compound_of block)
+  while_of c = repeat_while (node_of c) (compound_statement [] no_statements)
 
 mutual
   statement_decoded : (s : Statement) → statement_of (statement_code s) ≡ bare_statement s
-  statement_decoded void = refl
-  statement_decoded (compound b) = ap (λ t. compound t) (compound_decoded b)
-  statement_decoded (assignment a) = ap (λ t. assignment t) (assignment_decoded a)
-  statement_decoded (increment i) = ap (λ t. increment t) (increment_decoded i)
-  statement_decoded (decrement d) = ap (λ t. decrement t) (decrement_decoded d)
-  statement_decoded (if_statement s) = ap (λ t. if_statement t) (if_decoded s)
-  statement_decoded (switch_statement s) = ap (λ t. switch_statement t) (switch_decoded s)
-  statement_decoded (loop_statement s) = ap (λ t. loop_statement t) (loop_decoded s)
-  statement_decoded (for_statement s) = ap (λ t. for_statement t) (for_decoded s)
-  statement_decoded (while_statement s) = ap (λ t. while_statement t) (while_decoded s)
-  statement_decoded break_statement = refl
-  statement_decoded continue_statement = refl
-  statement_decoded (return_statement r) = ap (λ t. return_statement t) (return_decoded r)
-  statement_decoded discard_statement = refl
-  statement_decoded (function_call_statement c) = ap (λ t. function_call_statement t) (call_statement_decoded c)
-  statement_decoded (const_assert c) = ap (λ t. const_assert t) (assert_decoded c)
-  statement_decoded (declaration d) = ap (λ t. declaration t) (declaration_decoded d)
+  statement_decoded (statement attributes s) = λ i. statement (attributes_decoded attributes i) (unattributed_decoded s i)
+
+  unattributed_decoded : (s : UnattributedStatement) → unattributed_of (unattributed_code s) ≡ bare_unattributed s
+  unattributed_decoded void = refl
+  unattributed_decoded (compound ss) = ap (λ t. compound t) (statements_decoded ss)
+  unattributed_decoded (assignment a) = ap (λ t. assignment t) (assignment_decoded a)
+  unattributed_decoded (increment i) = ap (λ t. increment t) (increment_decoded i)
+  unattributed_decoded (decrement d) = ap (λ t. decrement t) (decrement_decoded d)
+  unattributed_decoded (if_statement s) = ap (λ t. if_statement t) (if_decoded s)
+  unattributed_decoded (switch_statement s) = ap (λ t. switch_statement t) (switch_decoded s)
+  unattributed_decoded (loop_statement s) = ap (λ t. loop_statement t) (loop_decoded s)
+  unattributed_decoded (for_statement s) = ap (λ t. for_statement t) (for_decoded s)
+  unattributed_decoded (while_statement s) = ap (λ t. while_statement t) (while_decoded s)
+  unattributed_decoded break_statement = refl
+  unattributed_decoded continue_statement = refl
+  unattributed_decoded (return_statement r) = ap (λ t. return_statement t) (return_decoded r)
+  unattributed_decoded discard_statement = refl
+  unattributed_decoded (function_call_statement c) = ap (λ t. function_call_statement t) (call_statement_decoded c)
+  unattributed_decoded (const_assert c) = ap (λ t. const_assert t) (assert_decoded c)
+  unattributed_decoded (declaration d) = ap (λ t. declaration t) (declaration_decoded d)
 
   statement_node_decoded : (s : StatementNode) → nowhere (statement_of (statement_node_code s)) ≡ bare_statement_node s
   statement_node_decoded (statement_node s span) = ap nowhere (statement_decoded s)
@@ -135,7 +142,7 @@ mutual
   compound_decoded (compound_statement attributes ss) = λ i. compound_statement (attributes_decoded attributes i) (statements_decoded ss i)
 
   if_decoded : (s : IfStatement) → if_of (if_code s) ≡ bare_if s
-  if_decoded (if_else attributes first others last) = λ i. if_else (attributes_decoded attributes i) (if_clause_decoded first i) (else_ifs_decoded others i) (else_decoded last i)
+  if_decoded (if_else first others last) = λ i. if_else (if_clause_decoded first i) (else_ifs_decoded others i) (else_decoded last i)
 
   if_clause_decoded : (c : IfClause) → if_clause_of (if_clause_code c) ≡ bare_if_clause c
   if_clause_decoded (if_clause e block) = λ i. if_clause (node_decoded e i) (compound_decoded block i)
@@ -155,7 +162,7 @@ mutual
   else_decoded (one_else c) = λ i. one_else (else_clause_decoded c i)
 
   switch_decoded : (s : SwitchStatement) → switch_of (switch_code s) ≡ bare_switch s
-  switch_decoded (switch attributes e body_attributes cs) = λ i. switch (attributes_decoded attributes i) (node_decoded e i) (attributes_decoded body_attributes i) (clauses_decoded cs i)
+  switch_decoded (switch e body_attributes cs) = λ i. switch (node_decoded e i) (attributes_decoded body_attributes i) (clauses_decoded cs i)
 
   clauses_decoded : (cs : SwitchClauses) → clauses_of (clauses_code cs) ≡ bare_clauses cs
   clauses_decoded no_clauses = refl
@@ -165,7 +172,7 @@ mutual
   switch_clause_decoded (switch_clause selectors block) = λ i. switch_clause (list_decoded selector_code selector_of bare_selector selector_decoded selectors i) (compound_decoded block i)
 
   loop_decoded : (s : LoopStatement) → loop_of (loop_code s) ≡ bare_loop s
-  loop_decoded (repeat attributes body last) = λ i. repeat (attributes_decoded attributes i) (compound_decoded body i) (maybe_continuing_decoded last i)
+  loop_decoded (repeat body last) = λ i. repeat (compound_decoded body i) (maybe_continuing_decoded last i)
 
   maybe_continuing_decoded : (c : MaybeContinuing) → maybe_continuing_of (maybe_continuing_code c) ≡ bare_maybe_continuing c
   maybe_continuing_decoded no_continuing = refl
@@ -175,34 +182,37 @@ mutual
   continuing_decoded (continuing body condition) = λ i. continuing (compound_decoded body i) (option_decoded break_if_code break_if_of bare_break_if break_if_decoded condition i)
 
   for_decoded : (s : ForStatement) → for_of (for_code s) ≡ bare_for s
-  for_decoded (repeat_for attributes init condition update block) = λ i. repeat_for (attributes_decoded attributes i) (part_decoded init i) (option_decoded expression_node_code node_of bare_expression_node node_decoded condition i) (part_decoded update i) (compound_decoded block i)
+  for_decoded (repeat_for init condition update block) = λ i. repeat_for (part_decoded init i) (option_decoded expression_node_code node_of bare_expression_node node_decoded condition i) (part_decoded update i) (compound_decoded block i)
 
   part_decoded : (p : MaybeStatement) → part_of (part_code p) ≡ bare_part p
   part_decoded no_statement = refl
   part_decoded (one_statement s) = λ i. one_statement (statement_node_decoded s i)
 
   while_decoded : (s : WhileStatement) → while_of (while_code s) ≡ bare_while s
-  while_decoded (repeat_while attributes e block) = λ i. repeat_while (attributes_decoded attributes i) (node_decoded e i) (compound_decoded block i)
+  while_decoded (repeat_while e block) = λ i. repeat_while (node_decoded e i) (compound_decoded block i)
 
 mutual
   statement_coded : (s : Statement) → statement_code (bare_statement s) ≡ statement_code s
-  statement_coded void = refl
-  statement_coded (compound b) = ap (pair (number 1)) (compound_coded b)
-  statement_coded (assignment a) = ap (pair (number 2)) (assignment_coded a)
-  statement_coded (increment i) = ap (pair (number 3)) (increment_coded i)
-  statement_coded (decrement d) = ap (pair (number 4)) (decrement_coded d)
-  statement_coded (if_statement s) = ap (pair (number 5)) (if_coded s)
-  statement_coded (switch_statement s) = ap (pair (number 6)) (switch_coded s)
-  statement_coded (loop_statement s) = ap (pair (number 7)) (loop_coded s)
-  statement_coded (for_statement s) = ap (pair (number 8)) (for_coded s)
-  statement_coded (while_statement s) = ap (pair (number 9)) (while_coded s)
-  statement_coded break_statement = refl
-  statement_coded continue_statement = refl
-  statement_coded (return_statement r) = ap (pair (number 12)) (return_coded r)
-  statement_coded discard_statement = refl
-  statement_coded (function_call_statement c) = ap (pair (number 14)) (call_statement_coded c)
-  statement_coded (const_assert c) = ap (pair (number 15)) (assert_coded c)
-  statement_coded (declaration d) = ap (pair (number 16)) (declaration_coded d)
+  statement_coded (statement attributes s) = λ i. pair (unattributed_coded s i) (attributes_coded attributes i)
+
+  unattributed_coded : (s : UnattributedStatement) → unattributed_code (bare_unattributed s) ≡ unattributed_code s
+  unattributed_coded void = refl
+  unattributed_coded (compound ss) = ap (pair (number 1)) (statements_coded ss)
+  unattributed_coded (assignment a) = ap (pair (number 2)) (assignment_coded a)
+  unattributed_coded (increment i) = ap (pair (number 3)) (increment_coded i)
+  unattributed_coded (decrement d) = ap (pair (number 4)) (decrement_coded d)
+  unattributed_coded (if_statement s) = ap (pair (number 5)) (if_coded s)
+  unattributed_coded (switch_statement s) = ap (pair (number 6)) (switch_coded s)
+  unattributed_coded (loop_statement s) = ap (pair (number 7)) (loop_coded s)
+  unattributed_coded (for_statement s) = ap (pair (number 8)) (for_coded s)
+  unattributed_coded (while_statement s) = ap (pair (number 9)) (while_coded s)
+  unattributed_coded break_statement = refl
+  unattributed_coded continue_statement = refl
+  unattributed_coded (return_statement r) = ap (pair (number 12)) (return_coded r)
+  unattributed_coded discard_statement = refl
+  unattributed_coded (function_call_statement c) = ap (pair (number 14)) (call_statement_coded c)
+  unattributed_coded (const_assert c) = ap (pair (number 15)) (assert_coded c)
+  unattributed_coded (declaration d) = ap (pair (number 16)) (declaration_coded d)
 
   statement_node_coded : (s : StatementNode) → statement_node_code (bare_statement_node s) ≡ statement_node_code s
   statement_node_coded (statement_node s span) = statement_coded s
@@ -212,10 +222,10 @@ mutual
   statements_coded (statement_before s ss) = λ i. pair (statement_node_coded s i) (statements_coded ss i)
 
   pub compound_coded : (b : CompoundStatement) → compound_code (bare_compound b) ≡ compound_code b
-  compound_coded (compound_statement attributes ss) = λ i. pair (attributes_coded attributes i) (statements_coded ss i)
+  compound_coded (compound_statement attributes ss) = λ i. pair (statements_coded ss i) (attributes_coded attributes i)
 
   if_coded : (s : IfStatement) → if_code (bare_if s) ≡ if_code s
-  if_coded (if_else attributes first others last) = λ i. pair (attributes_coded attributes i) (pair (if_clause_coded first i) (pair (else_ifs_coded others i) (else_coded last i)))
+  if_coded (if_else first others last) = λ i. pair (if_clause_coded first i) (pair (else_ifs_coded others i) (else_coded last i))
 
   if_clause_coded : (c : IfClause) → if_clause_code (bare_if_clause c) ≡ if_clause_code c
   if_clause_coded (if_clause e block) = λ i. pair (node_coded e i) (compound_coded block i)
@@ -235,7 +245,7 @@ mutual
   else_coded (one_else c) = λ i. pair (number 0) (else_clause_coded c i)
 
   switch_coded : (s : SwitchStatement) → switch_code (bare_switch s) ≡ switch_code s
-  switch_coded (switch attributes e body_attributes cs) = λ i. pair (attributes_coded attributes i) (pair (node_coded e i) (pair (attributes_coded body_attributes i) (clauses_coded cs i)))
+  switch_coded (switch e body_attributes cs) = λ i. pair (node_coded e i) (pair (attributes_coded body_attributes i) (clauses_coded cs i))
 
   clauses_coded : (cs : SwitchClauses) → clauses_code (bare_clauses cs) ≡ clauses_code cs
   clauses_coded no_clauses = refl
@@ -245,7 +255,7 @@ mutual
   switch_clause_coded (switch_clause selectors block) = λ i. pair (list_coded selector_code bare_selector selector_coded selectors i) (compound_coded block i)
 
   loop_coded : (s : LoopStatement) → loop_code (bare_loop s) ≡ loop_code s
-  loop_coded (repeat attributes body last) = λ i. pair (attributes_coded attributes i) (pair (compound_coded body i) (maybe_continuing_coded last i))
+  loop_coded (repeat body last) = λ i. pair (compound_coded body i) (maybe_continuing_coded last i)
 
   maybe_continuing_coded : (c : MaybeContinuing) → maybe_continuing_code (bare_maybe_continuing c) ≡ maybe_continuing_code c
   maybe_continuing_coded no_continuing = refl
@@ -255,14 +265,14 @@ mutual
   continuing_coded (continuing body condition) = λ i. pair (compound_coded body i) (option_coded break_if_code bare_break_if break_if_coded condition i)
 
   for_coded : (s : ForStatement) → for_code (bare_for s) ≡ for_code s
-  for_coded (repeat_for attributes init condition update block) = λ i. pair (attributes_coded attributes i) (pair (part_coded init i) (pair (option_coded expression_node_code bare_expression_node node_coded condition i) (pair (part_coded update i) (compound_coded block i))))
+  for_coded (repeat_for init condition update block) = λ i. pair (part_coded init i) (pair (option_coded expression_node_code bare_expression_node node_coded condition i) (pair (part_coded update i) (compound_coded block i)))
 
   part_coded : (p : MaybeStatement) → part_code (bare_part p) ≡ part_code p
   part_coded no_statement = refl
   part_coded (one_statement s) = λ i. pair (number 0) (statement_node_coded s i)
 
   while_coded : (s : WhileStatement) → while_code (bare_while s) ≡ while_code s
-  while_coded (repeat_while attributes e block) = λ i. pair (attributes_coded attributes i) (pair (node_coded e i) (compound_coded block i))
+  while_coded (repeat_while e block) = λ i. pair (node_coded e i) (compound_coded block i)
 
 -- where the codes are the same, the statements are equal with their spans aside
 pub statements_equal : (a b : Statement) → (same (statement_code a) (statement_code b) ≡ true) ↔ (bare_statement a ≡ bare_statement b)

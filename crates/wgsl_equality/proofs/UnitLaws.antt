@@ -2,18 +2,19 @@
 use Rattle.std.specs.Prelude.{ℕ, true, List, [], ◌∷◌, map, ◌≡◌, ◌↔◌}
 use Rattle.std.proofs.Common.{refl, ap}
 use Rattle.wgsl_model.specs.Spanned.{Spanned}
-use Rattle.wgsl_model.specs.Units.{DiagnosticDirective, EnableDirective, RequiresDirective, GlobalDirective, diagnostic, enable, requires, TypeAlias, StructMember, Struct, FormalParameter, Function, GlobalDeclaration, void, declaration, type_alias, structure, function, const_assert, TranslationUnit}
+use Rattle.wgsl_model.specs.Attributed.{with_attributes}
+use Rattle.wgsl_model.specs.Units.{DiagnosticDirective, EnableDirective, RequiresDirective, GlobalDirective, diagnostic, enable, requires, TypeAlias, StructMember, Struct, FormalParameter, Function, GlobalDeclaration, UnattributedDeclaration, void, declaration, type_alias, structure, function, const_assert, TranslationUnit}
 use Rattle.wgsl_model.specs.WithoutSpans.{no_span, bare_spanned, bare_type}
-use Rattle.wgsl_model.specs.StatementsWithoutSpans.{bare_type_alias, bare_member, bare_struct, bare_parameter, bare_function, bare_global_declaration, bare_unit}
+use Rattle.wgsl_model.specs.StatementsWithoutSpans.{bare_type_alias, bare_member, bare_struct, bare_parameter, bare_function, bare_unattributed_declaration, bare_global_declaration, bare_unit}
 use Rattle.wgsl_equality.specs.Code.{Code, number, text, pair, same, list_code}
 use Rattle.wgsl_equality.specs.Laws.{same_is}
 use Rattle.wgsl_equality.specs.Expressions.{type_code}
-use Rattle.wgsl_equality.specs.Units.{diagnostic_directive_code, enable_directive_code, requires_directive_code, global_directive_code, type_alias_code, member_code, struct_code, parameter_code, function_code, global_declaration_code, unit_code}
+use Rattle.wgsl_equality.specs.Units.{diagnostic_directive_code, enable_directive_code, requires_directive_code, global_directive_code, type_alias_code, member_code, struct_code, parameter_code, function_code, unattributed_declaration_code, global_declaration_code, unit_code}
 use Rattle.wgsl_equality.proofs.Parts.{value_at, number_of, text_of, option_of, option_decoded, option_coded, list_of, list_decoded, list_coded}
 use Rattle.wgsl_equality.proofs.NamedValueLaws.{severity_of, severity_decoded}
 use Rattle.wgsl_equality.proofs.ExpressionLaws.{type_of, type_decoded, type_coded}
 use Rattle.wgsl_equality.proofs.AttributeLaws.{first_of, second_of, attributes_of, attributes_decoded, attributes_coded}
-use Rattle.wgsl_equality.proofs.DeclarationLaws.{declaration_of, declaration_decoded, declaration_coded, assert_of, assert_decoded, assert_coded}
+use Rattle.wgsl_equality.proofs.DeclarationLaws.{attributed_decoded, attributed_coded, declaration_of, declaration_decoded, declaration_coded, assert_of, assert_decoded, assert_coded}
 use Rattle.wgsl_equality.proofs.StatementLaws.{compound_of, compound_decoded, compound_coded}
 
 -- nodes, each with where it stands
@@ -86,12 +87,11 @@ parameter_of c = record { attributes = attributes_of (first_of c); ident = text_
 
 abbrev function_of : Code → Function
 function_of c = record {
-  attributes = attributes_of (first_of c);
-  ident = text_of (first_of (second_of c));
-  parameters = list_of parameter_of (first_of (second_of (second_of c)));
-  return_attributes = attributes_of (first_of (second_of (second_of (second_of c))));
-  return_type = option_of type_of (first_of (second_of (second_of (second_of (second_of c)))));
-  body = compound_of (second_of (second_of (second_of (second_of (second_of c)))));
+  ident = text_of (first_of c);
+  parameters = list_of parameter_of (first_of (second_of c));
+  return_attributes = attributes_of (first_of (second_of (second_of c)));
+  return_type = option_of type_of (first_of (second_of (second_of (second_of c))));
+  body = compound_of (second_of (second_of (second_of (second_of c))));
 }
 
 type_alias_decoded : (a : TypeAlias) → type_alias_of (type_alias_code a) ≡ bare_type_alias a
@@ -108,7 +108,6 @@ parameter_decoded p = λ i. record { attributes = attributes_decoded p.attribute
 
 function_decoded : (f : Function) → function_of (function_code f) ≡ bare_function f
 function_decoded f = λ i. record {
-  attributes = attributes_decoded f.attributes i;
   ident = f.ident;
   parameters = list_decoded parameter_code parameter_of bare_parameter parameter_decoded f.parameters i;
   return_attributes = attributes_decoded f.return_attributes i;
@@ -129,35 +128,44 @@ parameter_coded : (p : FormalParameter) → parameter_code (bare_parameter p) �
 parameter_coded p = λ i. pair (attributes_coded p.attributes i) (pair (text p.ident) (type_coded p.ty i))
 
 function_coded : (f : Function) → function_code (bare_function f) ≡ function_code f
-function_coded f = λ i. pair (attributes_coded f.attributes i) (pair (text f.ident) (pair (list_coded parameter_code bare_parameter parameter_coded f.parameters i)
-    (pair (attributes_coded f.return_attributes i) (pair (option_coded type_code bare_type type_coded f.return_type i) (compound_coded f.body i)))))
+function_coded f = λ i. pair (text f.ident) (pair (list_coded parameter_code bare_parameter parameter_coded f.parameters i)
+    (pair (attributes_coded f.return_attributes i) (pair (option_coded type_code bare_type type_coded f.return_type i) (compound_coded f.body i))))
 
-abbrev global_declaration_at : ℕ → Code → GlobalDeclaration
-global_declaration_at = value_at (λ c. const_assert (assert_of c)) (
+abbrev unattributed_declaration_at : ℕ → Code → UnattributedDeclaration
+unattributed_declaration_at = value_at (λ c. const_assert (assert_of c)) (
     (λ _. void) ∷
     (λ c. declaration (declaration_of c)) ∷
     (λ c. type_alias (type_alias_of c)) ∷
     (λ c. structure (struct_of c)) ∷
     (λ c. function (function_of c)) ∷ [])
 
+abbrev unattributed_declaration_of : Code → UnattributedDeclaration
+unattributed_declaration_of c = unattributed_declaration_at (number_of (first_of c)) (second_of c)
+
+unattributed_declaration_decoded : (d : UnattributedDeclaration) → unattributed_declaration_of (unattributed_declaration_code d) ≡ bare_unattributed_declaration d
+unattributed_declaration_decoded void = refl
+unattributed_declaration_decoded (declaration d) = ap declaration (declaration_decoded d)
+unattributed_declaration_decoded (type_alias a) = ap type_alias (type_alias_decoded a)
+unattributed_declaration_decoded (structure s) = ap structure (struct_decoded s)
+unattributed_declaration_decoded (function f) = ap function (function_decoded f)
+unattributed_declaration_decoded (const_assert c) = ap const_assert (assert_decoded c)
+
+unattributed_declaration_coded : (d : UnattributedDeclaration) → unattributed_declaration_code (bare_unattributed_declaration d) ≡ unattributed_declaration_code d
+unattributed_declaration_coded void = refl
+unattributed_declaration_coded (declaration d) = ap (pair (number 1)) (declaration_coded d)
+unattributed_declaration_coded (type_alias a) = ap (pair (number 2)) (type_alias_coded a)
+unattributed_declaration_coded (structure s) = ap (pair (number 3)) (struct_coded s)
+unattributed_declaration_coded (function f) = ap (pair (number 4)) (function_coded f)
+unattributed_declaration_coded (const_assert c) = ap (pair (number 5)) (assert_coded c)
+
 abbrev global_declaration_of : Code → GlobalDeclaration
-global_declaration_of c = global_declaration_at (number_of (first_of c)) (second_of c)
+global_declaration_of c = with_attributes (attributes_of (second_of c)) (unattributed_declaration_of (first_of c))
 
 global_declaration_decoded : (d : GlobalDeclaration) → global_declaration_of (global_declaration_code d) ≡ bare_global_declaration d
-global_declaration_decoded void = refl
-global_declaration_decoded (declaration d) = ap declaration (declaration_decoded d)
-global_declaration_decoded (type_alias a) = ap type_alias (type_alias_decoded a)
-global_declaration_decoded (structure s) = ap structure (struct_decoded s)
-global_declaration_decoded (function f) = ap function (function_decoded f)
-global_declaration_decoded (const_assert c) = ap const_assert (assert_decoded c)
+global_declaration_decoded = attributed_decoded unattributed_declaration_code bare_unattributed_declaration unattributed_declaration_of unattributed_declaration_decoded
 
 global_declaration_coded : (d : GlobalDeclaration) → global_declaration_code (bare_global_declaration d) ≡ global_declaration_code d
-global_declaration_coded void = refl
-global_declaration_coded (declaration d) = ap (pair (number 1)) (declaration_coded d)
-global_declaration_coded (type_alias a) = ap (pair (number 2)) (type_alias_coded a)
-global_declaration_coded (structure s) = ap (pair (number 3)) (struct_coded s)
-global_declaration_coded (function f) = ap (pair (number 4)) (function_coded f)
-global_declaration_coded (const_assert c) = ap (pair (number 5)) (assert_coded c)
+global_declaration_coded = attributed_coded unattributed_declaration_code bare_unattributed_declaration unattributed_declaration_coded
 
 -- a module, read back
 abbrev unit_of : Code → TranslationUnit

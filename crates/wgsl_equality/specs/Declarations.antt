@@ -2,6 +2,7 @@
 use Rattle.std.specs.Prelude.{ℕ, Option}
 use Rattle.wgsl_model.specs.Operators.{AssignmentOperator, equal, plus_equal, minus_equal, times_equal, division_equal, modulo_equal, and_equal, or_equal, xor_equal, shift_right_assign, shift_left_assign}
 use Rattle.wgsl_model.specs.NamedValues.{AddressSpace, AccessMode}
+use Rattle.wgsl_model.specs.Attributed.{Attributed}
 use Rattle.wgsl_model.specs.Statements.{DeclarationKind, const_kind, override_kind, let_kind, var_kind, Declaration, AssignmentStatement, IncrementStatement, DecrementStatement, ReturnStatement, FunctionCallStatement, ConstAssert, BreakIfStatement, CaseSelector, default_selector, expression_selector}
 use Rattle.wgsl_equality.specs.Code.{Code, number, text, pair, option_code}
 use Rattle.wgsl_equality.specs.NamedValues.{address_space_number, access_mode_number}
@@ -21,6 +22,10 @@ assignment_operator_number xor_equal = 8
 assignment_operator_number shift_right_assign = 9
 assignment_operator_number shift_left_assign = 10
 
+-- a node, then its attributes: two kinds differ at once, whatever their attributes are
+abbrev pub attributed_code : {Node : Type 0} → (Node → Code) → Attributed Node → Code
+attributed_code code a = pair (code a.node) (attributes_code a.attributes)
+
 -- the template of a `var`
 abbrev pub var_template_code : AddressSpace × Option AccessMode → Code
 var_template_code p = pair (number (address_space_number p.0)) (option_code (λ mode. number (access_mode_number mode)) p.1)
@@ -32,7 +37,7 @@ declaration_kind_code let_kind = pair (number 2) (number 0)
 declaration_kind_code (var_kind template) = pair (number 3) (option_code var_template_code template)
 
 abbrev pub declaration_code : Declaration → Code
-declaration_code d = pair (attributes_code d.attributes) (pair (declaration_kind_code d.kind) (pair (text d.ident) (pair (option_code type_code d.ty) (option_code expression_node_code d.initializer))))
+declaration_code d = pair (declaration_kind_code d.kind) (pair (text d.ident) (pair (option_code type_code d.ty) (option_code expression_node_code d.initializer)))
 
 abbrev pub assignment_code : AssignmentStatement → Code
 assignment_code a = pair (number (assignment_operator_number a.operator)) (pair (expression_node_code a.lhs) (expression_node_code a.rhs))

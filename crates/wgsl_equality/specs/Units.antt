@@ -1,10 +1,10 @@
 -- Modules, their directives and their declarations as numbers and texts, without their spans.
-use Rattle.wgsl_model.specs.Units.{DiagnosticDirective, EnableDirective, RequiresDirective, GlobalDirective, diagnostic, enable, requires, TypeAlias, StructMember, Struct, FormalParameter, Function, GlobalDeclaration, void, declaration, type_alias, structure, function, const_assert, TranslationUnit}
+use Rattle.wgsl_model.specs.Units.{DiagnosticDirective, EnableDirective, RequiresDirective, GlobalDirective, diagnostic, enable, requires, TypeAlias, StructMember, Struct, FormalParameter, Function, GlobalDeclaration, UnattributedDeclaration, void, declaration, type_alias, structure, function, const_assert, TranslationUnit}
 use Rattle.wgsl_equality.specs.Code.{Code, number, text, pair, list_code, option_code}
 use Rattle.wgsl_equality.specs.NamedValues.{severity_number}
 use Rattle.wgsl_equality.specs.Expressions.{type_code}
 use Rattle.wgsl_equality.specs.Attributes.{attributes_code}
-use Rattle.wgsl_equality.specs.Declarations.{declaration_code, assert_code}
+use Rattle.wgsl_equality.specs.Declarations.{attributed_code, declaration_code, assert_code}
 use Rattle.wgsl_equality.specs.Statements.{compound_code}
 
 -- directives
@@ -37,16 +37,19 @@ parameter_code p = pair (attributes_code p.attributes) (pair (text p.ident) (typ
 
 abbrev pub function_code : Function → Code
 function_code f =
-    pair (attributes_code f.attributes) (pair (text f.ident) (pair (list_code parameter_code f.parameters)
-    (pair (attributes_code f.return_attributes) (pair (option_code type_code f.return_type) (compound_code f.body)))))
+    pair (text f.ident) (pair (list_code parameter_code f.parameters)
+    (pair (attributes_code f.return_attributes) (pair (option_code type_code f.return_type) (compound_code f.body))))
+
+abbrev pub unattributed_declaration_code : UnattributedDeclaration → Code
+unattributed_declaration_code void = pair (number 0) (number 0)
+unattributed_declaration_code (declaration d) = pair (number 1) (declaration_code d)
+unattributed_declaration_code (type_alias a) = pair (number 2) (type_alias_code a)
+unattributed_declaration_code (structure s) = pair (number 3) (struct_code s)
+unattributed_declaration_code (function f) = pair (number 4) (function_code f)
+unattributed_declaration_code (const_assert c) = pair (number 5) (assert_code c)
 
 abbrev pub global_declaration_code : GlobalDeclaration → Code
-global_declaration_code void = pair (number 0) (number 0)
-global_declaration_code (declaration d) = pair (number 1) (declaration_code d)
-global_declaration_code (type_alias a) = pair (number 2) (type_alias_code a)
-global_declaration_code (structure s) = pair (number 3) (struct_code s)
-global_declaration_code (function f) = pair (number 4) (function_code f)
-global_declaration_code (const_assert c) = pair (number 5) (assert_code c)
+global_declaration_code = attributed_code unattributed_declaration_code
 
 -- a module
 abbrev pub unit_code : TranslationUnit → Code

@@ -7,6 +7,7 @@ use Rattle.wgsl_model.specs.NamedValues.{AccessMode.read_write, AddressSpace.sto
 use Rattle.wgsl_model.specs.Spanned.{Spanned, spanned}
 use Rattle.wgsl_model.specs.Expressions.{Expression, TypeExpression.type_expression, TemplateArguments.no_template, template_of}
 use Rattle.wgsl_model.specs.Attributes.{OneArgument, NoArgument, Attribute}
+use Rattle.wgsl_model.specs.Attributed.{with_attributes, without_attributes}
 use Rattle.wgsl_model.specs.Statements.{DeclarationKind, StatementNode.statement_node}
 use Rattle.wgsl_model.specs.Units.{GlobalDeclaration}
 use Rattle.wgsl_model.specs.StatementParts.{compound_of, return_of}
@@ -29,29 +30,29 @@ abbrev pub entry_point_tokens : List Token
 entry_point_tokens = (sign SymAttr 0 1) ∷ (word (codes "fragment") 1 9) ∷ (sign KwFn 10 12) ∷ (word (codes "frag_main") 13 22) ∷ (sign SymParenLeft 22 23) ∷ (sign SymParenRight 23 24) ∷ (sign SymArrow 25 27) ∷ (sign SymAttr 28 29) ∷ (word (codes "location") 29 37) ∷ (sign SymParenLeft 37 38) ∷ (number_of 0 38 39) ∷ (sign SymParenRight 39 40) ∷ (word (codes "vec4f") 41 46) ∷ (sign SymBraceLeft 47 48) ∷ (sign KwReturn 49 55) ∷ (word (codes "vec4") 56 60) ∷ (sign SymParenLeft 60 61) ∷ (number_of 1 61 62) ∷ (sign SymParenRight 62 63) ∷ (sign SymSemicolon 63 64) ∷ (sign SymBraceRight 65 66) ∷ []
 
 abbrev pub entry_point_tree : Spanned GlobalDeclaration
-entry_point_tree = spanned (function_of (spanned (Attribute.without_argument NoArgument.fragment) (span 0 9) ∷ []) (word (codes "frag_main") 13 22) [] (Some (spanned (Attribute.with_argument OneArgument.location (number_at 0 38 39)) (span 28 40) ∷ [], (type_expression (codes "vec4f") no_template)))
-    (compound_of [] (statement_node (return_of (Some (at (Expression.function_call (call_at (codes "vec4") None ((number_at 1 61 62) ∷ []))) 56 63))) (span 49 64) ∷ []))) (span 0 66)
+entry_point_tree = spanned (with_attributes (spanned (Attribute.without_argument NoArgument.fragment) (span 0 9) ∷ []) (function_of (word (codes "frag_main") 13 22) [] (Some (spanned (Attribute.with_argument OneArgument.location (number_at 0 38 39)) (span 28 40) ∷ [], (type_expression (codes "vec4f") no_template)))
+    (compound_of [] (statement_node (return_of (Some (at (Expression.function_call (call_at (codes "vec4") None ((number_at 1 61 62) ∷ []))) 56 63))) (span 49 64) ∷ [])))) (span 0 66)
 
 -- @const fn f() {}
 abbrev pub keyword_as_an_attribute_tokens : List Token
 keyword_as_an_attribute_tokens = (sign SymAttr 0 1) ∷ (sign KwConst 1 6) ∷ (sign KwFn 7 9) ∷ (word (codes "f") 10 11) ∷ (sign SymParenLeft 11 12) ∷ (sign SymParenRight 12 13) ∷ (sign SymBraceLeft 14 15) ∷ (sign SymBraceRight 15 16) ∷ []
 
 abbrev pub keyword_as_an_attribute_tree : Spanned GlobalDeclaration
-keyword_as_an_attribute_tree = spanned (function_of (spanned (Attribute.without_argument NoArgument.const_attribute) (span 0 6) ∷ []) (word (codes "f") 10 11) [] None (compound_of [] [])) (span 0 16)
+keyword_as_an_attribute_tree = spanned (with_attributes (spanned (Attribute.without_argument NoArgument.const_attribute) (span 0 6) ∷ []) (function_of (word (codes "f") 10 11) [] None (compound_of [] []))) (span 0 16)
 
 -- @type(T, i32 | f32) fn f() {}
 abbrev pub reserved_word_as_an_attribute_tokens : List Token
 reserved_word_as_an_attribute_tokens = (sign SymAttr 0 1) ∷ (reserved (codes "type") 1 5) ∷ (sign SymParenLeft 5 6) ∷ (word (codes "T") 6 7) ∷ (sign SymComma 7 8) ∷ (word (codes "i32") 9 12) ∷ (sign SymOr 13 14) ∷ (word (codes "f32") 15 18) ∷ (sign SymParenRight 18 19) ∷ (sign KwFn 20 22) ∷ (word (codes "f") 23 24) ∷ (sign SymParenLeft 24 25) ∷ (sign SymParenRight 25 26) ∷ (sign SymBraceLeft 27 28) ∷ (sign SymBraceRight 28 29) ∷ []
 
 abbrev pub reserved_word_as_an_attribute_tree : Spanned GlobalDeclaration
-reserved_word_as_an_attribute_tree = spanned (function_of (spanned (Attribute.type_constraint (record { ident = codes "T"; variants = (type_expression (codes "i32") no_template) ∷ ((type_expression (codes "f32") no_template) ∷ []) })) (span 0 19) ∷ []) (word (codes "f") 23 24) [] None (compound_of [] [])) (span 0 29)
+reserved_word_as_an_attribute_tree = spanned (with_attributes (spanned (Attribute.type_constraint (record { ident = codes "T"; variants = (type_expression (codes "i32") no_template) ∷ ((type_expression (codes "f32") no_template) ∷ []) })) (span 0 19) ∷ []) (function_of (word (codes "f") 23 24) [] None (compound_of [] []))) (span 0 29)
 
 -- var<storage, read_write> s: i32 = t;
 abbrev pub variable_in_storage_tokens : List Token
 variable_in_storage_tokens = (sign KwVar 0 3) ∷ (sign TemplateArgsStart 3 4) ∷ (word (codes "storage") 4 11) ∷ (sign SymComma 11 12) ∷ (word (codes "read_write") 13 23) ∷ (sign TemplateArgsEnd 23 24) ∷ (word (codes "s") 25 26) ∷ (sign SymColon 26 27) ∷ (word (codes "i32") 28 31) ∷ (sign SymEqual 32 33) ∷ (word (codes "t") 34 35) ∷ (sign SymSemicolon 35 36) ∷ []
 
 abbrev pub variable_in_storage_tree : Spanned GlobalDeclaration
-variable_in_storage_tree = spanned (value_of [] (DeclarationKind.var_kind (Some (storage, Some read_write))) (codes "s", Some (type_expression (codes "i32") no_template)) (Some (name_at (codes "t") 34 35))) (span 0 36)
+variable_in_storage_tree = spanned (without_attributes (value_of (DeclarationKind.var_kind (Some (storage, Some read_write))) (codes "s", Some (type_expression (codes "i32") no_template)) (Some (name_at (codes "t") 34 35)))) (span 0 36)
 
 -- struct S {}
 abbrev pub struct_without_members_tokens : List Token

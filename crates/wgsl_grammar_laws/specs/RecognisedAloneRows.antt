@@ -4,6 +4,7 @@ use Rattle.grammar.specs.Tokens.{Token, Fault}
 use Rattle.wgsl_model.specs.Classes.{SymAttr, SymBraceLeft, SymBraceRight, SymColon, SymComma, SymEqual, SymMinusMinus, SymParenLeft, SymParenRight, SymSemicolon, KwConst, KwDiagnostic, KwFn, KwVar, TemplateArgsStart, TemplateArgsEnd}
 use Rattle.wgsl_model.specs.Spanned.{Spanned, spanned}
 use Rattle.wgsl_model.specs.Expressions.{TypeExpression.type_expression, TemplateArguments.no_template}
+use Rattle.wgsl_model.specs.Attributed.{without_attributes}
 use Rattle.wgsl_model.specs.Statements.{DeclarationKind}
 use Rattle.wgsl_model.specs.Units.{GlobalDirective, GlobalDeclaration}
 use Rattle.wgsl_model.specs.UnitParts.{value_of, diagnostic_of}
@@ -35,7 +36,7 @@ abbrev pub template_recognised_alone_tokens : List Token
 template_recognised_alone_tokens = (sign KwVar 0 3) ∷ (sign TemplateArgsStart 3 4) ∷ (word (codes "private") 4 11) ∷ (sign SymComma 11 12) ∷ (word (codes "read") 13 17) ∷ (sign TemplateArgsEnd 17 18) ∷ (word (codes "p") 19 20) ∷ (sign SymColon 20 21) ∷ (word (codes "i32") 22 25) ∷ (sign SymSemicolon 25 26) ∷ []
 
 abbrev pub template_recognised_alone_tree : Spanned GlobalDeclaration
-template_recognised_alone_tree = spanned (value_of [] (DeclarationKind.var_kind None) (codes "p", Some (type_expression (codes "i32") no_template)) None) (span 0 26)
+template_recognised_alone_tree = spanned (without_attributes (value_of (DeclarationKind.var_kind None) (codes "p", Some (type_expression (codes "i32") no_template)) None)) (span 0 26)
 
 -- @const fn f() {}
 abbrev pub keyword_recognised_alone_tokens : List Token

@@ -6,8 +6,8 @@ use Rattle.wgsl_model.specs.Operators.{BinaryOperator.less_than, AssignmentOpera
 use Rattle.wgsl_model.specs.Spanned.{spanned}
 use Rattle.wgsl_model.specs.Expressions.{LiteralExpression.boolean, Expression}
 use Rattle.wgsl_model.specs.Attributes.{OneArgument, Attribute}
-use Rattle.wgsl_model.specs.Statements.{DeclarationKind, CaseSelector, StatementNode, StatementNode.statement_node, Statement, ElseIfClause, ElseClause, ForStatement, maybe_statement}
-use Rattle.wgsl_model.specs.StatementParts.{declaration_of, compound_of, assignment_of, increment_of, return_of, if_of, clause_of, switch_of, loop_of, continuing_part}
+use Rattle.wgsl_model.specs.Statements.{DeclarationKind, CaseSelector, StatementNode, StatementNode.statement_node, ElseIfClause, ElseClause, UnattributedStatement, unattributed, block_statement}
+use Rattle.wgsl_model.specs.StatementParts.{compound_of, assignment_of, increment_of, return_of, if_of, clause_of, switch_of, loop_of, continuing_part, local_of, for_of}
 use Rattle.wgsl_grammar_laws.specs.RowParts.{span, sign, word, number_of, at, name_at, number_at, call_at}
 
 -- for (var i = 0; i < 4; i++) { s += i; }
@@ -15,8 +15,8 @@ abbrev pub for_header_tokens : List Token
 for_header_tokens = (sign KwFor 0 3) ∷ (sign SymParenLeft 4 5) ∷ (sign KwVar 5 8) ∷ (word (codes "i") 9 10) ∷ (sign SymEqual 11 12) ∷ (number_of 0 13 14) ∷ (sign SymSemicolon 14 15) ∷ (word (codes "i") 16 17) ∷ (sign SymLessThan 18 19) ∷ (number_of 4 20 21) ∷ (sign SymSemicolon 21 22) ∷ (word (codes "i") 23 24) ∷ (sign SymPlusPlus 24 26) ∷ (sign SymParenRight 26 27) ∷ (sign SymBraceLeft 28 29) ∷ (word (codes "s") 30 31) ∷ (sign SymPlusEqual 32 34) ∷ (word (codes "i") 35 36) ∷ (sign SymSemicolon 36 37) ∷ (sign SymBraceRight 38 39) ∷ []
 
 abbrev pub for_header_tree : StatementNode
-for_header_tree = statement_node (Statement.for_statement (ForStatement.repeat_for [] (maybe_statement (Some (statement_node (Statement.declaration (declaration_of [] (DeclarationKind.var_kind None) (codes "i", None) (Some (number_at 0 13 14)))) (span 5 14))))
-    (Some (at (Expression.binary less_than (name_at (codes "i") 16 17) (number_at 4 20 21)) 16 21)) (maybe_statement (Some (statement_node (increment_of (name_at (codes "i") 23 24)) (span 23 26))))
+for_header_tree = statement_node (unattributed (for_of (Some (statement_node (local_of (DeclarationKind.var_kind None) (codes "i", None) (Some (number_at 0 13 14))) (span 5 14)))
+    (Some (at (Expression.binary less_than (name_at (codes "i") 16 17) (number_at 4 20 21)) 16 21)) (Some (statement_node (increment_of (name_at (codes "i") 23 24)) (span 23 26)))
     (compound_of [] (statement_node (assignment_of (name_at (codes "s") 30 31) plus_equal (name_at (codes "i") 35 36)) (span 30 37) ∷ [])))) (span 0 39)
 
 -- loop { ; continuing { ; break if true; } }
@@ -24,22 +24,22 @@ abbrev pub loop_and_continuing_tokens : List Token
 loop_and_continuing_tokens = (sign KwLoop 0 4) ∷ (sign SymBraceLeft 5 6) ∷ (sign SymSemicolon 7 8) ∷ (sign KwContinuing 9 19) ∷ (sign SymBraceLeft 20 21) ∷ (sign SymSemicolon 22 23) ∷ (sign KwBreak 24 29) ∷ (sign KwIf 30 32) ∷ (sign KwTrue 33 37) ∷ (sign SymSemicolon 37 38) ∷ (sign SymBraceRight 39 40) ∷ (sign SymBraceRight 41 42) ∷ []
 
 abbrev pub loop_and_continuing_tree : StatementNode
-loop_and_continuing_tree = statement_node (loop_of [] [] (statement_node (Statement.void) (span 7 8) ∷ [])
-    (Some (continuing_part [] (statement_node (Statement.void) (span 22 23) ∷ []) (Some (record { expression = (at (Expression.literal (boolean true)) 33 37) }))))) (span 0 42)
+loop_and_continuing_tree = statement_node (unattributed (loop_of [] (statement_node (unattributed UnattributedStatement.void) (span 7 8) ∷ [])
+    (Some (continuing_part [] (statement_node (unattributed UnattributedStatement.void) (span 22 23) ∷ []) (Some (record { expression = (at (Expression.literal (boolean true)) 33 37) })))))) (span 0 42)
 
 -- loop { continuing { break; } }
 abbrev pub break_in_continuing_tokens : List Token
 break_in_continuing_tokens = (sign KwLoop 0 4) ∷ (sign SymBraceLeft 5 6) ∷ (sign KwContinuing 7 17) ∷ (sign SymBraceLeft 18 19) ∷ (sign KwBreak 20 25) ∷ (sign SymSemicolon 25 26) ∷ (sign SymBraceRight 27 28) ∷ (sign SymBraceRight 29 30) ∷ []
 
 abbrev pub break_in_continuing_tree : StatementNode
-break_in_continuing_tree = statement_node (loop_of [] [] [] (Some (continuing_part [] (statement_node (Statement.break_statement) (span 20 26) ∷ []) None))) (span 0 30)
+break_in_continuing_tree = statement_node (unattributed (loop_of [] [] (Some (continuing_part [] (statement_node (unattributed UnattributedStatement.break_statement) (span 20 26) ∷ []) None)))) (span 0 30)
 
 -- if a {} else if b {} else {}
 abbrev pub else_ifs_tokens : List Token
 else_ifs_tokens = (sign KwIf 0 2) ∷ (word (codes "a") 3 4) ∷ (sign SymBraceLeft 5 6) ∷ (sign SymBraceRight 6 7) ∷ (sign KwElse 8 12) ∷ (sign KwIf 13 15) ∷ (word (codes "b") 16 17) ∷ (sign SymBraceLeft 18 19) ∷ (sign SymBraceRight 19 20) ∷ (sign KwElse 21 25) ∷ (sign SymBraceLeft 26 27) ∷ (sign SymBraceRight 27 28) ∷ []
 
 abbrev pub else_ifs_tree : StatementNode
-else_ifs_tree = statement_node (if_of [] (name_at (codes "a") 3 4) (compound_of [] []) (ElseIfClause.else_if_clause (name_at (codes "b") 16 17) (compound_of [] []) ∷ [], Some (ElseClause.else_clause (compound_of [] [])))) (span 0 28)
+else_ifs_tree = statement_node (unattributed (if_of (name_at (codes "a") 3 4) (compound_of [] []) (ElseIfClause.else_if_clause (name_at (codes "b") 16 17) (compound_of [] []) ∷ [], Some (ElseClause.else_clause (compound_of [] []))))) (span 0 28)
 
 -- _ = f();
 abbrev pub phony_assignment_tokens : List Token
@@ -60,21 +60,21 @@ abbrev pub attribute_of_a_block_tokens : List Token
 attribute_of_a_block_tokens = (sign SymAttr 0 1) ∷ (sign KwIf 1 3) ∷ (sign SymParenLeft 3 4) ∷ (word (codes "a") 4 5) ∷ (sign SymParenRight 5 6) ∷ (sign SymBraceLeft 7 8) ∷ (sign SymBraceRight 8 9) ∷ []
 
 abbrev pub attribute_of_a_block_tree : StatementNode
-attribute_of_a_block_tree = statement_node (Statement.compound (compound_of (spanned (Attribute.with_argument OneArgument.if_attribute (name_at (codes "a") 4 5)) (span 0 6) ∷ []) [])) (span 0 9)
+attribute_of_a_block_tree = statement_node (block_statement (compound_of (spanned (Attribute.with_argument OneArgument.if_attribute (name_at (codes "a") 4 5)) (span 0 6) ∷ []) [])) (span 0 9)
 
 -- switch x { default: {} }
 abbrev pub clause_of_a_default_tokens : List Token
 clause_of_a_default_tokens = (sign KwSwitch 0 6) ∷ (word (codes "x") 7 8) ∷ (sign SymBraceLeft 9 10) ∷ (sign KwDefault 11 18) ∷ (sign SymColon 18 19) ∷ (sign SymBraceLeft 20 21) ∷ (sign SymBraceRight 21 22) ∷ (sign SymBraceRight 23 24) ∷ []
 
 abbrev pub clause_of_a_default_tree : StatementNode
-clause_of_a_default_tree = statement_node (switch_of [] (name_at (codes "x") 7 8) [] (clause_of (CaseSelector.default_selector ∷ []) (compound_of [] []) ∷ [])) (span 0 24)
+clause_of_a_default_tree = statement_node (unattributed (switch_of (name_at (codes "x") 7 8) [] (clause_of (CaseSelector.default_selector ∷ []) (compound_of [] []) ∷ []))) (span 0 24)
 
 -- switch x { case a < b, : {} }
 abbrev pub last_comma_of_selectors_tokens : List Token
 last_comma_of_selectors_tokens = (sign KwSwitch 0 6) ∷ (word (codes "x") 7 8) ∷ (sign SymBraceLeft 9 10) ∷ (sign KwCase 11 15) ∷ (word (codes "a") 16 17) ∷ (sign SymLessThan 18 19) ∷ (word (codes "b") 20 21) ∷ (sign SymComma 21 22) ∷ (sign SymColon 23 24) ∷ (sign SymBraceLeft 25 26) ∷ (sign SymBraceRight 26 27) ∷ (sign SymBraceRight 28 29) ∷ []
 
 abbrev pub last_comma_of_selectors_tree : StatementNode
-last_comma_of_selectors_tree = statement_node (switch_of [] (name_at (codes "x") 7 8) [] (clause_of (CaseSelector.expression_selector (at (Expression.binary less_than (name_at (codes "a") 16 17) (name_at (codes "b") 20 21)) 16 21) ∷ []) (compound_of [] []) ∷ [])) (span 0 29)
+last_comma_of_selectors_tree = statement_node (unattributed (switch_of (name_at (codes "x") 7 8) [] (clause_of (CaseSelector.expression_selector (at (Expression.binary less_than (name_at (codes "a") 16 17) (name_at (codes "b") 20 21)) 16 21) ∷ []) (compound_of [] []) ∷ []))) (span 0 29)
 
 -- return;
 abbrev pub empty_return_tokens : List Token

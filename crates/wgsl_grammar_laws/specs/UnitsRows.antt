@@ -4,8 +4,9 @@ use Rattle.grammar.specs.Tokens.{Token, Fault}
 use Rattle.wgsl_model.specs.Classes.{SymEqual, SymSemicolon, KwAlias, KwConst, KwEnable}
 use Rattle.wgsl_model.specs.Spanned.{spanned}
 use Rattle.wgsl_model.specs.Expressions.{TypeExpression.type_expression, TemplateArguments.no_template}
+use Rattle.wgsl_model.specs.Attributed.{without_attributes}
 use Rattle.wgsl_model.specs.Statements.{DeclarationKind}
-use Rattle.wgsl_model.specs.Units.{GlobalDeclaration, TranslationUnit}
+use Rattle.wgsl_model.specs.Units.{UnattributedDeclaration, TranslationUnit}
 use Rattle.wgsl_model.specs.UnitParts.{value_of, alias_of}
 use Rattle.wgsl_grammar_laws.specs.RowParts.{span, sign, word, number_of, number_at}
 
@@ -23,8 +24,8 @@ three_declarations_tokens = (sign SymSemicolon 0 1) ∷ (sign KwAlias 2 7) ∷ (
 abbrev pub three_declarations_tree : TranslationUnit
 three_declarations_tree = record {
   global_directives = [];
-  global_declarations = spanned GlobalDeclaration.void (span 0 1)
-      ∷ (spanned (alias_of (word (codes "A") 8 9, (type_expression (codes "B") no_template))) (span 2 14) ∷ (spanned (value_of [] DeclarationKind.const_kind (codes "N", None) (Some (number_at 31 25 29))) (span 15 30) ∷ []));
+  global_declarations = spanned (without_attributes UnattributedDeclaration.void) (span 0 1)
+      ∷ (spanned (alias_of (word (codes "A") 8 9, (type_expression (codes "B") no_template))) (span 2 14) ∷ (spanned (without_attributes (value_of DeclarationKind.const_kind (codes "N", None) (Some (number_at 31 25 29)))) (span 15 30) ∷ []));
 }
 
 -- ; enable a;

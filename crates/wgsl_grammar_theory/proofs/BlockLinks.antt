@@ -9,11 +9,11 @@ use Rattle.grammar.proofs.Frame.{span_append}
 use Rattle.wgsl_model.specs.Classes.{SymBraceRight}
 use Rattle.wgsl_model.specs.Expressions.{ExpressionNode}
 use Rattle.wgsl_model.specs.Attributes.{Attributes}
-use Rattle.wgsl_model.specs.Statements.{BreakIfStatement, StatementNode, Statement, CompoundStatement, ElseIfClause, ElseClause, SwitchClause, ContinuingStatement}
+use Rattle.wgsl_model.specs.Statements.{BreakIfStatement, StatementNode, Statement, UnattributedStatement, unattributed, CompoundStatement, ElseIfClause, ElseClause, SwitchClause, ContinuingStatement}
 use Rattle.wgsl_model.specs.StatementParts.{placed_statement, else_if, else_block, switch_of, break_if}
 use Rattle.wgsl_model.specs.Symbols.{Dialect, Symbol.statement, Symbol.break_statement, Symbol.switch_clause, Symbol.continuing_statement, Rule}
 use Rattle.wgsl_model.specs.Written.{rules}
-use Rattle.wgsl_grammar_theory.specs.Factored.{Further.attribute_list, Further.loop_rest, Further.continuing_rest, Further.clause_rest, Further.else_rest, Further.switch_part, FactoredSymbol.of, FactoredSymbol.further, AttributedStatement, with_break, factored}
+use Rattle.wgsl_grammar_theory.specs.Factored.{Further.attribute_list, Further.loop_rest, Further.continuing_rest, Further.clause_rest, Further.else_rest, Further.switch_part, FactoredSymbol.of, FactoredSymbol.further, with_break, factored}
 use Rattle.wgsl_grammar_theory.specs.Meaning.{elses}
 use Rattle.wgsl_grammar_theory.proofs.ListLinks.{IsToken, many_back, many_front, many_none, several_in, several_out}
 use Rattle.wgsl_grammar_theory.proofs.Shifts.{Meant}
@@ -27,13 +27,10 @@ clauses_in_braces = several (symbol switch_clause) ◃ SymBraceRight
 abbrev SwitchParts : Type 0
 SwitchParts = ExpressionNode × (Attributes × List SwitchClause)
 
-abbrev switch_from : SwitchParts → AttributedStatement
-switch_from p a = switch_of a p.0 p.1.0 p.1.1
+abbrev switch_from : SwitchParts → UnattributedStatement
+switch_from p = switch_of p.0 p.1.0 p.1.1
 
-abbrev switch_with : ExpressionNode → Attributes → List SwitchClause → AttributedStatement
-switch_with s b cs a = switch_of a s b cs
-
-pub switch_part_in : (L : Dialect) (M : Mode) (v : AttributedStatement) (xs ys : List Token) → Meant L M (ReadPart L M) (further switch_part) v xs ys → Part M (factored L) (further switch_part) v xs ys
+pub switch_part_in : (L : Dialect) (M : Mode) (v : UnattributedStatement) (xs ys : List Token) → Meant L M (ReadPart L M) (further switch_part) v xs ys → Part M (factored L) (further switch_part) v xs ys
 switch_part_in L M v xs ys (p, e, (q, g, (ms, k, (us, dx, (vs, da, (r, h, (ws, kb, dc))))))) =
     let c = several_in M (Part M (factored L)) SymBraceRight (symbol (of switch_clause)) (symbol (further clause_rest)) (roll M (factored L) (further clause_rest)) r.1 ws ys dc in
     let i : SwitchClause × List SwitchClause = c.0 in
@@ -41,9 +38,9 @@ switch_part_in L M v xs ys (p, e, (q, g, (ms, k, (us, dx, (vs, da, (r, h, (ws, k
     let p' : ExpressionNode × (Attributes × (SwitchClause × List SwitchClause)) = (q.1.0, (q.1.1.0, i)) in
     let q' : Token × (ExpressionNode × (Attributes × (SwitchClause × List SwitchClause))) = (q.0, p') in
     roll M (factored L) (further switch_part) v xs ys
-    (p', ap (λ (z : List SwitchClause). switch_with q.1.0 q.1.1.0 z) (c.1 ∙ h) ∙ (ap switch_from g ∙ e), (q', refl, (ms, k, (us, dx, (vs, roll M (factored L) (further attribute_list) q.1.1.0 us vs da, (r', refl, (ws, kb, c.2)))))))
+    (p', ap (λ (z : List SwitchClause). switch_of q.1.0 q.1.1.0 z) (c.1 ∙ h) ∙ (ap switch_from g ∙ e), (q', refl, (ms, k, (us, dx, (vs, roll M (factored L) (further attribute_list) q.1.1.0 us vs da, (r', refl, (ws, kb, c.2)))))))
 
-pub switch_part_out : (L : Dialect) (M : Mode) (v : AttributedStatement) (xs ys : List Token) → Means M (Meant L M (WrittenPart L M)) (factored L (further switch_part)) v xs ys → Meant L M (WrittenPart L M) (further switch_part) v xs ys
+pub switch_part_out : (L : Dialect) (M : Mode) (v : UnattributedStatement) (xs ys : List Token) → Means M (Meant L M (WrittenPart L M)) (factored L (further switch_part)) v xs ys → Meant L M (WrittenPart L M) (further switch_part) v xs ys
 switch_part_out L M v xs ys (p, e, (q, g, (ms, k, (us, dx, (vs, da, (r, h, (ws, kb, dc))))))) =
     let c : Means M (WrittenPart L M) clauses_in_braces (r.1.0 ∷ r.1.1) ws ys = several_out M (Meant L M (WrittenPart L M)) SymBraceRight (symbol (of switch_clause)) (symbol (further clause_rest)) (λ v xs ys d. d) (r.1.0 ∷ r.1.1) ws ys (r.1, refl, dc) in
     let cs : List SwitchClause = r.1.0 ∷ r.1.1 in
@@ -51,7 +48,7 @@ switch_part_out L M v xs ys (p, e, (q, g, (ms, k, (us, dx, (vs, da, (r, h, (ws, 
     let p' : SwitchParts = (q.1.0, (q.1.1.0, cs)) in
     let q' : Token × SwitchParts = (q.0, p') in (
       p',
-      ap (λ (z : SwitchClause × List SwitchClause). switch_with q.1.0 q.1.1.0 (z.0 ∷ z.1)) h ∙ (ap (λ (z : ExpressionNode × (Attributes × (SwitchClause × List SwitchClause))). switch_with z.0 z.1.0 (z.1.1.0 ∷ z.1.1.1)) g ∙ e),
+      ap (λ (z : SwitchClause × List SwitchClause). switch_of q.1.0 q.1.1.0 (z.0 ∷ z.1)) h ∙ (ap (λ (z : ExpressionNode × (Attributes × (SwitchClause × List SwitchClause))). switch_of z.0 z.1.0 (z.1.1.0 ∷ z.1.1.1)) g ∙ e),
       (q', refl, (ms, k, (us, dx, (vs, da, (r', refl, (ws, kb, c)))))),
     )
 
@@ -114,6 +111,9 @@ only_condition z = ([], z)
 abbrev statement_first : StatementNode → ContinuingInside → ContinuingInside
 statement_first s z = (s ∷ z.0, z.1)
 
+abbrev break_alone : Statement
+break_alone = unattributed UnattributedStatement.break_statement
+
 abbrev break_condition : ExpressionNode → BreakIfStatement
 break_condition e = record { expression = e }
 
@@ -148,8 +148,8 @@ continuing_step L M o ys x us ms d tl r = go (unroll M (factored L) (of statemen
         let c : Token → ContinuingInside = λ b. with_break i b in
         let q : Token × (Token → ContinuingInside) = (s.0, c) in
         let v : ContinuingInside = (x ∷ tl, o) in
-        let same : placed_statement Statement.break_statement (record { start = s.0.start; end = p.1.end }) ≡ x =
-        ap (λ (z : Span). placed_statement Statement.break_statement z) (sym here) ∙ (ap (λ (z : Statement). placed_statement z (span_between us ms)) (s.1 ∙ f) ∙ e) in
+        let same : placed_statement break_alone (record { start = s.0.start; end = p.1.end }) ≡ x =
+        ap (λ (z : Span). placed_statement break_alone z) (sym here) ∙ (ap (λ (z : Statement). placed_statement z (span_between us ms)) (s.1 ∙ f) ∙ e) in
         roll M (factored L) (further continuing_rest) v us ys (inr (inl (q, ap (λ (z : StatementNode). statement_first z (tl, o)) same, (vs, s.2, inl (i, refl, (ms, k, r))))))
     go (inr h) =
         let i : StatementNode × ContinuingInside = (x, (tl, o)) in
@@ -174,12 +174,12 @@ continuing_rest_out L M v xs ys (inl (t, e, k)) =
     let w : ContinuingInside = ([], None) in let p : ContinuingInside × Token = (w, t) in
     (p, e, (xs, (xs, many_none M (WrittenPart L M) (symbol statement) xs, inr (refl, refl)), k))
 continuing_rest_out L M v xs ys (inr (inl (n, e, (es, k1, inl (i, f, (bs, k2, r)))))) =
-    let x : StatementNode = placed_statement Statement.break_statement (record { start = n.0.start; end = i.0.end }) in
+    let x : StatementNode = placed_statement break_alone (record { start = n.0.start; end = i.0.end }) in
     let whole : xs ≡ n.0 ∷ i.0 ∷ bs = k1.1 ∙ ap (λ (z : List Token). n.0 ∷ z) k2.1 in
     let here : span_between xs bs ≡ record { start = n.0.start; end = i.0.end } = ap (λ (z : List Token). span_between z bs) whole ∙ span_append (n.0 ∷ i.0 ∷ []) bs in
-    let j : Statement × Token = (Statement.break_statement, i.0) in
+    let j : Statement × Token = (break_alone, i.0) in
     let d : WrittenPart L M statement x xs bs = statement_out L M x xs bs
-    (inl (Statement.break_statement, ap (λ (z : Span). placed_statement Statement.break_statement z) here, (j, refl, (es, roll M (rules L) break_statement Statement.break_statement xs es (n.0, refl, k1), k2)))) in
+    (inl (break_alone, ap (λ (z : Span). placed_statement break_alone z) here, (j, refl, (es, roll M (rules L) break_statement break_alone xs es (n.0, refl, k1), k2)))) in
     subst (λ (z : ContinuingInside). Meant L M (WrittenPart L M) (further continuing_rest) z xs ys) (ap (λ (g : Token → ContinuingInside). g n.0) f ∙ e) (continuing_front L M x xs bs d i.1 ys r)
 continuing_rest_out L M v xs ys (inr (inl (n, e, (es, k1, inr (x, f, (l, g, (bs, k2, (j, h, (ms, (i, h2, (cs, dx, k3)), k))))))))) =
     let r : Token × ExpressionNode = (l.0, i.0) in

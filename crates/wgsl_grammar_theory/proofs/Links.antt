@@ -2,7 +2,7 @@
 use Rattle.grammar.specs.Grammar.{Grammar.symbol, Mode, Means, Part}
 use Rattle.grammar.proofs.Depth.{Kept, same_mode, means_mono, roll, unroll, least}
 use Rattle.wgsl_model.specs.Classes.{SymBraceRight, SymParenRight, SymSemicolon, TemplateArgsEnd}
-use Rattle.wgsl_model.specs.Symbols.{Dialect, Symbol, Symbol.ident, Symbol.expressions, Symbol.primary_expression, Symbol.singular_expression, Symbol.additive_expression, Symbol.shift_expression, Symbol.relational_expression, Symbol.expression, Symbol.lhs_expression, Symbol.attribute, Symbol.statement, Symbol.if_statement, Symbol.switch_statement, Symbol.loop_statement, Symbol.for_statement, Symbol.while_statement, Symbol.switch_clause, Symbol.case_selector, Symbol.for_init, Symbol.for_update, Symbol.var_template, Symbol.struct_member, Symbol.formal_parameter, Symbol.global_declaration, Symbol.var_declaration, Symbol.override_declaration, Symbol.function_declaration, Symbol.diagnostic_severity}
+use Rattle.wgsl_model.specs.Symbols.{Dialect, Symbol, Symbol.ident, Symbol.expressions, Symbol.primary_expression, Symbol.singular_expression, Symbol.additive_expression, Symbol.shift_expression, Symbol.relational_expression, Symbol.expression, Symbol.lhs_expression, Symbol.attribute, Symbol.statement, Symbol.switch_clause, Symbol.case_selector, Symbol.for_init, Symbol.for_update, Symbol.var_template, Symbol.struct_member, Symbol.formal_parameter, Symbol.global_declaration, Symbol.diagnostic_severity}
 use Rattle.wgsl_model.specs.Written.{rules}
 use Rattle.wgsl_grammar_theory.specs.Factored.{Further.template_items, Further.template_rest, Further.template_more, Further.argument_rest, Further.argument_more, Further.member_items, Further.member_rest, Further.member_more, Further.parameter_rest, Further.parameter_more, Further.name_items, Further.name_rest, Further.name_more, Further.selectors, Further.components, Further.factors, Further.summands, Further.sum_rest, Further.relation_rest, Further.and_rest, Further.or_rest, Further.bitwise_and_rest, Further.bitwise_or_rest, Further.bitwise_xor_rest, Further.expression_rest, Further.attribute_list, Further.statement_rest, Further.loop_rest, Further.continuing_rest, Further.clause_rest, Further.else_rest, Further.init_part, Further.condition_part, Further.update_part, Further.if_part, Further.switch_part, Further.loop_part, Further.for_part, Further.while_part, Further.block_part, Further.left_side_rest, Further.other_left_side, Further.name_rest_statement, Further.simple_statement, Further.other_statement, Further.var_part, Further.override_part, Further.function_part, Further.directive_list, Further.declaration_list, FactoredSymbol, FactoredSymbol.of, FactoredSymbol.further, factored}
 use Rattle.wgsl_grammar_theory.specs.Meaning.{meaning}
@@ -11,7 +11,7 @@ use Rattle.wgsl_grammar_theory.proofs.Lifted.{FactoredRelation, lifted_in, lifte
 use Rattle.wgsl_grammar_theory.proofs.Shifts.{Meant}
 use Rattle.wgsl_grammar_theory.proofs.LevelLinks.{WrittenPart, ReadPart, summands_read, sum_read, expression_read, singular_derived, shift_derived, relation_derived, expression_derived, singular_back, shift_back, relation_back, expression_back}
 use Rattle.wgsl_grammar_theory.proofs.LeftSides.{primary_in, primary_out, other_in, other_out, left_in, left_out, simple_in, simple_out}
-use Rattle.wgsl_grammar_theory.proofs.StatementLinks.{if_in, if_out, switch_in, switch_out, loop_in, loop_out, for_in, for_out, while_in, while_out, var_in, var_out, override_in, override_out, function_in, function_out, others_in, others_out, statement_in, statement_out, declaration_in, declaration_out}
+use Rattle.wgsl_grammar_theory.proofs.StatementLinks.{others_in, others_out, statement_in, statement_out, declaration_in, declaration_out}
 use Rattle.wgsl_grammar_theory.proofs.BlockLinks.{switch_part_in, switch_part_out, loop_rest_in, loop_rest_out, continuing_rest_in, continuing_rest_out, else_rest_in, else_rest_out}
 
 -- ---- what a further symbol means, it derives: those that refer to no other of these, or to their own list alone
@@ -194,14 +194,6 @@ rule_in L M expression v xs ys d = expression_derived L M v xs ys d
 rule_in L M lhs_expression v xs ys d = left_in L M v xs ys d
 rule_in L M statement v xs ys d = statement_in L M v xs ys d
 rule_in L M global_declaration v xs ys d = declaration_in L M v xs ys d
-rule_in L M if_statement v xs ys d = alike_in L M if_statement v xs ys (if_in L M v xs ys d)
-rule_in L M switch_statement v xs ys d = alike_in L M switch_statement v xs ys (switch_in L M v xs ys d)
-rule_in L M loop_statement v xs ys d = alike_in L M loop_statement v xs ys (loop_in L M v xs ys d)
-rule_in L M for_statement v xs ys d = alike_in L M for_statement v xs ys (for_in L M v xs ys d)
-rule_in L M while_statement v xs ys d = alike_in L M while_statement v xs ys (while_in L M v xs ys d)
-rule_in L M var_declaration v xs ys d = alike_in L M var_declaration v xs ys (var_in L M v xs ys d)
-rule_in L M override_declaration v xs ys d = alike_in L M override_declaration v xs ys (override_in L M v xs ys d)
-rule_in L M function_declaration v xs ys d = alike_in L M function_declaration v xs ys (function_in L M v xs ys d)
 rule_in L M n v xs ys d = alike_in L M n v xs ys d
 
 -- what the written grammar derives, the factored one does
@@ -252,14 +244,6 @@ rule_out L M (of expression) v xs ys d = expression_back L M v xs ys d
 rule_out L M (of lhs_expression) v xs ys d = left_out L M v xs ys d
 rule_out L M (of statement) v xs ys d = statement_out L M v xs ys d
 rule_out L M (of global_declaration) v xs ys d = declaration_out L M v xs ys d
-rule_out L M (of if_statement) v xs ys d = if_out L M v xs ys d
-rule_out L M (of switch_statement) v xs ys d = switch_out L M v xs ys d
-rule_out L M (of loop_statement) v xs ys d = loop_out L M v xs ys d
-rule_out L M (of for_statement) v xs ys d = for_out L M v xs ys d
-rule_out L M (of while_statement) v xs ys d = while_out L M v xs ys d
-rule_out L M (of var_declaration) v xs ys d = var_out L M v xs ys d
-rule_out L M (of override_declaration) v xs ys d = override_out L M v xs ys d
-rule_out L M (of function_declaration) v xs ys d = function_out L M v xs ys d
 rule_out L M (of n) v xs ys d = roll M (rules L) n v xs ys d
 
 -- what the factored grammar derives, the written one does

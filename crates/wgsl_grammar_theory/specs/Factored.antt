@@ -8,11 +8,12 @@ use Rattle.wgsl_model.specs.Operators.{UnaryOperator.address_of, UnaryOperator.i
 use Rattle.wgsl_model.specs.Spanned.{Spanned, spanned}
 use Rattle.wgsl_model.specs.Expressions.{ExpressionNode, Expression, TypeExpression, start_of, end_of}
 use Rattle.wgsl_model.specs.Attributes.{Attributes}
-use Rattle.wgsl_model.specs.Statements.{DeclarationKind, BreakIfStatement, CaseSelector, StatementNode, Statement, ElseIfClause, ElseClause, SwitchClause, ContinuingStatement}
-use Rattle.wgsl_model.specs.Units.{GlobalDirective, StructMember, FormalParameter, GlobalDeclaration}
+use Rattle.wgsl_model.specs.Attributed.{with_attributes, without_attributes}
+use Rattle.wgsl_model.specs.Statements.{DeclarationKind, BreakIfStatement, CaseSelector, StatementNode, Statement, statement, UnattributedStatement, unattributed, statements_of, ElseIfClause, ElseClause, SwitchClause, ContinuingStatement}
+use Rattle.wgsl_model.specs.Units.{GlobalDirective, StructMember, FormalParameter, GlobalDeclaration, UnattributedDeclaration}
 use Rattle.wgsl_model.specs.ExpressionParts.{placed_expression, type_of, call_of, unary_of, binary_of, multiplicative_operator, relational_operator, summand}
-use Rattle.wgsl_model.specs.StatementParts.{placed_statement, attributes, initializer, var_kind, compound_of, assignment_operator, assignment_of, increment_of, decrement_of, variable_at, parenthesized_at, call_statement_of, if_of, clause_of, switch_of, loop_of, continuing_part, for_of, while_of}
-use Rattle.wgsl_model.specs.UnitParts.{member_of, parameter_of, value_of, struct_of, function_of, enable_of, requires_of}
+use Rattle.wgsl_model.specs.StatementParts.{placed_statement, attributes, initializer, var_kind, compound_of, assignment_operator, assignment_of, increment_of, decrement_of, variable_at, parenthesized_at, call_statement_of, if_of, assert_statement, clause_of, switch_of, loop_of, continuing_part, for_of, while_of}
+use Rattle.wgsl_model.specs.UnitParts.{member_of, parameter_of, value_of, assert_declaration, struct_of, function_of, enable_of, requires_of}
 use Rattle.wgsl_model.specs.Symbols.{Dialect, Dialect.whole, Dialect.alone, Symbol, Symbol.ident, Symbol.type_specifier, Symbol.template_list, Symbol.expressions, Symbol.arguments, Symbol.literal, Symbol.primary_expression, Symbol.singular_expression, Symbol.component, Symbol.unary_expression, Symbol.shift_expression, Symbol.relational_expression, Symbol.expression, Symbol.lhs_expression, Symbol.compound_statement, Symbol.statement, Symbol.return_statement, Symbol.if_statement, Symbol.switch_statement, Symbol.loop_statement, Symbol.for_statement, Symbol.while_statement, Symbol.var_statement, Symbol.value_statement, Symbol.break_statement, Symbol.continue_statement, Symbol.discard_statement, Symbol.phony_assignment, Symbol.const_assert, Symbol.switch_clause, Symbol.case_selector, Symbol.continuing_statement, Symbol.for_init, Symbol.for_update, Symbol.typed_ident, Symbol.struct_member, Symbol.formal_parameter, Symbol.global_declaration, Symbol.var_declaration, Symbol.const_declaration, Symbol.override_declaration, Symbol.alias_declaration, Symbol.struct_declaration, Symbol.function_declaration, Symbol.global_directive, Symbol.enable_directive, Symbol.requires_directive, Symbol.unit, Value, Rule}
 use Rattle.wgsl_model.specs.Written.{rules}
 
@@ -27,11 +28,11 @@ pub data Further : Type 0 where
   components factors summands sum_rest relation_rest and_rest or_rest bitwise_and_rest bitwise_or_rest bitwise_xor_rest expression_rest : Further
   -- attributes; statements, clauses and parts of a header with the token that closes them
   attribute_list statement_rest loop_rest continuing_rest clause_rest else_rest init_part condition_part update_part : Further
-  -- statements from their first word on, which wait for their attributes
+  -- statements from their first word on, behind their attributes
   if_part switch_part loop_part for_part while_part block_part : Further
   -- what follows a left side, a left side that begins with no name, what follows a name, and a call, assignment, increment or decrement
   left_side_rest other_left_side name_rest_statement simple_statement other_statement : Further
-  -- declarations from their first word on, which wait for their attributes; all directives and all declarations
+  -- declarations from their first word on, behind their attributes; all directives and all declarations
   var_part override_part function_part directive_list declaration_list : Further
 
 -- the symbols
@@ -42,14 +43,6 @@ pub data FactoredSymbol : Type 0 where
 -- a tree that waits for its first operand
 abbrev pub Growth : Type 0
 Growth = ExpressionNode → ExpressionNode
-
--- what waits for its attributes
-abbrev pub AttributedStatement : Type 0
-AttributedStatement = Attributes → Statement
-
--- a declaration that waits for its attributes
-abbrev pub AttributedDeclaration : Type 0
-AttributedDeclaration = Attributes → GlobalDeclaration
 
 -- what each further symbol derives
 abbrev pub FurtherValue : Further → Type 0
@@ -87,20 +80,20 @@ FurtherValue else_rest = List ElseIfClause × Option ElseClause
 FurtherValue init_part = Option StatementNode
 FurtherValue condition_part = Option ExpressionNode
 FurtherValue update_part = Option StatementNode
-FurtherValue if_part = AttributedStatement
-FurtherValue switch_part = AttributedStatement
-FurtherValue loop_part = AttributedStatement
-FurtherValue for_part = AttributedStatement
-FurtherValue while_part = AttributedStatement
-FurtherValue block_part = AttributedStatement
+FurtherValue if_part = UnattributedStatement
+FurtherValue switch_part = UnattributedStatement
+FurtherValue loop_part = UnattributedStatement
+FurtherValue for_part = UnattributedStatement
+FurtherValue while_part = UnattributedStatement
+FurtherValue block_part = UnattributedStatement
 FurtherValue left_side_rest = ExpressionNode → Statement
 FurtherValue other_left_side = ExpressionNode
 FurtherValue name_rest_statement = Token → Statement
 FurtherValue simple_statement = Statement
 FurtherValue other_statement = StatementNode
-FurtherValue var_part = AttributedDeclaration
-FurtherValue override_part = AttributedDeclaration
-FurtherValue function_part = AttributedDeclaration
+FurtherValue var_part = UnattributedDeclaration
+FurtherValue override_part = UnattributedDeclaration
+FurtherValue function_part = UnattributedDeclaration
 FurtherValue directive_list = List GlobalDirective
 FurtherValue declaration_list = List (Spanned GlobalDeclaration)
 
@@ -189,13 +182,13 @@ variable_of t = variable_at t (record { start = t.start; end = t.end })
 abbrev pub call_by_name : Token → Option (List ExpressionNode) × List ExpressionNode → Statement
 call_by_name t p = call_statement_of (call_of (type_of (t, p.0), p.1))
 
--- attributes, then what waits for them
-abbrev pub attributed : {A : Type 0} → FactoredRule (Attributes → A) → FactoredRule A
-attributed g = symbol (further attribute_list) then g gives λ p. p.1 p.0
+-- attributes, and what stands behind
+abbrev pub attributes_before : {A B : Type 0} → (Attributes → A → B) → FactoredRule A → FactoredRule B
+attributes_before make g = symbol (further attribute_list) then g gives λ p. make p.0 p.1
 
 -- `break` with its `;`, before the rest of a `continuing`
 abbrev pub with_break : Token × (List StatementNode × Option BreakIfStatement) → Token → List StatementNode × Option BreakIfStatement
-with_break p b = (placed_statement Statement.break_statement (record { start = b.start; end = p.0.end }) ∷ p.1.0, p.1.1)
+with_break p b = (placed_statement (unattributed UnattributedStatement.break_statement) (record { start = b.start; end = p.0.end }) ∷ p.1.0, p.1.1)
 
 -- ---- the right sides of the further symbols
 abbrev pub further_body : Dialect → (x : Further) → FactoredRule (FurtherValue x)
@@ -240,14 +233,14 @@ further_body L else_rest = KwElse ▹ (KwIf ▹ symbol (of expression) then symb
 further_body L init_part = closed_optional SymSemicolon (symbol (of for_init))
 further_body L condition_part = closed_optional SymSemicolon (symbol (of expression))
 further_body L update_part = closed_optional SymParenRight (symbol (of for_update))
-further_body L if_part = KwIf ▹ symbol (of expression) then symbol (of compound_statement) then symbol (further else_rest) gives λ p a. if_of a p.0 p.1.0 p.1.1
+further_body L if_part = KwIf ▹ symbol (of expression) then symbol (of compound_statement) then symbol (further else_rest) gives λ p. if_of p.0 p.1.0 p.1.1
 further_body L switch_part = KwSwitch ▹ symbol (of expression) then symbol (further attribute_list) then SymBraceLeft ▹ symbol (of switch_clause) then symbol (further clause_rest)
-    gives λ p a. switch_of a p.0 p.1.0 (p.1.1.0 ∷ p.1.1.1)
-further_body L loop_part = KwLoop ▹ symbol (further attribute_list) then SymBraceLeft ▹ symbol (further loop_rest) gives λ p a. loop_of a p.0 p.1.0 p.1.1
+    gives λ p. switch_of p.0 p.1.0 (p.1.1.0 ∷ p.1.1.1)
+further_body L loop_part = KwLoop ▹ symbol (further attribute_list) then SymBraceLeft ▹ symbol (further loop_rest) gives λ p. loop_of p.0 p.1.0 p.1.1
 further_body L for_part = KwFor ▹ SymParenLeft ▹ symbol (further init_part) then symbol (further condition_part) then symbol (further update_part) then symbol (of compound_statement)
-    gives λ p a. for_of a p.0 p.1.0 p.1.1.0 p.1.1.1
-further_body L while_part = KwWhile ▹ symbol (of expression) then symbol (of compound_statement) gives λ p a. while_of a p.0 p.1
-further_body L block_part = SymBraceLeft ▹ symbol (further statement_rest) gives λ ss a. Statement.compound (compound_of a ss)
+    gives λ p. for_of p.0 p.1.0 p.1.1.0 p.1.1.1
+further_body L while_part = KwWhile ▹ symbol (of expression) then symbol (of compound_statement) gives λ p. while_of p.0 p.1
+further_body L block_part = SymBraceLeft ▹ symbol (further statement_rest) gives λ ss. UnattributedStatement.compound (statements_of ss)
 further_body L left_side_rest = lifted assignment_operator then symbol (of expression) gives (λ p left. assignment_of left p.0 p.1)
     or SymPlusPlus means increment_of or SymMinusMinus means decrement_of
 further_body L other_left_side = (SymParenLeft ▹ symbol (of lhs_expression) ◃ SymParenRight makes parenthesized_at) then symbol (further components) gives (λ p. p.1 p.0)
@@ -258,19 +251,19 @@ further_body L name_rest_statement = optional (symbol (of template_list)) then s
 further_body L simple_statement = symbol (of ident) then symbol (further name_rest_statement) gives (λ p. p.1 p.0)
     or symbol (further other_left_side) then symbol (further left_side_rest) gives (λ p. p.1 p.0)
     or symbol (of phony_assignment)
-further_body L other_statement = (SymSemicolon means Statement.void
+further_body L other_statement = (SymSemicolon means unattributed UnattributedStatement.void
     or symbol (of return_statement) ◃ SymSemicolon
-    or attributed (symbol (further if_part) or symbol (further switch_part) or symbol (further loop_part) or symbol (further for_part) or symbol (further while_part) or symbol (further block_part))
+    or attributes_before statement (symbol (further if_part) or symbol (further switch_part) or symbol (further loop_part) or symbol (further for_part) or symbol (further while_part) or symbol (further block_part))
     or symbol (of var_statement) ◃ SymSemicolon
     or symbol (of value_statement) ◃ SymSemicolon
     or symbol (of continue_statement) ◃ SymSemicolon
     or symbol (of discard_statement) ◃ SymSemicolon
     or symbol (further simple_statement) ◃ SymSemicolon
-    or symbol (of const_assert) ◃ SymSemicolon gives Statement.const_assert) makes placed_statement
-further_body L var_part = lifted var_kind then symbol (of typed_ident) then optional (lifted initializer) ◃ SymSemicolon gives λ p a. value_of a p.0 p.1.0 p.1.1
-further_body L override_part = KwOverride ▹ symbol (of typed_ident) then optional (lifted initializer) ◃ SymSemicolon gives λ p a. value_of a DeclarationKind.override_kind p.0 p.1
+    or symbol (of const_assert) ◃ SymSemicolon gives assert_statement) makes placed_statement
+further_body L var_part = lifted var_kind then symbol (of typed_ident) then optional (lifted initializer) ◃ SymSemicolon gives λ p. value_of p.0 p.1.0 p.1.1
+further_body L override_part = KwOverride ▹ symbol (of typed_ident) then optional (lifted initializer) ◃ SymSemicolon gives λ p. value_of DeclarationKind.override_kind p.0 p.1
 further_body L function_part = KwFn ▹ symbol (of ident) then SymParenLeft ▹ symbol (further parameter_rest) then optional (SymArrow ▹ symbol (further attribute_list) then symbol (of type_specifier)) then symbol (of compound_statement)
-    gives λ p a. function_of a p.0 p.1.0 p.1.1.0 p.1.1.1
+    gives λ p. function_of p.0 p.1.0 p.1.1.0 p.1.1.1
 further_body L directive_list = many (symbol (of global_directive))
 further_body L declaration_list = many (symbol (of global_declaration))
 
@@ -287,13 +280,13 @@ factored L (of shift_expression) = symbol (of unary_expression) then symbol (fur
 factored L (of relational_expression) = symbol (of shift_expression) then symbol (further relation_rest) gives λ p. p.1 p.0
 factored L (of expression) = symbol (of unary_expression) then symbol (further expression_rest) gives λ p. p.1 p.0
 factored L (of lhs_expression) = (symbol (of ident) makes variable_at) then symbol (further components) gives (λ p. p.1 p.0) or symbol (further other_left_side)
-factored L (of compound_statement) = symbol (further attribute_list) then SymBraceLeft ▹ symbol (further statement_rest) gives λ p. compound_of p.0 p.1
+factored L (of compound_statement) = attributes_before compound_of (SymBraceLeft ▹ symbol (further statement_rest))
 factored L (of statement) = symbol (of break_statement) ◃ SymSemicolon makes placed_statement or symbol (further other_statement)
-factored L (of if_statement) = attributed (symbol (further if_part))
-factored L (of switch_statement) = attributed (symbol (further switch_part))
-factored L (of loop_statement) = attributed (symbol (further loop_part))
-factored L (of for_statement) = attributed (symbol (further for_part))
-factored L (of while_statement) = attributed (symbol (further while_part))
+factored L (of if_statement) = attributes_before statement (symbol (further if_part))
+factored L (of switch_statement) = attributes_before statement (symbol (further switch_part))
+factored L (of loop_statement) = attributes_before statement (symbol (further loop_part))
+factored L (of for_statement) = attributes_before statement (symbol (further for_part))
+factored L (of while_statement) = attributes_before statement (symbol (further while_part))
 factored L (of switch_clause) = KwCase ▹ symbol (further selectors) then optional (one_token SymColon) then symbol (of compound_statement) gives (λ p. clause_of p.0 p.1.1)
     or KwDefault ▹ optional (one_token SymColon) then symbol (of compound_statement) gives λ p. clause_of (CaseSelector.default_selector ∷ []) p.1
 factored L (of continuing_statement) = KwContinuing ▹ symbol (further attribute_list) then SymBraceLeft ▹ symbol (further continuing_rest) gives λ p. continuing_part p.0 p.1.0 p.1.1
@@ -301,16 +294,16 @@ factored L (of for_init) = (symbol (of var_statement) or symbol (of value_statem
 factored L (of for_update) = symbol (further simple_statement) makes placed_statement
 factored L (of struct_member) = symbol (further attribute_list) then symbol (of ident) ◃ SymColon then symbol (of type_specifier) makes member_of
 factored L (of formal_parameter) = symbol (further attribute_list) then symbol (of ident) ◃ SymColon then symbol (of type_specifier) gives parameter_of
-factored L (of global_declaration) = (SymSemicolon means GlobalDeclaration.void
-    or attributed (symbol (further var_part) or symbol (further override_part) or symbol (further function_part))
+factored L (of global_declaration) = (SymSemicolon means without_attributes UnattributedDeclaration.void
+    or attributes_before with_attributes (symbol (further var_part) or symbol (further override_part) or symbol (further function_part))
     or symbol (of const_declaration)
     or symbol (of alias_declaration)
     or symbol (of struct_declaration)
-    or symbol (of const_assert) ◃ SymSemicolon gives GlobalDeclaration.const_assert) makes spanned
-factored L (of var_declaration) = attributed (symbol (further var_part))
-factored L (of override_declaration) = attributed (symbol (further override_part))
+    or symbol (of const_assert) ◃ SymSemicolon gives assert_declaration) makes spanned
+factored L (of var_declaration) = attributes_before with_attributes (symbol (further var_part))
+factored L (of override_declaration) = attributes_before with_attributes (symbol (further override_part))
 factored L (of struct_declaration) = KwStruct ▹ symbol (of ident) then SymBraceLeft ▹ symbol (further member_items) gives struct_of
-factored L (of function_declaration) = attributed (symbol (further function_part))
+factored L (of function_declaration) = attributes_before with_attributes (symbol (further function_part))
 factored L (of enable_directive) = KwEnable ▹ symbol (further name_items) gives enable_of
 factored L (of requires_directive) = KwRequires ▹ symbol (further name_items) gives requires_of
 factored L (of unit) = symbol (further directive_list) then symbol (further declaration_list) gives λ p. record { global_directives = p.0; global_declarations = p.1 }

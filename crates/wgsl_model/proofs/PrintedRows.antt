@@ -4,7 +4,7 @@ use Rattle.std.specs.Prelude.{pos}
 use Rattle.std.specs.Fmt.{decimal, signed_decimal}
 use Rattle.wgsl_model.specs.Operators.{negation, subtraction, multiplication}
 use Rattle.wgsl_model.specs.Expressions.{LiteralExpression.abstract_int, LiteralExpression.boolean, LiteralExpression.u32, ExpressionNode, expression_node, Expression, literal, unary, binary, named_component, type_or_identifier, call, type_expression, no_template, no_expressions}
-use Rattle.wgsl_model.specs.Statements.{Statement, Statement.void, compound, loop_statement, function_call_statement, CompoundStatement, compound_statement, repeat, continuing, one_continuing, statement_node, StatementNodes, no_statements, statement_before}
+use Rattle.wgsl_model.specs.Statements.{Statement, UnattributedStatement.void, loop_statement, function_call_statement, CompoundStatement, compound_statement, repeat, continuing, one_continuing, statement_node, StatementNodes, no_statements, statement_before, unattributed, block_statement}
 use Rattle.wgsl_model.specs.WithoutSpans.{no_span}
 use Rattle.wgsl_model.specs.PrintedExpressions.{print_expression}
 use Rattle.wgsl_model.specs.PrintedStatements.{print_statement}
@@ -39,15 +39,15 @@ pub component_of_unsigned : print_expression (named_component (node (literal (u3
 component_of_unsigned = refl
 
 -- a call of a name that holds a line end
-pub line_end_in_a_name : print_statement (compound (block (function_call_statement (record { call = call (type_expression (codes "a\nb") no_template) no_expressions }) ∷ []))) ≡ codes "{\n    a\n    b();\n}"
+pub line_end_in_a_name : print_statement (block_statement (block (unattributed (function_call_statement (record { call = call (type_expression (codes "a\nb") no_template) no_expressions })) ∷ []))) ≡ codes "{\n    a\n    b();\n}"
 line_end_in_a_name = refl
 
 -- an empty statement in a loop and in its `continuing`
 abbrev empty_loop : Statement
-empty_loop = loop_statement (repeat [] (block (void ∷ [])) (one_continuing (continuing (block (void ∷ [])) (Some (record { expression = node (literal (boolean true)) })))))
+empty_loop = unattributed (loop_statement (repeat (block (unattributed void ∷ [])) (one_continuing (continuing (block (unattributed void ∷ [])) (Some (record { expression = node (literal (boolean true)) }))))))
 
-pub empty_lines : print_statement (compound (block (empty_loop ∷ []))) ≡ codes "{\n    loop {\n    \n        continuing {\n        \n            break if true;\n        }\n    }\n}"
+pub empty_lines : print_statement (block_statement (block (empty_loop ∷ []))) ≡ codes "{\n    loop {\n    \n        continuing {\n        \n            break if true;\n        }\n    }\n}"
 empty_lines = refl
 
-pub without_empty_statements : full_statement empty_loop ≡ loop_statement (repeat [] (block []) (one_continuing (continuing (block []) (Some (record { expression = node (literal (boolean true)) })))))
+pub without_empty_statements : full_statement empty_loop ≡ unattributed (loop_statement (repeat (block []) (one_continuing (continuing (block []) (Some (record { expression = node (literal (boolean true)) }))))))
 without_empty_statements = refl

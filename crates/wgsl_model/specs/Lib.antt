@@ -16,6 +16,7 @@ pub mod NamedValues
 pub mod Spanned
 pub mod Expressions
 pub mod Attributes
+pub mod Attributed
 pub mod Statements
 pub mod Units
 pub mod TokenValues
@@ -38,7 +39,6 @@ pub mod PrintedUnits
 pub mod EmptyItems
 pub mod WithoutSpans
 pub mod StatementsWithoutSpans
-pub mod NodeAttributes
 pub mod Small
 pub mod CheckedFaults
 pub mod Named

@@ -3,9 +3,14 @@ use Rattle.std.specs.Prelude.{ℕ, List, [], ◌++◌, Option, Some, None, codes
 use Rattle.wgsl_model.specs.NamedValues.{AddressSpace, AccessMode, access_mode_text, address_space_text}
 use Rattle.wgsl_model.specs.OperatorTexts.{assignment_operator_text}
 use Rattle.wgsl_model.specs.Expressions.{ExpressionNode, TypeExpression}
+use Rattle.wgsl_model.specs.Attributed.{Attributed}
 use Rattle.wgsl_model.specs.Statements.{DeclarationKind, const_kind, override_kind, let_kind, var_kind, Declaration, AssignmentStatement, IncrementStatement, DecrementStatement, ReturnStatement, FunctionCallStatement, ConstAssert, BreakIfStatement, CaseSelector, default_selector, expression_selector}
 use Rattle.wgsl_model.specs.PrintedExpressions.{print_expression_node, print_type, print_call}
 use Rattle.wgsl_model.specs.PrintedAttributes.{print_attribute_line}
+
+-- a node behind its attributes, which are on a line of their own
+abbrev pub print_attributed : {Node : Type 0} → (Node → List ℕ) → Attributed Node → List ℕ
+print_attributed print a = print_attribute_line a.attributes ++ print a.node
 
 -- an access mode behind an address space, if there is one
 abbrev pub print_access_mode : Option AccessMode → List ℕ
@@ -45,7 +50,7 @@ print_returned (Some e) = codes " " ++ print_expression_node e
 
 -- each without the `;` that ends it
 abbrev pub unended_declaration : Declaration → List ℕ
-unended_declaration d = print_attribute_line d.attributes ++ print_kind d.kind ++ codes " " ++ d.ident ++ print_typed d.ty ++ print_initializer d.initializer
+unended_declaration d = print_kind d.kind ++ codes " " ++ d.ident ++ print_typed d.ty ++ print_initializer d.initializer
 
 abbrev pub unended_assignment : AssignmentStatement → List ℕ
 unended_assignment a = print_expression_node a.lhs ++ codes " " ++ assignment_operator_text a.operator ++ codes " " ++ print_expression_node a.rhs

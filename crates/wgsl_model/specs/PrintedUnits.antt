@@ -4,12 +4,12 @@ use Rattle.wgsl_model.specs.NamedValues.{severity_text}
 use Rattle.wgsl_model.specs.Spanned.{Spanned}
 use Rattle.wgsl_model.specs.Expressions.{TypeExpression}
 use Rattle.wgsl_model.specs.Attributes.{Attributes}
-use Rattle.wgsl_model.specs.Units.{GlobalDirective, diagnostic, enable, requires, DiagnosticDirective, EnableDirective, RequiresDirective, TypeAlias, StructMember, Struct, FormalParameter, Function, GlobalDeclaration, void, declaration, type_alias, structure, function, const_assert, TranslationUnit}
+use Rattle.wgsl_model.specs.Units.{GlobalDirective, diagnostic, enable, requires, DiagnosticDirective, EnableDirective, RequiresDirective, TypeAlias, StructMember, Struct, FormalParameter, Function, GlobalDeclaration, UnattributedDeclaration, void, declaration, type_alias, structure, function, const_assert, TranslationUnit}
 use Rattle.wgsl_model.specs.Joining.{joined}
 use Rattle.wgsl_model.specs.Indentation.{indented}
 use Rattle.wgsl_model.specs.PrintedExpressions.{print_type}
 use Rattle.wgsl_model.specs.PrintedAttributes.{print_attribute_line, print_attributes_before}
-use Rattle.wgsl_model.specs.PrintedDeclarations.{print_declaration, print_assert}
+use Rattle.wgsl_model.specs.PrintedDeclarations.{print_attributed, print_declaration, print_assert}
 use Rattle.wgsl_model.specs.PrintedStatements.{print_compound}
 
 -- directives
@@ -48,21 +48,29 @@ print_result attributes (Some t) = codes "-> " ++ print_attributes_before attrib
 
 abbrev pub print_function : Function → List ℕ
 print_function f =
-    print_attribute_line f.attributes ++ codes "fn " ++ f.ident ++ codes "(" ++ joined (codes ", ") (map print_parameter f.parameters) ++ codes ") "
+    codes "fn " ++ f.ident ++ codes "(" ++ joined (codes ", ") (map print_parameter f.parameters) ++ codes ") "
     ++ print_result f.return_attributes f.return_type ++ print_compound f.body
 
+-- what stands behind the attributes of a declaration
+abbrev pub print_unattributed_declaration : UnattributedDeclaration → List ℕ
+print_unattributed_declaration void = codes ";"
+print_unattributed_declaration (declaration d) = print_declaration d
+print_unattributed_declaration (type_alias a) = print_type_alias a
+print_unattributed_declaration (structure s) = print_struct s
+print_unattributed_declaration (function f) = print_function f
+print_unattributed_declaration (const_assert c) = print_assert c
+
 abbrev pub print_global_declaration : GlobalDeclaration → List ℕ
-print_global_declaration void = codes ";"
-print_global_declaration (declaration d) = print_declaration d
-print_global_declaration (type_alias a) = print_type_alias a
-print_global_declaration (structure s) = print_struct s
-print_global_declaration (function f) = print_function f
-print_global_declaration (const_assert c) = print_assert c
+print_global_declaration = print_attributed print_unattributed_declaration
+
+-- what stands behind the attributes of a declaration is empty
+abbrev pub is_empty : UnattributedDeclaration → Bool
+is_empty void = true
+is_empty d = false
 
 -- the declaration is empty
 abbrev pub is_void : GlobalDeclaration → Bool
-is_void void = true
-is_void d = false
+is_void d = is_empty d.node
 
 -- the texts of the declarations that are not empty
 abbrev pub declaration_texts : List (Spanned GlobalDeclaration) → List (List ℕ)

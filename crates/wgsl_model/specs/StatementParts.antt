@@ -8,7 +8,7 @@ use Rattle.wgsl_model.specs.Operators.{AssignmentOperator, AssignmentOperator.eq
 use Rattle.wgsl_model.specs.Expressions.{ExpressionNode, ExpressionNode.expression_node, Expression.parenthesized, TypeExpression, FunctionCall}
 use Rattle.wgsl_model.specs.Attributes.{Attributes}
 use Rattle.wgsl_model.specs.Statements as tree
-use Rattle.wgsl_model.specs.Statements.{DeclarationKind, Declaration, ElseIfClause, ElseClause, BreakIfStatement, ContinuingStatement, CompoundStatement, StatementNode, Statement, CaseSelector, SwitchClause, ConstAssert, statements_of, else_ifs_of, else_of, clauses_of, continuing_of, maybe_statement}
+use Rattle.wgsl_model.specs.Statements.{DeclarationKind, Declaration, ElseIfClause, ElseClause, BreakIfStatement, ContinuingStatement, CompoundStatement, StatementNode, Statement, UnattributedStatement, CaseSelector, SwitchClause, ConstAssert, unattributed, statements_of, else_ifs_of, else_of, clauses_of, continuing_of, maybe_statement}
 use Rattle.wgsl_model.specs.Checks.{attribute_node, var_kind_of}
 use Rattle.wgsl_model.specs.TokenValues.{text_of}
 use Rattle.wgsl_model.specs.ExpressionParts.{variable}
@@ -22,6 +22,10 @@ placed_statement s span = tree.statement_node s span
 abbrev pub attributes : Rule Attributes
 attributes = many (symbol attribute gives attribute_node)
 
+-- A*, and what stands behind
+abbrev pub attributed : {A B : Type 0} → (Attributes → A → B) → Rule A → Rule B
+attributed make g = attributes then g gives λ p. make p.0 p.1
+
 -- Statement*
 abbrev pub statements : Rule (List StatementNode)
 statements = many (symbol statement)
@@ -34,9 +38,13 @@ initializer = SymEqual ▹ symbol expression
 abbrev pub var_kind : Rule DeclarationKind
 var_kind = symbol var_template gives var_kind_of
 
--- the declaration of a value: its attributes, its kind, its name and type, and its first value
-abbrev pub declaration_of : Attributes → DeclarationKind → List ℕ × Option TypeExpression → Option ExpressionNode → Declaration
-declaration_of attributes kind ident initializer = record { attributes = attributes; kind = kind; ident = ident.0; ty = ident.1; initializer = initializer }
+-- the declaration of a value: its kind, its name and type, and its first value
+abbrev pub declaration_of : DeclarationKind → List ℕ × Option TypeExpression → Option ExpressionNode → Declaration
+declaration_of kind ident initializer = record { kind = kind; ident = ident.0; ty = ident.1; initializer = initializer }
+
+-- the same as a statement
+abbrev pub local_of : DeclarationKind → List ℕ × Option TypeExpression → Option ExpressionNode → Statement
+local_of kind ident initializer = unattributed (tree.declaration (declaration_of kind ident initializer))
 
 -- attributes, and statements in braces
 abbrev pub compound_of : Attributes → List StatementNode → CompoundStatement
@@ -50,15 +58,15 @@ assignment_operator = SymEqual means equal or SymPlusEqual means plus_equal or S
 
 -- what is assigned to a left side, by an operator
 abbrev pub assignment_of : ExpressionNode → AssignmentOperator → ExpressionNode → Statement
-assignment_of lhs operator rhs = tree.assignment (record { operator = operator; lhs = lhs; rhs = rhs })
+assignment_of lhs operator rhs = unattributed (tree.assignment (record { operator = operator; lhs = lhs; rhs = rhs }))
 
 -- `++` behind a left side
 abbrev pub increment_of : ExpressionNode → Statement
-increment_of e = tree.increment (record { expression = e })
+increment_of e = unattributed (tree.increment (record { expression = e }))
 
 -- `--` behind a left side
 abbrev pub decrement_of : ExpressionNode → Statement
-decrement_of e = tree.decrement (record { expression = e })
+decrement_of e = unattributed (tree.decrement (record { expression = e }))
 
 -- the left side of a phony assignment: the identifier `_`
 abbrev pub underscore_at : Token → Span → ExpressionNode
@@ -74,15 +82,15 @@ parenthesized_at e span = expression_node (parenthesized e) span
 
 -- a call as a statement
 abbrev pub call_statement_of : FunctionCall → Statement
-call_statement_of c = tree.function_call_statement (record { call = c })
+call_statement_of c = unattributed (tree.function_call_statement (record { call = c }))
 
 -- `return`, with a value if there is one
 abbrev pub return_of : Option ExpressionNode → Statement
-return_of e = tree.return_statement (record { expression = e })
+return_of e = unattributed (tree.return_statement (record { expression = e }))
 
--- attributes, a condition and a block, the clauses with `else if`, and the block of a last `else`
-abbrev pub if_of : Attributes → ExpressionNode → CompoundStatement → List ElseIfClause × Option ElseClause → Statement
-if_of attributes condition block elses = tree.if_statement (tree.if_else attributes (tree.if_clause condition block) (else_ifs_of elses.0) (else_of elses.1))
+-- a condition and a block, the clauses with `else if`, and the block of a last `else`
+abbrev pub if_of : ExpressionNode → CompoundStatement → List ElseIfClause × Option ElseClause → UnattributedStatement
+if_of condition block elses = tree.if_statement (tree.if_else (tree.if_clause condition block) (else_ifs_of elses.0) (else_of elses.1))
 
 -- `else if` Expression Block
 abbrev pub else_if : Rule ElseIfClause
@@ -96,17 +104,21 @@ else_block = KwElse ▹ symbol compound_statement gives tree.else_clause
 abbrev pub assert_of : ExpressionNode → ConstAssert
 assert_of e = record { expression = e }
 
+-- the same as a statement
+abbrev pub assert_statement : ConstAssert → Statement
+assert_statement c = unattributed (tree.const_assert c)
+
 -- what a clause selects, and its block
 abbrev pub clause_of : List CaseSelector → CompoundStatement → SwitchClause
 clause_of selectors block = tree.switch_clause selectors block
 
--- attributes, what is compared, the attributes of the body, and the clauses
-abbrev pub switch_of : Attributes → ExpressionNode → Attributes → List SwitchClause → Statement
-switch_of attributes selected body_attributes clauses = tree.switch_statement (tree.switch attributes selected body_attributes (clauses_of clauses))
+-- what is compared, the attributes of the body, and the clauses
+abbrev pub switch_of : ExpressionNode → Attributes → List SwitchClause → UnattributedStatement
+switch_of selected body_attributes clauses = tree.switch_statement (tree.switch selected body_attributes (clauses_of clauses))
 
--- attributes, the attributes and statements of the body, and its `continuing`
-abbrev pub loop_of : Attributes → Attributes → List StatementNode → Option ContinuingStatement → Statement
-loop_of attributes body_attributes statements continuing = tree.loop_statement (tree.repeat attributes (compound_of body_attributes statements) (continuing_of continuing))
+-- the attributes and statements of the body, and its `continuing`
+abbrev pub loop_of : Attributes → List StatementNode → Option ContinuingStatement → UnattributedStatement
+loop_of body_attributes statements continuing = tree.loop_statement (tree.repeat (compound_of body_attributes statements) (continuing_of continuing))
 
 -- `break if` Expression ";"
 abbrev pub break_if : Rule BreakIfStatement
@@ -116,10 +128,10 @@ break_if = KwBreak ▹ KwIf ▹ symbol expression ◃ SymSemicolon gives λ e. r
 abbrev pub continuing_part : Attributes → List StatementNode → Option BreakIfStatement → ContinuingStatement
 continuing_part attributes statements condition = tree.continuing (compound_of attributes statements) condition
 
--- attributes, the three parts of the header, and the block
-abbrev pub for_of : Attributes → Option StatementNode → Option ExpressionNode → Option StatementNode → CompoundStatement → Statement
-for_of attributes init condition update block = tree.for_statement (tree.repeat_for attributes (maybe_statement init) condition (maybe_statement update) block)
+-- the three parts of the header, and the block
+abbrev pub for_of : Option StatementNode → Option ExpressionNode → Option StatementNode → CompoundStatement → UnattributedStatement
+for_of init condition update block = tree.for_statement (tree.repeat_for (maybe_statement init) condition (maybe_statement update) block)
 
--- attributes, the condition and the block
-abbrev pub while_of : Attributes → ExpressionNode → CompoundStatement → Statement
-while_of attributes condition block = tree.while_statement (tree.repeat_while attributes condition block)
+-- the condition and the block
+abbrev pub while_of : ExpressionNode → CompoundStatement → UnattributedStatement
+while_of condition block = tree.while_statement (tree.repeat_while condition block)

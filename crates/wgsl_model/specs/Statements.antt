@@ -5,6 +5,7 @@ use Rattle.wgsl_model.specs.Operators.{AssignmentOperator}
 use Rattle.wgsl_model.specs.NamedValues.{AddressSpace, AccessMode}
 use Rattle.wgsl_model.specs.Expressions.{ExpressionNode, TypeExpression, FunctionCall}
 use Rattle.wgsl_model.specs.Attributes.{Attributes}
+use Rattle.wgsl_model.specs.Attributed.{Attributed}
 
 -- which kind of value a declaration declares: `const`, `override`, `let`, or `var` with its address space and access mode
 pub data DeclarationKind : Type 0 where
@@ -13,7 +14,6 @@ pub data DeclarationKind : Type 0 where
 
 -- the declaration of a value
 pub record Declaration : Type 0 where
-  pub attributes : Attributes
   pub kind : DeclarationKind
   pub ident : List ℕ
   pub ty : Option TypeExpression
@@ -59,31 +59,35 @@ mutual
   pub data StatementNode : Type 0 where
     statement_node : Statement → Span → StatementNode
 
-  -- a statement; an empty one is a `;` alone
+  -- a statement: its attributes, and what stands behind them
   pub data Statement : Type 0 where
-    void : Statement
-    compound : CompoundStatement → Statement
-    assignment : AssignmentStatement → Statement
-    increment : IncrementStatement → Statement
-    decrement : DecrementStatement → Statement
-    if_statement : IfStatement → Statement
-    switch_statement : SwitchStatement → Statement
-    loop_statement : LoopStatement → Statement
-    for_statement : ForStatement → Statement
-    while_statement : WhileStatement → Statement
-    break_statement continue_statement discard_statement : Statement
-    return_statement : ReturnStatement → Statement
-    function_call_statement : FunctionCallStatement → Statement
-    const_assert : ConstAssert → Statement
-    declaration : Declaration → Statement
+    statement : Attributes → UnattributedStatement → Statement
 
-  -- attributes, and statements in braces
+  -- what stands behind the attributes of a statement; an empty one is a `;` alone, a compound one has statements in braces
+  pub data UnattributedStatement : Type 0 where
+    void : UnattributedStatement
+    compound : StatementNodes → UnattributedStatement
+    assignment : AssignmentStatement → UnattributedStatement
+    increment : IncrementStatement → UnattributedStatement
+    decrement : DecrementStatement → UnattributedStatement
+    if_statement : IfStatement → UnattributedStatement
+    switch_statement : SwitchStatement → UnattributedStatement
+    loop_statement : LoopStatement → UnattributedStatement
+    for_statement : ForStatement → UnattributedStatement
+    while_statement : WhileStatement → UnattributedStatement
+    break_statement continue_statement discard_statement : UnattributedStatement
+    return_statement : ReturnStatement → UnattributedStatement
+    function_call_statement : FunctionCallStatement → UnattributedStatement
+    const_assert : ConstAssert → UnattributedStatement
+    declaration : Declaration → UnattributedStatement
+
+  -- a block: attributes, and statements in braces
   pub data CompoundStatement : Type 0 where
     compound_statement : Attributes → StatementNodes → CompoundStatement
 
-  -- attributes, the clauses, and what follows a last `else`
+  -- the clauses, and what follows a last `else`
   pub data IfStatement : Type 0 where
-    if_else : Attributes → IfClause → ElseIfClauses → MaybeElseClause → IfStatement
+    if_else : IfClause → ElseIfClauses → MaybeElseClause → IfStatement
 
   -- `if` with its condition and block
   pub data IfClause : Type 0 where
@@ -97,29 +101,29 @@ mutual
   pub data ElseClause : Type 0 where
     else_clause : CompoundStatement → ElseClause
 
-  -- attributes, what is compared, the attributes of the body, and the clauses
+  -- what is compared, the attributes of the body, and the clauses
   pub data SwitchStatement : Type 0 where
-    switch : Attributes → ExpressionNode → Attributes → SwitchClauses → SwitchStatement
+    switch : ExpressionNode → Attributes → SwitchClauses → SwitchStatement
 
   -- what is selected, and the block
   pub data SwitchClause : Type 0 where
     switch_clause : List CaseSelector → CompoundStatement → SwitchClause
 
-  -- attributes, the body, and its `continuing`
+  -- the body, and its `continuing`
   pub data LoopStatement : Type 0 where
-    repeat : Attributes → CompoundStatement → MaybeContinuing → LoopStatement
+    repeat : CompoundStatement → MaybeContinuing → LoopStatement
 
   -- the body, and its `break if`
   pub data ContinuingStatement : Type 0 where
     continuing : CompoundStatement → Option BreakIfStatement → ContinuingStatement
 
-  -- attributes, what is done before, the condition, what is done after each turn, and the body
+  -- what is done before, the condition, what is done after each turn, and the body
   pub data ForStatement : Type 0 where
-    repeat_for : Attributes → MaybeStatement → Option ExpressionNode → MaybeStatement → CompoundStatement → ForStatement
+    repeat_for : MaybeStatement → Option ExpressionNode → MaybeStatement → CompoundStatement → ForStatement
 
-  -- attributes, the condition and the body
+  -- the condition and the body
   pub data WhileStatement : Type 0 where
-    repeat_while : Attributes → ExpressionNode → CompoundStatement → WhileStatement
+    repeat_while : ExpressionNode → CompoundStatement → WhileStatement
 
   -- lists, and parts that may be left out
   pub data StatementNodes : Type 0 where
@@ -150,6 +154,25 @@ mutual
   pub data MaybeStatement : Type 0 where
     no_statement : MaybeStatement
     one_statement : StatementNode → MaybeStatement
+
+-- a statement without attributes
+abbrev pub unattributed : UnattributedStatement → Statement
+unattributed s = statement [] s
+
+-- a node behind its attributes, as a statement of its kind
+abbrev pub as_statement : {Node : Type 0} → (Node → UnattributedStatement) → Attributed Node → Statement
+as_statement kind a = statement a.attributes (kind a.node)
+
+-- the attributes of a block, and its statements
+abbrev pub compound_attributes : CompoundStatement → Attributes
+compound_attributes (compound_statement attributes ss) = attributes
+
+abbrev pub compound_statements : CompoundStatement → StatementNodes
+compound_statements (compound_statement attributes ss) = ss
+
+-- a block as a statement
+abbrev pub block_statement : CompoundStatement → Statement
+block_statement b = statement (compound_attributes b) (compound (compound_statements b))
 
 -- lists and parts that may be left out, as they stand in a tree
 abbrev pub statements_of : List StatementNode → StatementNodes

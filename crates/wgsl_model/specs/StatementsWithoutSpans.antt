@@ -1,12 +1,17 @@
 -- Statements and modules with their spans set aside.
 use Rattle.std.specs.Prelude.{map}
 use Rattle.std.specs.Option.{option_map}
-use Rattle.wgsl_model.specs.Statements.{Declaration, AssignmentStatement, IncrementStatement, DecrementStatement, ReturnStatement, FunctionCallStatement, ConstAssert, BreakIfStatement, CaseSelector, default_selector, expression_selector, StatementNode, statement_node, Statement, compound, assignment, increment, decrement, if_statement, switch_statement, loop_statement, for_statement, while_statement, return_statement, function_call_statement, const_assert, declaration, CompoundStatement, compound_statement, IfStatement, if_else, IfClause, if_clause, ElseIfClause, else_if_clause, ElseClause, else_clause, SwitchStatement, switch, SwitchClause, switch_clause, LoopStatement, repeat, ContinuingStatement, continuing, ForStatement, repeat_for, WhileStatement, repeat_while, StatementNodes, no_statements, statement_before, ElseIfClauses, no_else_ifs, else_if_before, MaybeElseClause, no_else, one_else, SwitchClauses, no_clauses, clause_before, MaybeContinuing, no_continuing, one_continuing, MaybeStatement, no_statement, one_statement}
-use Rattle.wgsl_model.specs.Units.{TypeAlias, StructMember, Struct, FormalParameter, Function, GlobalDeclaration, GlobalDeclaration.declaration, GlobalDeclaration.type_alias, GlobalDeclaration.structure, GlobalDeclaration.function, GlobalDeclaration.const_assert, TranslationUnit}
+use Rattle.wgsl_model.specs.Attributed.{Attributed}
+use Rattle.wgsl_model.specs.Statements.{Declaration, AssignmentStatement, IncrementStatement, DecrementStatement, ReturnStatement, FunctionCallStatement, ConstAssert, BreakIfStatement, CaseSelector, default_selector, expression_selector, StatementNode, statement_node, Statement, statement, UnattributedStatement, compound, assignment, increment, decrement, if_statement, switch_statement, loop_statement, for_statement, while_statement, return_statement, function_call_statement, const_assert, declaration, CompoundStatement, compound_statement, IfStatement, if_else, IfClause, if_clause, ElseIfClause, else_if_clause, ElseClause, else_clause, SwitchStatement, switch, SwitchClause, switch_clause, LoopStatement, repeat, ContinuingStatement, continuing, ForStatement, repeat_for, WhileStatement, repeat_while, StatementNodes, no_statements, statement_before, ElseIfClauses, no_else_ifs, else_if_before, MaybeElseClause, no_else, one_else, SwitchClauses, no_clauses, clause_before, MaybeContinuing, no_continuing, one_continuing, MaybeStatement, no_statement, one_statement}
+use Rattle.wgsl_model.specs.Units.{TypeAlias, StructMember, Struct, FormalParameter, Function, GlobalDeclaration, UnattributedDeclaration, UnattributedDeclaration.declaration, UnattributedDeclaration.type_alias, UnattributedDeclaration.structure, UnattributedDeclaration.function, UnattributedDeclaration.const_assert, TranslationUnit}
 use Rattle.wgsl_model.specs.WithoutSpans.{no_span, bare_spanned, bare_expression_node, bare_call, bare_type, bare_attributes}
 
+-- a node behind its attributes
+abbrev pub bare_attributed : {Node : Type 0} → (Node → Node) → Attributed Node → Attributed Node
+bare_attributed bare a = record { attributes = bare_attributes a.attributes; node = bare a.node }
+
 abbrev pub bare_declaration : Declaration → Declaration
-bare_declaration d = record d { attributes = bare_attributes d.attributes; ty = option_map bare_type d.ty; initializer = option_map bare_expression_node d.initializer }
+bare_declaration d = record d { ty = option_map bare_type d.ty; initializer = option_map bare_expression_node d.initializer }
 
 abbrev pub bare_assignment : AssignmentStatement → AssignmentStatement
 bare_assignment a = record a { lhs = bare_expression_node a.lhs; rhs = bare_expression_node a.rhs }
@@ -35,20 +40,23 @@ bare_selector (expression_selector e) = expression_selector (bare_expression_nod
 
 abbrev mutual
   pub bare_statement : Statement → Statement
-  bare_statement (compound b) = compound (bare_compound b)
-  bare_statement (assignment a) = assignment (bare_assignment a)
-  bare_statement (increment i) = increment (bare_increment i)
-  bare_statement (decrement d) = decrement (bare_decrement d)
-  bare_statement (if_statement s) = if_statement (bare_if s)
-  bare_statement (switch_statement s) = switch_statement (bare_switch s)
-  bare_statement (loop_statement s) = loop_statement (bare_loop s)
-  bare_statement (for_statement s) = for_statement (bare_for s)
-  bare_statement (while_statement s) = while_statement (bare_while s)
-  bare_statement (return_statement r) = return_statement (bare_return r)
-  bare_statement (function_call_statement c) = function_call_statement (bare_call_statement c)
-  bare_statement (const_assert c) = const_assert (bare_assert c)
-  bare_statement (declaration d) = declaration (bare_declaration d)
-  bare_statement s = s
+  bare_statement (statement attributes s) = statement (bare_attributes attributes) (bare_unattributed s)
+
+  pub bare_unattributed : UnattributedStatement → UnattributedStatement
+  bare_unattributed (compound ss) = compound (bare_statements ss)
+  bare_unattributed (assignment a) = assignment (bare_assignment a)
+  bare_unattributed (increment i) = increment (bare_increment i)
+  bare_unattributed (decrement d) = decrement (bare_decrement d)
+  bare_unattributed (if_statement s) = if_statement (bare_if s)
+  bare_unattributed (switch_statement s) = switch_statement (bare_switch s)
+  bare_unattributed (loop_statement s) = loop_statement (bare_loop s)
+  bare_unattributed (for_statement s) = for_statement (bare_for s)
+  bare_unattributed (while_statement s) = while_statement (bare_while s)
+  bare_unattributed (return_statement r) = return_statement (bare_return r)
+  bare_unattributed (function_call_statement c) = function_call_statement (bare_call_statement c)
+  bare_unattributed (const_assert c) = const_assert (bare_assert c)
+  bare_unattributed (declaration d) = declaration (bare_declaration d)
+  bare_unattributed s = s
 
   pub bare_statement_node : StatementNode → StatementNode
   bare_statement_node (statement_node s span) = statement_node (bare_statement s) no_span
@@ -61,7 +69,7 @@ abbrev mutual
   bare_compound (compound_statement attributes ss) = compound_statement (bare_attributes attributes) (bare_statements ss)
 
   pub bare_if : IfStatement → IfStatement
-  bare_if (if_else attributes first others last) = if_else (bare_attributes attributes) (bare_if_clause first) (bare_else_ifs others) (bare_else last)
+  bare_if (if_else first others last) = if_else (bare_if_clause first) (bare_else_ifs others) (bare_else last)
 
   pub bare_if_clause : IfClause → IfClause
   bare_if_clause (if_clause e block) = if_clause (bare_expression_node e) (bare_compound block)
@@ -81,7 +89,7 @@ abbrev mutual
   bare_else (one_else c) = one_else (bare_else_clause c)
 
   pub bare_switch : SwitchStatement → SwitchStatement
-  bare_switch (switch attributes e body_attributes cs) = switch (bare_attributes attributes) (bare_expression_node e) (bare_attributes body_attributes) (bare_clauses cs)
+  bare_switch (switch e body_attributes cs) = switch (bare_expression_node e) (bare_attributes body_attributes) (bare_clauses cs)
 
   pub bare_clauses : SwitchClauses → SwitchClauses
   bare_clauses no_clauses = no_clauses
@@ -91,7 +99,7 @@ abbrev mutual
   bare_switch_clause (switch_clause selectors block) = switch_clause (map bare_selector selectors) (bare_compound block)
 
   pub bare_loop : LoopStatement → LoopStatement
-  bare_loop (repeat attributes body last) = repeat (bare_attributes attributes) (bare_compound body) (bare_maybe_continuing last)
+  bare_loop (repeat body last) = repeat (bare_compound body) (bare_maybe_continuing last)
 
   pub bare_maybe_continuing : MaybeContinuing → MaybeContinuing
   bare_maybe_continuing no_continuing = no_continuing
@@ -101,15 +109,15 @@ abbrev mutual
   bare_continuing (continuing body condition) = continuing (bare_compound body) (option_map bare_break_if condition)
 
   pub bare_for : ForStatement → ForStatement
-  bare_for (repeat_for attributes init condition update block) =
-      repeat_for (bare_attributes attributes) (bare_part init) (option_map bare_expression_node condition) (bare_part update) (bare_compound block)
+  bare_for (repeat_for init condition update block) =
+      repeat_for (bare_part init) (option_map bare_expression_node condition) (bare_part update) (bare_compound block)
 
   pub bare_part : MaybeStatement → MaybeStatement
   bare_part no_statement = no_statement
   bare_part (one_statement s) = one_statement (bare_statement_node s)
 
   pub bare_while : WhileStatement → WhileStatement
-  bare_while (repeat_while attributes e block) = repeat_while (bare_attributes attributes) (bare_expression_node e) (bare_compound block)
+  bare_while (repeat_while e block) = repeat_while (bare_expression_node e) (bare_compound block)
 
 -- declarations of modules, and modules
 abbrev pub bare_type_alias : TypeAlias → TypeAlias
@@ -126,20 +134,22 @@ bare_parameter p = record p { attributes = bare_attributes p.attributes; ty = ba
 
 abbrev pub bare_function : Function → Function
 bare_function f = record f {
-  attributes = bare_attributes f.attributes;
   parameters = map bare_parameter f.parameters;
   return_attributes = bare_attributes f.return_attributes;
   return_type = option_map bare_type f.return_type;
   body = bare_compound f.body;
 }
 
+abbrev pub bare_unattributed_declaration : UnattributedDeclaration → UnattributedDeclaration
+bare_unattributed_declaration (declaration d) = declaration (bare_declaration d)
+bare_unattributed_declaration (type_alias a) = type_alias (bare_type_alias a)
+bare_unattributed_declaration (structure s) = structure (bare_struct s)
+bare_unattributed_declaration (function f) = function (bare_function f)
+bare_unattributed_declaration (const_assert c) = const_assert (bare_assert c)
+bare_unattributed_declaration d = d
+
 abbrev pub bare_global_declaration : GlobalDeclaration → GlobalDeclaration
-bare_global_declaration (declaration d) = declaration (bare_declaration d)
-bare_global_declaration (type_alias a) = type_alias (bare_type_alias a)
-bare_global_declaration (structure s) = structure (bare_struct s)
-bare_global_declaration (function f) = function (bare_function f)
-bare_global_declaration (const_assert c) = const_assert (bare_assert c)
-bare_global_declaration d = d
+bare_global_declaration = bare_attributed bare_unattributed_declaration
 
 abbrev pub bare_unit : TranslationUnit → TranslationUnit
 bare_unit u = record u { global_declarations = map (bare_spanned bare_global_declaration) u.global_declarations }

@@ -7,9 +7,10 @@ use Rattle.wgsl_model.specs.Classes.{SymArrow, SymColon}
 use Rattle.wgsl_model.specs.Spanned.{Spanned, spanned}
 use Rattle.wgsl_model.specs.Expressions.{ExpressionNode, TypeExpression}
 use Rattle.wgsl_model.specs.Attributes.{Attributes}
-use Rattle.wgsl_model.specs.Statements.{DeclarationKind, CompoundStatement}
+use Rattle.wgsl_model.specs.Attributed.{without_attributes}
+use Rattle.wgsl_model.specs.Statements.{DeclarationKind, CompoundStatement, ConstAssert}
 use Rattle.wgsl_model.specs.Units as tree
-use Rattle.wgsl_model.specs.Units.{GlobalDirective, StructMember, FormalParameter, Function, GlobalDeclaration}
+use Rattle.wgsl_model.specs.Units.{GlobalDirective, StructMember, FormalParameter, Function, GlobalDeclaration, UnattributedDeclaration}
 use Rattle.wgsl_model.specs.Checks.{severity_of}
 use Rattle.wgsl_model.specs.TokenValues.{text_of}
 use Rattle.wgsl_model.specs.StatementParts.{attributes, declaration_of}
@@ -28,31 +29,35 @@ abbrev pub parameter_of : Attributes × (Token × TypeExpression) → FormalPara
 parameter_of p = record { attributes = p.0; ident = text_of p.1.0; ty = p.1.1 }
 
 -- the declaration of a value
-abbrev pub value_of : Attributes → DeclarationKind → List ℕ × Option TypeExpression → Option ExpressionNode → GlobalDeclaration
-value_of attributes kind typed initializer = tree.declaration (declaration_of attributes kind typed initializer)
+abbrev pub value_of : DeclarationKind → List ℕ × Option TypeExpression → Option ExpressionNode → UnattributedDeclaration
+value_of kind typed initializer = tree.declaration (declaration_of kind typed initializer)
+
+-- `const_assert` as a declaration
+abbrev pub assert_declaration : ConstAssert → GlobalDeclaration
+assert_declaration c = without_attributes (tree.const_assert c)
 
 -- `alias` with a name and a type
 abbrev pub alias_of : Token × TypeExpression → GlobalDeclaration
-alias_of p = tree.type_alias (record { ident = text_of p.0; ty = p.1 })
+alias_of p = without_attributes (tree.type_alias (record { ident = text_of p.0; ty = p.1 }))
 
 -- `struct` with a name and its members
 abbrev pub struct_of : Token × List (Spanned StructMember) → GlobalDeclaration
-struct_of p = tree.structure (record { ident = text_of p.0; members = p.1 })
+struct_of p = without_attributes (tree.structure (record { ident = text_of p.0; members = p.1 }))
 
 -- "->" A* TypeSpecifier
 abbrev pub return_part : Rule (Attributes × TypeExpression)
 return_part = SymArrow ▹ attributes then symbol type_specifier
 
 -- a function with its parameters, what it returns, and its body
-abbrev pub function_parts : Attributes → Token → List FormalParameter → Option (Attributes × TypeExpression) → CompoundStatement → Function
-function_parts attributes name parameters None block =
-    record { attributes = attributes; ident = text_of name; parameters = parameters; return_attributes = []; return_type = None; body = block }
-function_parts attributes name parameters (Some r) block =
-    record { attributes = attributes; ident = text_of name; parameters = parameters; return_attributes = r.0; return_type = Some r.1; body = block }
+abbrev pub function_parts : Token → List FormalParameter → Option (Attributes × TypeExpression) → CompoundStatement → Function
+function_parts name parameters None block =
+    record { ident = text_of name; parameters = parameters; return_attributes = []; return_type = None; body = block }
+function_parts name parameters (Some r) block =
+    record { ident = text_of name; parameters = parameters; return_attributes = r.0; return_type = Some r.1; body = block }
 
 -- a function as a declaration
-abbrev pub function_of : Attributes → Token → List FormalParameter → Option (Attributes × TypeExpression) → CompoundStatement → GlobalDeclaration
-function_of attributes name parameters returned block = tree.function (function_parts attributes name parameters returned block)
+abbrev pub function_of : Token → List FormalParameter → Option (Attributes × TypeExpression) → CompoundStatement → UnattributedDeclaration
+function_of name parameters returned block = tree.function (function_parts name parameters returned block)
 
 -- names as texts
 abbrev pub texts_of : List Token → List (List ℕ)

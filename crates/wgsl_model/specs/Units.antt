@@ -4,6 +4,7 @@ use Rattle.wgsl_model.specs.NamedValues.{DiagnosticSeverity}
 use Rattle.wgsl_model.specs.Spanned.{Spanned}
 use Rattle.wgsl_model.specs.Expressions.{TypeExpression}
 use Rattle.wgsl_model.specs.Attributes.{Attributes}
+use Rattle.wgsl_model.specs.Attributed.{Attributed, with_attributes}
 use Rattle.wgsl_model.specs.Statements.{Declaration, CompoundStatement, ConstAssert}
 
 -- a severity and the name of a rule
@@ -49,21 +50,28 @@ pub record FormalParameter : Type 0 where
 
 -- a function
 pub record Function : Type 0 where
-  pub attributes : Attributes
   pub ident : List ℕ
   pub parameters : List FormalParameter
   pub return_attributes : Attributes
   pub return_type : Option TypeExpression
   pub body : CompoundStatement
 
--- a declaration of a module; an empty one is a `;` alone
-pub data GlobalDeclaration : Type 0 where
-  void : GlobalDeclaration
-  declaration : Declaration → GlobalDeclaration
-  type_alias : TypeAlias → GlobalDeclaration
-  structure : Struct → GlobalDeclaration
-  function : Function → GlobalDeclaration
-  const_assert : ConstAssert → GlobalDeclaration
+-- what stands behind the attributes of a declaration of a module; an empty one is a `;` alone
+pub data UnattributedDeclaration : Type 0 where
+  void : UnattributedDeclaration
+  declaration : Declaration → UnattributedDeclaration
+  type_alias : TypeAlias → UnattributedDeclaration
+  structure : Struct → UnattributedDeclaration
+  function : Function → UnattributedDeclaration
+  const_assert : ConstAssert → UnattributedDeclaration
+
+-- a declaration of a module: its attributes, and what stands behind them
+abbrev pub GlobalDeclaration : Type 0
+GlobalDeclaration = Attributed UnattributedDeclaration
+
+-- a node behind its attributes, as a declaration of its kind
+abbrev pub as_declaration : {Node : Type 0} → (Node → UnattributedDeclaration) → Attributed Node → GlobalDeclaration
+as_declaration kind a = with_attributes a.attributes (kind a.node)
 
 -- a module: its directives, then its declarations
 pub record TranslationUnit : Type 0 where

@@ -7,13 +7,14 @@ use Rattle.wgsl_model.specs.Classes.{SymAnd, SymAndAnd, SymAttr, SymBracketLeft,
 use Rattle.wgsl_model.specs.Operators.{UnaryOperator.address_of, UnaryOperator.indirection, BinaryOperator.short_circuit_or, BinaryOperator.short_circuit_and, BinaryOperator.bitwise_or, BinaryOperator.bitwise_and, BinaryOperator.bitwise_xor, BinaryOperator.shift_left, BinaryOperator.shift_right, AssignmentOperator.equal}
 use Rattle.wgsl_model.specs.Spanned.{spanned}
 use Rattle.wgsl_model.specs.Expressions.{Expression}
-use Rattle.wgsl_model.specs.Statements.{DeclarationKind, CaseSelector, Statement}
-use Rattle.wgsl_model.specs.Units.{GlobalDeclaration}
+use Rattle.wgsl_model.specs.Attributed.{with_attributes, without_attributes}
+use Rattle.wgsl_model.specs.Statements.{DeclarationKind, CaseSelector, statement, UnattributedStatement, unattributed, block_statement}
+use Rattle.wgsl_model.specs.Units.{UnattributedDeclaration}
 use Rattle.wgsl_model.specs.TokenValues.{text_of, literal_of}
 use Rattle.wgsl_model.specs.Checks.{unreserved, severity_fault, var_fault, attribute_parts, attribute_fault}
 use Rattle.wgsl_model.specs.ExpressionParts.{placed_expression, type_of, call_of, index_of, component_of, with_component, unary_of, binary_of, operation_of, negation_of, negated_product_of, unary_operator, multiplicative_operator, relational_operator, summand, two, two_or_more}
-use Rattle.wgsl_model.specs.StatementParts.{placed_statement, attributes, statements, initializer, var_kind, declaration_of, compound_of, assignment_operator, assignment_of, increment_of, decrement_of, underscore_at, variable_at, parenthesized_at, call_statement_of, return_of, if_of, else_if, else_block, assert_of, clause_of, switch_of, loop_of, break_if, continuing_part, for_of, while_of}
-use Rattle.wgsl_model.specs.UnitParts.{attributed_ident, member_of, parameter_of, value_of, alias_of, struct_of, return_part, function_of, enable_of, requires_of, diagnostic_of}
+use Rattle.wgsl_model.specs.StatementParts.{placed_statement, attributes, attributed, statements, initializer, var_kind, local_of, compound_of, assignment_operator, assignment_of, increment_of, decrement_of, underscore_at, variable_at, parenthesized_at, call_statement_of, return_of, if_of, else_if, else_block, assert_of, assert_statement, clause_of, switch_of, loop_of, break_if, continuing_part, for_of, while_of}
+use Rattle.wgsl_model.specs.UnitParts.{attributed_ident, member_of, parameter_of, value_of, assert_declaration, alias_of, struct_of, return_part, function_of, enable_of, requires_of, diagnostic_of}
 use Rattle.wgsl_model.specs.Symbols.{Dialect, Dialect.whole, Dialect.alone, Symbol, Symbol.ident, Symbol.type_specifier, Symbol.template_list, Symbol.expressions, Symbol.call, Symbol.arguments, Symbol.literal, Symbol.primary_expression, Symbol.singular_expression, Symbol.component, Symbol.unary_expression, Symbol.multiplicative_expression, Symbol.negated_expression, Symbol.additive_expression, Symbol.shift_expression, Symbol.relational_expression, Symbol.expression, Symbol.lhs_expression, Symbol.attribute, Symbol.compound_statement, Symbol.statement, Symbol.return_statement, Symbol.if_statement, Symbol.switch_statement, Symbol.loop_statement, Symbol.for_statement, Symbol.while_statement, Symbol.call_statement, Symbol.var_statement, Symbol.value_statement, Symbol.break_statement, Symbol.continue_statement, Symbol.discard_statement, Symbol.assignment, Symbol.phony_assignment, Symbol.increment, Symbol.decrement, Symbol.const_assert, Symbol.switch_clause, Symbol.case_selector, Symbol.continuing_statement, Symbol.for_init, Symbol.for_update, Symbol.var_template, Symbol.typed_ident, Symbol.struct_member, Symbol.formal_parameter, Symbol.global_declaration, Symbol.var_declaration, Symbol.const_declaration, Symbol.override_declaration, Symbol.alias_declaration, Symbol.struct_declaration, Symbol.function_declaration, Symbol.diagnostic_severity, Symbol.global_directive, Symbol.enable_directive, Symbol.requires_directive, Symbol.diagnostic_directive, Symbol.unit, Value, Rule}
 
 -- the keywords, which are names directly after `@`
@@ -77,9 +78,9 @@ rules whole attribute = SymAttr ▹ token (Ident ∷ ReservedWord ∷ keyword_cl
 rules alone attribute = SymAttr ▹ one_token Ident then optional (symbol arguments) makes attribute_parts
 -- ---- statements (WGSL, "Statements")
 -- Block = A* "{" Statement* "}"
-rules L compound_statement = attributes then SymBraceLeft ▹ statements ◃ SymBraceRight gives λ p. compound_of p.0 p.1
+rules L compound_statement = attributed compound_of (SymBraceLeft ▹ statements ◃ SymBraceRight)
 -- Statement = one of nineteen
-rules L statement = (SymSemicolon means Statement.void
+rules L statement = (SymSemicolon means unattributed UnattributedStatement.void
     or symbol return_statement ◃ SymSemicolon
     or symbol if_statement
     or symbol switch_statement
@@ -96,37 +97,37 @@ rules L statement = (SymSemicolon means Statement.void
     or symbol phony_assignment ◃ SymSemicolon
     or symbol increment ◃ SymSemicolon
     or symbol decrement ◃ SymSemicolon
-    or symbol compound_statement gives Statement.compound
-    or symbol const_assert ◃ SymSemicolon gives Statement.const_assert) makes placed_statement
+    or symbol compound_statement gives block_statement
+    or symbol const_assert ◃ SymSemicolon gives assert_statement) makes placed_statement
 -- "return" Expression?
 rules L return_statement = KwReturn ▹ optional (symbol expression) gives return_of
 -- A* "if" Expression Block ("else" "if" Expression Block)* ("else" Block)?
-rules L if_statement = attributes then KwIf ▹ symbol expression then symbol compound_statement then (many else_if then optional else_block)
-    gives λ p. if_of p.0 p.1.0 p.1.1.0 p.1.1.1
+rules L if_statement = attributed statement (KwIf ▹ symbol expression then symbol compound_statement then (many else_if then optional else_block)
+    gives λ p. if_of p.0 p.1.0 p.1.1)
 -- A* "switch" Expression A* "{" Clause+ "}"
-rules L switch_statement = attributes then KwSwitch ▹ symbol expression then attributes then SymBraceLeft ▹ several (symbol switch_clause) ◃ SymBraceRight
-    gives λ p. switch_of p.0 p.1.0 p.1.1.0 p.1.1.1
+rules L switch_statement = attributed statement (KwSwitch ▹ symbol expression then attributes then SymBraceLeft ▹ several (symbol switch_clause) ◃ SymBraceRight
+    gives λ p. switch_of p.0 p.1.0 p.1.1)
 -- A* "loop" A* "{" Statement* Continuing? "}"
-rules L loop_statement = attributes then KwLoop ▹ attributes then SymBraceLeft ▹ (statements then optional (symbol continuing_statement)) ◃ SymBraceRight
-    gives λ p. loop_of p.0 p.1.0 p.1.1.0 p.1.1.1
+rules L loop_statement = attributed statement (KwLoop ▹ attributes then SymBraceLeft ▹ (statements then optional (symbol continuing_statement)) ◃ SymBraceRight
+    gives λ p. loop_of p.0 p.1.0 p.1.1)
 -- A* "for" "(" Init? ";" Expression? ";" Update? ")" Block
-rules L for_statement = attributes then KwFor ▹ SymParenLeft ▹ optional (symbol for_init) ◃ SymSemicolon then optional (symbol expression) ◃ SymSemicolon
-    then optional (symbol for_update) ◃ SymParenRight then symbol compound_statement gives λ p. for_of p.0 p.1.0 p.1.1.0 p.1.1.1.0 p.1.1.1.1
+rules L for_statement = attributed statement (KwFor ▹ SymParenLeft ▹ optional (symbol for_init) ◃ SymSemicolon then optional (symbol expression) ◃ SymSemicolon
+    then optional (symbol for_update) ◃ SymParenRight then symbol compound_statement gives λ p. for_of p.0 p.1.0 p.1.1.0 p.1.1.1)
 -- A* "while" Expression Block
-rules L while_statement = attributes then KwWhile ▹ symbol expression then symbol compound_statement gives λ p. while_of p.0 p.1.0 p.1.1
+rules L while_statement = attributed statement (KwWhile ▹ symbol expression then symbol compound_statement gives λ p. while_of p.0 p.1)
 -- Call
 rules L call_statement = symbol call gives call_statement_of
 -- "var" TemplateList? Typed ("=" Expression)?
-rules L var_statement = var_kind then symbol typed_ident then optional initializer gives λ p. Statement.declaration (declaration_of [] p.0 p.1.0 p.1.1)
+rules L var_statement = var_kind then symbol typed_ident then optional initializer gives λ p. local_of p.0 p.1.0 p.1.1
 -- ("let" or "const") Typed "=" Expression
 rules L value_statement = (KwLet means DeclarationKind.let_kind or KwConst means DeclarationKind.const_kind) then symbol typed_ident then initializer
-    gives λ p. Statement.declaration (declaration_of [] p.0 p.1.0 (Some p.1.1))
+    gives λ p. local_of p.0 p.1.0 (Some p.1.1)
 -- "break"
-rules L break_statement = KwBreak means Statement.break_statement
+rules L break_statement = KwBreak means unattributed UnattributedStatement.break_statement
 -- "continue"
-rules L continue_statement = KwContinue means Statement.continue_statement
+rules L continue_statement = KwContinue means unattributed UnattributedStatement.continue_statement
 -- "discard"
-rules L discard_statement = KwDiscard means Statement.discard_statement
+rules L discard_statement = KwDiscard means unattributed UnattributedStatement.discard_statement
 -- Lhs ("=" or a compound operator) Expression
 rules L assignment = symbol lhs_expression then assignment_operator then symbol expression gives λ p. assignment_of p.0 p.1.0 p.1.1
 -- "_" "=" Expression; the left side is the identifier `_`
@@ -160,27 +161,27 @@ rules L struct_member = attributed_ident makes member_of
 -- Param = A* Ident ":" TypeSpecifier
 rules L formal_parameter = attributed_ident gives parameter_of
 -- Declaration = one of eight
-rules L global_declaration = (SymSemicolon means GlobalDeclaration.void
+rules L global_declaration = (SymSemicolon means without_attributes UnattributedDeclaration.void
     or symbol var_declaration
     or symbol const_declaration
     or symbol override_declaration
     or symbol alias_declaration
     or symbol struct_declaration
     or symbol function_declaration
-    or symbol const_assert ◃ SymSemicolon gives GlobalDeclaration.const_assert) makes spanned
+    or symbol const_assert ◃ SymSemicolon gives assert_declaration) makes spanned
 -- A* "var" TemplateList? Typed ("=" Expression)? ";"
-rules L var_declaration = attributes then var_kind then symbol typed_ident then optional initializer ◃ SymSemicolon gives λ p. value_of p.0 p.1.0 p.1.1.0 p.1.1.1
+rules L var_declaration = attributed with_attributes (var_kind then symbol typed_ident then optional initializer ◃ SymSemicolon gives λ p. value_of p.0 p.1.0 p.1.1)
 -- "const" Typed "=" Expression ";"
-rules L const_declaration = KwConst ▹ symbol typed_ident then initializer ◃ SymSemicolon gives λ p. value_of [] DeclarationKind.const_kind p.0 (Some p.1)
+rules L const_declaration = KwConst ▹ symbol typed_ident then initializer ◃ SymSemicolon gives λ p. without_attributes (value_of DeclarationKind.const_kind p.0 (Some p.1))
 -- A* "override" Typed ("=" Expression)? ";"
-rules L override_declaration = attributes then KwOverride ▹ symbol typed_ident then optional initializer ◃ SymSemicolon gives λ p. value_of p.0 DeclarationKind.override_kind p.1.0 p.1.1
+rules L override_declaration = attributed with_attributes (KwOverride ▹ symbol typed_ident then optional initializer ◃ SymSemicolon gives λ p. value_of DeclarationKind.override_kind p.0 p.1)
 -- "alias" Ident "=" TypeSpecifier ";"
 rules L alias_declaration = KwAlias ▹ symbol ident then SymEqual ▹ symbol type_specifier ◃ SymSemicolon gives alias_of
 -- "struct" Ident "{" list(Member) "}"
 rules L struct_declaration = KwStruct ▹ symbol ident then SymBraceLeft ▹ list SymComma (symbol struct_member) ◃ SymBraceRight gives struct_of
 -- A* "fn" Ident "(" list(Param)? ")" ("->" A* TypeSpecifier)? Block
-rules L function_declaration = attributes then KwFn ▹ symbol ident then SymParenLeft ▹ list_or_none SymComma (symbol formal_parameter) ◃ SymParenRight
-    then optional return_part then symbol compound_statement gives λ p. function_of p.0 p.1.0 p.1.1.0 p.1.1.1.0 p.1.1.1.1
+rules L function_declaration = attributed with_attributes (KwFn ▹ symbol ident then SymParenLeft ▹ list_or_none SymComma (symbol formal_parameter) ◃ SymParenRight
+    then optional return_part then symbol compound_statement gives λ p. function_of p.0 p.1.0 p.1.1.0 p.1.1.1)
 -- ---- directives and modules (WGSL, "Directives", "Diagnostics", "WGSL Module")
 -- "diagnostic" "(" Severity, an identifier that names a severity
 rules whole diagnostic_severity = KwDiagnostic ▹ SymParenLeft ▹ symbol ident with_check severity_fault

@@ -23,6 +23,7 @@ pub use Rattle.wgsl_model.specs.NamedValues
 pub use Rattle.wgsl_model.specs.Spanned
 pub use Rattle.wgsl_model.specs.Expressions
 pub use Rattle.wgsl_model.specs.Attributes
+pub use Rattle.wgsl_model.specs.Attributed as AttributedNodes
 pub use Rattle.wgsl_model.specs.Statements
 pub use Rattle.wgsl_model.specs.Units
 pub use Rattle.wgsl_model.specs.TokenValues
@@ -45,7 +46,6 @@ pub use Rattle.wgsl_model.specs.PrintedUnits
 pub use Rattle.wgsl_model.specs.EmptyItems
 pub use Rattle.wgsl_model.specs.WithoutSpans
 pub use Rattle.wgsl_model.specs.StatementsWithoutSpans
-pub use Rattle.wgsl_model.specs.NodeAttributes
 pub use Rattle.wgsl_model.specs.Small
 pub use Rattle.wgsl_model.specs.CheckedFaults
 pub use Rattle.wgsl_model.specs.Named

@@ -3,12 +3,13 @@ use Rattle.std.proofs.Common.{ℕ, ◌≡◌, refl, sym, ◌∙◌, ap, List, []
 use Rattle.std.proofs.lemmas.List.{append-nil, append_assoc}
 use Rattle.wgsl_model.specs.Expressions.{ExpressionNode}
 use Rattle.wgsl_model.specs.Attributes.{Attributes}
-use Rattle.wgsl_model.specs.Statements.{Statement, void, compound, assignment, increment, decrement, if_statement, switch_statement, loop_statement, for_statement, while_statement, break_statement, continue_statement, discard_statement, return_statement, function_call_statement, const_assert, declaration, CompoundStatement, compound_statement, IfStatement, if_else, IfClause, if_clause, ElseIfClause, else_if_clause, ElseClause, else_clause, SwitchStatement, switch, SwitchClause, switch_clause, LoopStatement, repeat, ContinuingStatement, continuing, ForStatement, repeat_for, WhileStatement, repeat_while, StatementNodes, ElseIfClauses, MaybeElseClause, SwitchClauses, MaybeContinuing, MaybeStatement, BreakIfStatement, CaseSelector}
+use Rattle.wgsl_model.specs.Attributed.{Attributed, with_attributes}
+use Rattle.wgsl_model.specs.Statements.{Statement, statement, void, compound, assignment, increment, decrement, if_statement, switch_statement, loop_statement, for_statement, while_statement, break_statement, continue_statement, discard_statement, return_statement, function_call_statement, const_assert, declaration, CompoundStatement, compound_statement, IfStatement, if_else, IfClause, if_clause, ElseIfClause, else_if_clause, ElseClause, else_clause, SwitchStatement, switch, SwitchClause, switch_clause, LoopStatement, repeat, ContinuingStatement, continuing, ForStatement, repeat_for, WhileStatement, repeat_while, StatementNodes, ElseIfClauses, MaybeElseClause, SwitchClauses, MaybeContinuing, MaybeStatement, BreakIfStatement, CaseSelector}
 use Rattle.wgsl_model.specs.Joining.{joined}
 use Rattle.wgsl_model.specs.Indentation.{after_line_ends, indented}
 use Rattle.wgsl_model.specs.PrintedExpressions.{print_expression_node}
 use Rattle.wgsl_model.specs.PrintedAttributes.{print_attribute_line}
-use Rattle.wgsl_model.specs.PrintedDeclarations.{print_condition, print_break_if, print_selector}
+use Rattle.wgsl_model.specs.PrintedDeclarations.{print_attributed, print_condition, print_break_if, print_selector}
 use Rattle.wgsl_model.specs.PrintedStatements.{end_of, unended, print_statement, statement_texts, clause_texts, indented_line, print_compound, print_opened, print_if, print_if_clause, print_else_if_clause, print_else_ifs, print_else_clause, print_else, print_switch, print_switch_clause, print_loop, continuing_line, print_continuing, break_if_line, print_for, unended_part, print_while}
 use Rattle.wgsl_writer.proofs.Indents.{after_append}
 use Rattle.wgsl_simple_statement.proofs.Blocks.{after_four, IsFilled}
@@ -36,23 +37,23 @@ module _ (gap : List ℕ) where
 
   -- no line end ends a statement
   end_is : (s : Statement) → end_of s ≡ at (end_of s)
-  end_is void = refl
-  end_is (compound b) = refl
-  end_is (assignment a) = refl
-  end_is (increment i) = refl
-  end_is (decrement d) = refl
-  end_is (if_statement s) = refl
-  end_is (switch_statement s) = refl
-  end_is (loop_statement s) = refl
-  end_is (for_statement s) = refl
-  end_is (while_statement s) = refl
-  end_is break_statement = refl
-  end_is continue_statement = refl
-  end_is discard_statement = refl
-  end_is (return_statement r) = refl
-  end_is (function_call_statement c) = refl
-  end_is (const_assert c) = refl
-  end_is (declaration d) = refl
+  end_is (statement attributes void) = refl
+  end_is (statement attributes (compound b)) = refl
+  end_is (statement attributes (assignment a)) = refl
+  end_is (statement attributes (increment i)) = refl
+  end_is (statement attributes (decrement d)) = refl
+  end_is (statement attributes (if_statement s)) = refl
+  end_is (statement attributes (switch_statement s)) = refl
+  end_is (statement attributes (loop_statement s)) = refl
+  end_is (statement attributes (for_statement s)) = refl
+  end_is (statement attributes (while_statement s)) = refl
+  end_is (statement attributes break_statement) = refl
+  end_is (statement attributes continue_statement) = refl
+  end_is (statement attributes discard_statement) = refl
+  end_is (statement attributes (return_statement r)) = refl
+  end_is (statement attributes (function_call_statement c)) = refl
+  end_is (statement attributes (const_assert c)) = refl
+  end_is (statement attributes (declaration d)) = refl
 
   -- each text is its pieces one after another
   pub statement_is : (s : Statement) (end : List ℕ) → end ≡ end_of s → at (unended s) ++ end ≡ at (print_statement s)
@@ -73,10 +74,10 @@ module _ (gap : List ℕ) where
       let whole : at (print_attribute_line attributes) ++ codes "{\n" ++ gap ++ at (indented (joined (codes "\n") (statement_texts ss))) ++ (codes "\n" ++ gap) ≡ at (print_opened (compound_statement attributes ss)) = simp (after_append, append_assoc, append-nil) in
       whole ∙ sym (ap (λ b. at (print_opened b)) same)
 
-  pub if_is : (s : IfStatement) (attributes : Attributes) (first : IfClause) (others : ElseIfClauses) (last : MaybeElseClause) → s ≡ if_else attributes first others last → at (print_attribute_line attributes) ++ at (print_if_clause first) ++ at (print_else_ifs others) ++ at (print_else last) ≡ at (print_if s)
+  pub if_is : (s : Attributed IfStatement) (attributes : Attributes) (first : IfClause) (others : ElseIfClauses) (last : MaybeElseClause) → s ≡ with_attributes attributes (if_else first others last) → at (print_attribute_line attributes) ++ at (print_if_clause first) ++ at (print_else_ifs others) ++ at (print_else last) ≡ at (print_attributed print_if s)
   if_is s attributes first others last same =
-      let whole : at (print_attribute_line attributes) ++ at (print_if_clause first) ++ at (print_else_ifs others) ++ at (print_else last) ≡ at (print_if (if_else attributes first others last)) = simp (after_append, append_assoc) in
-      whole ∙ sym (ap (λ s. at (print_if s)) same)
+      let whole : at (print_attribute_line attributes) ++ at (print_if_clause first) ++ at (print_else_ifs others) ++ at (print_else last) ≡ at (print_attributed print_if (with_attributes attributes (if_else first others last))) = simp (after_append, append_assoc) in
+      whole ∙ sym (ap (λ s. at (print_attributed print_if s)) same)
 
   pub if_clause_is : (c : IfClause) (e : ExpressionNode) (block : CompoundStatement) → c ≡ if_clause e block → codes "if " ++ at (print_expression_node e) ++ codes " " ++ at (print_compound block) ≡ at (print_if_clause c)
   if_clause_is c e block same =
@@ -92,20 +93,24 @@ module _ (gap : List ℕ) where
   else_clause_is c block same =
       sym (ap (λ c. at (print_else_clause c)) same)
 
-  pub switch_is : (s : SwitchStatement) (attributes : Attributes) (e : ExpressionNode) (body_attributes : Attributes) (cs : SwitchClauses) → s ≡ switch attributes e body_attributes cs → at (print_attribute_line attributes) ++ (codes "switch " ++ at (print_expression_node e) ++ codes " ") ++ (at (print_attribute_line body_attributes) ++ codes "{\n" ++ gap) ++ at (indented (joined (codes "\n") (clause_texts cs))) ++ (codes "\n" ++ gap) ++ codes "}" ≡ at (print_switch s)
+  -- what stands before braces, and lines between them
+  braced_is : (line word e body text : List ℕ) → at line ++ (at word ++ at e ++ codes " ") ++ (at body ++ codes "{\n" ++ gap) ++ at text ++ (codes "\n" ++ gap) ++ codes "}" ≡ at (line ++ (word ++ e ++ codes " " ++ body ++ (codes "{\n" ++ text ++ codes "\n}")))
+  braced_is line word e body text = simp (after_append, append_assoc)
+
+  pub switch_is : (s : Attributed SwitchStatement) (attributes : Attributes) (e : ExpressionNode) (body_attributes : Attributes) (cs : SwitchClauses) → s ≡ with_attributes attributes (switch e body_attributes cs) → at (print_attribute_line attributes) ++ (codes "switch " ++ at (print_expression_node e) ++ codes " ") ++ (at (print_attribute_line body_attributes) ++ codes "{\n" ++ gap) ++ at (indented (joined (codes "\n") (clause_texts cs))) ++ (codes "\n" ++ gap) ++ codes "}" ≡ at (print_attributed print_switch s)
   switch_is s attributes e body_attributes cs same =
-      let whole : at (print_attribute_line attributes) ++ (codes "switch " ++ at (print_expression_node e) ++ codes " ") ++ (at (print_attribute_line body_attributes) ++ codes "{\n" ++ gap) ++ at (indented (joined (codes "\n") (clause_texts cs))) ++ (codes "\n" ++ gap) ++ codes "}" ≡ at (print_switch (switch attributes e body_attributes cs)) = simp (after_append, append_assoc) in
-      whole ∙ sym (ap (λ s. at (print_switch s)) same)
+      braced_is (print_attribute_line attributes) (codes "switch ") (print_expression_node e) (print_attribute_line body_attributes) (indented (joined (codes "\n") (clause_texts cs)))
+      ∙ sym (ap (λ s. at (print_attributed print_switch s)) same)
 
   pub switch_clause_is : (c : SwitchClause) (selectors : List CaseSelector) (block : CompoundStatement) → c ≡ switch_clause selectors block → codes "case " ++ at (joined (codes ", ") (map print_selector selectors)) ++ codes " " ++ at (print_compound block) ≡ at (print_switch_clause c)
   switch_clause_is c selectors block same =
       let whole : codes "case " ++ at (joined (codes ", ") (map print_selector selectors)) ++ codes " " ++ at (print_compound block) ≡ at (print_switch_clause (switch_clause selectors block)) = ap (λ z. codes "case " ++ z) (before_block (joined (codes ", ") (map print_selector selectors)) (print_compound block)) in
       whole ∙ sym (ap (λ c. at (print_switch_clause c)) same)
 
-  pub loop_is : (s : LoopStatement) (attributes : Attributes) (body : CompoundStatement) (last : MaybeContinuing) → s ≡ repeat attributes body last → (at (print_attribute_line attributes) ++ codes "loop ") ++ at (print_opened body) ++ at (continuing_line last) ++ codes "}" ≡ at (print_loop s)
+  pub loop_is : (s : Attributed LoopStatement) (attributes : Attributes) (body : CompoundStatement) (last : MaybeContinuing) → s ≡ with_attributes attributes (repeat body last) → (at (print_attribute_line attributes) ++ codes "loop ") ++ at (print_opened body) ++ at (continuing_line last) ++ codes "}" ≡ at (print_attributed print_loop s)
   loop_is s attributes body last same =
-      let whole : (at (print_attribute_line attributes) ++ codes "loop ") ++ at (print_opened body) ++ at (continuing_line last) ++ codes "}" ≡ at (print_loop (repeat attributes body last)) = simp (after_append, append_assoc) in
-      whole ∙ sym (ap (λ s. at (print_loop s)) same)
+      let whole : (at (print_attribute_line attributes) ++ codes "loop ") ++ at (print_opened body) ++ at (continuing_line last) ++ codes "}" ≡ at (print_attributed print_loop (with_attributes attributes (repeat body last))) = simp (after_append, append_assoc) in
+      whole ∙ sym (ap (λ s. at (print_attributed print_loop s)) same)
 
   pub continuing_is : (s : ContinuingStatement) (body : CompoundStatement) (condition : Option BreakIfStatement) → s ≡ continuing body condition → codes "continuing " ++ at (print_opened body) ++ at (break_if_line condition) ++ codes "}" ≡ at (print_continuing s)
   continuing_is s body condition same =
@@ -113,12 +118,12 @@ module _ (gap : List ℕ) where
       ap (λ z. codes "continuing " ++ z) inside in
       whole ∙ sym (ap (λ s. at (print_continuing s)) same)
 
-  pub for_is : (s : ForStatement) (attributes : Attributes) (init : MaybeStatement) (condition : Option ExpressionNode) (update : MaybeStatement) (block : CompoundStatement) → s ≡ repeat_for attributes init condition update block → at (print_attribute_line attributes) ++ codes "for (" ++ at (unended_part init) ++ (codes "; " ++ at (print_condition condition) ++ codes "; ") ++ at (unended_part update) ++ codes ") " ++ at (print_compound block) ≡ at (print_for s)
+  pub for_is : (s : Attributed ForStatement) (attributes : Attributes) (init : MaybeStatement) (condition : Option ExpressionNode) (update : MaybeStatement) (block : CompoundStatement) → s ≡ with_attributes attributes (repeat_for init condition update block) → at (print_attribute_line attributes) ++ codes "for (" ++ at (unended_part init) ++ (codes "; " ++ at (print_condition condition) ++ codes "; ") ++ at (unended_part update) ++ codes ") " ++ at (print_compound block) ≡ at (print_attributed print_for s)
   for_is s attributes init condition update block same =
-      let whole : at (print_attribute_line attributes) ++ codes "for (" ++ at (unended_part init) ++ (codes "; " ++ at (print_condition condition) ++ codes "; ") ++ at (unended_part update) ++ codes ") " ++ at (print_compound block) ≡ at (print_for (repeat_for attributes init condition update block)) = simp (after_append, append_assoc) in
-      whole ∙ sym (ap (λ s. at (print_for s)) same)
+      let whole : at (print_attribute_line attributes) ++ codes "for (" ++ at (unended_part init) ++ (codes "; " ++ at (print_condition condition) ++ codes "; ") ++ at (unended_part update) ++ codes ") " ++ at (print_compound block) ≡ at (print_attributed print_for (with_attributes attributes (repeat_for init condition update block))) = simp (after_append, append_assoc) in
+      whole ∙ sym (ap (λ s. at (print_attributed print_for s)) same)
 
-  pub while_is : (s : WhileStatement) (attributes : Attributes) (e : ExpressionNode) (block : CompoundStatement) → s ≡ repeat_while attributes e block → at (print_attribute_line attributes) ++ (codes "while " ++ at (print_expression_node e) ++ codes " ") ++ at (print_compound block) ≡ at (print_while s)
+  pub while_is : (s : Attributed WhileStatement) (attributes : Attributes) (e : ExpressionNode) (block : CompoundStatement) → s ≡ with_attributes attributes (repeat_while e block) → at (print_attribute_line attributes) ++ (codes "while " ++ at (print_expression_node e) ++ codes " ") ++ at (print_compound block) ≡ at (print_attributed print_while s)
   while_is s attributes e block same =
-      let whole : at (print_attribute_line attributes) ++ (codes "while " ++ at (print_expression_node e) ++ codes " ") ++ at (print_compound block) ≡ at (print_while (repeat_while attributes e block)) = simp (after_append, append_assoc) in
-      whole ∙ sym (ap (λ s. at (print_while s)) same)
+      let whole : at (print_attribute_line attributes) ++ (codes "while " ++ at (print_expression_node e) ++ codes " ") ++ at (print_compound block) ≡ at (print_attributed print_while (with_attributes attributes (repeat_while e block))) = simp (after_append, append_assoc) in
+      whole ∙ sym (ap (λ s. at (print_attributed print_while s)) same)

@@ -3,13 +3,11 @@ use Rattle.std.proofs.Common.{ℕ, ◌≡◌, refl, sym, ◌∙◌, ap, Bool, tr
 use Rattle.std.proofs.lemmas.List.{append_assoc}
 use Rattle.std.proofs.lemmas.Bool.Decides.{eqb_tells}
 use Rattle.std.specs.List.{flat_map}
-use Rattle.wgsl_model.specs.Statements.{statement_node, Statement, void, compound, assignment, increment, decrement, if_statement, switch_statement, loop_statement, for_statement, while_statement, break_statement, continue_statement, discard_statement, return_statement, function_call_statement, const_assert, declaration, CompoundStatement, compound_statement, if_else, if_clause, switch, switch_clause, repeat, repeat_for, repeat_while, StatementNodes, no_statements, statement_before, SwitchClauses, no_clauses, clause_before}
+use Rattle.wgsl_model.specs.Statements.{statement_node, Statement, statement, void, compound, assignment, increment, decrement, if_statement, switch_statement, loop_statement, for_statement, while_statement, break_statement, continue_statement, discard_statement, return_statement, function_call_statement, const_assert, declaration, if_else, if_clause, switch, switch_clause, repeat, repeat_for, repeat_while, StatementNodes, no_statements, statement_before, SwitchClauses, no_clauses, clause_before}
 use Rattle.wgsl_model.specs.Joining.{joined}
 use Rattle.wgsl_model.specs.Indentation.{after_line_ends, indented}
-use Rattle.wgsl_model.specs.PrintedExpressions.{print_expression_node}
 use Rattle.wgsl_model.specs.PrintedAttributes.{print_attribute_line}
-use Rattle.wgsl_model.specs.PrintedDeclarations.{unended_assignment, unended_increment, unended_decrement, unended_declaration, unended_call, print_condition}
-use Rattle.wgsl_model.specs.PrintedStatements.{is_void, braced, print_statement, print_compound, print_if_clause, print_else_ifs, print_else, statement_texts, clause_texts, print_opened, continuing_line, unended_part}
+use Rattle.wgsl_model.specs.PrintedStatements.{is_void, unended, print_statement, statement_texts, clause_texts}
 use Rattle.wgsl_writer.proofs.Indents.{after_append}
 
 -- with no gap nothing changes
@@ -81,38 +79,25 @@ right_filled : (xs ys : List ℕ) → IsFilled ys → IsFilled (xs ++ ys)
 right_filled [] ys h = h
 right_filled (x ∷ xs) ys h = tt
 
-filled_compound : (b : CompoundStatement) → IsFilled (print_compound b)
-filled_compound (compound_statement attributes ss) = right_filled (print_attribute_line attributes) (braced (statement_texts ss)) tt
-
 -- a statement that is not empty has a text
 filled : (s : Statement) → is_void s ≡ false → IsFilled (print_statement s)
-filled void e = absurd (true≢false e)
-filled (compound b) e = left_filled (print_compound b) [] (filled_compound b)
-filled (assignment a) e = right_filled (unended_assignment a) (codes ";") tt
-filled (increment i) e = right_filled (unended_increment i) (codes ";") tt
-filled (decrement d) e = right_filled (unended_decrement d) (codes ";") tt
-filled (if_statement (if_else attributes (if_clause e b) others last)) _ =
-    let first = print_attribute_line attributes ++ print_if_clause (if_clause e b) in
-    left_filled (first ++ print_else_ifs others ++ print_else last) [] (left_filled (first ++ print_else_ifs others) (print_else last) (left_filled first (print_else_ifs others) (right_filled (print_attribute_line attributes) (print_if_clause (if_clause e b)) tt)))
-filled (switch_statement (switch attributes e body_attributes cs)) _ =
-    let head = print_attribute_line attributes ++ codes "switch " ++ print_expression_node e ++ codes " " ++ print_attribute_line body_attributes in
-    left_filled (head ++ braced (clause_texts cs)) [] (right_filled head (braced (clause_texts cs)) tt)
-filled (loop_statement (repeat attributes body last)) _ =
-    let head = print_attribute_line attributes ++ codes "loop " ++ print_opened body ++ continuing_line last in
-    left_filled (head ++ codes "}") [] (right_filled head (codes "}") tt)
-filled (for_statement (repeat_for attributes init condition update block)) _ =
-    let head = print_attribute_line attributes ++ codes "for (" ++ unended_part init ++ codes "; " ++ print_condition condition ++ codes "; " ++ unended_part update in
-    left_filled (head ++ codes ") " ++ print_compound block) [] (left_filled (head ++ codes ") ") (print_compound block) (right_filled head (codes ") ") tt))
-filled (while_statement (repeat_while attributes e block)) _ =
-    let head = print_attribute_line attributes ++ codes "while " ++ print_expression_node e in
-    left_filled (head ++ codes " " ++ print_compound block) [] (left_filled (head ++ codes " ") (print_compound block) (right_filled head (codes " ") tt))
-filled break_statement e = tt
-filled continue_statement e = tt
-filled discard_statement e = tt
-filled (return_statement r) e = tt
-filled (function_call_statement c) e = right_filled (unended_call c) (codes ";") tt
-filled (const_assert c) e = tt
-filled (declaration d) e = right_filled (unended_declaration d) (codes ";") tt
+filled (statement a void) h = absurd (true≢false h)
+filled (statement a (compound ss)) h = left_filled _ [] (right_filled (print_attribute_line a) _ tt)
+filled (statement a (if_statement (if_else (if_clause e block) others last))) h = left_filled _ [] (right_filled (print_attribute_line a) _ tt)
+filled (statement a (switch_statement (switch e b cs))) h = left_filled _ [] (right_filled (print_attribute_line a) _ tt)
+filled (statement a (loop_statement (repeat b c))) h = left_filled _ [] (right_filled (print_attribute_line a) _ tt)
+filled (statement a (for_statement (repeat_for i c u b))) h = left_filled _ [] (right_filled (print_attribute_line a) _ tt)
+filled (statement a (while_statement (repeat_while e b))) h = left_filled _ [] (right_filled (print_attribute_line a) _ tt)
+filled (statement a (assignment x)) h = right_filled (unended (statement a (assignment x))) (codes ";") tt
+filled (statement a (increment x)) h = right_filled (unended (statement a (increment x))) (codes ";") tt
+filled (statement a (decrement x)) h = right_filled (unended (statement a (decrement x))) (codes ";") tt
+filled (statement a break_statement) h = right_filled (unended (statement a break_statement)) (codes ";") tt
+filled (statement a continue_statement) h = right_filled (unended (statement a continue_statement)) (codes ";") tt
+filled (statement a discard_statement) h = right_filled (unended (statement a discard_statement)) (codes ";") tt
+filled (statement a (return_statement x)) h = right_filled (unended (statement a (return_statement x))) (codes ";") tt
+filled (statement a (function_call_statement x)) h = right_filled (unended (statement a (function_call_statement x))) (codes ";") tt
+filled (statement a (const_assert x)) h = right_filled (unended (statement a (const_assert x))) (codes ";") tt
+filled (statement a (declaration x)) h = right_filled (unended (statement a (declaration x))) (codes ";") tt
 
 begins : (t : List ℕ) (ts : List (List ℕ)) → IsFilled t → BeginsFilled (t ∷ ts)
 begins [] ts h = h

@@ -1,6 +1,7 @@
 -- `==` of declarations, and of the statements that hold no others, part by part.
 use Rattle.std.proofs.Common.{Bool, true, ◌&&◌, ◌==◌, Option, ◌≡◌, ◌↔◌, refl, sym, ◌∙◌, string_bytes}
 use denote.Enum.Declared.{tag_of}
+use Rattle.std.proofs.Math.Bool.{and_comm}
 use Rattle.std.specs.Option.{option_map}
 use Rattle.std.specs.Cmp.Lexicographic.{pointwise}
 use Rattle.wgsl_named_values.specs.declared.memory.AccessMode.{AccessMode}
@@ -18,7 +19,9 @@ use Rattle.wgsl_attribute.proofs.Equalities.{options_same, attribute_lists_same}
 use Rattle.wgsl_equality.specs.Code.{Code, number, same, option_code}
 use Rattle.wgsl_equality.specs.NamedValues.{access_mode_number, address_space_number}
 use Rattle.wgsl_equality.specs.Expressions.{expression_node_code, type_code}
-use Rattle.wgsl_equality.specs.Declarations.{assignment_operator_number, var_template_code, declaration_kind_code, declaration_code, assignment_code, increment_code, decrement_code, return_code, call_statement_code, assert_code, break_if_code, selector_code}
+use Rattle.wgsl_attribute.specs.View.{attributes_view}
+use Rattle.wgsl_equality.specs.Attributes.{attributes_code}
+use Rattle.wgsl_equality.specs.Declarations.{attributed_code, assignment_operator_number, var_template_code, declaration_kind_code, declaration_code, assignment_code, increment_code, decrement_code, return_code, call_statement_code, assert_code, break_if_code, selector_code}
 use Rattle.wgsl_simple_statement.specs.declared.declaration.DeclarationKind.{DeclarationKind}
 use Rattle.wgsl_simple_statement.specs.declared.declaration.DeclarationKind.TheVariants as kind
 use Rattle.wgsl_simple_statement.specs.declared.declaration.Declaration.{Declaration}
@@ -71,11 +74,12 @@ kinds_same kind.Let other = refl
 kinds_same (kind.Var s) (kind.Var t) = templates_same s t
 kinds_same (kind.Var s) other = refl
 
-pub declarations_same : (a b : Declaration) → equal_declarations a b ≡ same (declaration_code (declaration_view a)) (declaration_code (declaration_view b))
+pub declarations_same : (a b : Declaration) → equal_declarations a b ≡ same (attributed_code declaration_code (declaration_view a)) (attributed_code declaration_code (declaration_view b))
 declarations_same a b =
     let types = options_same type_expression_view type_code _ (λ x y. refl) a.ty b.ty in
     let initializers = options_same expression_node_view expression_node_code _ (λ x y. refl) a.initializer b.initializer in
-    λ i. attribute_lists_same a.attributes.items b.attributes.items i && (kinds_same a.kind b.kind i && (pointwise ◌==◌ (string_bytes a.ident.name) (string_bytes b.ident.name) && (types i && initializers i)))
+    (λ i. attribute_lists_same a.attributes.items b.attributes.items i && (kinds_same a.kind b.kind i && (pointwise ◌==◌ (string_bytes a.ident.name) (string_bytes b.ident.name) && (types i && initializers i))))
+    ∙ and_comm (same (attributes_code (attributes_view a.attributes.items)) (attributes_code (attributes_view b.attributes.items))) (same (declaration_code (declaration_view a).node) (declaration_code (declaration_view b).node))
 
 pub assignments_same : (a b : AssignmentStatement) → equal_assignments a b ≡ same (assignment_code (assignment_view a)) (assignment_code (assignment_view b))
 assignments_same a b = λ i. (operator_tag a.operator i == operator_tag b.operator i) && (same (expression_node_code (expression_node_view a.lhs)) (expression_node_code (expression_node_view b.lhs)) && same (expression_node_code (expression_node_view a.rhs)) (expression_node_code (expression_node_view b.rhs)))

@@ -1,6 +1,7 @@
 -- Declarations of values, and statements that hold no others, as plain data.
 use Rattle.std.specs.Prelude.{Option}
 use Rattle.std.specs.Option.{option_map}
+use Rattle.wgsl_model.specs.Attributed.{Attributed, with_attributes}
 use Rattle.wgsl_model.specs.Statements as plain
 use Rattle.wgsl_model.specs.NamedValues as plain_value
 use Rattle.wgsl_named_values.specs.declared.memory.AddressSpace.{AddressSpace}
@@ -31,14 +32,13 @@ declaration_kind_view kind.Override = plain.override_kind
 declaration_kind_view kind.Let = plain.let_kind
 declaration_kind_view (kind.Var template) = plain.var_kind (option_map var_template_view template)
 
-abbrev pub declaration_view : Declaration → plain.Declaration
-declaration_view d = record {
-  attributes = attributes_view d.attributes.items;
+abbrev pub declaration_view : Declaration → Attributed plain.Declaration
+declaration_view d = with_attributes (attributes_view d.attributes.items) (record {
   kind = declaration_kind_view d.kind;
   ident = ident_name d.ident;
   ty = option_map type_expression_view d.ty;
   initializer = option_map expression_node_view d.initializer;
-}
+})
 
 abbrev pub assignment_view : AssignmentStatement → plain.AssignmentStatement
 assignment_view a = record { operator = assignment_operator_view a.operator; lhs = expression_node_view a.lhs; rhs = expression_node_view a.rhs }

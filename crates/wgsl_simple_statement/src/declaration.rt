@@ -4,7 +4,7 @@ ghost use Rattle.std.specs.Prelude.{Some, MatchResult};
 ghost use Rattle.std.specs.Option.{option_map};
 ghost use Rattle.std.specs.Fmt.{DisplaysOnOk};
 ghost use Rattle.wgsl_model.specs.Statements as plain;
-ghost use Rattle.wgsl_model.specs.PrintedDeclarations.{print_kind, print_typed, print_initializer, print_declaration, unended_declaration};
+ghost use Rattle.wgsl_model.specs.PrintedDeclarations.{print_attributed, print_kind, print_typed, print_initializer, print_declaration, unended_declaration};
 ghost use Rattle.wgsl_expression.specs.View.{expression_node_view, type_expression_view};
 ghost use Rattle.wgsl_simple_statement.specs.View.{declaration_kind_view, declaration_view};
 ghost use Rattle.wgsl_simple_statement.specs.Kinds.{IsKindWord};
@@ -68,7 +68,7 @@ pub struct Declaration {
 pub type DeclarationStatement = Declaration;
 
 impl fmt::Display for Declaration {
-    ghost output = { λ declaration. Some (print_declaration (declaration_view declaration)) };
+    ghost output = { λ declaration. Some (print_attributed print_declaration (declaration_view declaration)) };
 
     fn fmt<W: fmt::Write>(&self, f: &mut fmt::Formatter<W>) -> fmt::Result {
         write!(f, "{};", Unended(self))
@@ -76,7 +76,7 @@ impl fmt::Display for Declaration {
 }
 
 impl fmt::Display for Unended<'_, Declaration> {
-    ghost output = { λ statement. Some (unended_declaration (declaration_view statement.0.now)) };
+    ghost output = { λ statement. Some (print_attributed unended_declaration (declaration_view statement.0.now)) };
 
     fn fmt<W: fmt::Write>(&self, f: &mut fmt::Formatter<W>) -> fmt::Result {
         let declaration = self.0;
@@ -84,12 +84,20 @@ impl fmt::Display for Unended<'_, Declaration> {
             attributes: &declaration.attributes,
             end: "\n",
         };
-        let kind = declaration.kind;
-        let ident = &declaration.ident;
-        write!(f, "{attributes}{kind} {ident}")?;
-        write_type(&declaration.ty, f)?;
-        write_initializer(&declaration.initializer, f)
+        write!(f, "{attributes}")?;
+        write_value(declaration, f)
     }
+}
+
+/// Writes a declaration without its attributes and without the `;` that ends it.
+fn write_value<W: fmt::Write>(declaration: &Declaration, f: &mut fmt::Formatter<W>) -> fmt::Result
+    ensures { DisplaysOnOk W.write_str_gives f.old result (Some (unended_declaration (declaration_view declaration.now).node)) f.new }
+{
+    let kind = declaration.kind;
+    let ident = &declaration.ident;
+    write!(f, "{kind} {ident}")?;
+    write_type(&declaration.ty, f)?;
+    write_initializer(&declaration.initializer, f)
 }
 
 /// Writes the type behind a colon, if there is one.

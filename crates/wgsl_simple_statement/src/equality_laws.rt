@@ -1,7 +1,7 @@
 //! What the derived `==` of declarations, and of the statements that hold no others, says.
 
 ghost use Rattle.std.specs.Prelude.{◌≡◌, ◌↔◌, IsTrue};
-ghost use Rattle.wgsl_model.specs.StatementsWithoutSpans.{bare_declaration, bare_assignment, bare_increment, bare_decrement, bare_return, bare_call_statement, bare_assert, bare_break_if, bare_selector};
+ghost use Rattle.wgsl_model.specs.StatementsWithoutSpans.{bare_attributed, bare_declaration, bare_assignment, bare_increment, bare_decrement, bare_return, bare_call_statement, bare_assert, bare_break_if, bare_selector};
 ghost use Rattle.wgsl_simple_statement.specs.declared.declaration.DeclarationKind.{DeclarationKind};
 ghost use Rattle.wgsl_simple_statement.specs.declared.declaration.Declaration.{Declaration};
 ghost use Rattle.wgsl_simple_statement.specs.declared.simple.AssignmentStatement.{AssignmentStatement};
@@ -18,7 +18,7 @@ ghost use Rattle.wgsl_simple_statement.specs.Equality.{equal_kinds, equal_declar
 /// Two declarations are equal where they are one with their spans set aside; two kinds where they are one.
 pub fn declarations()
     ensures kind { (a b : DeclarationKind) → IsTrue (equal_kinds a b) ↔ (declaration_kind_view a ≡ declaration_kind_view b) }
-    ensures declaration { (a b : Declaration) → IsTrue (equal_declarations a b) ↔ (bare_declaration (declaration_view a) ≡ bare_declaration (declaration_view b)) }
+    ensures declaration { (a b : Declaration) → IsTrue (equal_declarations a b) ↔ (bare_attributed bare_declaration (declaration_view a) ≡ bare_attributed bare_declaration (declaration_view b)) }
 {}
 
 /// Two statements are equal where they are one with their spans set aside.

@@ -1,6 +1,7 @@
 -- What the view of each clause is, and of a `continuing`.
 use Rattle.std.proofs.Common.{◌≡◌}
 use Rattle.std.specs.Option.{option_map}
+use Rattle.wgsl_model.specs.Attributed.{Attributed}
 use Rattle.wgsl_model.specs.Statements as plain
 use Rattle.wgsl_expression.specs.View.{expression_node_view}
 use Rattle.wgsl_statement.specs.declared.statement.ContinuingStatement.{ContinuingStatement}
@@ -13,13 +14,13 @@ use Rattle.wgsl_simple_statement.specs.View as simple
 use Rattle.wgsl_statement.specs.View as V
 
 pub if_clause_out : (x : IfClause) → V.if_clause_view x ≡ plain.if_clause (expression_node_view (layers.out-IfClause x).expression) (V.compound_statement_view (layers.out-IfClause x).body)
-if_clause_out x = folds.fold_out-IfClause plain.Statement plain.CompoundStatement plain.ContinuingStatement plain.ElseClause plain.ElseIfClause plain.ForStatement plain.IfClause plain.IfStatement plain.LoopStatement plain.SwitchClause plain.SwitchStatement plain.WhileStatement V.statement_step V.compound_statement_step V.continuing_statement_step V.else_clause_step V.else_if_clause_step V.for_statement_step V.if_clause_step V.if_statement_step V.loop_statement_step V.switch_clause_step V.switch_statement_step V.while_statement_step x
+if_clause_out x = folds.fold_out-IfClause plain.Statement plain.CompoundStatement plain.ContinuingStatement plain.ElseClause plain.ElseIfClause (Attributed plain.ForStatement) plain.IfClause (Attributed plain.IfStatement) (Attributed plain.LoopStatement) plain.SwitchClause (Attributed plain.SwitchStatement) (Attributed plain.WhileStatement) V.statement_step V.compound_statement_step V.continuing_statement_step V.else_clause_step V.else_if_clause_step V.for_statement_step V.if_clause_step V.if_statement_step V.loop_statement_step V.switch_clause_step V.switch_statement_step V.while_statement_step x
 
 pub else_if_clause_out : (x : ElseIfClause) → V.else_if_clause_view x ≡ plain.else_if_clause (expression_node_view (layers.out-ElseIfClause x).expression) (V.compound_statement_view (layers.out-ElseIfClause x).body)
-else_if_clause_out x = folds.fold_out-ElseIfClause plain.Statement plain.CompoundStatement plain.ContinuingStatement plain.ElseClause plain.ElseIfClause plain.ForStatement plain.IfClause plain.IfStatement plain.LoopStatement plain.SwitchClause plain.SwitchStatement plain.WhileStatement V.statement_step V.compound_statement_step V.continuing_statement_step V.else_clause_step V.else_if_clause_step V.for_statement_step V.if_clause_step V.if_statement_step V.loop_statement_step V.switch_clause_step V.switch_statement_step V.while_statement_step x
+else_if_clause_out x = folds.fold_out-ElseIfClause plain.Statement plain.CompoundStatement plain.ContinuingStatement plain.ElseClause plain.ElseIfClause (Attributed plain.ForStatement) plain.IfClause (Attributed plain.IfStatement) (Attributed plain.LoopStatement) plain.SwitchClause (Attributed plain.SwitchStatement) (Attributed plain.WhileStatement) V.statement_step V.compound_statement_step V.continuing_statement_step V.else_clause_step V.else_if_clause_step V.for_statement_step V.if_clause_step V.if_statement_step V.loop_statement_step V.switch_clause_step V.switch_statement_step V.while_statement_step x
 
 pub else_clause_out : (x : ElseClause) → V.else_clause_view x ≡ plain.else_clause (V.compound_statement_view (layers.out-ElseClause x).body)
-else_clause_out x = folds.fold_out-ElseClause plain.Statement plain.CompoundStatement plain.ContinuingStatement plain.ElseClause plain.ElseIfClause plain.ForStatement plain.IfClause plain.IfStatement plain.LoopStatement plain.SwitchClause plain.SwitchStatement plain.WhileStatement V.statement_step V.compound_statement_step V.continuing_statement_step V.else_clause_step V.else_if_clause_step V.for_statement_step V.if_clause_step V.if_statement_step V.loop_statement_step V.switch_clause_step V.switch_statement_step V.while_statement_step x
+else_clause_out x = folds.fold_out-ElseClause plain.Statement plain.CompoundStatement plain.ContinuingStatement plain.ElseClause plain.ElseIfClause (Attributed plain.ForStatement) plain.IfClause (Attributed plain.IfStatement) (Attributed plain.LoopStatement) plain.SwitchClause (Attributed plain.SwitchStatement) (Attributed plain.WhileStatement) V.statement_step V.compound_statement_step V.continuing_statement_step V.else_clause_step V.else_if_clause_step V.for_statement_step V.if_clause_step V.if_statement_step V.loop_statement_step V.switch_clause_step V.switch_statement_step V.while_statement_step x
 
 pub continuing_statement_out : (x : ContinuingStatement) → V.continuing_statement_view x ≡ plain.continuing (V.compound_statement_view (layers.out-ContinuingStatement x).body) (option_map simple.break_if_view (layers.out-ContinuingStatement x).break_if)
-continuing_statement_out x = folds.fold_out-ContinuingStatement plain.Statement plain.CompoundStatement plain.ContinuingStatement plain.ElseClause plain.ElseIfClause plain.ForStatement plain.IfClause plain.IfStatement plain.LoopStatement plain.SwitchClause plain.SwitchStatement plain.WhileStatement V.statement_step V.compound_statement_step V.continuing_statement_step V.else_clause_step V.else_if_clause_step V.for_statement_step V.if_clause_step V.if_statement_step V.loop_statement_step V.switch_clause_step V.switch_statement_step V.while_statement_step x
+continuing_statement_out x = folds.fold_out-ContinuingStatement plain.Statement plain.CompoundStatement plain.ContinuingStatement plain.ElseClause plain.ElseIfClause (Attributed plain.ForStatement) plain.IfClause (Attributed plain.IfStatement) (Attributed plain.LoopStatement) plain.SwitchClause (Attributed plain.SwitchStatement) (Attributed plain.WhileStatement) V.statement_step V.compound_statement_step V.continuing_statement_step V.else_clause_step V.else_if_clause_step V.for_statement_step V.if_clause_step V.if_statement_step V.loop_statement_step V.switch_clause_step V.switch_statement_step V.while_statement_step x

@@ -57,23 +57,23 @@ without_empty [] = plain.no_statements
 without_empty (plain.statement_node s span ∷ ns) = if is_void s then without_empty ns else plain.statement_before (plain.statement_node s span) (without_empty ns)
 
 empty_full : (s : plain.Statement) → is_void (full_statement s) ≡ is_void s
-empty_full plain.void = refl
-empty_full (plain.compound b) = refl
-empty_full (plain.assignment a) = refl
-empty_full (plain.increment i) = refl
-empty_full (plain.decrement d) = refl
-empty_full (plain.if_statement s) = refl
-empty_full (plain.switch_statement s) = refl
-empty_full (plain.loop_statement s) = refl
-empty_full (plain.for_statement s) = refl
-empty_full (plain.while_statement s) = refl
-empty_full plain.break_statement = refl
-empty_full plain.continue_statement = refl
-empty_full plain.discard_statement = refl
-empty_full (plain.return_statement r) = refl
-empty_full (plain.function_call_statement c) = refl
-empty_full (plain.const_assert c) = refl
-empty_full (plain.declaration d) = refl
+empty_full (plain.statement attributes plain.void) = refl
+empty_full (plain.statement attributes (plain.compound b)) = refl
+empty_full (plain.statement attributes (plain.assignment a)) = refl
+empty_full (plain.statement attributes (plain.increment i)) = refl
+empty_full (plain.statement attributes (plain.decrement d)) = refl
+empty_full (plain.statement attributes (plain.if_statement s)) = refl
+empty_full (plain.statement attributes (plain.switch_statement s)) = refl
+empty_full (plain.statement attributes (plain.loop_statement s)) = refl
+empty_full (plain.statement attributes (plain.for_statement s)) = refl
+empty_full (plain.statement attributes (plain.while_statement s)) = refl
+empty_full (plain.statement attributes plain.break_statement) = refl
+empty_full (plain.statement attributes plain.continue_statement) = refl
+empty_full (plain.statement attributes plain.discard_statement) = refl
+empty_full (plain.statement attributes (plain.return_statement r)) = refl
+empty_full (plain.statement attributes (plain.function_call_statement c)) = refl
+empty_full (plain.statement attributes (plain.const_assert c)) = refl
+empty_full (plain.statement attributes (plain.declaration d)) = refl
 
 without_full : (ys : List (Spanned Statement)) → without_empty (map full_node (map statement_node_view ys)) ≡ full_statements (statement_nodes_view ys)
 without_full [] = refl

@@ -1,13 +1,14 @@
 -- `==` of statements, part by part.
 use Rattle.std.proofs.Common.{Bool, true, false, ◌&&◌, List, [], ◌∷◌, Option, map, ◌≡◌, refl, sym, ◌∙◌, ap}
 use Rattle.std.specs.Option.{option_map}
+use Rattle.std.proofs.Math.Bool.{and_comm, and-true}
 use Rattle.wgsl_span.specs.declared.Spanned.{Spanned}
 use Rattle.wgsl_span.specs.Spanned.{spanned_node}
 use Rattle.wgsl_expression.specs.View.{expression_node_view}
 use Rattle.wgsl_equality.specs.Code.{Code, pair, same, option_code, list_code}
 use Rattle.wgsl_equality.specs.Expressions.{expression_node_code}
-use Rattle.wgsl_equality.specs.Declarations.{selector_code}
-use Rattle.wgsl_equality.specs.Statements.{statement_code, statements_code, compound_code, if_code, if_clause_code, else_if_clause_code, else_ifs_code, else_code, switch_code, clauses_code, switch_clause_code, loop_code, maybe_continuing_code, for_code, part_code, while_code}
+use Rattle.wgsl_equality.specs.Declarations.{attributed_code, selector_code}
+use Rattle.wgsl_equality.specs.Statements.{statement_code, unattributed_code, statements_code, compound_code, if_code, if_clause_code, else_if_clause_code, else_ifs_code, else_code, switch_code, clauses_code, switch_clause_code, loop_code, maybe_continuing_code, for_code, part_code, while_code}
 use Rattle.wgsl_simple_statement.specs.declared.simple.CaseSelector.{CaseSelector}
 use Rattle.wgsl_statement.specs.declared.statement.Statement.{Statement}
 use Rattle.wgsl_statement.specs.declared.statement.ElseIfClause.{ElseIfClause}
@@ -16,7 +17,7 @@ use Rattle.wgsl_simple_statement.specs.View.{selector_view}
 use Rattle.wgsl_statement.specs.View.{statement_view, statement_node_view, statement_nodes_view, compound_statement_view, continuing_statement_view, else_clause_view, else_if_clause_view, for_statement_view, if_clause_view, if_statement_view, loop_statement_view, switch_clause_view, switch_statement_view, while_statement_view}
 use Rattle.std.specs.declared.vec.Vec.{Vec}
 use Rattle.std.specs.declared.alloc.Global.{Global}
-use Rattle.wgsl_model.specs.Statements.{else_ifs_of, else_of, clauses_of, continuing_of, maybe_statement}
+use Rattle.wgsl_model.specs.Statements.{UnattributedStatement, unattributed, else_ifs_of, else_of, clauses_of, continuing_of, maybe_statement}
 use Rattle.wgsl_expression.specs.declared.expression.Expression.{Expression}
 use Rattle.wgsl_attribute.specs.declared.attribute.Attribute.{Attribute}
 use Rattle.wgsl_attribute.specs.View.{attributes_view}
@@ -52,6 +53,10 @@ and_4 false b c d = refl
 and_5 : (a b c d e : Bool) → a && (b && (c && (d && e))) ≡ (((a && b) && c) && d) && e
 and_5 true b c d e = and_4 b c d e
 and_5 false b c d e = refl
+
+-- statements without attributes, by what stands behind these
+pub unattributed_same : (s t : UnattributedStatement) → same (statement_code (unattributed s)) (statement_code (unattributed t)) ≡ same (unattributed_code s) (unattributed_code t)
+unattributed_same s t = and-true (same (unattributed_code s) (unattributed_code t))
 
 -- the parts of statements, compared
 abbrev pub attributes_part : Vec (Spanned Attribute) Global → Vec (Spanned Attribute) Global → Bool
@@ -92,31 +97,33 @@ header_part x y = same (part_code (maybe_statement (option_map statement_node_vi
 
 pub compounds_same : (a b : CompoundStatement) → same (compound_code (compound_statement_view a)) (compound_code (compound_statement_view b))
     ≡ attributes_part (layers.out-CompoundStatement a).attributes (layers.out-CompoundStatement b).attributes && statements_part (layers.out-CompoundStatement a).statements.items (layers.out-CompoundStatement b).statements.items
-compounds_same a b = λ i. same (compound_code (compound_statement_out a i)) (compound_code (compound_statement_out b i))
+compounds_same a b =
+    (λ i. same (compound_code (compound_statement_out a i)) (compound_code (compound_statement_out b i)))
+    ∙ and_comm (statements_part (layers.out-CompoundStatement a).statements.items (layers.out-CompoundStatement b).statements.items) (attributes_part (layers.out-CompoundStatement a).attributes (layers.out-CompoundStatement b).attributes)
 
-pub ifs_same : (a b : IfStatement) → same (if_code (if_statement_view a)) (if_code (if_statement_view b))
+pub ifs_same : (a b : IfStatement) → same (attributed_code if_code (if_statement_view a)) (attributed_code if_code (if_statement_view b))
     ≡ ((attributes_part (layers.out-IfStatement a).attributes (layers.out-IfStatement b).attributes && if_clause_part (layers.out-IfStatement a).if_clause (layers.out-IfStatement b).if_clause) && else_ifs_part (layers.out-IfStatement a).else_if_clauses.items (layers.out-IfStatement b).else_if_clauses.items) && else_part (layers.out-IfStatement a).else_clause (layers.out-IfStatement b).else_clause
-ifs_same a b = (λ i. same (if_code (if_statement_out a i)) (if_code (if_statement_out b i))) ∙ and_4 (attributes_part (layers.out-IfStatement a).attributes (layers.out-IfStatement b).attributes) (if_clause_part (layers.out-IfStatement a).if_clause (layers.out-IfStatement b).if_clause) (else_ifs_part (layers.out-IfStatement a).else_if_clauses.items (layers.out-IfStatement b).else_if_clauses.items) (else_part (layers.out-IfStatement a).else_clause (layers.out-IfStatement b).else_clause)
+ifs_same a b = (λ i. same (attributed_code if_code (if_statement_out a i)) (attributed_code if_code (if_statement_out b i))) ∙ and_comm ((if_clause_part (layers.out-IfStatement a).if_clause (layers.out-IfStatement b).if_clause) && ((else_ifs_part (layers.out-IfStatement a).else_if_clauses.items (layers.out-IfStatement b).else_if_clauses.items) && (else_part (layers.out-IfStatement a).else_clause (layers.out-IfStatement b).else_clause))) (attributes_part (layers.out-IfStatement a).attributes (layers.out-IfStatement b).attributes) ∙ and_4 (attributes_part (layers.out-IfStatement a).attributes (layers.out-IfStatement b).attributes) (if_clause_part (layers.out-IfStatement a).if_clause (layers.out-IfStatement b).if_clause) (else_ifs_part (layers.out-IfStatement a).else_if_clauses.items (layers.out-IfStatement b).else_if_clauses.items) (else_part (layers.out-IfStatement a).else_clause (layers.out-IfStatement b).else_clause)
 
-pub switches_same : (a b : SwitchStatement) → same (switch_code (switch_statement_view a)) (switch_code (switch_statement_view b))
+pub switches_same : (a b : SwitchStatement) → same (attributed_code switch_code (switch_statement_view a)) (attributed_code switch_code (switch_statement_view b))
     ≡ ((attributes_part (layers.out-SwitchStatement a).attributes (layers.out-SwitchStatement b).attributes && expression_part (layers.out-SwitchStatement a).expression (layers.out-SwitchStatement b).expression) && attributes_part (layers.out-SwitchStatement a).body_attributes (layers.out-SwitchStatement b).body_attributes) && clauses_part (layers.out-SwitchStatement a).clauses.items (layers.out-SwitchStatement b).clauses.items
-switches_same a b = (λ i. same (switch_code (switch_statement_out a i)) (switch_code (switch_statement_out b i))) ∙ and_4 (attributes_part (layers.out-SwitchStatement a).attributes (layers.out-SwitchStatement b).attributes) (expression_part (layers.out-SwitchStatement a).expression (layers.out-SwitchStatement b).expression) (attributes_part (layers.out-SwitchStatement a).body_attributes (layers.out-SwitchStatement b).body_attributes) (clauses_part (layers.out-SwitchStatement a).clauses.items (layers.out-SwitchStatement b).clauses.items)
+switches_same a b = (λ i. same (attributed_code switch_code (switch_statement_out a i)) (attributed_code switch_code (switch_statement_out b i))) ∙ and_comm ((expression_part (layers.out-SwitchStatement a).expression (layers.out-SwitchStatement b).expression) && ((attributes_part (layers.out-SwitchStatement a).body_attributes (layers.out-SwitchStatement b).body_attributes) && (clauses_part (layers.out-SwitchStatement a).clauses.items (layers.out-SwitchStatement b).clauses.items))) (attributes_part (layers.out-SwitchStatement a).attributes (layers.out-SwitchStatement b).attributes) ∙ and_4 (attributes_part (layers.out-SwitchStatement a).attributes (layers.out-SwitchStatement b).attributes) (expression_part (layers.out-SwitchStatement a).expression (layers.out-SwitchStatement b).expression) (attributes_part (layers.out-SwitchStatement a).body_attributes (layers.out-SwitchStatement b).body_attributes) (clauses_part (layers.out-SwitchStatement a).clauses.items (layers.out-SwitchStatement b).clauses.items)
 
 pub switch_clauses_same : (a b : SwitchClause) → same (switch_clause_code (switch_clause_view a)) (switch_clause_code (switch_clause_view b))
     ≡ selectors_part (layers.out-SwitchClause a).case_selectors (layers.out-SwitchClause b).case_selectors && block_part (layers.out-SwitchClause a).body (layers.out-SwitchClause b).body
 switch_clauses_same a b = λ i. same (switch_clause_code (switch_clause_out a i)) (switch_clause_code (switch_clause_out b i))
 
-pub loops_same : (a b : LoopStatement) → same (loop_code (loop_statement_view a)) (loop_code (loop_statement_view b))
+pub loops_same : (a b : LoopStatement) → same (attributed_code loop_code (loop_statement_view a)) (attributed_code loop_code (loop_statement_view b))
     ≡ (attributes_part (layers.out-LoopStatement a).attributes (layers.out-LoopStatement b).attributes && block_part (layers.out-LoopStatement a).body (layers.out-LoopStatement b).body) && continuing_part (layers.out-LoopStatement a).continuing (layers.out-LoopStatement b).continuing
-loops_same a b = (λ i. same (loop_code (loop_statement_out a i)) (loop_code (loop_statement_out b i))) ∙ and_3 (attributes_part (layers.out-LoopStatement a).attributes (layers.out-LoopStatement b).attributes) (block_part (layers.out-LoopStatement a).body (layers.out-LoopStatement b).body) (continuing_part (layers.out-LoopStatement a).continuing (layers.out-LoopStatement b).continuing)
+loops_same a b = (λ i. same (attributed_code loop_code (loop_statement_out a i)) (attributed_code loop_code (loop_statement_out b i))) ∙ and_comm ((block_part (layers.out-LoopStatement a).body (layers.out-LoopStatement b).body) && (continuing_part (layers.out-LoopStatement a).continuing (layers.out-LoopStatement b).continuing)) (attributes_part (layers.out-LoopStatement a).attributes (layers.out-LoopStatement b).attributes) ∙ and_3 (attributes_part (layers.out-LoopStatement a).attributes (layers.out-LoopStatement b).attributes) (block_part (layers.out-LoopStatement a).body (layers.out-LoopStatement b).body) (continuing_part (layers.out-LoopStatement a).continuing (layers.out-LoopStatement b).continuing)
 
-pub fors_same : (a b : ForStatement) → same (for_code (for_statement_view a)) (for_code (for_statement_view b))
+pub fors_same : (a b : ForStatement) → same (attributed_code for_code (for_statement_view a)) (attributed_code for_code (for_statement_view b))
     ≡ (((attributes_part (layers.out-ForStatement a).attributes (layers.out-ForStatement b).attributes && header_part (layers.out-ForStatement a).initializer (layers.out-ForStatement b).initializer) && condition_part (layers.out-ForStatement a).condition (layers.out-ForStatement b).condition) && header_part (layers.out-ForStatement a).update (layers.out-ForStatement b).update) && block_part (layers.out-ForStatement a).body (layers.out-ForStatement b).body
-fors_same a b = (λ i. same (for_code (for_statement_out a i)) (for_code (for_statement_out b i))) ∙ and_5 (attributes_part (layers.out-ForStatement a).attributes (layers.out-ForStatement b).attributes) (header_part (layers.out-ForStatement a).initializer (layers.out-ForStatement b).initializer) (condition_part (layers.out-ForStatement a).condition (layers.out-ForStatement b).condition) (header_part (layers.out-ForStatement a).update (layers.out-ForStatement b).update) (block_part (layers.out-ForStatement a).body (layers.out-ForStatement b).body)
+fors_same a b = (λ i. same (attributed_code for_code (for_statement_out a i)) (attributed_code for_code (for_statement_out b i))) ∙ and_comm ((header_part (layers.out-ForStatement a).initializer (layers.out-ForStatement b).initializer) && ((condition_part (layers.out-ForStatement a).condition (layers.out-ForStatement b).condition) && ((header_part (layers.out-ForStatement a).update (layers.out-ForStatement b).update) && (block_part (layers.out-ForStatement a).body (layers.out-ForStatement b).body)))) (attributes_part (layers.out-ForStatement a).attributes (layers.out-ForStatement b).attributes) ∙ and_5 (attributes_part (layers.out-ForStatement a).attributes (layers.out-ForStatement b).attributes) (header_part (layers.out-ForStatement a).initializer (layers.out-ForStatement b).initializer) (condition_part (layers.out-ForStatement a).condition (layers.out-ForStatement b).condition) (header_part (layers.out-ForStatement a).update (layers.out-ForStatement b).update) (block_part (layers.out-ForStatement a).body (layers.out-ForStatement b).body)
 
-pub whiles_same : (a b : WhileStatement) → same (while_code (while_statement_view a)) (while_code (while_statement_view b))
+pub whiles_same : (a b : WhileStatement) → same (attributed_code while_code (while_statement_view a)) (attributed_code while_code (while_statement_view b))
     ≡ (attributes_part (layers.out-WhileStatement a).attributes (layers.out-WhileStatement b).attributes && expression_part (layers.out-WhileStatement a).condition (layers.out-WhileStatement b).condition) && block_part (layers.out-WhileStatement a).body (layers.out-WhileStatement b).body
-whiles_same a b = (λ i. same (while_code (while_statement_out a i)) (while_code (while_statement_out b i))) ∙ and_3 (attributes_part (layers.out-WhileStatement a).attributes (layers.out-WhileStatement b).attributes) (expression_part (layers.out-WhileStatement a).condition (layers.out-WhileStatement b).condition) (block_part (layers.out-WhileStatement a).body (layers.out-WhileStatement b).body)
+whiles_same a b = (λ i. same (attributed_code while_code (while_statement_out a i)) (attributed_code while_code (while_statement_out b i))) ∙ and_comm ((expression_part (layers.out-WhileStatement a).condition (layers.out-WhileStatement b).condition) && (block_part (layers.out-WhileStatement a).body (layers.out-WhileStatement b).body)) (attributes_part (layers.out-WhileStatement a).attributes (layers.out-WhileStatement b).attributes) ∙ and_3 (attributes_part (layers.out-WhileStatement a).attributes (layers.out-WhileStatement b).attributes) (expression_part (layers.out-WhileStatement a).condition (layers.out-WhileStatement b).condition) (block_part (layers.out-WhileStatement a).body (layers.out-WhileStatement b).body)
 
 -- the codes of items of lists
 abbrev pub node_code : Spanned Statement → Code

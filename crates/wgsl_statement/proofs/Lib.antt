@@ -1,5 +1,6 @@
 pub mod StatementViews
 pub mod Views
+pub mod BlockStatements
 mod Copies
 mod EmptyStatements
 mod ClauseViews

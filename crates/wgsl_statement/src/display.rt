@@ -1,6 +1,7 @@
 //! The printed texts of the statements that hold others.
 
 ghost use Rattle.std.specs.Prelude.{Some};
+ghost use Rattle.wgsl_model.specs.PrintedDeclarations.{print_attributed};
 ghost use Rattle.wgsl_model.specs.PrintedStatements.{print_statement, print_compound, print_if, print_if_clause, print_else_if_clause, print_else_clause, print_switch, print_switch_clause, print_loop, print_continuing, print_for, print_while};
 ghost use Rattle.wgsl_statement.specs.View.{statement_view, compound_statement_view, continuing_statement_view, else_clause_view, else_if_clause_view, for_statement_view, if_clause_view, if_statement_view, loop_statement_view, switch_clause_view, switch_statement_view, while_statement_view};
 
@@ -32,7 +33,7 @@ impl fmt::Display for CompoundStatement {
 }
 
 impl fmt::Display for IfStatement {
-    ghost output = { λ statement. Some (print_if (if_statement_view statement)) };
+    ghost output = { λ statement. Some (print_attributed print_if (if_statement_view statement)) };
 
     fn fmt<W: fmt::Write>(&self, f: &mut fmt::Formatter<W>) -> fmt::Result {
         write_if(self, &Depth::Top, f)
@@ -64,7 +65,7 @@ impl fmt::Display for ElseClause {
 }
 
 impl fmt::Display for SwitchStatement {
-    ghost output = { λ statement. Some (print_switch (switch_statement_view statement)) };
+    ghost output = { λ statement. Some (print_attributed print_switch (switch_statement_view statement)) };
 
     fn fmt<W: fmt::Write>(&self, f: &mut fmt::Formatter<W>) -> fmt::Result {
         write_switch(self, &Depth::Top, f)
@@ -80,7 +81,7 @@ impl fmt::Display for SwitchClause {
 }
 
 impl fmt::Display for LoopStatement {
-    ghost output = { λ statement. Some (print_loop (loop_statement_view statement)) };
+    ghost output = { λ statement. Some (print_attributed print_loop (loop_statement_view statement)) };
 
     fn fmt<W: fmt::Write>(&self, f: &mut fmt::Formatter<W>) -> fmt::Result {
         write_loop(self, &Depth::Top, f)
@@ -96,7 +97,7 @@ impl fmt::Display for ContinuingStatement {
 }
 
 impl fmt::Display for ForStatement {
-    ghost output = { λ statement. Some (print_for (for_statement_view statement)) };
+    ghost output = { λ statement. Some (print_attributed print_for (for_statement_view statement)) };
 
     fn fmt<W: fmt::Write>(&self, f: &mut fmt::Formatter<W>) -> fmt::Result {
         write_for(self, &Depth::Top, f)
@@ -104,7 +105,7 @@ impl fmt::Display for ForStatement {
 }
 
 impl fmt::Display for WhileStatement {
-    ghost output = { λ statement. Some (print_while (while_statement_view statement)) };
+    ghost output = { λ statement. Some (print_attributed print_while (while_statement_view statement)) };
 
     fn fmt<W: fmt::Write>(&self, f: &mut fmt::Formatter<W>) -> fmt::Result {
         write_while(self, &Depth::Top, f)

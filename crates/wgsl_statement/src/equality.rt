@@ -6,6 +6,7 @@ ghost use Rattle.std.specs.Cmp.{on_per};
 ghost use Rattle.wgsl_model.specs.Statements.{else_ifs_of, else_of, clauses_of, continuing_of, maybe_statement};
 ghost use Rattle.wgsl_equality.specs.Code.{same};
 ghost use Rattle.wgsl_equality.specs.Laws.{same_partial};
+ghost use Rattle.wgsl_equality.specs.Declarations.{attributed_code};
 ghost use Rattle.wgsl_equality.specs.Statements.{statement_code, statements_code, compound_code, if_code, if_clause_code, else_if_clause_code, else_ifs_code, else_clause_code, else_code, switch_code, clauses_code, switch_clause_code, loop_code, maybe_continuing_code, continuing_code, for_code, part_code, while_code};
 ghost use Rattle.wgsl_statement.specs.View.{statement_view, statement_node_view, statement_nodes_view, compound_statement_view, if_statement_view, if_clause_view, else_if_clause_view, else_clause_view, switch_statement_view, switch_clause_view, loop_statement_view, continuing_statement_view, for_statement_view, while_statement_view};
 
@@ -56,9 +57,9 @@ impl PartialEq for CompoundStatement {
 }
 
 impl PartialEq for IfStatement {
-    ghost eq = { λ a b. same (if_code (if_statement_view a)) (if_code (if_statement_view b)) };
+    ghost eq = { λ a b. same (attributed_code if_code (if_statement_view a)) (attributed_code if_code (if_statement_view b)) };
 
-    ghost laws = { on_per (λ e. if_code (if_statement_view e)) same_partial };
+    ghost laws = { on_per (λ e. attributed_code if_code (if_statement_view e)) same_partial };
 
     #[cycle(equal)]
     fn eq(&self, other: &IfStatement) -> bool {
@@ -103,9 +104,9 @@ impl PartialEq for ElseClause {
 }
 
 impl PartialEq for SwitchStatement {
-    ghost eq = { λ a b. same (switch_code (switch_statement_view a)) (switch_code (switch_statement_view b)) };
+    ghost eq = { λ a b. same (attributed_code switch_code (switch_statement_view a)) (attributed_code switch_code (switch_statement_view b)) };
 
-    ghost laws = { on_per (λ e. switch_code (switch_statement_view e)) same_partial };
+    ghost laws = { on_per (λ e. attributed_code switch_code (switch_statement_view e)) same_partial };
 
     #[cycle(equal)]
     fn eq(&self, other: &SwitchStatement) -> bool {
@@ -128,9 +129,9 @@ impl PartialEq for SwitchClause {
 }
 
 impl PartialEq for LoopStatement {
-    ghost eq = { λ a b. same (loop_code (loop_statement_view a)) (loop_code (loop_statement_view b)) };
+    ghost eq = { λ a b. same (attributed_code loop_code (loop_statement_view a)) (attributed_code loop_code (loop_statement_view b)) };
 
-    ghost laws = { on_per (λ e. loop_code (loop_statement_view e)) same_partial };
+    ghost laws = { on_per (λ e. attributed_code loop_code (loop_statement_view e)) same_partial };
 
     #[cycle(equal)]
     fn eq(&self, other: &LoopStatement) -> bool {
@@ -152,9 +153,9 @@ impl PartialEq for ContinuingStatement {
 }
 
 impl PartialEq for ForStatement {
-    ghost eq = { λ a b. same (for_code (for_statement_view a)) (for_code (for_statement_view b)) };
+    ghost eq = { λ a b. same (attributed_code for_code (for_statement_view a)) (attributed_code for_code (for_statement_view b)) };
 
-    ghost laws = { on_per (λ e. for_code (for_statement_view e)) same_partial };
+    ghost laws = { on_per (λ e. attributed_code for_code (for_statement_view e)) same_partial };
 
     #[cycle(equal)]
     fn eq(&self, other: &ForStatement) -> bool {
@@ -167,9 +168,9 @@ impl PartialEq for ForStatement {
 }
 
 impl PartialEq for WhileStatement {
-    ghost eq = { λ a b. same (while_code (while_statement_view a)) (while_code (while_statement_view b)) };
+    ghost eq = { λ a b. same (attributed_code while_code (while_statement_view a)) (attributed_code while_code (while_statement_view b)) };
 
-    ghost laws = { on_per (λ e. while_code (while_statement_view e)) same_partial };
+    ghost laws = { on_per (λ e. attributed_code while_code (while_statement_view e)) same_partial };
 
     #[cycle(equal)]
     fn eq(&self, other: &WhileStatement) -> bool {

@@ -3,7 +3,7 @@
 ghost use Rattle.std.specs.Prelude.{◌≡◌, map};
 ghost use Rattle.std.specs.Option.{option_map};
 ghost use Rattle.wgsl_model.specs.Statements.{else_ifs_of, maybe_statement};
-ghost use Rattle.wgsl_model.specs.EmptyItems.{full_statement, full_compound, full_if, full_else_ifs, full_switch, full_part};
+ghost use Rattle.wgsl_model.specs.EmptyItems.{full_attributed, full_statement, full_compound, full_if, full_else_ifs, full_switch, full_part};
 ghost use Rattle.wgsl_statement.specs.View.{statement_view, statement_node_view, compound_statement_view, if_statement_view, else_if_clause_view, switch_statement_view};
 
 use crate::statement::{
@@ -64,7 +64,7 @@ impl CompoundStatement {
 impl IfStatement {
     #[cycle(remove)]
     fn remove_voids(&mut self)
-        ensures { if_statement_view self.new ≡ full_if (if_statement_view self.old) }
+        ensures { if_statement_view self.new ≡ full_attributed full_if (if_statement_view self.old) }
     {
         self.if_clause.body.remove_voids();
         remove_from_else_ifs(&mut self.else_if_clauses);
@@ -86,7 +86,7 @@ fn remove_from_else_ifs(clauses: &mut [ElseIfClause])
 impl SwitchStatement {
     #[cycle(remove)]
     fn remove_voids(&mut self)
-        ensures { switch_statement_view self.new ≡ full_switch (switch_statement_view self.old) }
+        ensures { switch_statement_view self.new ≡ full_attributed full_switch (switch_statement_view self.old) }
     {
         let clauses = &mut self.clauses;
         'clauses: for i in 0..clauses.len() {

@@ -3,6 +3,7 @@
 ghost use Rattle.std.specs.Prelude.{Some};
 ghost use Rattle.std.specs.Fmt.{DisplaysOnOk};
 ghost use Rattle.wgsl_model.specs.Indentation.{after_line_ends};
+ghost use Rattle.wgsl_model.specs.PrintedDeclarations.{print_attributed};
 ghost use Rattle.wgsl_model.specs.PrintedStatements.{print_if, print_if_clause, print_else_if_clause, print_else_clause};
 ghost use Rattle.wgsl_writer.specs.Depth.{spaces};
 ghost use Rattle.wgsl_statement.specs.View.{if_statement_view, if_clause_view, else_if_clause_view, else_clause_view};
@@ -20,7 +21,7 @@ pub fn write_if<W: fmt::Write>(
     depth: &Depth<'_>,
     f: &mut fmt::Formatter<W>,
 ) -> fmt::Result
-    ensures { DisplaysOnOk W.write_str_gives f.old result (Some (after_line_ends (spaces depth.now) (print_if (if_statement_view statement.now)))) f.new }
+    ensures { DisplaysOnOk W.write_str_gives f.old result (Some (after_line_ends (spaces depth.now) (print_attributed print_if (if_statement_view statement.now)))) f.new }
 {
     write_attribute_line(&statement.attributes, depth, f)?;
     write_if_clause(&statement.if_clause, depth, f)?;

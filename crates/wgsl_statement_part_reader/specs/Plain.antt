@@ -4,8 +4,8 @@ use Rattle.grammar.specs.Grammar.{Grammar.symbol}
 use Rattle.grammar.specs.Notation.{◌gives◌, ◌makes◌, ◌▹◌, ◌◃◌}
 use Rattle.grammar.specs.States.{State, Read, Read.done, ◌>>=◌, is_at, is_any, take, go}
 use Rattle.wgsl_model.specs.Classes.{SymAttr, SymBraceLeft, SymBraceRight, SymSemicolon, KwConst, KwContinue, KwDiscard, KwFor, KwIf, KwLet, KwLoop, KwReturn, KwSwitch, KwVar, KwWhile}
-use Rattle.wgsl_model.specs.Statements.{BreakIfStatement, StatementNode, Statement}
-use Rattle.wgsl_model.specs.StatementParts.{placed_statement}
+use Rattle.wgsl_model.specs.Statements.{BreakIfStatement, StatementNode, Statement, UnattributedStatement, unattributed}
+use Rattle.wgsl_model.specs.StatementParts.{placed_statement, assert_statement}
 use Rattle.wgsl_model.specs.Symbols.{Symbol.expression, Symbol.return_statement, Symbol.var_statement, Symbol.value_statement, Symbol.break_statement, Symbol.continue_statement, Symbol.discard_statement, Symbol.const_assert}
 use Rattle.wgsl_grammar_theory.specs.Factored.{FactoredSymbol.of, FactoredSymbol.further, Further.simple_statement}
 use Rattle.wgsl_grammar_theory.specs.Tables.{tables, begin_for_update}
@@ -21,7 +21,7 @@ ended r s = r s >>= λ a s'. take SymSemicolon s' >>= λ t s''. done a s''
 
 -- a `const_assert` as a statement
 unfoldable pub assert_statement_at : State → Read Statement
-assert_statement_at s = reader (of const_assert) s >>= λ c s'. done (Statement.const_assert c) s'
+assert_statement_at s = reader (of const_assert) s >>= λ c s'. done (assert_statement c) s'
 
 -- a statement without attributes that a `;` ends, but for `break` and `return`
 unfoldable pub plain_statement_at : State → Read Statement
@@ -35,7 +35,7 @@ plain_statement_at s =
 -- a statement that has no attributes, other than `break`, with its `;`, without its place
 unfoldable pub unattributed_statement_at : State → Read Statement
 unattributed_statement_at s =
-    cond (is_at SymSemicolon s) (take SymSemicolon s >>= λ t s'. done Statement.void s')
+    cond (is_at SymSemicolon s) (take SymSemicolon s >>= λ t s'. done (unattributed UnattributedStatement.void) s')
     (cond (is_at KwReturn s) (ended (reader (of return_statement)) s) (ended plain_statement_at s))
 
 -- the classes that begin a statement that may have attributes

@@ -20,7 +20,7 @@ use wgsl_token::kind::TokenKind;
 /// A `break` that stands there.
 #[tactic(auto, using(wgsl_statement::proofs::StatementViews::is_break))]
 pub fn break_node(alloc: Global, span: Span) -> Result<StatementNode, AllocError>
-    ensures { IfOk result (λ node. statement_node_view node ≡ placed_statement plain.break_statement (span_view span)) }
+    ensures { IfOk result (λ node. statement_node_view node ≡ placed_statement (plain.unattributed plain.break_statement) (span_view span)) }
 {
     Spanned::new(alloc, Statement::Break(BreakStatement {}), span)
 }

@@ -7,7 +7,7 @@ use Rattle.grammar.specs.Notation.{one_token, ◌then◌, ◌or◌, ◌gives◌,
 use Rattle.grammar.specs.States.{State, Read, Read.done, ◌>>=◌, is_at, take, start_of, span_from, go}
 use Rattle.wgsl_model.specs.Classes.{SymBraceRight, SymSemicolon, KwBreak, KwIf}
 use Rattle.wgsl_model.specs.Expressions.{ExpressionNode}
-use Rattle.wgsl_model.specs.Statements.{BreakIfStatement, StatementNode, Statement}
+use Rattle.wgsl_model.specs.Statements.{BreakIfStatement, StatementNode, UnattributedStatement, unattributed}
 use Rattle.wgsl_model.specs.StatementParts.{placed_statement}
 use Rattle.wgsl_model.specs.Symbols.{Symbol.expression}
 use Rattle.wgsl_grammar_theory.specs.Factored.{FactoredSymbol.of, FactoredSymbol.further, Further.continuing_rest, Further.other_statement, FactoredRule, with_break}
@@ -31,7 +31,7 @@ continuing_items_from statements s = behind statements (reader (further continui
 -- what follows a `break` that starts at a place: its `;` and more, or `if` and the end
 abbrev behind_break : List StatementNode → ℕ → State → Read ContinuingItems
 behind_break statements start s = cond (is_at SymSemicolon s)
-    (take SymSemicolon s >>= λ t s'. continuing_items_from (statements ++ placed_statement Statement.break_statement (span_from start s') ∷ []) s')
+    (take SymSemicolon s >>= λ t s'. continuing_items_from (statements ++ placed_statement (unattributed UnattributedStatement.break_statement) (span_from start s') ∷ []) s')
     (break_if_rest_at s >>= λ c s'. done (statements, Some c) s')
 
 unfoldable pub continuing_items_turn : List StatementNode → State → Read ContinuingItems
@@ -56,13 +56,13 @@ abbrev continuing_item : FactoredRule ContinuingItems
 continuing_item = symbol (further other_statement) then symbol (further continuing_rest) gives with_item
 
 break_more_is : (l : List StatementNode) (b : Token) (s0 s : State) → take KwBreak s0 ≡ done b s → (go tables reader break_more s >>= λ f s'. done (put_before l (f b)) s')
-    ≡ (take SymSemicolon s >>= λ t s'. continuing_items_from (l ++ placed_statement Statement.break_statement (span_from (start_of s0) s') ∷ []) s')
+    ≡ (take SymSemicolon s >>= λ t s'. continuing_items_from (l ++ placed_statement (unattributed UnattributedStatement.break_statement) (span_from (start_of s0) s') ∷ []) s')
 unfolding continuing_items_from
 break_more_is l b s0 s h =
     bind_associates (go tables reader (one_token SymSemicolon then symbol (further continuing_rest)) s) (λ p s'. done (with_break p) s') (λ f s'. done (put_before l (f b)) s')
     ∙ pair_goes_on (take SymSemicolon s) (reader (further continuing_rest)) (λ p s'. done (put_before l (with_break p b)) s')
-    ∙ bind_alike (take SymSemicolon s) _ _ (λ t s' k. behind_more l (placed_statement Statement.break_statement (record { start = b.start; end = t.end })) (reader (further continuing_rest) s')
-    ∙ ap (λ (span : Span). behind (l ++ placed_statement Statement.break_statement span ∷ []) (reader (further continuing_rest) s')) (two_tokens KwBreak SymSemicolon s0 b s t s' h k))
+    ∙ bind_alike (take SymSemicolon s) _ _ (λ t s' k. behind_more l (placed_statement (unattributed UnattributedStatement.break_statement) (record { start = b.start; end = t.end })) (reader (further continuing_rest) s')
+    ∙ ap (λ (span : Span). behind (l ++ placed_statement (unattributed UnattributedStatement.break_statement) span ∷ []) (reader (further continuing_rest) s')) (two_tokens KwBreak SymSemicolon s0 b s t s' h k))
 
 break_condition_is : (l : List StatementNode) (b : Token) (s : State) → (go tables reader break_condition s >>= λ f s'. done (put_before l (f b)) s') ≡ (break_if_rest_at s >>= λ c s'. done (l, Some c) s')
 unfolding break_if_rest_at

@@ -6,8 +6,7 @@ use Rattle.grammar.specs.Notation.{◌then◌, ◌or◌, ◌gives◌, ◌▹◌}
 use Rattle.grammar.specs.States.{State, Read, Read.done, ◌>>=◌, is_at, take, go}
 use Rattle.wgsl_model.specs.Classes.{KwElse, KwIf}
 use Rattle.wgsl_model.specs.Expressions.{ExpressionNode}
-use Rattle.wgsl_model.specs.Attributes.{Attributes}
-use Rattle.wgsl_model.specs.Statements.{CompoundStatement, ElseIfClause, ElseClause, Statement, else_if_clause, else_clause}
+use Rattle.wgsl_model.specs.Statements.{CompoundStatement, ElseIfClause, ElseClause, UnattributedStatement, else_if_clause, else_clause}
 use Rattle.wgsl_model.specs.StatementParts.{if_of}
 use Rattle.wgsl_model.specs.Symbols.{Symbol.compound_statement, Symbol.expression}
 use Rattle.wgsl_grammar_theory.specs.Factored.{FactoredSymbol.of, FactoredSymbol.further, Further.else_rest, Further.if_part, FactoredRule}
@@ -15,7 +14,6 @@ use Rattle.wgsl_grammar_theory.specs.Tables.{tables}
 use Rattle.wgsl_grammar_theory.specs.Reader.{reader}
 use Rattle.wgsl_grammar_theory.specs.StatementRules.{else_rest_at, if_part_at}
 use Rattle.wgsl_grammar_theory.proofs.StatementEquations.{else_rest_is, if_part_is}
-use Rattle.wgsl_simple_statement_reader.specs.Given.{given}
 use Rattle.wgsl_simple_statement_reader.proofs.Binding.{bind_associates, bind_alike, bind_cond, pair_goes_on, triple_goes_on, token_before, put_before, behind, behind_more, behind_none}
 use Rattle.wgsl_statement_part_reader.specs.Heads.{condition_at}
 use Rattle.wgsl_statement_part_reader.proofs.Heads.{with_condition, condition_first}
@@ -73,17 +71,15 @@ pub else_rest_from : (s : State) → reader (further else_rest) s ≡ elses_from
 unfolding elses_from
 else_rest_from s = behind_none (reader (further else_rest) s)
 
--- ---- the statement
-unfoldable pub if_parts : Attributes → State → Read Statement
-if_parts a s = condition_at KwIf s >>= λ e s1. reader (of compound_statement) s1 >>= λ b s2. reader (further else_rest) s2 >>= λ elses s3. done (if_of a e b elses) s3
+-- ---- the statement, without its attributes
+unfoldable pub if_parts : State → Read UnattributedStatement
+if_parts s = condition_at KwIf s >>= λ e s1. reader (of compound_statement) s1 >>= λ b s2. reader (further else_rest) s2 >>= λ elses s3. done (if_of e b elses) s3
 
 abbrev block_and_elses : FactoredRule (CompoundStatement × Elses)
 block_and_elses = symbol (of compound_statement) then symbol (further else_rest)
 
-pub if_by_parts : (a : Attributes) (s : State) → given a (reader (further if_part)) s ≡ if_parts a s
+pub if_by_parts : (s : State) → reader (further if_part) s ≡ if_parts s
 unfolding if_part_at if_parts
-if_by_parts a s =
-    ap (λ m. m >>= λ f s'. done (f a) s') (if_part_is s)
-    ∙ bind_associates (go tables reader (with_condition KwIf block_and_elses) s) (λ p s'. done (λ a. if_of a p.0 p.1.0 p.1.1) s') (λ f s'. done (f a) s')
-    ∙ condition_first KwIf block_and_elses (λ p s'. done (if_of a p.0 p.1.0 p.1.1) s') s
-    ∙ bind_alike (condition_at KwIf s) _ _ (λ e s' h. pair_goes_on (reader (of compound_statement) s') (reader (further else_rest)) (λ p s''. done (if_of a e p.0 p.1) s''))
+if_by_parts s =
+    if_part_is s ∙ condition_first KwIf block_and_elses (λ p s'. done (if_of p.0 p.1.0 p.1.1) s') s
+    ∙ bind_alike (condition_at KwIf s) _ _ (λ e s' h. pair_goes_on (reader (of compound_statement) s') (reader (further else_rest)) (λ p s''. done (if_of e p.0 p.1) s''))

@@ -1,11 +1,10 @@
 -- Loops by what stands before their statements and the statements.
-use Rattle.std.proofs.Common.{◌≡◌, ◌∙◌, ap}
+use Rattle.std.proofs.Common.{◌≡◌, ◌∙◌}
 use Rattle.grammar.specs.Grammar.{Grammar.symbol}
 use Rattle.grammar.specs.Notation.{◌▹◌}
-use Rattle.grammar.specs.States.{State, Read, Read.done, ◌>>=◌, go}
+use Rattle.grammar.specs.States.{State, Read, Read.done, ◌>>=◌}
 use Rattle.wgsl_model.specs.Classes.{KwContinuing, KwLoop, KwWhile}
-use Rattle.wgsl_model.specs.Attributes.{Attributes}
-use Rattle.wgsl_model.specs.Statements.{ContinuingStatement, Statement}
+use Rattle.wgsl_model.specs.Statements.{ContinuingStatement, UnattributedStatement}
 use Rattle.wgsl_model.specs.StatementParts.{continuing_part, for_of, loop_of, while_of}
 use Rattle.wgsl_model.specs.Symbols.{Symbol.compound_statement, Symbol.continuing_statement}
 use Rattle.wgsl_grammar_theory.specs.Factored.{FactoredSymbol.of, FactoredSymbol.further, Further.loop_rest, Further.continuing_rest, Further.loop_part, Further.for_part, Further.while_part}
@@ -13,21 +12,16 @@ use Rattle.wgsl_grammar_theory.specs.Tables.{tables}
 use Rattle.wgsl_grammar_theory.specs.Reader.{reader}
 use Rattle.wgsl_grammar_theory.specs.StatementRules.{continuing_statement_at, loop_part_at, for_part_at, while_part_at}
 use Rattle.wgsl_grammar_theory.proofs.StatementEquations.{continuing_statement_is, loop_part_is, for_part_is, while_part_is}
-use Rattle.wgsl_simple_statement_reader.specs.Given.{given}
-use Rattle.wgsl_simple_statement_reader.proofs.Binding.{bind_associates}
 use Rattle.wgsl_statement_part_reader.specs.Heads.{condition_at, block_start_after_at, for_header_at}
 use Rattle.wgsl_statement_part_reader.proofs.Heads.{with_condition, condition_first, with_block_start, block_start_after_first, with_for_header, for_header_first}
 
--- `loop`
-unfoldable pub loop_parts : Attributes → State → Read Statement
-loop_parts a s = block_start_after_at KwLoop s >>= λ b s1. reader (further loop_rest) s1 >>= λ rest s2. done (loop_of a b rest.0 rest.1) s2
+-- `loop`, without its attributes
+unfoldable pub loop_parts : State → Read UnattributedStatement
+loop_parts s = block_start_after_at KwLoop s >>= λ b s1. reader (further loop_rest) s1 >>= λ rest s2. done (loop_of b rest.0 rest.1) s2
 
-pub loop_by_parts : (a : Attributes) (s : State) → given a (reader (further loop_part)) s ≡ loop_parts a s
+pub loop_by_parts : (s : State) → reader (further loop_part) s ≡ loop_parts s
 unfolding loop_part_at loop_parts
-loop_by_parts a s =
-    ap (λ m. m >>= λ f s'. done (f a) s') (loop_part_is s)
-    ∙ bind_associates (go tables reader (KwLoop ▹ with_block_start (symbol (further loop_rest))) s) (λ p s'. done (λ a. loop_of a p.0 p.1.0 p.1.1) s') (λ f s'. done (f a) s')
-    ∙ block_start_after_first KwLoop (symbol (further loop_rest)) (λ p s'. done (loop_of a p.0 p.1.0 p.1.1) s') s
+loop_by_parts s = loop_part_is s ∙ block_start_after_first KwLoop (symbol (further loop_rest)) (λ p s'. done (loop_of p.0 p.1.0 p.1.1) s') s
 
 -- `continuing`
 unfoldable pub continuing_parts : State → Read ContinuingStatement
@@ -37,24 +31,18 @@ pub continuing_by_parts : (s : State) → reader (of continuing_statement) s ≡
 unfolding continuing_statement_at continuing_parts
 continuing_by_parts s = continuing_statement_is s ∙ block_start_after_first KwContinuing (symbol (further continuing_rest)) (λ p s'. done (continuing_part p.0 p.1.0 p.1.1) s') s
 
--- `while`
-unfoldable pub while_parts : Attributes → State → Read Statement
-while_parts a s = condition_at KwWhile s >>= λ e s1. reader (of compound_statement) s1 >>= λ b s2. done (while_of a e b) s2
+-- `while`, likewise
+unfoldable pub while_parts : State → Read UnattributedStatement
+while_parts s = condition_at KwWhile s >>= λ e s1. reader (of compound_statement) s1 >>= λ b s2. done (while_of e b) s2
 
-pub while_by_parts : (a : Attributes) (s : State) → given a (reader (further while_part)) s ≡ while_parts a s
+pub while_by_parts : (s : State) → reader (further while_part) s ≡ while_parts s
 unfolding while_part_at while_parts
-while_by_parts a s =
-    ap (λ m. m >>= λ f s'. done (f a) s') (while_part_is s)
-    ∙ bind_associates (go tables reader (with_condition KwWhile (symbol (of compound_statement))) s) (λ p s'. done (λ a. while_of a p.0 p.1) s') (λ f s'. done (f a) s')
-    ∙ condition_first KwWhile (symbol (of compound_statement)) (λ p s'. done (while_of a p.0 p.1) s') s
+while_by_parts s = while_part_is s ∙ condition_first KwWhile (symbol (of compound_statement)) (λ p s'. done (while_of p.0 p.1) s') s
 
--- `for`
-unfoldable pub for_parts : Attributes → State → Read Statement
-for_parts a s = for_header_at s >>= λ h s1. reader (of compound_statement) s1 >>= λ b s2. done (for_of a h.0 h.1.0 h.1.1 b) s2
+-- `for`, likewise
+unfoldable pub for_parts : State → Read UnattributedStatement
+for_parts s = for_header_at s >>= λ h s1. reader (of compound_statement) s1 >>= λ b s2. done (for_of h.0 h.1.0 h.1.1 b) s2
 
-pub for_by_parts : (a : Attributes) (s : State) → given a (reader (further for_part)) s ≡ for_parts a s
+pub for_by_parts : (s : State) → reader (further for_part) s ≡ for_parts s
 unfolding for_part_at for_parts
-for_by_parts a s =
-    ap (λ m. m >>= λ f s'. done (f a) s') (for_part_is s)
-    ∙ bind_associates (go tables reader (with_for_header (symbol (of compound_statement))) s) (λ p s'. done (λ a. for_of a p.0 p.1.0 p.1.1.0 p.1.1.1) s') (λ f s'. done (f a) s')
-    ∙ for_header_first (symbol (of compound_statement)) (λ p s'. done (for_of a p.0 p.1.0 p.1.1.0 p.1.1.1) s') s
+for_by_parts s = for_part_is s ∙ for_header_first (symbol (of compound_statement)) (λ p s'. done (for_of p.0 p.1.0 p.1.1.0 p.1.1.1) s') s

@@ -3,6 +3,7 @@ use Rattle.std.proofs.Common.{◌≡◌, ◌∙◌, refl, ap, List, [], ◌∷�
 use Rattle.std.specs.Option.{option_map}
 use Rattle.std.specs.declared.vec.Vec.{Vec}
 use Rattle.std.specs.declared.alloc.Global.{Global}
+use Rattle.wgsl_model.specs.Attributed.{Attributed}
 use Rattle.wgsl_model.specs.Statements as plain
 use Rattle.wgsl_model.specs.StatementParts.{compound_of, if_of, clause_of, switch_of, loop_of, continuing_part, for_of, while_of}
 use Rattle.wgsl_span.specs.declared.Spanned.{Spanned}
@@ -37,32 +38,32 @@ compound_is attributes statements =
     compound_statement_roll (record { attributes = attributes; statements = statements }) ∙ ap (plain.compound_statement (attributes_view attributes.items)) (nodes_are statements.items)
 
 pub block_is : (attributes : Vec (Spanned Attribute) Global) (statements : Vec (Spanned Statement) Global)
-    → V.statement_view (statement.Compound (layers.roll-CompoundStatement (record { attributes = attributes; statements = statements }))) ≡ plain.compound (compound_of (attributes_view attributes.items) (map V.statement_node_view statements.items))
-block_is attributes statements = is_compound (layers.roll-CompoundStatement (record { attributes = attributes; statements = statements })) ∙ ap plain.compound (compound_is attributes statements)
+    → V.statement_view (statement.Compound (layers.roll-CompoundStatement (record { attributes = attributes; statements = statements }))) ≡ plain.block_statement (compound_of (attributes_view attributes.items) (map V.statement_node_view statements.items))
+block_is attributes statements = is_compound (layers.roll-CompoundStatement (record { attributes = attributes; statements = statements })) ∙ ap plain.block_statement (compound_is attributes statements)
 
 if_clause_is : (expression : Spanned Expression) (body : CompoundStatement)
     → V.if_clause_view (layers.roll-IfClause (record { expression = expression; body = body })) ≡ plain.if_clause (expression_node_view expression) (V.compound_statement_view body)
-if_clause_is expression body = folds.fold-roll-IfClause plain.Statement plain.CompoundStatement plain.ContinuingStatement plain.ElseClause plain.ElseIfClause plain.ForStatement plain.IfClause plain.IfStatement plain.LoopStatement plain.SwitchClause plain.SwitchStatement plain.WhileStatement V.statement_step V.compound_statement_step V.continuing_statement_step V.else_clause_step V.else_if_clause_step V.for_statement_step V.if_clause_step V.if_statement_step V.loop_statement_step V.switch_clause_step V.switch_statement_step V.while_statement_step (record { expression = expression; body = body })
+if_clause_is expression body = folds.fold-roll-IfClause plain.Statement plain.CompoundStatement plain.ContinuingStatement plain.ElseClause plain.ElseIfClause (Attributed plain.ForStatement) plain.IfClause (Attributed plain.IfStatement) (Attributed plain.LoopStatement) plain.SwitchClause (Attributed plain.SwitchStatement) (Attributed plain.WhileStatement) V.statement_step V.compound_statement_step V.continuing_statement_step V.else_clause_step V.else_if_clause_step V.for_statement_step V.if_clause_step V.if_statement_step V.loop_statement_step V.switch_clause_step V.switch_statement_step V.while_statement_step (record { expression = expression; body = body })
 
 pub else_if_clause_is : (expression : Spanned Expression) (body : CompoundStatement)
     → V.else_if_clause_view (layers.roll-ElseIfClause (record { expression = expression; body = body })) ≡ plain.else_if_clause (expression_node_view expression) (V.compound_statement_view body)
-else_if_clause_is expression body = folds.fold-roll-ElseIfClause plain.Statement plain.CompoundStatement plain.ContinuingStatement plain.ElseClause plain.ElseIfClause plain.ForStatement plain.IfClause plain.IfStatement plain.LoopStatement plain.SwitchClause plain.SwitchStatement plain.WhileStatement V.statement_step V.compound_statement_step V.continuing_statement_step V.else_clause_step V.else_if_clause_step V.for_statement_step V.if_clause_step V.if_statement_step V.loop_statement_step V.switch_clause_step V.switch_statement_step V.while_statement_step (record { expression = expression; body = body })
+else_if_clause_is expression body = folds.fold-roll-ElseIfClause plain.Statement plain.CompoundStatement plain.ContinuingStatement plain.ElseClause plain.ElseIfClause (Attributed plain.ForStatement) plain.IfClause (Attributed plain.IfStatement) (Attributed plain.LoopStatement) plain.SwitchClause (Attributed plain.SwitchStatement) (Attributed plain.WhileStatement) V.statement_step V.compound_statement_step V.continuing_statement_step V.else_clause_step V.else_if_clause_step V.for_statement_step V.if_clause_step V.if_statement_step V.loop_statement_step V.switch_clause_step V.switch_statement_step V.while_statement_step (record { expression = expression; body = body })
 
 pub else_clause_is : (body : CompoundStatement) → V.else_clause_view (layers.roll-ElseClause (record { body = body })) ≡ plain.else_clause (V.compound_statement_view body)
-else_clause_is body = folds.fold-roll-ElseClause plain.Statement plain.CompoundStatement plain.ContinuingStatement plain.ElseClause plain.ElseIfClause plain.ForStatement plain.IfClause plain.IfStatement plain.LoopStatement plain.SwitchClause plain.SwitchStatement plain.WhileStatement V.statement_step V.compound_statement_step V.continuing_statement_step V.else_clause_step V.else_if_clause_step V.for_statement_step V.if_clause_step V.if_statement_step V.loop_statement_step V.switch_clause_step V.switch_statement_step V.while_statement_step (record { body = body })
+else_clause_is body = folds.fold-roll-ElseClause plain.Statement plain.CompoundStatement plain.ContinuingStatement plain.ElseClause plain.ElseIfClause (Attributed plain.ForStatement) plain.IfClause (Attributed plain.IfStatement) (Attributed plain.LoopStatement) plain.SwitchClause (Attributed plain.SwitchStatement) (Attributed plain.WhileStatement) V.statement_step V.compound_statement_step V.continuing_statement_step V.else_clause_step V.else_if_clause_step V.for_statement_step V.if_clause_step V.if_statement_step V.loop_statement_step V.switch_clause_step V.switch_statement_step V.while_statement_step (record { body = body })
 
 pub if_statement_is : (attributes : Vec (Spanned Attribute) Global) (expression : Spanned Expression) (body : CompoundStatement) (else_ifs : Vec ElseIfClause Global) (last : Option ElseClause)
     → V.statement_view (statement.If (layers.roll-IfStatement (record { attributes = attributes; if_clause = layers.roll-IfClause (record { expression = expression; body = body }); else_if_clauses = else_ifs; else_clause = last })))
-    ≡ if_of (attributes_view attributes.items) (expression_node_view expression) (V.compound_statement_view body) (map V.else_if_clause_view else_ifs.items, option_map V.else_clause_view last)
+    ≡ plain.statement (attributes_view attributes.items) (if_of (expression_node_view expression) (V.compound_statement_view body) (map V.else_if_clause_view else_ifs.items, option_map V.else_clause_view last))
 if_statement_is attributes expression body else_ifs last =
-    is_if _ ∙ ap plain.if_statement (if_statement_roll attributes (layers.roll-IfClause (record { expression = expression; body = body })) else_ifs last)
-    ∙ ap (λ clause. plain.if_statement (plain.if_else (attributes_view attributes.items) clause (plain.else_ifs_of (map V.else_if_clause_view else_ifs.items)) (plain.else_of (option_map V.else_clause_view last)))) (if_clause_is expression body)
+    is_if _ ∙ ap (plain.as_statement plain.if_statement) (if_statement_roll attributes (layers.roll-IfClause (record { expression = expression; body = body })) else_ifs last)
+    ∙ ap (λ clause. plain.statement (attributes_view attributes.items) (plain.if_statement (plain.if_else clause (plain.else_ifs_of (map V.else_if_clause_view else_ifs.items)) (plain.else_of (option_map V.else_clause_view last))))) (if_clause_is expression body)
 
 pub switch_statement_is : (attributes : Vec (Spanned Attribute) Global) (expression : Spanned Expression) (body_attributes : Vec (Spanned Attribute) Global) (clauses : Vec SwitchClause Global)
     → V.statement_view (statement.Switch (layers.roll-SwitchStatement (record { attributes = attributes; expression = expression; body_attributes = body_attributes; clauses = clauses })))
-    ≡ switch_of (attributes_view attributes.items) (expression_node_view expression) (attributes_view body_attributes.items) (map V.switch_clause_view clauses.items)
+    ≡ plain.statement (attributes_view attributes.items) (switch_of (expression_node_view expression) (attributes_view body_attributes.items) (map V.switch_clause_view clauses.items))
 switch_statement_is attributes expression body_attributes clauses =
-    is_switch _ ∙ ap plain.switch_statement (switch_statement_roll (record { attributes = attributes; expression = expression; body_attributes = body_attributes; clauses = clauses }))
+    is_switch _ ∙ ap (plain.as_statement plain.switch_statement) (switch_statement_roll (record { attributes = attributes; expression = expression; body_attributes = body_attributes; clauses = clauses }))
 
 pub switch_clause_is : (selectors : Vec CaseSelector Global) (body : CompoundStatement)
     → V.switch_clause_view (layers.roll-SwitchClause (record { case_selectors = selectors; body = body })) ≡ clause_of (map selector_view selectors.items) (V.compound_statement_view body)
@@ -70,23 +71,23 @@ switch_clause_is selectors body = switch_clause_roll (record { case_selectors = 
 
 pub loop_statement_is : (attributes body_attributes : Vec (Spanned Attribute) Global) (statements : Vec (Spanned Statement) Global) (continuing : Option ContinuingStatement)
     → V.statement_view (statement.Loop (layers.roll-LoopStatement (record { attributes = attributes; body = layers.roll-CompoundStatement (record { attributes = body_attributes; statements = statements }); continuing = continuing })))
-    ≡ loop_of (attributes_view attributes.items) (attributes_view body_attributes.items) (map V.statement_node_view statements.items) (option_map V.continuing_statement_view continuing)
+    ≡ plain.statement (attributes_view attributes.items) (loop_of (attributes_view body_attributes.items) (map V.statement_node_view statements.items) (option_map V.continuing_statement_view continuing))
 loop_statement_is attributes body_attributes statements continuing =
-    is_loop _ ∙ ap plain.loop_statement (loop_statement_roll attributes (layers.roll-CompoundStatement (record { attributes = body_attributes; statements = statements })) continuing)
-    ∙ ap (λ body. plain.loop_statement (plain.repeat (attributes_view attributes.items) body (plain.continuing_of (option_map V.continuing_statement_view continuing)))) (compound_is body_attributes statements)
+    is_loop _ ∙ ap (plain.as_statement plain.loop_statement) (loop_statement_roll attributes (layers.roll-CompoundStatement (record { attributes = body_attributes; statements = statements })) continuing)
+    ∙ ap (λ body. plain.statement (attributes_view attributes.items) (plain.loop_statement (plain.repeat body (plain.continuing_of (option_map V.continuing_statement_view continuing))))) (compound_is body_attributes statements)
 
 pub continuing_statement_is : (attributes : Vec (Spanned Attribute) Global) (statements : Vec (Spanned Statement) Global) (break_if : Option BreakIfStatement)
     → V.continuing_statement_view (layers.roll-ContinuingStatement (record { body = layers.roll-CompoundStatement (record { attributes = attributes; statements = statements }); break_if = break_if }))
     ≡ continuing_part (attributes_view attributes.items) (map V.statement_node_view statements.items) (option_map break_if_view break_if)
 continuing_statement_is attributes statements break_if =
-    folds.fold-roll-ContinuingStatement plain.Statement plain.CompoundStatement plain.ContinuingStatement plain.ElseClause plain.ElseIfClause plain.ForStatement plain.IfClause plain.IfStatement plain.LoopStatement plain.SwitchClause plain.SwitchStatement plain.WhileStatement V.statement_step V.compound_statement_step V.continuing_statement_step V.else_clause_step V.else_if_clause_step V.for_statement_step V.if_clause_step V.if_statement_step V.loop_statement_step V.switch_clause_step V.switch_statement_step V.while_statement_step (record { body = layers.roll-CompoundStatement (record { attributes = attributes; statements = statements }); break_if = break_if })
+    folds.fold-roll-ContinuingStatement plain.Statement plain.CompoundStatement plain.ContinuingStatement plain.ElseClause plain.ElseIfClause (Attributed plain.ForStatement) plain.IfClause (Attributed plain.IfStatement) (Attributed plain.LoopStatement) plain.SwitchClause (Attributed plain.SwitchStatement) (Attributed plain.WhileStatement) V.statement_step V.compound_statement_step V.continuing_statement_step V.else_clause_step V.else_if_clause_step V.for_statement_step V.if_clause_step V.if_statement_step V.loop_statement_step V.switch_clause_step V.switch_statement_step V.while_statement_step (record { body = layers.roll-CompoundStatement (record { attributes = attributes; statements = statements }); break_if = break_if })
     ∙ ap (λ body. plain.continuing body (option_map break_if_view break_if)) (compound_is attributes statements)
 
 pub for_statement_is : (attributes : Vec (Spanned Attribute) Global) (initializer : Option (Spanned Statement)) (condition : Option (Spanned Expression)) (update : Option (Spanned Statement)) (body : CompoundStatement)
     → V.statement_view (statement.For (layers.roll-ForStatement (record { attributes = attributes; initializer = initializer; condition = condition; update = update; body = body })))
-    ≡ for_of (attributes_view attributes.items) (option_map V.statement_node_view initializer) (option_map expression_node_view condition) (option_map V.statement_node_view update) (V.compound_statement_view body)
-for_statement_is attributes initializer condition update body = is_for _ ∙ ap plain.for_statement (for_statement_roll attributes initializer condition update body)
+    ≡ plain.statement (attributes_view attributes.items) (for_of (option_map V.statement_node_view initializer) (option_map expression_node_view condition) (option_map V.statement_node_view update) (V.compound_statement_view body))
+for_statement_is attributes initializer condition update body = is_for _ ∙ ap (plain.as_statement plain.for_statement) (for_statement_roll attributes initializer condition update body)
 
 pub while_statement_is : (attributes : Vec (Spanned Attribute) Global) (condition : Spanned Expression) (body : CompoundStatement)
-    → V.statement_view (statement.While (layers.roll-WhileStatement (record { attributes = attributes; condition = condition; body = body }))) ≡ while_of (attributes_view attributes.items) (expression_node_view condition) (V.compound_statement_view body)
-while_statement_is attributes condition body = is_while _ ∙ ap plain.while_statement (while_statement_roll (record { attributes = attributes; condition = condition; body = body }))
+    → V.statement_view (statement.While (layers.roll-WhileStatement (record { attributes = attributes; condition = condition; body = body }))) ≡ plain.statement (attributes_view attributes.items) (while_of (expression_node_view condition) (V.compound_statement_view body))
+while_statement_is attributes condition body = is_while _ ∙ ap (plain.as_statement plain.while_statement) (while_statement_roll (record { attributes = attributes; condition = condition; body = body }))

@@ -4,8 +4,8 @@ use Rattle.std.proofs.lemmas.Bool.{eqb-true}
 use Rattle.grammar.specs.Tokens.{Token, Payload.nothing}
 use Rattle.grammar.specs.States.{State, Read, Read.done, ◌>>=◌, is_at, is_any, take, start_of, span_from}
 use Rattle.wgsl_model.specs.Classes.{SymSemicolon, KwConst, KwContinue, KwDiscard, KwLet, KwReturn, KwVar}
-use Rattle.wgsl_model.specs.Statements.{ConstAssert, StatementNode, Statement}
-use Rattle.wgsl_model.specs.StatementParts.{placed_statement}
+use Rattle.wgsl_model.specs.Statements.{ConstAssert, StatementNode, Statement, UnattributedStatement, statement, unattributed}
+use Rattle.wgsl_model.specs.StatementParts.{placed_statement, assert_statement}
 use Rattle.wgsl_model.specs.Symbols.{Symbol.return_statement, Symbol.var_statement, Symbol.value_statement, Symbol.continue_statement, Symbol.discard_statement, Symbol.const_assert}
 use Rattle.wgsl_grammar_theory.specs.Factored.{FactoredSymbol.of, FactoredSymbol.further, Further.attribute_list, Further.simple_statement, Further.other_statement}
 use Rattle.wgsl_grammar_theory.specs.Tables.{begin_for_update}
@@ -14,7 +14,7 @@ use Rattle.wgsl_grammar_theory.specs.StatementRules.{other_statement_at}
 use Rattle.wgsl_grammar_theory.proofs.StatementEquations.{other_statement_is}
 use Rattle.wgsl_statement_reader.specs.Statements.{statement_part_at, attributed_statement_at, unplaced_statement_at}
 use Rattle.wgsl_statement_part_reader.specs.Plain.{ended, assert_statement_at, plain_statement_at, attributed_classes, unattributed_statement_at}
-use Rattle.wgsl_simple_statement_reader.proofs.Binding.{bind_associates, bind_cond, pair_goes_on, token_behind, given_is}
+use Rattle.wgsl_simple_statement_reader.proofs.Binding.{bind_associates, bind_cond, pair_goes_on, token_behind}
 
 -- a statement other than `break`
 unfoldable pub other_statement_parts : State → Read StatementNode
@@ -36,7 +36,7 @@ plain_is : (s : State) → cond (is_at KwVar s) (written_ended (reader (of var_s
     (cond (is_at KwContinue s) (written_ended (reader (of continue_statement) s))
     (cond (is_at KwDiscard s) (written_ended (reader (of discard_statement) s))
     (cond (is_any begin_for_update s) (written_ended (reader (further simple_statement) s))
-    (((reader (of const_assert) s >>= λ c s'. take SymSemicolon s' >>= λ t s''. done (c, t) s'') >>= λ (p : ConstAssert × Token) s'. done p.0 s') >>= λ c s'. done (Statement.const_assert c) s')))))
+    (((reader (of const_assert) s >>= λ c s'. take SymSemicolon s' >>= λ t s''. done (c, t) s'') >>= λ (p : ConstAssert × Token) s'. done p.0 s') >>= λ c s'. done (assert_statement c) s')))))
     ≡ ended plain_statement_at s
 unfolding plain_statement_at assert_statement_at
 plain_is s =
@@ -45,7 +45,7 @@ plain_is s =
     (ap₂ (cond (is_at KwContinue s)) (ended_is (reader (of continue_statement) s))
     (ap₂ (cond (is_at KwDiscard s)) (ended_is (reader (of discard_statement) s))
     (ap₂ (cond (is_any begin_for_update s)) (ended_is (reader (further simple_statement) s))
-    (token_behind (reader (of const_assert) s) (take SymSemicolon) (λ c s'. done (Statement.const_assert c) s') ∙ sym (bind_associates (reader (of const_assert) s) _ _))
+    (token_behind (reader (of const_assert) s) (take SymSemicolon) (λ c s'. done (assert_statement c) s') ∙ sym (bind_associates (reader (of const_assert) s) _ _))
     ∙ sym (bind_cond (is_any begin_for_update s) _ _ _))
     ∙ sym (bind_cond (is_at KwDiscard s) _ _ _))
     ∙ sym (bind_cond (is_at KwContinue s) _ _ _))
@@ -81,7 +81,7 @@ return_apart = refl
 
 -- a `;` alone
 abbrev void_at : State → Read Statement
-void_at s = take SymSemicolon s >>= λ t s'. done Statement.void s'
+void_at s = take SymSemicolon s >>= λ t s'. done (unattributed UnattributedStatement.void) s'
 
 attributed_first : (s : State) → cond (is_at SymSemicolon s) (void_at s) (cond (is_at KwReturn s) (ended (reader (of return_statement)) s) (cond (is_any attributed_classes s) (attributed_statement_at s) (ended plain_statement_at s))) ≡ unplaced_statement_at s
 unfolding unplaced_statement_at unattributed_statement_at
@@ -95,5 +95,5 @@ other_statement_by_parts s = other_statement_is s
     ∙ ap (λ m. m >>= λ a s'. done (placed_statement a (span_from (start_of s) s')) s')
     (ap (cond (is_at SymSemicolon s) (void_at s))
     (ap₂ (cond (is_at KwReturn s)) (ended_is (reader (of return_statement) s))
-    (ap₂ (cond (is_any attributed_classes s)) (given_is (reader (further attribute_list) s) statement_part_at) (plain_is s)))
+    (ap₂ (cond (is_any attributed_classes s)) (pair_goes_on (reader (further attribute_list) s) statement_part_at (λ p s'. done (statement p.0 p.1) s')) (plain_is s)))
     ∙ attributed_first s)

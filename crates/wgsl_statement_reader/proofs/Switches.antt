@@ -7,8 +7,7 @@ use Rattle.grammar.specs.Notation.{one_token, ◌then◌, ◌▹◌, optional}
 use Rattle.grammar.specs.States.{State, Read, Read.done, ◌>>=◌, is_at, take, go}
 use Rattle.grammar.proofs.Lists.{until}
 use Rattle.wgsl_model.specs.Classes.{SymBraceRight, SymColon, KwCase, KwDefault}
-use Rattle.wgsl_model.specs.Attributes.{Attributes}
-use Rattle.wgsl_model.specs.Statements.{Statement, CaseSelector, CompoundStatement, SwitchClause}
+use Rattle.wgsl_model.specs.Statements.{UnattributedStatement, CaseSelector, CompoundStatement, SwitchClause}
 use Rattle.wgsl_model.specs.StatementParts.{clause_of, switch_of}
 use Rattle.wgsl_model.specs.Symbols.{Symbol.compound_statement, Symbol.switch_clause}
 use Rattle.wgsl_grammar_theory.specs.Factored.{FactoredSymbol.of, FactoredSymbol.further, Further.selectors, Further.clause_rest, Further.switch_part, FactoredRule}
@@ -16,7 +15,6 @@ use Rattle.wgsl_grammar_theory.specs.Tables.{tables}
 use Rattle.wgsl_grammar_theory.specs.Reader.{reader}
 use Rattle.wgsl_grammar_theory.specs.StatementRules.{switch_clause_at, clause_rest_at, switch_part_at}
 use Rattle.wgsl_grammar_theory.proofs.StatementEquations.{switch_clause_is, clause_rest_is, switch_part_is}
-use Rattle.wgsl_simple_statement_reader.specs.Given.{given}
 use Rattle.wgsl_simple_statement_reader.proofs.Binding.{bind_associates, bind_alike, bind_cond, pair_goes_on, triple_goes_on, token_before}
 use Rattle.wgsl_statement_part_reader.specs.Clauses.{maybe_colon_at, clause_head_at}
 use Rattle.wgsl_statement_part_reader.specs.Heads.{switch_head_at}
@@ -93,23 +91,21 @@ pub clauses_by_parts : (s : State) → clauses_at s ≡ clauses_parts s
 unfolding clauses_at clauses_parts clauses_from
 clauses_by_parts s = refl
 
--- ---- the statement
-unfoldable pub switch_parts : Attributes → State → Read Statement
-switch_parts a s = switch_head_at s >>= λ h s1. clauses_at s1 >>= λ clauses s2. done (switch_of a h.0 h.1 clauses) s2
+-- ---- the statement, without its attributes
+unfoldable pub switch_parts : State → Read UnattributedStatement
+switch_parts s = switch_head_at s >>= λ h s1. clauses_at s1 >>= λ clauses s2. done (switch_of h.0 h.1 clauses) s2
 
 -- as the grammar writes its clauses
 abbrev clauses_written : FactoredRule (SwitchClause × List SwitchClause)
 clauses_written = symbol (of switch_clause) then symbol (further clause_rest)
 
-clauses_go_on : (f : List SwitchClause → State → Read Statement) (s : State) → (reader (of switch_clause) s >>= λ c s'. reader (further clause_rest) s' >>= λ cs s''. f (c ∷ cs) s'') ≡ (clauses_at s >>= f)
+clauses_go_on : (f : List SwitchClause → State → Read UnattributedStatement) (s : State) → (reader (of switch_clause) s >>= λ c s'. reader (further clause_rest) s' >>= λ cs s''. f (c ∷ cs) s'') ≡ (clauses_at s >>= f)
 unfolding clauses_at
 clauses_go_on f s = sym (bind_associates (reader (of switch_clause) s) _ f ∙ bind_alike (reader (of switch_clause) s) _ _ (λ c s' h. bind_associates (reader (further clause_rest) s') _ f))
 
-pub switch_by_parts : (a : Attributes) (s : State) → given a (reader (further switch_part)) s ≡ switch_parts a s
+pub switch_by_parts : (s : State) → reader (further switch_part) s ≡ switch_parts s
 unfolding switch_part_at switch_parts
-switch_by_parts a s =
-    ap (λ m. m >>= λ f s'. done (f a) s') (switch_part_is s)
-    ∙ bind_associates (go tables reader (with_switch_head clauses_written) s) (λ p s'. done (λ a. switch_of a p.0 p.1.0 (p.1.1.0 ∷ p.1.1.1)) s') (λ f s'. done (f a) s')
-    ∙ switch_head_first clauses_written (λ p s'. done (switch_of a p.0 p.1.0 (p.1.1.0 ∷ p.1.1.1)) s') s
-    ∙ bind_alike (switch_head_at s) _ _ (λ h s1 k. pair_goes_on (reader (of switch_clause) s1) (reader (further clause_rest)) (λ p s'. done (switch_of a h.0 h.1 (p.0 ∷ p.1)) s')
-    ∙ clauses_go_on (λ clauses s'. done (switch_of a h.0 h.1 clauses) s') s1)
+switch_by_parts s =
+    switch_part_is s ∙ switch_head_first clauses_written (λ p s'. done (switch_of p.0 p.1.0 (p.1.1.0 ∷ p.1.1.1)) s') s
+    ∙ bind_alike (switch_head_at s) _ _ (λ h s1 k. pair_goes_on (reader (of switch_clause) s1) (reader (further clause_rest)) (λ p s'. done (switch_of h.0 h.1 (p.0 ∷ p.1)) s')
+    ∙ clauses_go_on (λ clauses s'. done (switch_of h.0 h.1 clauses) s') s1)

@@ -1,15 +1,19 @@
 -- What the parts of statements read, each as a word of its own, which no computation opens.
 use Rattle.std.specs.Prelude.{cond}
-use Rattle.grammar.specs.States.{State, Read, ◌>>=◌, is_at, is_any}
+use Rattle.grammar.specs.States.{State, Read, Read.done, ◌>>=◌, is_at, is_any}
 use Rattle.wgsl_model.specs.Classes.{KwFor, KwIf, KwLoop, KwSwitch, KwWhile}
-use Rattle.wgsl_model.specs.Statements.{Statement}
-use Rattle.wgsl_grammar_theory.specs.Factored.{FactoredSymbol.further, Further.attribute_list, Further.if_part, Further.switch_part, Further.loop_part, Further.for_part, Further.while_part, Further.block_part, AttributedStatement}
+use Rattle.wgsl_model.specs.Attributes.{Attributes}
+use Rattle.wgsl_model.specs.Statements.{Statement, UnattributedStatement, statement}
+use Rattle.wgsl_grammar_theory.specs.Factored.{FactoredSymbol.further, Further.attribute_list, Further.if_part, Further.switch_part, Further.loop_part, Further.for_part, Further.while_part, Further.block_part}
 use Rattle.wgsl_grammar_theory.specs.Reader.{reader}
-use Rattle.wgsl_simple_statement_reader.specs.Given.{given}
 use Rattle.wgsl_statement_part_reader.specs.Plain.{attributed_classes, unattributed_statement_at}
 
--- a statement from its first word on, which waits for its attributes
-unfoldable pub statement_part_at : State → Read AttributedStatement
+-- a part behind attributes that were read: the statement that has them
+abbrev pub behind_attributes : Attributes → (State → Read UnattributedStatement) → State → Read Statement
+behind_attributes a part s = part s >>= λ u s'. done (statement a u) s'
+
+-- a statement from its first word on, without its attributes
+unfoldable pub statement_part_at : State → Read UnattributedStatement
 statement_part_at s =
     cond (is_at KwIf s) (reader (further if_part) s)
     (cond (is_at KwSwitch s) (reader (further switch_part) s)
@@ -19,7 +23,7 @@ statement_part_at s =
 
 -- a statement with its attributes
 unfoldable pub attributed_statement_at : State → Read Statement
-attributed_statement_at s = reader (further attribute_list) s >>= λ a s'. given a statement_part_at s'
+attributed_statement_at s = reader (further attribute_list) s >>= λ a s'. behind_attributes a statement_part_at s'
 
 -- a statement other than `break`, without its place
 unfoldable pub unplaced_statement_at : State → Read Statement

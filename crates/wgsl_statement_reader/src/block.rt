@@ -7,7 +7,7 @@ ghost use Rattle.wgsl_statement.specs.View.{statement_view, statement_node_view,
 ghost use Rattle.wgsl_grammar_theory.specs.Factored.{FactoredSymbol.of, FactoredSymbol.further, Further.block_part, Further.statement_rest};
 ghost use Rattle.wgsl_grammar_theory.specs.Reader.{reader};
 ghost use Rattle.wgsl_cursor.specs.Reading.{Parses};
-ghost use Rattle.wgsl_simple_statement_reader.specs.Given.{given};
+ghost use Rattle.wgsl_statement_reader.specs.Statements.{behind_attributes};
 
 use crate::statement::parse_statement;
 use std::alloc::Global;
@@ -42,7 +42,7 @@ pub fn parse_block_part(
     tokens: &mut Cursor,
     attributes: Attributes,
 ) -> Result<Statement, Fault>
-    ensures { Parses statement_view result tokens.old tokens.new (given (attributes_view attributes.items) (reader (further block_part))) }
+    ensures { Parses statement_view result tokens.old tokens.new (behind_attributes (attributes_view attributes.items) (reader (further block_part))) }
 {
     tokens.expect(TokenKind::SymBraceLeft)?;
     let statements = parse_statement_rest(alloc, tokens)?;

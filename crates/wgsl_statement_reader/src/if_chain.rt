@@ -6,7 +6,7 @@ ghost use Rattle.wgsl_statement.specs.View.{statement_view, else_if_clause_view,
 ghost use Rattle.wgsl_grammar_theory.specs.Factored.{FactoredSymbol.further, Further.if_part, Further.else_rest};
 ghost use Rattle.wgsl_grammar_theory.specs.Reader.{reader};
 ghost use Rattle.wgsl_cursor.specs.Reading.{Parses, ParsesNullable};
-ghost use Rattle.wgsl_simple_statement_reader.specs.Given.{given};
+ghost use Rattle.wgsl_statement_reader.specs.Statements.{behind_attributes};
 
 use crate::block::parse_compound_statement;
 use std::alloc::Global;
@@ -25,7 +25,7 @@ pub fn parse_if_part(
     tokens: &mut Cursor,
     attributes: Attributes,
 ) -> Result<Statement, Fault>
-    ensures { Parses statement_view result tokens.old tokens.new (given (attributes_view attributes.items) (reader (further if_part))) }
+    ensures { Parses statement_view result tokens.old tokens.new (behind_attributes (attributes_view attributes.items) (reader (further if_part))) }
 {
     let expression = parse_condition(alloc, tokens, TokenKind::KwIf)?;
     let body = parse_compound_statement(alloc, tokens)?;

@@ -8,7 +8,7 @@ ghost use Rattle.wgsl_statement.specs.View.{statement_view, statement_node_view,
 ghost use Rattle.wgsl_grammar_theory.specs.Factored.{FactoredSymbol.of, FactoredSymbol.further, Further.loop_part, Further.loop_rest, Further.continuing_rest, Further.while_part, Further.for_part};
 ghost use Rattle.wgsl_grammar_theory.specs.Reader.{reader};
 ghost use Rattle.wgsl_cursor.specs.Reading.{Parses};
-ghost use Rattle.wgsl_simple_statement_reader.specs.Given.{given};
+ghost use Rattle.wgsl_statement_reader.specs.Statements.{behind_attributes};
 
 use crate::block::parse_compound_statement;
 use crate::statement::{parse_other_statement, parse_statement};
@@ -33,7 +33,7 @@ pub fn parse_loop_part(
     tokens: &mut Cursor,
     attributes: Attributes,
 ) -> Result<Statement, Fault>
-    ensures { Parses statement_view result tokens.old tokens.new (given (attributes_view attributes.items) (reader (further loop_part))) }
+    ensures { Parses statement_view result tokens.old tokens.new (behind_attributes (attributes_view attributes.items) (reader (further loop_part))) }
 {
     let body_attributes = parse_block_start_after(alloc, tokens, TokenKind::KwLoop)?;
     let (statements, continuing) = parse_loop_rest(alloc, tokens)?;
@@ -121,7 +121,7 @@ pub fn parse_while_part(
     tokens: &mut Cursor,
     attributes: Attributes,
 ) -> Result<Statement, Fault>
-    ensures { Parses statement_view result tokens.old tokens.new (given (attributes_view attributes.items) (reader (further while_part))) }
+    ensures { Parses statement_view result tokens.old tokens.new (behind_attributes (attributes_view attributes.items) (reader (further while_part))) }
 {
     let condition = parse_condition(alloc, tokens, TokenKind::KwWhile)?;
     let body = parse_compound_statement(alloc, tokens)?;
@@ -140,7 +140,7 @@ pub fn parse_for_part(
     tokens: &mut Cursor,
     attributes: Attributes,
 ) -> Result<Statement, Fault>
-    ensures { Parses statement_view result tokens.old tokens.new (given (attributes_view attributes.items) (reader (further for_part))) }
+    ensures { Parses statement_view result tokens.old tokens.new (behind_attributes (attributes_view attributes.items) (reader (further for_part))) }
 {
     let (initializer, condition, update) = parse_for_header(alloc, tokens)?;
     let body = parse_compound_statement(alloc, tokens)?;

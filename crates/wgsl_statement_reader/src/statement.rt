@@ -6,8 +6,7 @@ ghost use Rattle.wgsl_statement.specs.View.{statement_view, statement_node_view}
 ghost use Rattle.wgsl_grammar_theory.specs.Factored.{FactoredSymbol.of, FactoredSymbol.further, Further.other_statement};
 ghost use Rattle.wgsl_grammar_theory.specs.Reader.{reader};
 ghost use Rattle.wgsl_cursor.specs.Reading.{Parses};
-ghost use Rattle.wgsl_simple_statement_reader.specs.Given.{given};
-ghost use Rattle.wgsl_statement_reader.specs.Statements.{statement_part_at, attributed_statement_at, unplaced_statement_at};
+ghost use Rattle.wgsl_statement_reader.specs.Statements.{behind_attributes, statement_part_at, attributed_statement_at, unplaced_statement_at};
 
 use crate::block::parse_block_part;
 use crate::if_chain::parse_if_part;
@@ -88,7 +87,7 @@ fn parse_statement_part(
     tokens: &mut Cursor,
     attributes: Attributes,
 ) -> Result<Statement, Fault>
-    ensures { Parses statement_view result tokens.old tokens.new (given (attributes_view attributes.items) statement_part_at) }
+    ensures { Parses statement_view result tokens.old tokens.new (behind_attributes (attributes_view attributes.items) statement_part_at) }
 {
     if tokens.is_at(TokenKind::KwIf) {
         return parse_if_part(alloc, tokens, attributes);

@@ -7,7 +7,7 @@ ghost use Rattle.wgsl_statement.specs.View.{statement_view, switch_clause_view};
 ghost use Rattle.wgsl_grammar_theory.specs.Factored.{FactoredSymbol.of, FactoredSymbol.further, Further.switch_part};
 ghost use Rattle.wgsl_grammar_theory.specs.Reader.{reader};
 ghost use Rattle.wgsl_cursor.specs.Reading.{Parses};
-ghost use Rattle.wgsl_simple_statement_reader.specs.Given.{given};
+ghost use Rattle.wgsl_statement_reader.specs.Statements.{behind_attributes};
 ghost use Rattle.wgsl_statement_reader.specs.Switches.{clauses_at};
 
 use crate::block::parse_compound_statement;
@@ -26,7 +26,7 @@ pub fn parse_switch_part(
     tokens: &mut Cursor,
     attributes: Attributes,
 ) -> Result<Statement, Fault>
-    ensures { Parses statement_view result tokens.old tokens.new (given (attributes_view attributes.items) (reader (further switch_part))) }
+    ensures { Parses statement_view result tokens.old tokens.new (behind_attributes (attributes_view attributes.items) (reader (further switch_part))) }
 {
     let (expression, body_attributes) = parse_switch_head(alloc, tokens)?;
     let clauses = parse_clauses(alloc, tokens)?;

@@ -1,7 +1,7 @@
 //! What the attributes of a statement, or of a declaration of a value, are in its plain tree.
 
 ghost use Rattle.std.specs.Prelude.{◌≡◌};
-ghost use Rattle.wgsl_model.specs.NodeAttributes as plain;
+ghost use Rattle.wgsl_model.specs.Statements as plain;
 ghost use Rattle.wgsl_attribute.specs.View.{attributes_view};
 ghost use Rattle.wgsl_simple_statement.specs.declared.declaration.Declaration.{Declaration};
 ghost use Rattle.wgsl_simple_statement.specs.View.{declaration_view};
@@ -23,9 +23,9 @@ use wgsl_statement::{
 pub fn statement_attributes()
     ensures declaration { (d : Declaration) → (declaration_view d).attributes ≡ attributes_view (⟦<Declaration as SyntaxNode>⟧.attributes_of d) }
     ensures compound_statement { (s : CompoundStatement) → plain.compound_attributes (compound_statement_view s) ≡ attributes_view (⟦<CompoundStatement as SyntaxNode>⟧.attributes_of s) }
-    ensures if_statement { (s : IfStatement) → plain.if_attributes (if_statement_view s) ≡ attributes_view (⟦<IfStatement as SyntaxNode>⟧.attributes_of s) }
-    ensures switch_statement { (s : SwitchStatement) → plain.switch_attributes (switch_statement_view s) ≡ attributes_view (⟦<SwitchStatement as SyntaxNode>⟧.attributes_of s) }
-    ensures loop_statement { (s : LoopStatement) → plain.loop_attributes (loop_statement_view s) ≡ attributes_view (⟦<LoopStatement as SyntaxNode>⟧.attributes_of s) }
-    ensures for_statement { (s : ForStatement) → plain.for_attributes (for_statement_view s) ≡ attributes_view (⟦<ForStatement as SyntaxNode>⟧.attributes_of s) }
-    ensures while_statement { (s : WhileStatement) → plain.while_attributes (while_statement_view s) ≡ attributes_view (⟦<WhileStatement as SyntaxNode>⟧.attributes_of s) }
+    ensures if_statement { (s : IfStatement) → (if_statement_view s).attributes ≡ attributes_view (⟦<IfStatement as SyntaxNode>⟧.attributes_of s) }
+    ensures switch_statement { (s : SwitchStatement) → (switch_statement_view s).attributes ≡ attributes_view (⟦<SwitchStatement as SyntaxNode>⟧.attributes_of s) }
+    ensures loop_statement { (s : LoopStatement) → (loop_statement_view s).attributes ≡ attributes_view (⟦<LoopStatement as SyntaxNode>⟧.attributes_of s) }
+    ensures for_statement { (s : ForStatement) → (for_statement_view s).attributes ≡ attributes_view (⟦<ForStatement as SyntaxNode>⟧.attributes_of s) }
+    ensures while_statement { (s : WhileStatement) → (while_statement_view s).attributes ≡ attributes_view (⟦<WhileStatement as SyntaxNode>⟧.attributes_of s) }
 {}

@@ -1,7 +1,9 @@
 -- How the kinds that are written from a derived tree differ from the kinds of its tokens.
-use Rattle.std.proofs.Common.{◌≡◌, true, false, List, [], refl, subst}
+use Rattle.std.proofs.Common.{◌≡◌, true, false, List, [], refl, ap, subst, ◌∙◌}
 use Rattle.grammar.specs.Tokens.{Token}
 use Rattle.grammar.specs.Grammar.{Mode.full, Means, Derives}
+use Rattle.wgsl_model.specs.Attributed.{with_attributes}
+use Rattle.wgsl_model.specs.Statements as trees
 use Rattle.wgsl_model.specs.PrintedStatements as statements
 use Rattle.wgsl_model.specs.PrintedUnits as units
 use Rattle.wgsl_model.specs.Units.{TranslationUnit}
@@ -45,11 +47,11 @@ edit_rules attribute v xs ys here d words = finished (again attribute v xs ys he
 edit_rules compound_statement v xs ys here d words = finished (again compound_statement v xs ys here words) tt ((compound_statement_right {b = false}).edit v xs ys d words)
 edit_rules statement v xs ys here d words = finished (again statement v xs ys here words) tt (statement_right.edit v xs ys d words)
 edit_rules return_statement v xs ys here d words = finished (again return_statement v xs ys here words) (subst (λ z. statements.is_void z ≡ false) d.1 refl) ((return_statement_right {b = false}).edit v xs ys d words)
-edit_rules if_statement v xs ys here d words = finished (again if_statement v xs ys here words) (subst (λ z. statements.is_void z ≡ false) d.1 refl) ((if_statement_right {b = false}).edit v xs ys d words)
-edit_rules switch_statement v xs ys here d words = finished (again switch_statement v xs ys here words) (subst (λ z. statements.is_void z ≡ false) d.1 refl) ((switch_statement_right {b = false}).edit v xs ys d words)
-edit_rules loop_statement v xs ys here d words = finished (again loop_statement v xs ys here words) (subst (λ z. statements.is_void z ≡ false) d.1 refl) ((loop_statement_right {b = false}).edit v xs ys d words)
-edit_rules for_statement v xs ys here d words = finished (again for_statement v xs ys here words) (subst (λ z. statements.is_void z ≡ false) d.1 refl) ((for_statement_right {b = false}).edit v xs ys d words)
-edit_rules while_statement v xs ys here d words = finished (again while_statement v xs ys here words) (subst (λ z. statements.is_void z ≡ false) d.1 refl) ((while_statement_right {b = false}).edit v xs ys d words)
+edit_rules if_statement v xs ys here d words = finished (again if_statement v xs ys here words) (subst (λ z. statements.is_void z ≡ false) (ap (trees.statement d.0.0) d.2.2.1 ∙ d.1) refl) ((if_statement_right {b = false}).edit v xs ys d words)
+edit_rules switch_statement v xs ys here d words = finished (again switch_statement v xs ys here words) (subst (λ z. statements.is_void z ≡ false) (ap (trees.statement d.0.0) d.2.2.1 ∙ d.1) refl) ((switch_statement_right {b = false}).edit v xs ys d words)
+edit_rules loop_statement v xs ys here d words = finished (again loop_statement v xs ys here words) (subst (λ z. statements.is_void z ≡ false) (ap (trees.statement d.0.0) d.2.2.1 ∙ d.1) refl) ((loop_statement_right {b = false}).edit v xs ys d words)
+edit_rules for_statement v xs ys here d words = finished (again for_statement v xs ys here words) (subst (λ z. statements.is_void z ≡ false) (ap (trees.statement d.0.0) d.2.2.1 ∙ d.1) refl) ((for_statement_right {b = false}).edit v xs ys d words)
+edit_rules while_statement v xs ys here d words = finished (again while_statement v xs ys here words) (subst (λ z. statements.is_void z ≡ false) (ap (trees.statement d.0.0) d.2.2.1 ∙ d.1) refl) ((while_statement_right {b = false}).edit v xs ys d words)
 edit_rules call_statement v xs ys here d words = finished (again call_statement v xs ys here words) (subst (λ z. statements.is_void z ≡ false) d.1 refl) ((call_statement_right {b = false}).edit v xs ys d words)
 edit_rules var_statement v xs ys here d words = finished (again var_statement v xs ys here words) (subst (λ z. statements.is_void z ≡ false) d.1 refl) ((var_statement_right {b = false}).edit v xs ys d words)
 edit_rules value_statement v xs ys here d words = finished (again value_statement v xs ys here words) (subst (λ z. statements.is_void z ≡ false) d.1 refl) ((value_statement_right {b = false}).edit v xs ys d words)
@@ -71,12 +73,12 @@ edit_rules typed_ident v xs ys here d words = finished (again typed_ident v xs y
 edit_rules struct_member v xs ys here d words = finished (again struct_member v xs ys here words) tt ((struct_member_right {b = false}).edit v xs ys d words)
 edit_rules formal_parameter v xs ys here d words = finished (again formal_parameter v xs ys here words) tt ((formal_parameter_right {b = false}).edit v xs ys d words)
 edit_rules global_declaration v xs ys here d words = finished (again global_declaration v xs ys here words) tt (global_declaration_right.edit v xs ys d words)
-edit_rules var_declaration v xs ys here d words = finished (again var_declaration v xs ys here words) (subst (λ z. units.is_void z ≡ false) d.1 refl) ((var_declaration_right {b = false}).edit v xs ys d words)
+edit_rules var_declaration v xs ys here d words = finished (again var_declaration v xs ys here words) (subst (λ z. units.is_void z ≡ false) (ap (with_attributes d.0.0) d.2.2.1 ∙ d.1) refl) ((var_declaration_right {b = false}).edit v xs ys d words)
 edit_rules const_declaration v xs ys here d words = finished (again const_declaration v xs ys here words) (subst (λ z. units.is_void z ≡ false) d.1 refl) ((const_declaration_right {b = false}).edit v xs ys d words)
-edit_rules override_declaration v xs ys here d words = finished (again override_declaration v xs ys here words) (subst (λ z. units.is_void z ≡ false) d.1 refl) ((override_declaration_right {b = false}).edit v xs ys d words)
+edit_rules override_declaration v xs ys here d words = finished (again override_declaration v xs ys here words) (subst (λ z. units.is_void z ≡ false) (ap (with_attributes d.0.0) d.2.2.1 ∙ d.1) refl) ((override_declaration_right {b = false}).edit v xs ys d words)
 edit_rules alias_declaration v xs ys here d words = finished (again alias_declaration v xs ys here words) (subst (λ z. units.is_void z ≡ false) d.1 refl) ((alias_declaration_right {b = false}).edit v xs ys d words)
 edit_rules struct_declaration v xs ys here d words = finished (again struct_declaration v xs ys here words) (subst (λ z. units.is_void z ≡ false) d.1 refl) ((struct_declaration_right {b = false}).edit v xs ys d words)
-edit_rules function_declaration v xs ys here d words = finished (again function_declaration v xs ys here words) (subst (λ z. units.is_void z ≡ false) d.1 refl) ((function_declaration_right {b = false}).edit v xs ys d words)
+edit_rules function_declaration v xs ys here d words = finished (again function_declaration v xs ys here words) (subst (λ z. units.is_void z ≡ false) (ap (with_attributes d.0.0) d.2.2.1 ∙ d.1) refl) ((function_declaration_right {b = false}).edit v xs ys d words)
 edit_rules diagnostic_severity v xs ys here d words = finished (again diagnostic_severity v xs ys here words) tt ((diagnostic_severity_right {b = false}).edit v xs ys d words)
 edit_rules global_directive v xs ys here d words = finished (again global_directive v xs ys here words) tt ((global_directive_right {b = false}).edit v xs ys d words)
 edit_rules enable_directive v xs ys here d words = finished (again enable_directive v xs ys here words) tt ((enable_directive_right {b = false}).edit v xs ys d words)

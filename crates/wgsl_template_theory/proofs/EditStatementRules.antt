@@ -6,13 +6,14 @@ use Rattle.grammar.specs.Grammar.{Grammar.symbol, Mode.full, Means}
 use Rattle.grammar.specs.Notation.{one_token, ◌then◌, ◌or◌, ◌makes◌, ◌▹◌, ◌◃◌, ◌means◌}
 use Rattle.wgsl_model.specs.Classes.{SymBraceLeft, SymBraceRight, SymColon, SymMinusMinus, SymParenLeft, SymParenRight, SymPlusPlus, SymSemicolon, SymUnderscore, KwBreak, KwCase, KwConst, KwConstAssert, KwContinue, KwContinuing, KwDefault, KwDiscard, KwFor, KwIf, KwLet, KwLoop, KwReturn, KwSwitch, KwWhile}
 use Rattle.wgsl_model.specs.Kind.{Kind, plain}
-use Rattle.wgsl_model.specs.Statements.{DeclarationKind.let_kind, DeclarationKind.const_kind, CompoundStatement, Statement}
+use Rattle.wgsl_model.specs.Statements as tree
+use Rattle.wgsl_model.specs.Statements.{DeclarationKind.let_kind, DeclarationKind.const_kind, CompoundStatement, Statement, UnattributedStatement}
 use Rattle.wgsl_model.specs.PrintedStatements.{is_void}
-use Rattle.wgsl_model.specs.StatementParts.{underscore_at}
+use Rattle.wgsl_model.specs.StatementParts.{underscore_at, attributed}
 use Rattle.wgsl_model.specs.Symbols.{compound_statement, statement, return_statement, if_statement, switch_statement, loop_statement, for_statement, while_statement, call_statement, var_statement, value_statement, break_statement, continue_statement, discard_statement, assignment, phony_assignment, increment, decrement, const_assert, switch_clause, case_selector, continuing_statement, for_init, for_update, typed_ident, Rule, call, expression, ident, lhs_expression, type_specifier}
 use Rattle.wgsl_model.specs.Written.{written}
 use Rattle.wgsl_canonical_theory.specs.CanonicalExpressions.{Writes, expression_node_tokens}
-use Rattle.wgsl_canonical_theory.specs.CanonicalStatements.{kind_tokens, end_token, unended_tokens, compound_tokens}
+use Rattle.wgsl_canonical_theory.specs.CanonicalStatements.{kind_tokens, end_token, unended_tokens, unattributed_tokens, compound_tokens}
 use Rattle.wgsl_canonical_theory.specs.CanonicalUnits.{without_place}
 use Rattle.wgsl_canonical_theory.proofs.Words.{AllWords}
 use Rattle.wgsl_canonical_theory.proofs.Again.{write, Ended, Unended}
@@ -32,22 +33,26 @@ compound_statement_right = gives_edits (then_edits attributes_edits (before_edit
 pub continuing_statement_right : {b : Bool} → Changes true b (written continuing_statement) (write continuing_statement)
 continuing_statement_right = gives_edits (before_edits KwContinuing (then_edits attributes_edits (before_edits SymBraceLeft (behind_edits {m = true} SymBraceRight (then_edits statements_edits (optional_edits {e = true} {b = true} tt break_if_edits)))))) (λ a rest. refl)
 
+-- ---- statements behind attributes
+attributed_edits : {e b : Bool} {g : Rule UnattributedStatement} → Changes e false g unattributed_tokens → Changes e b (attributed tree.statement g) unended_tokens
+attributed_edits G = gives_edits (then_edits attributes_edits G) (λ a rest. refl)
+
 -- ---- statements that no `;` ends
 pub if_statement_right : {b : Bool} → Changes true b (written if_statement) (write if_statement)
-if_statement_right = gives_edits (then_edits attributes_edits (before_edits KwIf (then_edits (symbol_edits expression tt) (then_edits (symbol_edits compound_statement tt) (then_edits else_ifs_edits else_edits))))) (λ a rest. refl)
+if_statement_right = attributed_edits (gives_edits (before_edits KwIf (then_edits (symbol_edits expression tt) (then_edits (symbol_edits compound_statement tt) (then_edits else_ifs_edits else_edits)))) (λ a rest. refl))
 
 pub switch_statement_right : {b : Bool} → Changes true b (written switch_statement) (write switch_statement)
-switch_statement_right = gives_edits (then_edits attributes_edits (before_edits KwSwitch (then_edits (symbol_edits expression tt) (then_edits attributes_edits (before_edits SymBraceLeft (behind_edits {m = true} SymBraceRight clauses_edits)))))) (λ a rest. refl)
+switch_statement_right = attributed_edits (gives_edits (before_edits KwSwitch (then_edits (symbol_edits expression tt) (then_edits attributes_edits (before_edits SymBraceLeft (behind_edits {m = true} SymBraceRight clauses_edits))))) (λ a rest. refl))
 
 pub loop_statement_right : {b : Bool} → Changes true b (written loop_statement) (write loop_statement)
-loop_statement_right = gives_edits (then_edits attributes_edits (before_edits KwLoop (then_edits attributes_edits (before_edits SymBraceLeft (behind_edits {m = true} SymBraceRight (then_edits statements_edits maybe_continuing_edits)))))) (λ a rest. refl)
+loop_statement_right = attributed_edits (gives_edits (before_edits KwLoop (then_edits attributes_edits (before_edits SymBraceLeft (behind_edits {m = true} SymBraceRight (then_edits statements_edits maybe_continuing_edits))))) (λ a rest. refl))
 
 pub for_statement_right : {b : Bool} → Changes true b (written for_statement) (write for_statement)
-for_statement_right = gives_edits (then_edits attributes_edits (before_edits KwFor (before_edits SymParenLeft (then_edits (behind_edits {m = false} SymSemicolon (part_edits (symbol_edits for_init tt)))
-    (then_edits (behind_edits {m = false} SymSemicolon (optional_edits {e = false} tt (symbol_edits expression tt))) (then_edits (behind_edits {m = false} SymParenRight (part_edits (symbol_edits for_update tt))) (symbol_edits compound_statement tt))))))) (λ a rest. refl)
+for_statement_right = attributed_edits (gives_edits (before_edits KwFor (before_edits SymParenLeft (then_edits (behind_edits {m = false} SymSemicolon (part_edits (symbol_edits for_init tt)))
+    (then_edits (behind_edits {m = false} SymSemicolon (optional_edits {e = false} tt (symbol_edits expression tt))) (then_edits (behind_edits {m = false} SymParenRight (part_edits (symbol_edits for_update tt))) (symbol_edits compound_statement tt)))))) (λ a rest. refl))
 
 pub while_statement_right : {b : Bool} → Changes true b (written while_statement) (write while_statement)
-while_statement_right = gives_edits (then_edits attributes_edits (before_edits KwWhile (then_edits (symbol_edits expression tt) (symbol_edits compound_statement tt)))) (λ a rest. refl)
+while_statement_right = attributed_edits (gives_edits (before_edits KwWhile (then_edits (symbol_edits expression tt) (symbol_edits compound_statement tt))) (λ a rest. refl))
 
 -- ---- statements that a `;` ends
 pub return_statement_right : {b : Bool} → Changes false b (written return_statement) (write return_statement)
@@ -124,6 +129,9 @@ kept_plain s rest = if is_void s then rest else unended_tokens s (end_token s re
 kept_is : (s : Statement) (rest : List Kind) → is_void s ≡ false → kept_plain s rest ≡ unended_tokens s (end_token s rest)
 kept_is s rest h = ap (λ (b : Bool). if b then rest else unended_tokens s (end_token s rest)) h
 
+block_kept : (b : CompoundStatement) (rest : List Kind) → kept_plain (tree.block_statement b) rest ≡ compound_tokens b rest
+block_kept (tree.compound_statement attributes ss) rest = refl
+
 -- what is known of a statement without its `;`, which one does or does not end
 abbrev EditsWith : (Statement → Type 0) → Bool → Rule Statement → Type 0
 EditsWith P e g = (v : Statement) (xs ys : List Token) → Means full Edited g v xs ys → AllWords xs → AllWords ys × P v × (is_void v ≡ false) × Turns e false unended_tokens v xs ys
@@ -166,7 +174,7 @@ statement_right = makes_edits {writes = kept_plain} (
     (or_edits (ended_edits {g = symbol phony_assignment} (λ v xs ys h. h))
     (or_edits (ended_edits {g = symbol increment} (λ v xs ys h. h))
     (or_edits (ended_edits {g = symbol decrement} (λ v xs ys h. h))
-    (or_edits (gives_edits (symbol_edits compound_statement tt) (λ a rest. refl))
+    (or_edits (gives_edits (symbol_edits compound_statement tt) block_kept)
     (gives_edits (behind_edits {m = false} SymSemicolon (symbol_edits const_assert tt)) (λ a rest. refl))))))))))))))))))))
     ) (λ a span rest. refl)
 

@@ -7,14 +7,16 @@ use Rattle.grammar.specs.Notation.{one_token, ◌then◌, optional, list}
 use Rattle.wgsl_model.specs.Classes.{SymArrow, SymBraceLeft, SymBraceRight, SymColon, SymComma, SymEqual, SymParenLeft, SymParenRight, SymPeriod, SymSemicolon, KwAlias, KwConst, KwDiagnostic, KwEnable, KwFn, KwOverride, KwRequires, KwStruct}
 use Rattle.wgsl_model.specs.Kind.{Kind, plain}
 use Rattle.wgsl_model.specs.Raw.{word_of}
-use Rattle.wgsl_model.specs.Units.{GlobalDeclaration}
+use Rattle.wgsl_model.specs.Attributed.{with_attributes}
+use Rattle.wgsl_model.specs.Units.{GlobalDeclaration, UnattributedDeclaration}
 use Rattle.wgsl_model.specs.PrintedUnits.{is_void}
 use Rattle.wgsl_model.specs.TokenValues.{text_of}
+use Rattle.wgsl_model.specs.StatementParts.{attributed}
 use Rattle.wgsl_model.specs.UnitParts.{attributed_ident, return_part, texts_of, diagnostic_of}
 use Rattle.wgsl_model.specs.Symbols.{ident, struct_member, formal_parameter, global_declaration, var_declaration, const_declaration, override_declaration, alias_declaration, struct_declaration, function_declaration, diagnostic_severity, global_directive, enable_directive, requires_directive, diagnostic_directive, unit, Rule, compound_statement, const_assert, type_specifier, typed_ident}
 use Rattle.wgsl_model.specs.Written.{written}
 use Rattle.wgsl_canonical_theory.specs.CanonicalExpressions.{Writes, optional_tokens, list_tokens, word_token}
-use Rattle.wgsl_canonical_theory.specs.CanonicalUnits.{directive_tokens, attributed_tokens, global_declaration_tokens, kept_declaration_tokens, without_place}
+use Rattle.wgsl_canonical_theory.specs.CanonicalUnits.{directive_tokens, attributed_tokens, unattributed_declaration_tokens, global_declaration_tokens, kept_declaration_tokens, without_place}
 use Rattle.wgsl_canonical_theory.proofs.Words.{NoPeriod, AllWords}
 use Rattle.wgsl_canonical_theory.proofs.Again.{write, Known}
 use Rattle.wgsl_canonical_theory.proofs.Ways.{words_behind}
@@ -37,15 +39,19 @@ struct_member_right = makes_edits attributed_ident_edits (λ a span rest. refl)
 pub formal_parameter_right : {b : Bool} → Changes false b (written formal_parameter) (write formal_parameter)
 formal_parameter_right = gives_edits attributed_ident_edits (λ a rest. refl)
 
+-- ---- declarations behind attributes
+attributed_edits : {e b : Bool} {g : Rule UnattributedDeclaration} → Changes e false g unattributed_declaration_tokens → Changes e b (attributed with_attributes g) global_declaration_tokens
+attributed_edits G = gives_edits (then_edits attributes_edits G) (λ a rest. refl)
+
 -- ---- declarations of values
 pub var_declaration_right : {b : Bool} → Changes true b (written var_declaration) (write var_declaration)
-var_declaration_right = gives_edits (then_edits attributes_edits (then_edits var_kind_edits (then_edits (symbol_edits typed_ident tt) (behind_edits {m = false} SymSemicolon (optional_edits {e = false} tt initializer_edits))))) (λ a rest. refl)
+var_declaration_right = attributed_edits (gives_edits (then_edits var_kind_edits (then_edits (symbol_edits typed_ident tt) (behind_edits {m = false} SymSemicolon (optional_edits {e = false} tt initializer_edits)))) (λ a rest. refl))
 
 pub const_declaration_right : {b : Bool} → Changes true b (written const_declaration) (write const_declaration)
 const_declaration_right = gives_edits (before_edits KwConst (then_edits (symbol_edits typed_ident tt) (behind_edits {m = false} SymSemicolon initializer_edits))) (λ a rest. refl)
 
 pub override_declaration_right : {b : Bool} → Changes true b (written override_declaration) (write override_declaration)
-override_declaration_right = gives_edits (then_edits attributes_edits (before_edits KwOverride (then_edits (symbol_edits typed_ident tt) (behind_edits {m = false} SymSemicolon (optional_edits {e = false} tt initializer_edits))))) (λ a rest. refl)
+override_declaration_right = attributed_edits (gives_edits (before_edits KwOverride (then_edits (symbol_edits typed_ident tt) (behind_edits {m = false} SymSemicolon (optional_edits {e = false} tt initializer_edits)))) (λ a rest. refl))
 
 -- ---- declarations of types and functions
 pub alias_declaration_right : {b : Bool} → Changes true b (written alias_declaration) (write alias_declaration)
@@ -58,9 +64,9 @@ returned_edits : {b : Bool} → Changes false b (optional return_part) (optional
 returned_edits = optional_edits {e = false} tt (before_edits SymArrow (then_edits attributes_edits (symbol_edits type_specifier tt)))
 
 pub function_declaration_right : {b : Bool} → Changes true b (written function_declaration) (write function_declaration)
-function_declaration_right = gives_edits
-    (then_edits attributes_edits (before_edits KwFn (then_edits (symbol_edits ident tt) (before_edits SymParenLeft (then_edits (ended_list_edits SymParenRight refl (list_or_none_edits (symbol_edits formal_parameter tt) (symbol_edits formal_parameter tt))) (then_edits returned_edits (symbol_edits compound_statement tt)))))))
-    (λ a rest. function_written a.0 a.1.0 a.1.1.0 a.1.1.1.0 a.1.1.1.1 rest)
+function_declaration_right = attributed_edits (gives_edits
+    (before_edits KwFn (then_edits (symbol_edits ident tt) (before_edits SymParenLeft (then_edits (ended_list_edits SymParenRight refl (list_or_none_edits (symbol_edits formal_parameter tt) (symbol_edits formal_parameter tt))) (then_edits returned_edits (symbol_edits compound_statement tt))))))
+    (λ a rest. function_written a.0 a.1.0 a.1.1.0 a.1.1.1 rest))
 
 -- ---- declarations in a module, where an empty one has no tokens
 abbrev kept_plain : Writes GlobalDeclaration

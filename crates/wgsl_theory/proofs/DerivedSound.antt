@@ -9,18 +9,18 @@ use Rattle.wgsl_model.specs.Spanned.{Spanned}
 use Rattle.wgsl_model.specs.Expressions.{ExpressionNode, expression_node, Expression, expressions_of, template_of}
 use Rattle.wgsl_model.specs.Attributes.{Attribute}
 use Rattle.wgsl_model.specs.Statements as tree
-use Rattle.wgsl_model.specs.Statements.{DeclarationKind, StatementNode, statement_node, Statement, ElseIfClause, ElseClause, else_clause, SwitchClause, ContinuingStatement, statements_of, else_ifs_of, else_of, clauses_of, continuing_of, maybe_statement}
+use Rattle.wgsl_model.specs.Statements.{DeclarationKind, StatementNode, statement_node, UnattributedStatement, CompoundStatement, ElseIfClause, ElseClause, else_clause, SwitchClause, ContinuingStatement, statements_of, else_ifs_of, else_of, clauses_of, continuing_of, maybe_statement}
 use Rattle.wgsl_model.specs.TokenValues.{text_of, literal_of}
 use Rattle.wgsl_model.specs.Checks.{unreserved, attribute_parts, attribute_fault, attribute_node}
 use Rattle.wgsl_model.specs.ExpressionParts.{placed_expression, type_of, call_of, index_of, component_of, with_component, unary_of, binary_of, operation_of, negation_of, negated_product_of, two, two_or_more, unary_operator, multiplicative_operator, additive_operator, relational_operator}
-use Rattle.wgsl_model.specs.StatementParts.{placed_statement, variable_at, parenthesized_at, declaration_of, compound_of, assignment_of, call_statement_of, return_of, if_of, switch_of, loop_of, for_of, while_of, attributes, statements, initializer, var_kind, assignment_operator, else_if, else_block}
+use Rattle.wgsl_model.specs.StatementParts.{placed_statement, variable_at, parenthesized_at, attributed, local_of, compound_of, assignment_of, call_statement_of, return_of, if_of, assert_statement, switch_of, loop_of, for_of, while_of, attributes, statements, initializer, var_kind, assignment_operator, else_if, else_block}
 use Rattle.wgsl_model.specs.UnitParts.{rule_of, texts_of}
 use Rattle.wgsl_model.specs.Symbols.{Rule, ident, type_specifier, template_list, call, arguments, literal, primary_expression, singular_expression, component, unary_expression, multiplicative_expression, negated_expression, additive_expression, shift_expression, relational_expression, expression, lhs_expression, attribute, compound_statement, statement, return_statement, if_statement, switch_statement, loop_statement, for_statement, while_statement, call_statement, var_statement, value_statement, break_statement, continue_statement, discard_statement, assignment, phony_assignment, increment, decrement, const_assert, switch_clause, continuing_statement, for_init, for_update, typed_ident}
 use Rattle.wgsl_model.specs.Written.{written}
 use Rattle.wgsl_canonical_theory.proofs.ExpressionRules.{literal_classes}
 use Rattle.wgsl_theory.proofs.Ends.{IsNameText}
 use Rattle.wgsl_theory.proofs.SoundExpressions.{IsSoundLiteral, IsPrimary, IsPrimaryNode, IsOperand, IsOperandNode, IsSoundExpression, IsSoundNode, IsSoundCall, AreSoundNodes, IsSoundTemplate, IsSoundType}
-use Rattle.wgsl_theory.proofs.SoundUnits.{EndsWithNameNode, IfSome, Every, IsSoundRule, IsSoundAttribute, AreSoundAttributes, IsSoundStatement, AreSoundStatements, IsSoundCompound, AreSoundElseIfs, IsSoundElseIf, IsSoundElse, IsSoundElseClause, AreSoundClauses, IsSoundClause, IsSoundMaybeContinuing, IsSoundContinuing, IsSoundPart}
+use Rattle.wgsl_theory.proofs.SoundUnits.{EndsWithNameNode, IfSome, Every, IsSoundRule, IsSoundAttribute, AreSoundAttributes, IsSoundStatement, IsSoundUnattributed, AreSoundStatements, IsSoundCompound, AreSoundElseIfs, IsSoundElseIf, IsSoundElse, IsSoundElseClause, AreSoundClauses, IsSoundClause, IsSoundMaybeContinuing, IsSoundContinuing, IsSoundPart}
 use Rattle.wgsl_theory.proofs.Scanned.{word_classes}
 use Rattle.wgsl_theory.proofs.SoundAttributes.{one_name_rule, two_names_rule, attribute_sound}
 use Rattle.wgsl_canonical_theory.proofs.Gives.{anything, token_sound, symbol_sound, then_sound, or_sound, gives_sound, makes_sound, check_sound, weaker_sound, chain_sound, sign_before, sign_behind, means_sound}
@@ -205,9 +205,12 @@ initializer_gives = sign_before SymEqual (symbol_sound expression)
 pub compound_statement_gives : Gives (written compound_statement) (Sound compound_statement)
 compound_statement_gives = gives_sound (then_sound attributes_give (sign_before SymBraceLeft (sign_behind SymBraceRight statements_give))) (λ p. compound_of p.0 p.1) IsSoundCompound (λ p h. (h.0, statements_sound p.1 h.1))
 
+block_sound : (b : CompoundStatement) → IsSoundCompound b → IsSoundStatement (tree.block_statement b)
+block_sound (tree.compound_statement _ _) h = h
+
 pub statement_gives : Gives (written statement) (Sound statement)
 statement_gives = makes_sound
-    (or_sound (means_sound SymSemicolon Statement.void IsSoundStatement tt)
+    (or_sound (means_sound SymSemicolon (tree.unattributed tree.void) IsSoundStatement (tt, tt))
     (or_sound (sign_behind SymSemicolon (symbol_sound return_statement))
     (or_sound (symbol_sound if_statement)
     (or_sound (symbol_sound switch_statement)
@@ -224,12 +227,12 @@ statement_gives = makes_sound
     (or_sound (sign_behind SymSemicolon (symbol_sound phony_assignment))
     (or_sound (sign_behind SymSemicolon (symbol_sound increment))
     (or_sound (sign_behind SymSemicolon (symbol_sound decrement))
-    (or_sound (gives_sound (symbol_sound compound_statement) Statement.compound IsSoundStatement (λ b h. h))
-    (gives_sound (sign_behind SymSemicolon (symbol_sound const_assert)) Statement.const_assert IsSoundStatement (λ c h. h))))))))))))))))))))
+    (or_sound (gives_sound (symbol_sound compound_statement) tree.block_statement IsSoundStatement block_sound)
+    (gives_sound (sign_behind SymSemicolon (symbol_sound const_assert)) assert_statement IsSoundStatement (λ c h. (tt, h)))))))))))))))))))))
     placed_statement IsSoundStatementNode (λ v s h. h)
 
 pub return_statement_gives : Gives (written return_statement) (Sound return_statement)
-return_statement_gives = gives_sound (sign_before KwReturn (optional_sound (symbol_sound expression))) return_of IsSoundStatement (λ o h. h)
+return_statement_gives = gives_sound (sign_before KwReturn (optional_sound (symbol_sound expression))) return_of IsSoundStatement (λ o h. (tt, h))
 
 else_if_gives : Gives else_if IsSoundElseIf
 else_if_gives = gives_sound (sign_before KwElse (sign_before KwIf (then_sound (symbol_sound expression) (symbol_sound compound_statement)))) (λ p. tree.else_if_clause p.0 p.1) IsSoundElseIf (λ p h. h)
@@ -237,40 +240,44 @@ else_if_gives = gives_sound (sign_before KwElse (sign_before KwIf (then_sound (s
 else_block_gives : Gives else_block IsSoundElseClause
 else_block_gives = gives_sound (sign_before KwElse (symbol_sound compound_statement)) tree.else_clause IsSoundElseClause (λ b h. h)
 
+-- a statement behind attributes
+attributed_gives : {g : Rule UnattributedStatement} → Gives g IsSoundUnattributed → Gives (attributed tree.statement g) IsSoundStatement
+attributed_gives G = gives_sound (then_sound attributes_give G) (λ p. tree.statement p.0 p.1) IsSoundStatement (λ p h. h)
+
 pub if_statement_gives : Gives (written if_statement) (Sound if_statement)
-if_statement_gives = gives_sound
-    (then_sound attributes_give (sign_before KwIf (then_sound (symbol_sound expression) (then_sound (symbol_sound compound_statement) (then_sound (many_sound else_if_gives) (optional_sound else_block_gives))))))
-    (λ p. if_of p.0 p.1.0 p.1.1.0 p.1.1.1) IsSoundStatement (λ p h. (h.0, (h.1.0, h.1.1.0), else_ifs_sound p.1.1.1.0 h.1.1.1.0, else_sound p.1.1.1.1 h.1.1.1.1))
+if_statement_gives = attributed_gives (gives_sound
+    (sign_before KwIf (then_sound (symbol_sound expression) (then_sound (symbol_sound compound_statement) (then_sound (many_sound else_if_gives) (optional_sound else_block_gives)))))
+    (λ p. if_of p.0 p.1.0 p.1.1) IsSoundUnattributed (λ p h. ((h.0, h.1.0), else_ifs_sound p.1.1.0 h.1.1.0, else_sound p.1.1.1 h.1.1.1)))
 
 pub switch_statement_gives : Gives (written switch_statement) (Sound switch_statement)
-switch_statement_gives = gives_sound
-    (then_sound attributes_give (sign_before KwSwitch (then_sound (symbol_sound expression) (then_sound attributes_give (sign_before SymBraceLeft (sign_behind SymBraceRight (several_sound (symbol_sound switch_clause))))))))
-    (λ p. switch_of p.0 p.1.0 p.1.1.0 p.1.1.1) IsSoundStatement (λ p h. (h.0, h.1.0, h.1.1.0, clauses_sound p.1.1.1 h.1.1.1))
+switch_statement_gives = attributed_gives (gives_sound
+    (sign_before KwSwitch (then_sound (symbol_sound expression) (then_sound attributes_give (sign_before SymBraceLeft (sign_behind SymBraceRight (several_sound (symbol_sound switch_clause)))))))
+    (λ p. switch_of p.0 p.1.0 p.1.1) IsSoundUnattributed (λ p h. (h.0, h.1.0, clauses_sound p.1.1 h.1.1)))
 
 pub loop_statement_gives : Gives (written loop_statement) (Sound loop_statement)
-loop_statement_gives = gives_sound
-    (then_sound attributes_give (sign_before KwLoop (then_sound attributes_give (sign_before SymBraceLeft (sign_behind SymBraceRight (then_sound statements_give (optional_sound (symbol_sound continuing_statement))))))))
-    (λ p. loop_of p.0 p.1.0 p.1.1.0 p.1.1.1) IsSoundStatement (λ p h. (h.0, (h.1.0, statements_sound p.1.1.0 h.1.1.0), continuing_sound p.1.1.1 h.1.1.1))
+loop_statement_gives = attributed_gives (gives_sound
+    (sign_before KwLoop (then_sound attributes_give (sign_before SymBraceLeft (sign_behind SymBraceRight (then_sound statements_give (optional_sound (symbol_sound continuing_statement)))))))
+    (λ p. loop_of p.0 p.1.0 p.1.1) IsSoundUnattributed (λ p h. ((h.0, statements_sound p.1.0 h.1.0), continuing_sound p.1.1 h.1.1)))
 
 pub for_statement_gives : Gives (written for_statement) (Sound for_statement)
-for_statement_gives = gives_sound
-    (then_sound attributes_give (sign_before KwFor (sign_before SymParenLeft (then_sound (sign_behind SymSemicolon (optional_sound (symbol_sound for_init))) (then_sound (sign_behind SymSemicolon (optional_sound (symbol_sound expression)))
-    (then_sound (sign_behind SymParenRight (optional_sound (symbol_sound for_update))) (symbol_sound compound_statement)))))))
-    (λ p. for_of p.0 p.1.0 p.1.1.0 p.1.1.1.0 p.1.1.1.1) IsSoundStatement (λ p h. (h.0, part_sound p.1.0 h.1.0, h.1.1.0, part_sound p.1.1.1.0 h.1.1.1.0, h.1.1.1.1))
+for_statement_gives = attributed_gives (gives_sound
+    (sign_before KwFor (sign_before SymParenLeft (then_sound (sign_behind SymSemicolon (optional_sound (symbol_sound for_init))) (then_sound (sign_behind SymSemicolon (optional_sound (symbol_sound expression)))
+    (then_sound (sign_behind SymParenRight (optional_sound (symbol_sound for_update))) (symbol_sound compound_statement))))))
+    (λ p. for_of p.0 p.1.0 p.1.1.0 p.1.1.1) IsSoundUnattributed (λ p h. (part_sound p.0 h.0, h.1.0, part_sound p.1.1.0 h.1.1.0, h.1.1.1)))
 
 pub while_statement_gives : Gives (written while_statement) (Sound while_statement)
-while_statement_gives = gives_sound (then_sound attributes_give (sign_before KwWhile (then_sound (symbol_sound expression) (symbol_sound compound_statement)))) (λ p. while_of p.0 p.1.0 p.1.1) IsSoundStatement (λ p h. (h.0, h.1.0, h.1.1))
+while_statement_gives = attributed_gives (gives_sound (sign_before KwWhile (then_sound (symbol_sound expression) (symbol_sound compound_statement))) (λ p. while_of p.0 p.1) IsSoundUnattributed (λ p h. h))
 
 pub call_statement_gives : Gives (written call_statement) (Sound call_statement)
-call_statement_gives = gives_sound (symbol_sound call) call_statement_of IsSoundStatement (λ c h. h)
+call_statement_gives = gives_sound (symbol_sound call) call_statement_of IsSoundStatement (λ c h. (tt, h))
 
 pub var_statement_gives : Gives (written var_statement) (Sound var_statement)
 var_statement_gives = gives_sound (then_sound (anything var_kind) (then_sound (symbol_sound typed_ident) (optional_sound initializer_gives)))
-    (λ p. Statement.declaration (declaration_of [] p.0 p.1.0 p.1.1)) IsSoundStatement (λ p h. (tt, h.1.0.0, h.1.0.1, h.1.1))
+    (λ p. local_of p.0 p.1.0 p.1.1) IsSoundStatement (λ p h. (tt, (h.1.0.0, h.1.0.1, h.1.1)))
 
 pub value_statement_gives : Gives (written value_statement) (Sound value_statement)
 value_statement_gives = gives_sound (then_sound (anything (KwLet means DeclarationKind.let_kind or KwConst means DeclarationKind.const_kind)) (then_sound (symbol_sound typed_ident) initializer_gives))
-    (λ p. Statement.declaration (declaration_of [] p.0 p.1.0 (Some p.1.1))) IsSoundStatement (λ p h. (tt, h.1.0.0, h.1.0.1, h.1.1))
+    (λ p. local_of p.0 p.1.0 (Some p.1.1)) IsSoundStatement (λ p h. (tt, (h.1.0.0, h.1.0.1, h.1.1)))
 
 pub assignment_gives : Gives (written assignment) (Sound assignment)
-assignment_gives = gives_sound (then_sound (symbol_sound lhs_expression) (then_sound (anything assignment_operator) (symbol_sound expression))) (λ p. assignment_of p.0 p.1.0 p.1.1) IsSoundStatement (λ p h. (h.0.2, h.1.1))
+assignment_gives = gives_sound (then_sound (symbol_sound lhs_expression) (then_sound (anything assignment_operator) (symbol_sound expression))) (λ p. assignment_of p.0 p.1.0 p.1.1) IsSoundStatement (λ p h. (tt, (h.0.2, h.1.1)))

@@ -14,17 +14,18 @@ use Rattle.wgsl_model.specs.Spanned.{spanned}
 use Rattle.wgsl_model.specs.Words.{symbols}
 use Rattle.wgsl_model.specs.Expressions.{TypeExpression}
 use Rattle.wgsl_model.specs.Attributes.{Attributes}
-use Rattle.wgsl_model.specs.Statements.{DeclarationKind, Statement, CompoundStatement, CaseSelector, BreakIfStatement}
-use Rattle.wgsl_model.specs.Units.{GlobalDeclaration, TranslationUnit, FormalParameter}
+use Rattle.wgsl_model.specs.Attributed.{with_attributes, without_attributes}
+use Rattle.wgsl_model.specs.Statements.{DeclarationKind, Statement, UnattributedStatement, unattributed, CompoundStatement, CaseSelector, BreakIfStatement}
+use Rattle.wgsl_model.specs.Units.{UnattributedDeclaration, TranslationUnit, FormalParameter}
 use Rattle.wgsl_model.specs.PrintedUnits.{print_unit}
 use Rattle.wgsl_model.specs.Program.{IsUnit}
 use Rattle.wgsl_model.specs.TokenList.{width}
 use Rattle.grammar.specs.Faults.{Ending.finished}
 use Rattle.wgsl_model.specs.TokenValues.{text_of}
 use Rattle.wgsl_model.specs.Checks.{var_fault, severity_fault}
-use Rattle.wgsl_model.specs.StatementParts.{placed_statement, underscore_at, assignment_of, increment_of, decrement_of, assert_of, clause_of, continuing_part, break_if, var_kind}
-use Rattle.wgsl_model.specs.UnitParts.{attributed_ident, member_of, parameter_of, value_of, alias_of, struct_of, return_part, function_of, enable_of, requires_of, diagnostic_of}
-use Rattle.wgsl_model.specs.Symbols.{Symbol, ident, type_specifier, template_list, expressions, call, arguments, literal, primary_expression, singular_expression, component, unary_expression, multiplicative_expression, negated_expression, additive_expression, shift_expression, relational_expression, expression, lhs_expression, attribute, compound_statement, statement, return_statement, if_statement, switch_statement, loop_statement, for_statement, while_statement, call_statement, var_statement, value_statement, break_statement, continue_statement, discard_statement, assignment, phony_assignment, increment, decrement, const_assert, switch_clause, case_selector, continuing_statement, for_init, for_update, var_template, typed_ident, struct_member, formal_parameter, global_declaration, var_declaration, const_declaration, override_declaration, alias_declaration, struct_declaration, function_declaration, diagnostic_severity, global_directive, enable_directive, requires_directive, diagnostic_directive, unit}
+use Rattle.wgsl_model.specs.StatementParts.{placed_statement, underscore_at, assignment_of, increment_of, decrement_of, assert_of, clause_of, continuing_part, break_if, var_kind, attributed}
+use Rattle.wgsl_model.specs.UnitParts.{attributed_ident, member_of, parameter_of, value_of, alias_of, struct_of, return_part, function_of, enable_of, requires_of, diagnostic_of, assert_declaration}
+use Rattle.wgsl_model.specs.Symbols.{Symbol, ident, type_specifier, template_list, expressions, call, arguments, literal, primary_expression, singular_expression, component, unary_expression, multiplicative_expression, negated_expression, additive_expression, shift_expression, relational_expression, expression, lhs_expression, attribute, compound_statement, statement, return_statement, if_statement, switch_statement, loop_statement, for_statement, while_statement, call_statement, var_statement, value_statement, break_statement, continue_statement, discard_statement, assignment, phony_assignment, increment, decrement, const_assert, switch_clause, case_selector, continuing_statement, for_init, for_update, var_template, typed_ident, struct_member, formal_parameter, global_declaration, var_declaration, const_declaration, override_declaration, alias_declaration, struct_declaration, function_declaration, diagnostic_severity, global_directive, enable_directive, requires_directive, diagnostic_directive, unit, Rule}
 use Rattle.wgsl_model.specs.Written.{written}
 use Rattle.wgsl_canonical_theory.specs.CanonicalUnits.{canonical}
 use Rattle.wgsl_template_theory.proofs.LexedAlong.{Along}
@@ -32,7 +33,7 @@ use Rattle.wgsl_theory.proofs.Signs.{looked_up, spelled_symbol}
 use Rattle.wgsl_theory.proofs.Ends.{IsNameText}
 use Rattle.wgsl_theory.proofs.FittingWords.{plain_ascii}
 use Rattle.wgsl_theory.proofs.SoundExpressions.{IsSoundNode, IsSoundType}
-use Rattle.wgsl_theory.proofs.SoundUnits.{IfSome, Every, AreSoundAttributes, IsSoundSelector, IsSoundStatement, IsSoundClause, IsSoundContinuing, IsSoundDirective, IsSoundMember, IsSoundParameter, IsSoundGlobal, IsSoundUnit}
+use Rattle.wgsl_theory.proofs.SoundUnits.{IfSome, Every, AreSoundAttributes, IsSoundSelector, IsSoundStatement, IsSoundClause, IsSoundContinuing, IsSoundDirective, IsSoundMember, IsSoundParameter, IsSoundUnattributedDeclaration, IsSoundGlobal, IsSoundUnit}
 use Rattle.wgsl_theory.proofs.FittingUnits.{sound_utf8, sound_along}
 use Rattle.wgsl_theory.proofs.Scanned.{tokens_scanned}
 use Rattle.wgsl_canonical_theory.proofs.Gives.{Given, symbol_sound, then_sound, or_sound, gives_sound, makes_sound, check_sound, weaker_sound, anything, sign_before, sign_behind, means_sound}
@@ -57,13 +58,13 @@ underscore_name = record {
 }
 
 phony_assignment_gives : Gives (written phony_assignment) (Sound phony_assignment)
-phony_assignment_gives = gives_sound (then_sound (makes_sound (anything (token (SymUnderscore ∷ []))) underscore_at IsSoundNode (λ t s h. (underscore_name, tt))) initializer_gives) (λ p. assignment_of p.0 equal p.1) IsSoundStatement (λ p h. (h.0, h.1))
+phony_assignment_gives = gives_sound (then_sound (makes_sound (anything (token (SymUnderscore ∷ []))) underscore_at IsSoundNode (λ t s h. (underscore_name, tt))) initializer_gives) (λ p. assignment_of p.0 equal p.1) IsSoundStatement (λ p h. (tt, h))
 
 increment_gives : Gives (written increment) (Sound increment)
-increment_gives = gives_sound (sign_behind SymPlusPlus (symbol_sound lhs_expression)) increment_of IsSoundStatement (λ e h. (h.1, h.2))
+increment_gives = gives_sound (sign_behind SymPlusPlus (symbol_sound lhs_expression)) increment_of IsSoundStatement (λ e h. (tt, (h.1, h.2)))
 
 decrement_gives : Gives (written decrement) (Sound decrement)
-decrement_gives = gives_sound (sign_behind SymMinusMinus (symbol_sound lhs_expression)) decrement_of IsSoundStatement (λ e h. (h.1, h.2))
+decrement_gives = gives_sound (sign_behind SymMinusMinus (symbol_sound lhs_expression)) decrement_of IsSoundStatement (λ e h. (tt, (h.1, h.2)))
 
 const_assert_gives : Gives (written const_assert) (Sound const_assert)
 const_assert_gives = gives_sound (sign_before KwConstAssert (symbol_sound expression)) assert_of (Sound const_assert) (λ e h. h)
@@ -109,41 +110,44 @@ formal_parameter_gives = gives_sound attributed_ident_gives parameter_of IsSound
 
 global_declaration_gives : Gives (written global_declaration) (Sound global_declaration)
 global_declaration_gives = makes_sound
-    (or_sound (means_sound SymSemicolon GlobalDeclaration.void IsSoundGlobal tt) (or_sound (symbol_sound var_declaration) (or_sound (symbol_sound const_declaration) (or_sound (symbol_sound override_declaration)
+    (or_sound (means_sound SymSemicolon (without_attributes UnattributedDeclaration.void) IsSoundGlobal (tt, tt)) (or_sound (symbol_sound var_declaration) (or_sound (symbol_sound const_declaration) (or_sound (symbol_sound override_declaration)
     (or_sound (symbol_sound alias_declaration) (or_sound (symbol_sound struct_declaration) (or_sound (symbol_sound function_declaration)
-    (gives_sound (sign_behind SymSemicolon (symbol_sound const_assert)) GlobalDeclaration.const_assert IsSoundGlobal (λ c h. h)))))))))
+    (gives_sound (sign_behind SymSemicolon (symbol_sound const_assert)) assert_declaration IsSoundGlobal (λ c h. (tt, h))))))))))
     spanned (Sound global_declaration) (λ d s h. h)
 
+attributed_gives : {g : Rule UnattributedDeclaration} → Gives g IsSoundUnattributedDeclaration → Gives (attributed with_attributes g) IsSoundGlobal
+attributed_gives G = gives_sound (then_sound attributes_give G) (λ p. with_attributes p.0 p.1) IsSoundGlobal (λ p h. h)
+
 var_declaration_gives : Gives (written var_declaration) (Sound var_declaration)
-var_declaration_gives = gives_sound (then_sound attributes_give (then_sound (anything var_kind) (then_sound (symbol_sound typed_ident) (sign_behind SymSemicolon (optional_sound initializer_gives)))))
-    (λ p. value_of p.0 p.1.0 p.1.1.0 p.1.1.1) IsSoundGlobal (λ p h. (h.0, h.1.1.0.0, h.1.1.0.1, h.1.1.1))
+var_declaration_gives = attributed_gives (gives_sound (then_sound (anything var_kind) (then_sound (symbol_sound typed_ident) (sign_behind SymSemicolon (optional_sound initializer_gives))))
+    (λ p. value_of p.0 p.1.0 p.1.1) IsSoundUnattributedDeclaration (λ p h. (h.1.0.0, h.1.0.1, h.1.1)))
 
 const_declaration_gives : Gives (written const_declaration) (Sound const_declaration)
-const_declaration_gives = gives_sound (sign_before KwConst (then_sound (symbol_sound typed_ident) (sign_behind SymSemicolon initializer_gives))) (λ p. value_of [] DeclarationKind.const_kind p.0 (Some p.1)) IsSoundGlobal (λ p h. (tt, h.0.0, h.0.1, h.1))
+const_declaration_gives = gives_sound (sign_before KwConst (then_sound (symbol_sound typed_ident) (sign_behind SymSemicolon initializer_gives))) (λ p. without_attributes (value_of DeclarationKind.const_kind p.0 (Some p.1))) IsSoundGlobal (λ p h. (tt, (h.0.0, h.0.1, h.1)))
 
 override_declaration_gives : Gives (written override_declaration) (Sound override_declaration)
-override_declaration_gives = gives_sound (then_sound attributes_give (sign_before KwOverride (then_sound (symbol_sound typed_ident) (sign_behind SymSemicolon (optional_sound initializer_gives)))))
-    (λ p. value_of p.0 DeclarationKind.override_kind p.1.0 p.1.1) IsSoundGlobal (λ p h. (h.0, h.1.0.0, h.1.0.1, h.1.1))
+override_declaration_gives = attributed_gives (gives_sound (sign_before KwOverride (then_sound (symbol_sound typed_ident) (sign_behind SymSemicolon (optional_sound initializer_gives))))
+    (λ p. value_of DeclarationKind.override_kind p.0 p.1) IsSoundUnattributedDeclaration (λ p h. (h.0.0, h.0.1, h.1)))
 
 alias_declaration_gives : Gives (written alias_declaration) (Sound alias_declaration)
-alias_declaration_gives = gives_sound (sign_before KwAlias (then_sound (symbol_sound ident) (sign_before SymEqual (sign_behind SymSemicolon (symbol_sound type_specifier))))) alias_of IsSoundGlobal (λ p h. h)
+alias_declaration_gives = gives_sound (sign_before KwAlias (then_sound (symbol_sound ident) (sign_before SymEqual (sign_behind SymSemicolon (symbol_sound type_specifier))))) alias_of IsSoundGlobal (λ p h. (tt, h))
 
 struct_declaration_gives : Gives (written struct_declaration) (Sound struct_declaration)
-struct_declaration_gives = gives_sound (sign_before KwStruct (then_sound (symbol_sound ident) (sign_before SymBraceLeft (sign_behind SymBraceRight (list_sound SymComma (symbol_sound struct_member)))))) struct_of IsSoundGlobal (λ p h. h)
+struct_declaration_gives = gives_sound (sign_before KwStruct (then_sound (symbol_sound ident) (sign_before SymBraceLeft (sign_behind SymBraceRight (list_sound SymComma (symbol_sound struct_member)))))) struct_of IsSoundGlobal (λ p h. (tt, h))
 
 return_part_gives : Gives return_part (λ p. AreSoundAttributes p.0 × IsSoundType p.1)
 return_part_gives = sign_before SymArrow (then_sound attributes_give (symbol_sound type_specifier))
 
-function_sound : (a : Attributes) (t : Token) (ps : List FormalParameter) (o : Option (Attributes × TypeExpression)) (b : CompoundStatement) → AreSoundAttributes a → IsNameText (text_of t) → Every IsSoundParameter ps
-    → IfSome (λ (p : Attributes × TypeExpression). AreSoundAttributes p.0 × IsSoundType p.1) o → Sound compound_statement b → IsSoundGlobal (function_of a t ps o b)
-function_sound a t ps None b h n s r c = (h, n, s, tt, tt, c)
-function_sound a t ps (Some p) b h n s r c = (h, n, s, r.0, r.1, c)
+function_sound : (t : Token) (ps : List FormalParameter) (o : Option (Attributes × TypeExpression)) (b : CompoundStatement) → IsNameText (text_of t) → Every IsSoundParameter ps
+    → IfSome (λ (p : Attributes × TypeExpression). AreSoundAttributes p.0 × IsSoundType p.1) o → Sound compound_statement b → IsSoundUnattributedDeclaration (function_of t ps o b)
+function_sound t ps None b n s r c = (n, s, tt, tt, c)
+function_sound t ps (Some p) b n s r c = (n, s, r.0, r.1, c)
 
 function_declaration_gives : Gives (written function_declaration) (Sound function_declaration)
-function_declaration_gives = gives_sound
-    (then_sound attributes_give (sign_before KwFn (then_sound (symbol_sound ident) (sign_before SymParenLeft (then_sound (sign_behind SymParenRight (list_or_none_sound SymComma (symbol_sound formal_parameter)))
-    (then_sound (optional_sound return_part_gives) (symbol_sound compound_statement)))))))
-    (λ p. function_of p.0 p.1.0 p.1.1.0 p.1.1.1.0 p.1.1.1.1) IsSoundGlobal (λ p h. function_sound p.0 p.1.0 p.1.1.0 p.1.1.1.0 p.1.1.1.1 h.0 h.1.0 h.1.1.0 h.1.1.1.0 h.1.1.1.1)
+function_declaration_gives = attributed_gives (gives_sound
+    (sign_before KwFn (then_sound (symbol_sound ident) (sign_before SymParenLeft (then_sound (sign_behind SymParenRight (list_or_none_sound SymComma (symbol_sound formal_parameter)))
+    (then_sound (optional_sound return_part_gives) (symbol_sound compound_statement))))))
+    (λ p. function_of p.0 p.1.0 p.1.1.0 p.1.1.1) IsSoundUnattributedDeclaration (λ p h. function_sound p.0 p.1.0 p.1.1.0 p.1.1.1 h.0 h.1.0 h.1.1.0 h.1.1.1))
 
 -- ---- directives and modules
 
@@ -200,9 +204,9 @@ rules while_statement = while_statement_gives
 rules call_statement = call_statement_gives
 rules var_statement = var_statement_gives
 rules value_statement = value_statement_gives
-rules break_statement = word_gives KwBreak Statement.break_statement tt
-rules continue_statement = word_gives KwContinue Statement.continue_statement tt
-rules discard_statement = word_gives KwDiscard Statement.discard_statement tt
+rules break_statement = word_gives KwBreak (unattributed UnattributedStatement.break_statement) (tt, tt)
+rules continue_statement = word_gives KwContinue (unattributed UnattributedStatement.continue_statement) (tt, tt)
+rules discard_statement = word_gives KwDiscard (unattributed UnattributedStatement.discard_statement) (tt, tt)
 rules assignment = assignment_gives
 rules phony_assignment = phony_assignment_gives
 rules increment = increment_gives

@@ -8,7 +8,7 @@ use Rattle.wgsl_model.specs.OperatorTexts.{assignment_operator_text}
 use Rattle.wgsl_model.specs.NamedValues.{AddressSpace, AccessMode, address_space_text, access_mode_text}
 use Rattle.wgsl_model.specs.Expressions.{ExpressionNode, expression_node, Expression, literal, parenthesized, named_component, indexing, unary, binary, function_call, type_or_identifier, TypeExpression, type_expression, no_template, template}
 use Rattle.wgsl_model.specs.Attributes.{Attributes}
-use Rattle.wgsl_model.specs.Statements.{DeclarationKind, const_kind, override_kind, let_kind, var_kind, Declaration, ConstAssert, BreakIfStatement, CaseSelector, default_selector, expression_selector, statement_node, Statement, void, compound, assignment, increment, decrement, if_statement, switch_statement, loop_statement, for_statement, while_statement, break_statement, continue_statement, discard_statement, return_statement, function_call_statement, const_assert, declaration, CompoundStatement, compound_statement, IfStatement, if_else, IfClause, if_clause, ElseIfClause, else_if_clause, ElseClause, else_clause, SwitchStatement, switch, SwitchClause, switch_clause, LoopStatement, repeat, ContinuingStatement, continuing, ForStatement, repeat_for, WhileStatement, repeat_while, StatementNodes, no_statements, statement_before, ElseIfClauses, no_else_ifs, else_if_before, MaybeElseClause, no_else, one_else, SwitchClauses, no_clauses, clause_before, MaybeContinuing, no_continuing, one_continuing, MaybeStatement, no_statement, one_statement}
+use Rattle.wgsl_model.specs.Statements.{DeclarationKind, const_kind, override_kind, let_kind, var_kind, Declaration, ConstAssert, BreakIfStatement, CaseSelector, default_selector, expression_selector, statement_node, Statement, statement, UnattributedStatement, void, compound, assignment, increment, decrement, if_statement, switch_statement, loop_statement, for_statement, while_statement, break_statement, continue_statement, discard_statement, return_statement, function_call_statement, const_assert, declaration, CompoundStatement, compound_statement, IfStatement, if_else, IfClause, if_clause, ElseIfClause, else_if_clause, ElseClause, else_clause, SwitchStatement, switch, SwitchClause, switch_clause, LoopStatement, repeat, ContinuingStatement, continuing, ForStatement, repeat_for, WhileStatement, repeat_while, StatementNodes, no_statements, statement_before, ElseIfClauses, no_else_ifs, else_if_before, MaybeElseClause, no_else, one_else, SwitchClauses, no_clauses, clause_before, MaybeContinuing, no_continuing, one_continuing, MaybeStatement, no_statement, one_statement}
 use Rattle.wgsl_model.specs.PrintedStatements.{is_void}
 use Rattle.wgsl_canonical_theory.specs.CanonicalStatements.{assignment_operator_class}
 use Rattle.wgsl_theory.proofs.Pieces.{Piece, space, closes, render, FitsBefore, Fits}
@@ -19,12 +19,12 @@ use Rattle.wgsl_theory.proofs.FittingWords.{sign_fits, slash_equal_fits, not_on}
 use Rattle.wgsl_theory.proofs.SoundExpressions.{IsSoundNode, IsSoundType, EndsExpression, EndsNode, Closed, closed_name}
 use Rattle.wgsl_theory.proofs.FittingSigns.{as_text, before_name, left_paren_fits, right_paren_fits}
 use Rattle.wgsl_theory.proofs.FittingExpressions.{closed_by_paren, opens_stands, expression_node_fits, call_fits}
-use Rattle.wgsl_theory.proofs.SoundUnits.{IfSome, AreSoundAttributes, IsSoundDeclaration, EndsWithName, EndsWithNameNode, IsSoundSelector, IsSoundStatement, AreSoundStatements, IsSoundCompound, IsSoundIf, IsSoundIfClause, AreSoundElseIfs, IsSoundElseIf, IsSoundElse, IsSoundElseClause, IsSoundSwitch, AreSoundClauses, IsSoundClause, IsSoundLoop, IsSoundMaybeContinuing, IsSoundContinuing, IsSoundFor, IsSoundPart, IsSoundWhile}
+use Rattle.wgsl_theory.proofs.SoundUnits.{IfSome, AreSoundAttributes, IsSoundDeclaration, EndsWithName, EndsWithNameNode, IsSoundSelector, IsSoundStatement, IsSoundUnattributed, AreSoundStatements, IsSoundCompound, IsSoundIf, IsSoundIfClause, AreSoundElseIfs, IsSoundElseIf, IsSoundElse, IsSoundElseClause, IsSoundSwitch, AreSoundClauses, IsSoundClause, IsSoundLoop, IsSoundMaybeContinuing, IsSoundContinuing, IsSoundFor, IsSoundPart, IsSoundWhile}
 use Rattle.wgsl_theory.proofs.WrittenWords.{access_mode_name, address_space_name, break_fits, case_fits, const_fits, const_assert_fits, continue_fits, continuing_fits, default_fits, discard_fits, else_fits, for_fits as for_word_fits, if_fits as if_word_fits, let_fits, loop_fits as loop_word_fits, override_fits, return_fits, switch_fits as switch_word_fits, var_fits, while_fits as while_word_fits}
 use Rattle.wgsl_theory.proofs.FittingAttributes.{list_fits, node_fits, closed_type_fits, plain_name_fits, optional_fits, attributes_fit}
 use Rattle.wgsl_theory.proofs.PiecesOfExpressions.{sign, name, expression_node_pieces, type_pieces}
 use Rattle.wgsl_theory.proofs.PiecesOfAttributes.{optional_pieces, behind_comma_pieces, attributes_pieces}
-use Rattle.wgsl_theory.proofs.PiecesOfStatements.{var_template_pieces, kind_pieces, typed_pieces, initializer_pieces, declaration_pieces, returned_pieces, assert_pieces, selector_pieces, break_if_pieces, end_pieces, unended_pieces, statements_pieces, compound_pieces, opened_pieces, if_pieces, if_clause_pieces, else_ifs_pieces, else_if_clause_pieces, else_pieces, else_clause_pieces, switch_pieces, clauses_pieces, switch_clause_pieces, loop_pieces, maybe_continuing_pieces, continuing_pieces, for_pieces, part_pieces, while_pieces}
+use Rattle.wgsl_theory.proofs.PiecesOfStatements.{var_template_pieces, kind_pieces, typed_pieces, initializer_pieces, declaration_pieces, returned_pieces, assert_pieces, selector_pieces, break_if_pieces, end_pieces, unended_pieces, unattributed_pieces, statements_pieces, compound_pieces, opened_pieces, if_pieces, if_clause_pieces, else_ifs_pieces, else_if_clause_pieces, else_pieces, else_clause_pieces, switch_pieces, clauses_pieces, switch_clause_pieces, loop_pieces, maybe_continuing_pieces, continuing_pieces, for_pieces, part_pieces, while_pieces}
 
 -- ---- lines and symbols
 
@@ -115,12 +115,12 @@ typed_fits : (o : Option TypeExpression) (rest : List Piece) → IfSome IsSoundT
 typed_fits None rest s c f = (f, c)
 typed_fits (Some t) rest s c f = ((colon_fits (32 ∷ render (type_pieces t rest)), closed_type_fits t rest s c f), closed_by_colon (space ∷ type_pieces t rest))
 
-pub declaration_fits : (n : ℕ) (d : Declaration) (rest : List Piece) → IsSoundDeclaration d → Closed (render rest) → Fits rest → Fits (declaration_pieces n d rest)
-declaration_fits n d rest s c f =
-    let value = initializer_fits d.initializer rest s.3 c f in
-    let typed = typed_fits d.ty (optional_pieces initializer_pieces d.initializer rest) s.2 value.1 value.0 in
+pub declaration_fits : (d : Declaration) (rest : List Piece) → IsSoundDeclaration d → Closed (render rest) → Fits rest → Fits (declaration_pieces d rest)
+declaration_fits d rest s c f =
+    let value = initializer_fits d.initializer rest s.2 c f in
+    let typed = typed_fits d.ty (optional_pieces initializer_pieces d.initializer rest) s.1 value.1 value.0 in
     let last = optional_pieces typed_pieces d.ty (optional_pieces initializer_pieces d.initializer rest) in
-    attribute_lines_fit n d.attributes (kind_pieces d.kind (space ∷ name d.ident last)) s.0 (kind_fits d.kind (space ∷ name d.ident last) refl (plain_name_fits d.ident last s.1 typed.1 typed.0))
+    kind_fits d.kind (space ∷ name d.ident last) refl (plain_name_fits d.ident last s.0 typed.1 typed.0)
 
 pub assert_fits : (c : ConstAssert) (rest : List Piece) → IsSoundNode c.expression → Closed (render rest) → Fits rest → Fits (assert_pieces c rest)
 assert_fits c rest s d f = (const_assert_fits _ refl, node_fits c.expression rest s d f)
@@ -171,23 +171,23 @@ break_if_fits n (Some b) rest s f =
 
 -- what ends a statement, and what follows it
 end_fits : (s : Statement) (rest : List Piece) → Closed (render rest) → Fits rest → Fits (end_pieces s rest) × Closed (render (end_pieces s rest))
-end_fits void rest e f = ((semicolon_fits (render rest), f), closed_by_semicolon rest)
-end_fits (compound b) rest e f = (f, e)
-end_fits (assignment a) rest e f = ((semicolon_fits (render rest), f), closed_by_semicolon rest)
-end_fits (increment i) rest e f = ((semicolon_fits (render rest), f), closed_by_semicolon rest)
-end_fits (decrement d) rest e f = ((semicolon_fits (render rest), f), closed_by_semicolon rest)
-end_fits (if_statement s) rest e f = (f, e)
-end_fits (switch_statement s) rest e f = (f, e)
-end_fits (loop_statement s) rest e f = (f, e)
-end_fits (for_statement s) rest e f = (f, e)
-end_fits (while_statement s) rest e f = (f, e)
-end_fits break_statement rest e f = ((semicolon_fits (render rest), f), closed_by_semicolon rest)
-end_fits continue_statement rest e f = ((semicolon_fits (render rest), f), closed_by_semicolon rest)
-end_fits discard_statement rest e f = ((semicolon_fits (render rest), f), closed_by_semicolon rest)
-end_fits (return_statement r) rest e f = ((semicolon_fits (render rest), f), closed_by_semicolon rest)
-end_fits (function_call_statement c) rest e f = ((semicolon_fits (render rest), f), closed_by_semicolon rest)
-end_fits (const_assert x) rest e f = ((semicolon_fits (render rest), f), closed_by_semicolon rest)
-end_fits (declaration d) rest e f = ((semicolon_fits (render rest), f), closed_by_semicolon rest)
+end_fits (statement attributes void) rest e f = ((semicolon_fits (render rest), f), closed_by_semicolon rest)
+end_fits (statement attributes (compound b)) rest e f = (f, e)
+end_fits (statement attributes (assignment a)) rest e f = ((semicolon_fits (render rest), f), closed_by_semicolon rest)
+end_fits (statement attributes (increment i)) rest e f = ((semicolon_fits (render rest), f), closed_by_semicolon rest)
+end_fits (statement attributes (decrement d)) rest e f = ((semicolon_fits (render rest), f), closed_by_semicolon rest)
+end_fits (statement attributes (if_statement s)) rest e f = (f, e)
+end_fits (statement attributes (switch_statement s)) rest e f = (f, e)
+end_fits (statement attributes (loop_statement s)) rest e f = (f, e)
+end_fits (statement attributes (for_statement s)) rest e f = (f, e)
+end_fits (statement attributes (while_statement s)) rest e f = (f, e)
+end_fits (statement attributes break_statement) rest e f = ((semicolon_fits (render rest), f), closed_by_semicolon rest)
+end_fits (statement attributes continue_statement) rest e f = ((semicolon_fits (render rest), f), closed_by_semicolon rest)
+end_fits (statement attributes discard_statement) rest e f = ((semicolon_fits (render rest), f), closed_by_semicolon rest)
+end_fits (statement attributes (return_statement r)) rest e f = ((semicolon_fits (render rest), f), closed_by_semicolon rest)
+end_fits (statement attributes (function_call_statement c)) rest e f = ((semicolon_fits (render rest), f), closed_by_semicolon rest)
+end_fits (statement attributes (const_assert x)) rest e f = ((semicolon_fits (render rest), f), closed_by_semicolon rest)
+end_fits (statement attributes (declaration d)) rest e f = ((semicolon_fits (render rest), f), closed_by_semicolon rest)
 
 -- ---- statements
 
@@ -206,23 +206,28 @@ one_fits false rest last f g = g
 
 mutual
   pub unended_fits : (n : ℕ) (s : Statement) (rest : List Piece) → IsSoundStatement s → Closed (render rest) → Fits rest → Fits (unended_pieces n s rest)
-  unended_fits n void rest s c f = f
-  unended_fits n (compound b) rest s c f = compound_fits n b rest s f
-  unended_fits n (assignment a) rest s c f = node_fits a.lhs _ s.0 refl (assignment_operator_fits a.operator _, node_fits a.rhs rest s.1 c f)
-  unended_fits n (increment i) rest s c f = increment_fits i.expression rest s.0 s.1 f
-  unended_fits n (decrement d) rest s c f = decrement_fits d.expression rest s.0 s.1 f
-  unended_fits n (if_statement x) rest s c f = if_fits n x rest s f
-  unended_fits n (switch_statement x) rest s c f = switch_fits n x rest s f
-  unended_fits n (loop_statement x) rest s c f = loop_fits n x rest s f
-  unended_fits n (for_statement x) rest s c f = for_fits n x rest s f
-  unended_fits n (while_statement x) rest s c f = while_fits n x rest s f
-  unended_fits n break_statement rest s c f = (break_fits (render rest) (closed_name (render rest) c), f)
-  unended_fits n continue_statement rest s c f = (continue_fits (render rest) (closed_name (render rest) c), f)
-  unended_fits n discard_statement rest s c f = (discard_fits (render rest) (closed_name (render rest) c), f)
-  unended_fits n (return_statement r) rest s c f = let more = returned_fits r.expression rest s c f in (return_fits _ more.1, more.0)
-  unended_fits n (function_call_statement x) rest s c f = call_fits x.call rest s f
-  unended_fits n (const_assert x) rest s c f = assert_fits x rest s c f
-  unended_fits n (declaration d) rest s c f = declaration_fits n d rest s c f
+  unended_fits n (statement a x) rest s c f = attribute_lines_fit n a _ s.0 (unattributed_fits n x rest s.1 c f)
+
+  unattributed_fits : (n : ℕ) (s : UnattributedStatement) (rest : List Piece) → IsSoundUnattributed s → Closed (render rest) → Fits rest → Fits (unattributed_pieces n s rest)
+  unattributed_fits n void rest s c f = f
+  unattributed_fits n (compound ss) rest s c f =
+      let last = sign (codes "}") SymBraceRight rest in
+      (left_brace_fits _, line_fits n _ (statements_fit (suc n) four (λ r g. g) ss (line n last) s (closed_line n last) (line_fits n last (right_brace_fits _, f))))
+  unattributed_fits n (assignment a) rest s c f = node_fits a.lhs _ s.0 refl (assignment_operator_fits a.operator _, node_fits a.rhs rest s.1 c f)
+  unattributed_fits n (increment i) rest s c f = increment_fits i.expression rest s.0 s.1 f
+  unattributed_fits n (decrement d) rest s c f = decrement_fits d.expression rest s.0 s.1 f
+  unattributed_fits n (if_statement x) rest s c f = if_fits n x rest s f
+  unattributed_fits n (switch_statement x) rest s c f = switch_fits n x rest s f
+  unattributed_fits n (loop_statement x) rest s c f = loop_fits n x rest s f
+  unattributed_fits n (for_statement x) rest s c f = for_fits n x rest s f
+  unattributed_fits n (while_statement x) rest s c f = while_fits n x rest s f
+  unattributed_fits n break_statement rest s c f = (break_fits (render rest) (closed_name (render rest) c), f)
+  unattributed_fits n continue_statement rest s c f = (continue_fits (render rest) (closed_name (render rest) c), f)
+  unattributed_fits n discard_statement rest s c f = (discard_fits (render rest) (closed_name (render rest) c), f)
+  unattributed_fits n (return_statement r) rest s c f = let more = returned_fits r.expression rest s c f in (return_fits _ more.1, more.0)
+  unattributed_fits n (function_call_statement x) rest s c f = call_fits x.call rest s f
+  unattributed_fits n (const_assert x) rest s c f = assert_fits x rest s c f
+  unattributed_fits n (declaration d) rest s c f = declaration_fits d rest s c f
 
   statements_fit : (n : ℕ) (start : Puts) → ((rest : List Piece) → Fits rest → Fits (start rest)) → (ss : StatementNodes) (rest : List Piece) → AreSoundStatements ss → Closed (render rest) → Fits rest → Fits (statements_pieces n start ss rest)
   statements_fit n start p no_statements rest s c f = f
@@ -241,7 +246,7 @@ mutual
   opened_fits n (compound_statement a ss) rest s f = attribute_lines_fit n a _ s.0 (left_brace_fits _, line_fits n _ (statements_fit (suc n) four (λ r g. g) ss (line n rest) s.1 (closed_line n rest) (line_fits n rest f)))
 
   if_fits : (n : ℕ) (x : IfStatement) (rest : List Piece) → IsSoundIf x → Fits rest → Fits (if_pieces n x rest)
-  if_fits n (if_else a first others last) rest s f = attribute_lines_fit n a _ s.0 (if_clause_fits n first _ s.1 (else_ifs_fit n others _ s.2 (last_else_fits n last rest s.3 f)))
+  if_fits n (if_else first others last) rest s f = if_clause_fits n first _ s.0 (else_ifs_fit n others _ s.1 (last_else_fits n last rest s.2 f))
 
   if_clause_fits : (n : ℕ) (x : IfClause) (rest : List Piece) → IsSoundIfClause x → Fits rest → Fits (if_clause_pieces n x rest)
   if_clause_fits n (if_clause e block) rest s f = (if_word_fits _ refl, node_fits e _ s.0 refl (compound_fits n block rest s.1 f))
@@ -261,12 +266,11 @@ mutual
   else_clause_fits n (else_clause block) rest s f = (else_fits _ refl, compound_fits n block rest s f)
 
   switch_fits : (n : ℕ) (x : SwitchStatement) (rest : List Piece) → IsSoundSwitch x → Fits rest → Fits (switch_pieces n x rest)
-  switch_fits n (switch a e body_attributes cs) rest s f =
-      let last = sign (codes "}") SymBraceRight rest in
-      attribute_lines_fit n a _ s.0 (
+  switch_fits n (switch e body_attributes cs) rest s f =
+      let last = sign (codes "}") SymBraceRight rest in (
         switch_word_fits _ refl,
-        node_fits e _ s.1 refl (attribute_lines_fit n body_attributes _ s.2
-            (left_brace_fits _, line_fits n _ (clauses_fit (suc n) four (λ r g. g) cs (line n last) s.3 (closed_line n last) (line_fits n last (right_brace_fits _, f))))),
+        node_fits e _ s.0 refl (attribute_lines_fit n body_attributes _ s.1
+            (left_brace_fits _, line_fits n _ (clauses_fit (suc n) four (λ r g. g) cs (line n last) s.2 (closed_line n last) (line_fits n last (right_brace_fits _, f))))),
       )
 
   clauses_fit : (n : ℕ) (start : Puts) → ((rest : List Piece) → Fits rest → Fits (start rest)) → (cs : SwitchClauses) (rest : List Piece) → AreSoundClauses cs → Closed (render rest) → Fits rest → Fits (clauses_pieces n start cs rest)
@@ -277,7 +281,7 @@ mutual
   clause_fits n (switch_clause selectors block) rest s f = (case_fits _ refl, list_fits selector_pieces IsSoundSelector selector_fits selectors _ s.0 refl (compound_fits n block rest s.1 f))
 
   loop_fits : (n : ℕ) (x : LoopStatement) (rest : List Piece) → IsSoundLoop x → Fits rest → Fits (loop_pieces n x rest)
-  loop_fits n (repeat a body last) rest s f = attribute_lines_fit n a _ s.0 (loop_word_fits _ refl, opened_fits n body _ s.1 (maybe_continuing_fits n last (sign (codes "}") SymBraceRight rest) s.2 (right_brace_fits _, f)))
+  loop_fits n (repeat body last) rest s f = (loop_word_fits _ refl, opened_fits n body _ s.0 (maybe_continuing_fits n last (sign (codes "}") SymBraceRight rest) s.1 (right_brace_fits _, f)))
 
   maybe_continuing_fits : (n : ℕ) (x : MaybeContinuing) (rest : List Piece) → IsSoundMaybeContinuing x → Fits rest → Fits (maybe_continuing_pieces n x rest)
   maybe_continuing_fits n no_continuing rest s f = f
@@ -287,18 +291,17 @@ mutual
   continuing_part_fits n (continuing body condition) rest s f = (continuing_fits _ refl, opened_fits n body _ s.0 (break_if_fits n condition (sign (codes "}") SymBraceRight rest) s.1 (right_brace_fits _, f)))
 
   for_fits : (n : ℕ) (x : ForStatement) (rest : List Piece) → IsSoundFor x → Fits rest → Fits (for_pieces n x rest)
-  for_fits n (repeat_for a init condition update block) rest s f =
+  for_fits n (repeat_for init condition update block) rest s f =
       let fourth = space ∷ compound_pieces n block rest in
       let third = space ∷ part_pieces n update (sign (codes ")") SymParenRight fourth) in
-      let second = space ∷ optional_pieces expression_node_pieces condition (sign (codes ";") SymSemicolon third) in
-      attribute_lines_fit n a _ s.0 (
+      let second = space ∷ optional_pieces expression_node_pieces condition (sign (codes ";") SymSemicolon third) in (
         for_word_fits _ refl,
         (
           left_paren_fits _,
-          part_fits n init (sign (codes ";") SymSemicolon second) s.1 (closed_by_semicolon second) (
+          part_fits n init (sign (codes ";") SymSemicolon second) s.0 (closed_by_semicolon second) (
             semicolon_fits _,
-            condition_fits condition (sign (codes ";") SymSemicolon third) s.2 (closed_by_semicolon third)
-                (semicolon_fits _, part_fits n update (sign (codes ")") SymParenRight fourth) s.3 (closed_by_paren fourth) (right_paren_fits _, compound_fits n block rest s.4 f)),
+            condition_fits condition (sign (codes ";") SymSemicolon third) s.1 (closed_by_semicolon third)
+                (semicolon_fits _, part_fits n update (sign (codes ")") SymParenRight fourth) s.2 (closed_by_paren fourth) (right_paren_fits _, compound_fits n block rest s.3 f)),
           ),
         ),
       )
@@ -308,4 +311,4 @@ mutual
   part_fits n (one_statement (statement_node x span)) rest s c f = unended_fits n x rest s c f
 
   while_fits : (n : ℕ) (x : WhileStatement) (rest : List Piece) → IsSoundWhile x → Fits rest → Fits (while_pieces n x rest)
-  while_fits n (repeat_while a e block) rest s f = attribute_lines_fit n a _ s.0 (while_word_fits _ refl, node_fits e _ s.1 refl (compound_fits n block rest s.2 f))
+  while_fits n (repeat_while e block) rest s f = (while_word_fits _ refl, node_fits e _ s.0 refl (compound_fits n block rest s.1 f))

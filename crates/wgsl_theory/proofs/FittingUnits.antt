@@ -7,7 +7,7 @@ use Rattle.wgsl_model.specs.NamedValues.{severity_text}
 use Rattle.wgsl_model.specs.Spanned.{Spanned}
 use Rattle.wgsl_model.specs.Expressions.{TypeExpression}
 use Rattle.wgsl_model.specs.Attributes.{Attributes}
-use Rattle.wgsl_model.specs.Units.{GlobalDirective, diagnostic, enable, requires, StructMember, FormalParameter, Function, GlobalDeclaration, void, declaration, type_alias, structure, function, const_assert, TranslationUnit}
+use Rattle.wgsl_model.specs.Units.{GlobalDirective, diagnostic, enable, requires, StructMember, FormalParameter, Function, GlobalDeclaration, UnattributedDeclaration, void, declaration, type_alias, structure, function, const_assert, TranslationUnit}
 use Rattle.wgsl_model.specs.PrintedUnits.{is_void, print_unit}
 use Rattle.wgsl_canonical_theory.specs.CanonicalUnits.{canonical}
 use Rattle.wgsl_theory.proofs.Pieces.{Piece, space, render, Fits}
@@ -18,14 +18,14 @@ use Rattle.wgsl_theory.proofs.FittingWords.{name_fits, sign_fits}
 use Rattle.wgsl_theory.proofs.SoundExpressions.{IsSoundType, Closed}
 use Rattle.wgsl_theory.proofs.FittingSigns.{as_text, left_paren_fits, right_paren_fits, comma_fits}
 use Rattle.wgsl_theory.proofs.FittingExpressions.{closed_by_paren, closed_by_comma, ends_at_paren}
-use Rattle.wgsl_theory.proofs.SoundUnits.{IfSome, Every, AreSoundAttributes, IsSoundDirective, IsSoundMember, IsSoundParameter, IsSoundFunction, IsSoundGlobal, IsSoundUnit}
+use Rattle.wgsl_theory.proofs.SoundUnits.{IfSome, Every, AreSoundAttributes, IsSoundDirective, IsSoundMember, IsSoundParameter, IsSoundFunction, IsSoundUnattributedDeclaration, IsSoundGlobal, IsSoundUnit}
 use Rattle.wgsl_theory.proofs.WrittenWords.{severity_name, alias_fits, diagnostic_fits, enable_fits, fn_fits, requires_fits, struct_fits}
 use Rattle.wgsl_theory.proofs.FittingAttributes.{list_fits, closed_type_fits, plain_name_fits, rule_fits, attributes_fit}
 use Rattle.wgsl_theory.proofs.FittingStatements.{line_fits, closed_line, attribute_lines_fit, left_brace_fits, right_brace_fits, semicolon_fits, colon_fits, equal_fits, closed_by_semicolon, declaration_fits, assert_fits, compound_fits, one_fits}
 use Rattle.wgsl_theory.proofs.PiecesOfExpressions.{sign, name, comma, type_pieces}
 use Rattle.wgsl_theory.proofs.PiecesOfAttributes.{list_pieces, rule_pieces}
 use Rattle.wgsl_theory.proofs.PiecesOfStatements.{compound_pieces}
-use Rattle.wgsl_theory.proofs.PiecesOfUnits.{directive_pieces, member_pieces, further_members_pieces, members_pieces, one_space, parameter_pieces, result_pieces, function_pieces, global_declaration_pieces, two_lines, declarations_pieces, further_directives_pieces, directives_pieces, nothing_before, unit_pieces}
+use Rattle.wgsl_theory.proofs.PiecesOfUnits.{directive_pieces, member_pieces, further_members_pieces, members_pieces, one_space, parameter_pieces, result_pieces, function_pieces, unattributed_declaration_pieces, global_declaration_pieces, two_lines, declarations_pieces, further_directives_pieces, directives_pieces, nothing_before, unit_pieces}
 use Rattle.wgsl_theory.proofs.PrintedAlong.{printed_utf8, printed_along}
 
 directive_fits : (d : GlobalDirective) (rest : List Piece) → IsSoundDirective d → Fits rest → Fits (directive_pieces d rest)
@@ -74,29 +74,31 @@ result_fits a (Some t) rest s y f =
 
 function_fits : (x : Function) (rest : List Piece) → IsSoundFunction x → Fits rest → Fits (function_pieces x rest)
 function_fits x rest s f =
-    let last = space ∷ result_pieces x.return_attributes x.return_type (compound_pieces 0 x.body rest) in
-    attribute_lines_fit 0 x.attributes _ s.0 (
+    let last = space ∷ result_pieces x.return_attributes x.return_type (compound_pieces 0 x.body rest) in (
       fn_fits _ refl,
       (
-        name_fits x.ident _ s.1 (ends_at_paren (list_pieces parameter_pieces x.parameters (sign (codes ")") SymParenRight last))),
+        name_fits x.ident _ s.0 (ends_at_paren (list_pieces parameter_pieces x.parameters (sign (codes ")") SymParenRight last))),
         (
           left_paren_fits _,
-          list_fits parameter_pieces IsSoundParameter parameter_fits x.parameters (sign (codes ")") SymParenRight last) s.2 (closed_by_paren last)
-              (right_paren_fits _, result_fits x.return_attributes x.return_type (compound_pieces 0 x.body rest) s.3 s.4 (compound_fits 0 x.body rest s.5 f)),
+          list_fits parameter_pieces IsSoundParameter parameter_fits x.parameters (sign (codes ")") SymParenRight last) s.1 (closed_by_paren last)
+              (right_paren_fits _, result_fits x.return_attributes x.return_type (compound_pieces 0 x.body rest) s.2 s.3 (compound_fits 0 x.body rest s.4 f)),
         ),
       ),
     )
 
-global_fits : (d : GlobalDeclaration) (rest : List Piece) → IsSoundGlobal d → Fits rest → Fits (global_declaration_pieces d rest)
-global_fits void rest s f = (semicolon_fits _, f)
-global_fits (declaration d) rest s f = declaration_fits 0 d (sign (codes ";") SymSemicolon rest) s (closed_by_semicolon rest) (semicolon_fits _, f)
-global_fits (type_alias a) rest s f =
+unattributed_fits : (d : UnattributedDeclaration) (rest : List Piece) → IsSoundUnattributedDeclaration d → Fits rest → Fits (unattributed_declaration_pieces d rest)
+unattributed_fits void rest s f = (semicolon_fits _, f)
+unattributed_fits (declaration d) rest s f = declaration_fits d (sign (codes ";") SymSemicolon rest) s (closed_by_semicolon rest) (semicolon_fits _, f)
+unattributed_fits (type_alias a) rest s f =
     (alias_fits _ refl, (name_fits a.ident _ s.0 refl, (equal_fits _, closed_type_fits a.ty (sign (codes ";") SymSemicolon rest) s.1 (closed_by_semicolon rest) (semicolon_fits _, f))))
-global_fits (structure x) rest s f =
+unattributed_fits (structure x) rest s f =
     let last = sign (codes "}") SymBraceRight rest in
     (struct_fits _ refl, (name_fits x.ident _ s.0 refl, (left_brace_fits _, line_fits 0 (members_pieces x.members (line 0 last)) (members_fit x.members (line 0 last) s.1 (closed_line 0 last) (line_fits 0 last (right_brace_fits _, f))))))
-global_fits (function x) rest s f = function_fits x rest s f
-global_fits (const_assert x) rest s f = assert_fits x (sign (codes ";") SymSemicolon rest) s (closed_by_semicolon rest) (semicolon_fits _, f)
+unattributed_fits (function x) rest s f = function_fits x rest s f
+unattributed_fits (const_assert x) rest s f = assert_fits x (sign (codes ";") SymSemicolon rest) s (closed_by_semicolon rest) (semicolon_fits _, f)
+
+global_fits : (d : GlobalDeclaration) (rest : List Piece) → IsSoundGlobal d → Fits rest → Fits (global_declaration_pieces d rest)
+global_fits d rest s f = attribute_lines_fit 0 d.attributes _ s.0 (unattributed_fits d.node rest s.1 f)
 
 declarations_fit : (start : Puts) → ((rest : List Piece) → Fits rest → Fits (start rest)) → (ds : List (Spanned GlobalDeclaration)) (rest : List Piece) → Every (λ (d : Spanned GlobalDeclaration). IsSoundGlobal d.node) ds → Fits rest
     → Fits (declarations_pieces start ds rest)

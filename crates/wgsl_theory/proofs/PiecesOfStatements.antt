@@ -5,16 +5,16 @@ use Rattle.wgsl_model.specs.Classes.{SymBraceLeft, SymBraceRight, SymColon, SymE
 use Rattle.wgsl_model.specs.OperatorTexts.{assignment_operator_text}
 use Rattle.wgsl_model.specs.NamedValues.{AddressSpace, AccessMode, address_space_text, access_mode_text}
 use Rattle.wgsl_model.specs.Expressions.{ExpressionNode, TypeExpression}
-use Rattle.wgsl_model.specs.Statements.{DeclarationKind, const_kind, override_kind, let_kind, var_kind, Declaration, ConstAssert, BreakIfStatement, CaseSelector, default_selector, expression_selector, statement_node, Statement, void, compound, assignment, increment, decrement, if_statement, switch_statement, loop_statement, for_statement, while_statement, break_statement, continue_statement, discard_statement, return_statement, function_call_statement, const_assert, declaration, CompoundStatement, compound_statement, IfStatement, if_else, IfClause, if_clause, ElseIfClause, else_if_clause, ElseClause, else_clause, SwitchStatement, switch, SwitchClause, switch_clause, LoopStatement, repeat, ContinuingStatement, continuing, ForStatement, repeat_for, WhileStatement, repeat_while, StatementNodes, no_statements, statement_before, ElseIfClauses, no_else_ifs, else_if_before, MaybeElseClause, no_else, one_else, SwitchClauses, no_clauses, clause_before, MaybeContinuing, no_continuing, one_continuing, MaybeStatement, no_statement, one_statement}
+use Rattle.wgsl_model.specs.Statements.{DeclarationKind, const_kind, override_kind, let_kind, var_kind, Declaration, ConstAssert, BreakIfStatement, CaseSelector, default_selector, expression_selector, statement_node, Statement, statement, UnattributedStatement, void, compound, assignment, increment, decrement, if_statement, switch_statement, loop_statement, for_statement, while_statement, break_statement, continue_statement, discard_statement, return_statement, function_call_statement, const_assert, declaration, CompoundStatement, compound_statement, IfStatement, if_else, IfClause, if_clause, ElseIfClause, else_if_clause, ElseClause, else_clause, SwitchStatement, switch, SwitchClause, switch_clause, LoopStatement, repeat, ContinuingStatement, continuing, ForStatement, repeat_for, WhileStatement, repeat_while, StatementNodes, no_statements, statement_before, ElseIfClauses, no_else_ifs, else_if_before, MaybeElseClause, no_else, one_else, SwitchClauses, no_clauses, clause_before, MaybeContinuing, no_continuing, one_continuing, MaybeStatement, no_statement, one_statement}
 use Rattle.wgsl_model.specs.PrintedDeclarations.{print_access_mode, print_var_template, print_kind, print_typed, print_initializer, unended_declaration, unended_assert}
 use Rattle.wgsl_model.specs.PrintedStatements.{is_void}
 use Rattle.wgsl_canonical_theory.specs.CanonicalExpressions.{optional_tokens, word_token}
 use Rattle.wgsl_canonical_theory.specs.CanonicalAttributes.{behind_comma}
 use Rattle.wgsl_canonical_theory.specs.CanonicalStatements.{var_template_tokens, kind_tokens, typed_tokens, initializer_tokens, declaration_tokens, assert_tokens, assignment_operator_class}
 use Rattle.wgsl_theory.proofs.Pieces.{Piece, space, opens, closes}
-use Rattle.wgsl_theory.proofs.Printing.{Puts, Prints, none_prints, ◌before◌, word_prints, space_prints, opens_prints, closes_prints, four, line, line_prints}
+use Rattle.wgsl_theory.proofs.Printing.{Puts, Prints, none_prints, ◌before◌, word_prints, space_prints, opens_prints, closes_prints, four, line}
 use Rattle.wgsl_theory.proofs.PiecesOfExpressions.{sign, name, expression_node_pieces, call_pieces, type_pieces, name_prints, comma_prints, expression_node_prints, type_prints}
-use Rattle.wgsl_theory.proofs.PiecesOfAttributes.{optional_pieces, behind_comma_pieces, list_pieces, attributes_pieces, attributes_print}
+use Rattle.wgsl_theory.proofs.PiecesOfAttributes.{optional_pieces, behind_comma_pieces, list_pieces, attributes_pieces}
 
 -- ---- declarations of values
 
@@ -38,8 +38,8 @@ abbrev pub initializer_pieces : ExpressionNode → Puts
 initializer_pieces e rest = space ∷ sign (codes "=") SymEqual (space ∷ expression_node_pieces e rest)
 
 -- the declaration of a value, without its `;`
-abbrev pub declaration_pieces : ℕ → Declaration → Puts
-declaration_pieces n d rest = attributes_pieces (line n) d.attributes (kind_pieces d.kind (space ∷ name d.ident (optional_pieces typed_pieces d.ty (optional_pieces initializer_pieces d.initializer rest))))
+abbrev pub declaration_pieces : Declaration → Puts
+declaration_pieces d rest = kind_pieces d.kind (space ∷ name d.ident (optional_pieces typed_pieces d.ty (optional_pieces initializer_pieces d.initializer rest)))
 
 -- ---- statements
 
@@ -62,34 +62,38 @@ break_if_pieces n b rest = four (sign (codes "break") KwBreak (space ∷ sign (c
 
 -- the `;` that ends a statement, if one does
 abbrev pub end_pieces : Statement → Puts
-end_pieces (compound b) rest = rest
-end_pieces (if_statement s) rest = rest
-end_pieces (switch_statement s) rest = rest
-end_pieces (loop_statement s) rest = rest
-end_pieces (for_statement s) rest = rest
-end_pieces (while_statement s) rest = rest
+end_pieces (statement attributes (compound b)) rest = rest
+end_pieces (statement attributes (if_statement s)) rest = rest
+end_pieces (statement attributes (switch_statement s)) rest = rest
+end_pieces (statement attributes (loop_statement s)) rest = rest
+end_pieces (statement attributes (for_statement s)) rest = rest
+end_pieces (statement attributes (while_statement s)) rest = rest
 end_pieces s rest = sign (codes ";") SymSemicolon rest
 
 abbrev mutual
   -- a statement without the `;` that ends it
   pub unended_pieces : ℕ → Statement → List Piece → List Piece
-  unended_pieces n void rest = rest
-  unended_pieces n (compound b) rest = compound_pieces n b rest
-  unended_pieces n (assignment a) rest = expression_node_pieces a.lhs (space ∷ sign (assignment_operator_text a.operator) (assignment_operator_class a.operator) (space ∷ expression_node_pieces a.rhs rest))
-  unended_pieces n (increment i) rest = expression_node_pieces i.expression (sign (codes "++") SymPlusPlus rest)
-  unended_pieces n (decrement d) rest = expression_node_pieces d.expression (sign (codes "--") SymMinusMinus rest)
-  unended_pieces n (if_statement s) rest = if_pieces n s rest
-  unended_pieces n (switch_statement s) rest = switch_pieces n s rest
-  unended_pieces n (loop_statement s) rest = loop_pieces n s rest
-  unended_pieces n (for_statement s) rest = for_pieces n s rest
-  unended_pieces n (while_statement s) rest = while_pieces n s rest
-  unended_pieces n break_statement rest = sign (codes "break") KwBreak rest
-  unended_pieces n continue_statement rest = sign (codes "continue") KwContinue rest
-  unended_pieces n discard_statement rest = sign (codes "discard") KwDiscard rest
-  unended_pieces n (return_statement r) rest = sign (codes "return") KwReturn (optional_pieces returned_pieces r.expression rest)
-  unended_pieces n (function_call_statement c) rest = call_pieces c.call rest
-  unended_pieces n (const_assert c) rest = assert_pieces c rest
-  unended_pieces n (declaration d) rest = declaration_pieces n d rest
+  unended_pieces n (statement attributes s) rest = attributes_pieces (line n) attributes (unattributed_pieces n s rest)
+
+  -- the same without its attributes
+  pub unattributed_pieces : ℕ → UnattributedStatement → List Piece → List Piece
+  unattributed_pieces n void rest = rest
+  unattributed_pieces n (compound ss) rest = sign (codes "{") SymBraceLeft (line n (statements_pieces (suc n) four ss (line n (sign (codes "}") SymBraceRight rest))))
+  unattributed_pieces n (assignment a) rest = expression_node_pieces a.lhs (space ∷ sign (assignment_operator_text a.operator) (assignment_operator_class a.operator) (space ∷ expression_node_pieces a.rhs rest))
+  unattributed_pieces n (increment i) rest = expression_node_pieces i.expression (sign (codes "++") SymPlusPlus rest)
+  unattributed_pieces n (decrement d) rest = expression_node_pieces d.expression (sign (codes "--") SymMinusMinus rest)
+  unattributed_pieces n (if_statement s) rest = if_pieces n s rest
+  unattributed_pieces n (switch_statement s) rest = switch_pieces n s rest
+  unattributed_pieces n (loop_statement s) rest = loop_pieces n s rest
+  unattributed_pieces n (for_statement s) rest = for_pieces n s rest
+  unattributed_pieces n (while_statement s) rest = while_pieces n s rest
+  unattributed_pieces n break_statement rest = sign (codes "break") KwBreak rest
+  unattributed_pieces n continue_statement rest = sign (codes "continue") KwContinue rest
+  unattributed_pieces n discard_statement rest = sign (codes "discard") KwDiscard rest
+  unattributed_pieces n (return_statement r) rest = sign (codes "return") KwReturn (optional_pieces returned_pieces r.expression rest)
+  unattributed_pieces n (function_call_statement c) rest = call_pieces c.call rest
+  unattributed_pieces n (const_assert c) rest = assert_pieces c rest
+  unattributed_pieces n (declaration d) rest = declaration_pieces d rest
 
   -- the statements that are not empty, the first one behind what is given and the others on lines of their own
   pub statements_pieces : ℕ → Puts → StatementNodes → List Piece → List Piece
@@ -106,7 +110,7 @@ abbrev mutual
   opened_pieces n (compound_statement attributes ss) rest = attributes_pieces (line n) attributes (sign (codes "{") SymBraceLeft (line n (statements_pieces (suc n) four ss (line n rest))))
 
   pub if_pieces : ℕ → IfStatement → List Piece → List Piece
-  if_pieces n (if_else attributes first others last) rest = attributes_pieces (line n) attributes (if_clause_pieces n first (else_ifs_pieces n others (else_pieces n last rest)))
+  if_pieces n (if_else first others last) rest = if_clause_pieces n first (else_ifs_pieces n others (else_pieces n last rest))
 
   pub if_clause_pieces : ℕ → IfClause → List Piece → List Piece
   if_clause_pieces n (if_clause e block) rest = sign (codes "if") KwIf (space ∷ expression_node_pieces e (space ∷ compound_pieces n block rest))
@@ -126,9 +130,9 @@ abbrev mutual
   else_clause_pieces n (else_clause block) rest = sign (codes "else") KwElse (space ∷ compound_pieces n block rest)
 
   pub switch_pieces : ℕ → SwitchStatement → List Piece → List Piece
-  switch_pieces n (switch attributes e body_attributes cs) rest =
-      attributes_pieces (line n) attributes (sign (codes "switch") KwSwitch (space ∷ expression_node_pieces e (space ∷ attributes_pieces (line n) body_attributes
-      (sign (codes "{") SymBraceLeft (line n (clauses_pieces (suc n) four cs (line n (sign (codes "}") SymBraceRight rest))))))))
+  switch_pieces n (switch e body_attributes cs) rest =
+      sign (codes "switch") KwSwitch (space ∷ expression_node_pieces e (space ∷ attributes_pieces (line n) body_attributes
+      (sign (codes "{") SymBraceLeft (line n (clauses_pieces (suc n) four cs (line n (sign (codes "}") SymBraceRight rest)))))))
 
   -- clauses, the first one behind what is given and the others on lines of their own
   pub clauses_pieces : ℕ → Puts → SwitchClauses → List Piece → List Piece
@@ -139,7 +143,7 @@ abbrev mutual
   switch_clause_pieces n (switch_clause selectors block) rest = sign (codes "case") KwCase (space ∷ list_pieces selector_pieces selectors (space ∷ compound_pieces n block rest))
 
   pub loop_pieces : ℕ → LoopStatement → List Piece → List Piece
-  loop_pieces n (repeat attributes body last) rest = attributes_pieces (line n) attributes (sign (codes "loop") KwLoop (space ∷ opened_pieces n body (maybe_continuing_pieces n last (sign (codes "}") SymBraceRight rest))))
+  loop_pieces n (repeat body last) rest = sign (codes "loop") KwLoop (space ∷ opened_pieces n body (maybe_continuing_pieces n last (sign (codes "}") SymBraceRight rest)))
 
   -- `continuing`, if it is there, on lines four spaces in
   pub maybe_continuing_pieces : ℕ → MaybeContinuing → List Piece → List Piece
@@ -150,9 +154,9 @@ abbrev mutual
   continuing_pieces n (continuing body condition) rest = sign (codes "continuing") KwContinuing (space ∷ opened_pieces n body (optional_pieces (break_if_pieces n) condition (sign (codes "}") SymBraceRight rest)))
 
   pub for_pieces : ℕ → ForStatement → List Piece → List Piece
-  for_pieces n (repeat_for attributes init condition update block) rest =
-      attributes_pieces (line n) attributes (sign (codes "for") KwFor (space ∷ sign (codes "(") SymParenLeft (part_pieces n init (sign (codes ";") SymSemicolon (space ∷
-      optional_pieces expression_node_pieces condition (sign (codes ";") SymSemicolon (space ∷ part_pieces n update (sign (codes ")") SymParenRight (space ∷ compound_pieces n block rest)))))))))
+  for_pieces n (repeat_for init condition update block) rest =
+      sign (codes "for") KwFor (space ∷ sign (codes "(") SymParenLeft (part_pieces n init (sign (codes ";") SymSemicolon (space ∷
+      optional_pieces expression_node_pieces condition (sign (codes ";") SymSemicolon (space ∷ part_pieces n update (sign (codes ")") SymParenRight (space ∷ compound_pieces n block rest))))))))
 
   -- a part of the header of a `for`, without the `;` that ends it
   pub part_pieces : ℕ → MaybeStatement → List Piece → List Piece
@@ -160,7 +164,7 @@ abbrev mutual
   part_pieces n (one_statement (statement_node s span)) rest = unended_pieces n s rest
 
   pub while_pieces : ℕ → WhileStatement → List Piece → List Piece
-  while_pieces n (repeat_while attributes e block) rest = attributes_pieces (line n) attributes (sign (codes "while") KwWhile (space ∷ expression_node_pieces e (space ∷ compound_pieces n block rest)))
+  while_pieces n (repeat_while e block) rest = sign (codes "while") KwWhile (space ∷ expression_node_pieces e (space ∷ compound_pieces n block rest))
 
 -- ---- declarations of values print
 
@@ -187,8 +191,8 @@ initializer_prints : {n : ℕ} (o : Option ExpressionNode) → Prints n (print_i
 initializer_prints None = none_prints
 initializer_prints (Some e) = (space_prints before word_prints before space_prints) before expression_node_prints e
 
-pub declaration_prints : {n : ℕ} (d : Declaration) → Prints n (unended_declaration d) (declaration_pieces n d) (declaration_tokens d)
-declaration_prints {n} d = attributes_print (line_prints n) d.attributes before kind_prints d.kind before space_prints before name_prints d.ident before typed_prints d.ty before initializer_prints d.initializer
+pub declaration_prints : {n : ℕ} (d : Declaration) → Prints n (unended_declaration d) (declaration_pieces d) (declaration_tokens d)
+declaration_prints d = kind_prints d.kind before space_prints before name_prints d.ident before typed_prints d.ty before initializer_prints d.initializer
 
 pub assert_prints : {n : ℕ} (c : ConstAssert) → Prints n (unended_assert c) (assert_pieces c) (assert_tokens c)
 assert_prints c = (word_prints before space_prints) before expression_node_prints c.expression

@@ -7,14 +7,14 @@ use Rattle.wgsl_model.specs.NamedValues.{severity_text}
 use Rattle.wgsl_model.specs.Spanned.{Spanned}
 use Rattle.wgsl_model.specs.Expressions.{TypeExpression}
 use Rattle.wgsl_model.specs.Attributes.{Attributes}
-use Rattle.wgsl_model.specs.Units.{GlobalDirective, diagnostic, enable, requires, StructMember, FormalParameter, Function, GlobalDeclaration, void, declaration, type_alias, structure, function, const_assert, TranslationUnit}
+use Rattle.wgsl_model.specs.Units.{GlobalDirective, diagnostic, enable, requires, StructMember, FormalParameter, Function, GlobalDeclaration, UnattributedDeclaration, void, declaration, type_alias, structure, function, const_assert, TranslationUnit}
 use Rattle.wgsl_model.specs.Joining.{joined}
 use Rattle.wgsl_model.specs.Indentation.{indented}
 use Rattle.wgsl_model.specs.PrintedExpressions.{print_type}
 use Rattle.wgsl_model.specs.PrintedAttributes.{print_attributes, print_attribute_line}
-use Rattle.wgsl_model.specs.PrintedUnits.{print_directive, print_member, print_parameter, print_result, print_function, print_global_declaration, is_void, declaration_texts, print_directives, print_unit}
+use Rattle.wgsl_model.specs.PrintedUnits.{print_directive, print_member, print_parameter, print_result, print_function, print_unattributed_declaration, print_global_declaration, is_void, declaration_texts, print_directives, print_unit}
 use Rattle.wgsl_canonical_theory.specs.CanonicalExpressions.{all_tokens, list_tokens, further_tokens, word_token}
-use Rattle.wgsl_canonical_theory.specs.CanonicalUnits.{directive_tokens, attributed_tokens, member_tokens, parameter_tokens, result_tokens, function_tokens, global_declaration_tokens, kept_declaration_tokens, unit_tokens, canonical}
+use Rattle.wgsl_canonical_theory.specs.CanonicalUnits.{directive_tokens, attributed_tokens, member_tokens, parameter_tokens, result_tokens, function_tokens, unattributed_declaration_tokens, global_declaration_tokens, kept_declaration_tokens, unit_tokens, canonical}
 use Rattle.wgsl_theory.proofs.Pieces.{Piece, space, bytes_of, kinds, Fits}
 use Rattle.wgsl_theory.proofs.Printing.{Puts, Prints, none_prints, ◌before◌, word_prints, space_prints, four, line, line_prints, indented_prints, IsFilled, filled_first, filled_last}
 use Rattle.wgsl_theory.proofs.PiecesOfExpressions.{sign, name, comma, type_pieces, name_prints, comma_prints, type_prints}
@@ -64,18 +64,22 @@ result_pieces attributes (Some t) rest = sign (codes "->") SymArrow (space ∷ a
 -- a function
 abbrev pub function_pieces : Function → Puts
 function_pieces f rest =
-    attributes_pieces (line 0) f.attributes (sign (codes "fn") KwFn (space ∷ name f.ident (sign (codes "(") SymParenLeft (list_pieces parameter_pieces f.parameters
-    (sign (codes ")") SymParenRight (space ∷ result_pieces f.return_attributes f.return_type (compound_pieces 0 f.body rest)))))))
+    sign (codes "fn") KwFn (space ∷ name f.ident (sign (codes "(") SymParenLeft (list_pieces parameter_pieces f.parameters
+    (sign (codes ")") SymParenRight (space ∷ result_pieces f.return_attributes f.return_type (compound_pieces 0 f.body rest))))))
 
--- a declaration; an empty one is its `;`
-abbrev pub global_declaration_pieces : GlobalDeclaration → Puts
-global_declaration_pieces void rest = sign (codes ";") SymSemicolon rest
-global_declaration_pieces (declaration d) rest = declaration_pieces 0 d (sign (codes ";") SymSemicolon rest)
-global_declaration_pieces (type_alias a) rest = sign (codes "alias") KwAlias (space ∷ name a.ident (space ∷ sign (codes "=") SymEqual (space ∷ type_pieces a.ty (sign (codes ";") SymSemicolon rest))))
-global_declaration_pieces (structure s) rest =
+-- what stands behind the attributes of a declaration; an empty one is its `;`
+abbrev pub unattributed_declaration_pieces : UnattributedDeclaration → Puts
+unattributed_declaration_pieces void rest = sign (codes ";") SymSemicolon rest
+unattributed_declaration_pieces (declaration d) rest = declaration_pieces d (sign (codes ";") SymSemicolon rest)
+unattributed_declaration_pieces (type_alias a) rest = sign (codes "alias") KwAlias (space ∷ name a.ident (space ∷ sign (codes "=") SymEqual (space ∷ type_pieces a.ty (sign (codes ";") SymSemicolon rest))))
+unattributed_declaration_pieces (structure s) rest =
     sign (codes "struct") KwStruct (space ∷ name s.ident (space ∷ sign (codes "{") SymBraceLeft (line 0 (members_pieces s.members (line 0 (sign (codes "}") SymBraceRight rest))))))
-global_declaration_pieces (function f) rest = function_pieces f rest
-global_declaration_pieces (const_assert c) rest = assert_pieces c (sign (codes ";") SymSemicolon rest)
+unattributed_declaration_pieces (function f) rest = function_pieces f rest
+unattributed_declaration_pieces (const_assert c) rest = assert_pieces c (sign (codes ";") SymSemicolon rest)
+
+-- a declaration
+abbrev pub global_declaration_pieces : GlobalDeclaration → Puts
+global_declaration_pieces d rest = attributes_pieces (line 0) d.attributes (unattributed_declaration_pieces d.node rest)
 
 -- two line ends
 abbrev pub two_lines : Puts
@@ -146,17 +150,20 @@ result_prints a (Some t) = (word_prints before space_prints) before attributes_p
 
 function_prints : (f : Function) → Prints 0 (print_function f) (function_pieces f) (function_tokens f)
 function_prints f =
-    attributes_print (line_prints 0) f.attributes before (word_prints before space_prints) before name_prints f.ident before word_prints before list_prints parameter_prints f.parameters
+    (word_prints before space_prints) before name_prints f.ident before word_prints before list_prints parameter_prints f.parameters
     before (word_prints before space_prints) before result_prints f.return_attributes f.return_type before compound_prints f.body
 
-global_declaration_prints : (d : GlobalDeclaration) → Prints 0 (print_global_declaration d) (global_declaration_pieces d) (global_declaration_tokens d)
-global_declaration_prints void = word_prints
-global_declaration_prints (declaration d) = declaration_prints d before word_prints
-global_declaration_prints (type_alias a) = (word_prints before space_prints) before name_prints a.ident before (space_prints before word_prints before space_prints) before type_prints a.ty before word_prints
-global_declaration_prints (structure s) =
+unattributed_declaration_prints : (d : UnattributedDeclaration) → Prints 0 (print_unattributed_declaration d) (unattributed_declaration_pieces d) (unattributed_declaration_tokens d)
+unattributed_declaration_prints void = word_prints
+unattributed_declaration_prints (declaration d) = declaration_prints d before word_prints
+unattributed_declaration_prints (type_alias a) = (word_prints before space_prints) before name_prints a.ident before (space_prints before word_prints before space_prints) before type_prints a.ty before word_prints
+unattributed_declaration_prints (structure s) =
     (word_prints before space_prints) before name_prints s.ident before (space_prints before word_prints before line_prints 0) before members_print s.members before (line_prints 0 before word_prints)
-global_declaration_prints (function f) = function_prints f
-global_declaration_prints (const_assert c) = assert_prints c before word_prints
+unattributed_declaration_prints (function f) = function_prints f
+unattributed_declaration_prints (const_assert c) = assert_prints c before word_prints
+
+global_declaration_prints : (d : GlobalDeclaration) → Prints 0 (print_global_declaration d) (global_declaration_pieces d) (global_declaration_tokens d)
+global_declaration_prints d = attributes_print (line_prints 0) d.attributes before unattributed_declaration_prints d.node
 
 -- declarations in a module
 one_further : (b : Bool) (d : GlobalDeclaration) (ds : List (Spanned GlobalDeclaration))

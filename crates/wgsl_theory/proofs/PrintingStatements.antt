@@ -5,66 +5,62 @@ use Rattle.std.specs.List.{flat_map}
 use Rattle.std.proofs.lemmas.Bool.{true≢false}
 use Rattle.wgsl_model.specs.Attributes.{Attributes}
 use Rattle.wgsl_model.specs.Expressions.{ExpressionNode}
-use Rattle.wgsl_model.specs.Statements.{BreakIfStatement, CaseSelector, default_selector, expression_selector, statement_node, Statement, void, compound, assignment, increment, decrement, if_statement, switch_statement, loop_statement, for_statement, while_statement, break_statement, continue_statement, discard_statement, return_statement, function_call_statement, const_assert, declaration, CompoundStatement, compound_statement, IfStatement, if_else, IfClause, if_clause, ElseIfClause, else_if_clause, ElseClause, else_clause, SwitchStatement, switch, SwitchClause, switch_clause, LoopStatement, repeat, ContinuingStatement, continuing, ForStatement, repeat_for, WhileStatement, repeat_while, StatementNodes, no_statements, statement_before, ElseIfClauses, no_else_ifs, else_if_before, MaybeElseClause, no_else, one_else, SwitchClauses, no_clauses, clause_before, MaybeContinuing, no_continuing, one_continuing, MaybeStatement, no_statement, one_statement}
+use Rattle.wgsl_model.specs.Statements.{BreakIfStatement, CaseSelector, default_selector, expression_selector, statement_node, Statement, statement, UnattributedStatement, void, compound, assignment, increment, decrement, if_statement, switch_statement, loop_statement, for_statement, while_statement, break_statement, continue_statement, discard_statement, return_statement, function_call_statement, const_assert, declaration, CompoundStatement, compound_statement, IfStatement, if_else, IfClause, if_clause, ElseIfClause, else_if_clause, ElseClause, else_clause, SwitchStatement, switch, SwitchClause, switch_clause, LoopStatement, repeat, ContinuingStatement, continuing, ForStatement, repeat_for, WhileStatement, repeat_while, StatementNodes, no_statements, statement_before, ElseIfClauses, no_else_ifs, else_if_before, MaybeElseClause, no_else, one_else, SwitchClauses, no_clauses, clause_before, MaybeContinuing, no_continuing, one_continuing, MaybeStatement, no_statement, one_statement}
 use Rattle.wgsl_model.specs.Joining.{joined}
 use Rattle.wgsl_model.specs.Indentation.{indented}
-use Rattle.wgsl_model.specs.PrintedExpressions.{print_expression_node}
 use Rattle.wgsl_model.specs.PrintedAttributes.{print_attribute_line}
 use Rattle.wgsl_model.specs.PrintedDeclarations.{print_condition, print_returned, print_selector}
-use Rattle.wgsl_model.specs.PrintedStatements.{is_void, end_of, braced, break_if_line, unended, statement_texts, print_compound, print_if, print_if_clause, print_else_if_clause, print_else_ifs, print_else_clause, print_else, print_switch, clause_texts, print_switch_clause, print_opened, print_loop, continuing_line, print_continuing, print_for, unended_part, print_while}
+use Rattle.wgsl_model.specs.PrintedStatements.{is_void, end_of, break_if_line, unended, unended_unattributed, statement_texts, print_compound, print_if, print_if_clause, print_else_if_clause, print_else_ifs, print_else_clause, print_else, print_switch, clause_texts, print_switch_clause, print_opened, print_loop, continuing_line, print_continuing, print_for, unended_part, print_while}
 use Rattle.wgsl_canonical_theory.specs.CanonicalExpressions.{optional_tokens, expression_node_tokens}
 use Rattle.wgsl_canonical_theory.specs.CanonicalAttributes.{attributes_tokens}
-use Rattle.wgsl_canonical_theory.specs.CanonicalStatements.{selector_tokens, break_if_tokens, end_token, unended_tokens, statements_tokens, compound_tokens, opened_tokens, if_tokens, if_clause_tokens, else_ifs_tokens, else_if_clause_tokens, else_tokens, else_clause_tokens, switch_tokens, clauses_tokens, switch_clause_tokens, loop_tokens, maybe_continuing_tokens, continuing_tokens, for_tokens, part_tokens, while_tokens}
+use Rattle.wgsl_canonical_theory.specs.CanonicalStatements.{selector_tokens, break_if_tokens, end_token, unended_tokens, unattributed_tokens, statements_tokens, compound_tokens, opened_tokens, if_tokens, if_clause_tokens, else_ifs_tokens, else_if_clause_tokens, else_tokens, else_clause_tokens, switch_tokens, clauses_tokens, switch_clause_tokens, loop_tokens, maybe_continuing_tokens, continuing_tokens, for_tokens, part_tokens, while_tokens}
 use Rattle.wgsl_theory.proofs.Printing.{Prints, none_prints, ◌before◌, word_prints, space_prints, four, line, line_prints, indented_prints, IsFilled, filled_first, filled_last}
 use Rattle.wgsl_theory.proofs.PiecesOfExpressions.{expression_node_pieces, expression_node_prints, call_prints}
 use Rattle.wgsl_theory.proofs.PiecesOfAttributes.{optional_pieces, list_prints, attributes_pieces, attributes_print}
-use Rattle.wgsl_theory.proofs.PiecesOfStatements.{returned_pieces, selector_pieces, break_if_pieces, end_pieces, unended_pieces, statements_pieces, compound_pieces, opened_pieces, if_pieces, if_clause_pieces, else_ifs_pieces, else_if_clause_pieces, else_pieces, else_clause_pieces, switch_pieces, clauses_pieces, switch_clause_pieces, loop_pieces, maybe_continuing_pieces, continuing_pieces, for_pieces, part_pieces, while_pieces, declaration_prints, assert_prints}
+use Rattle.wgsl_theory.proofs.PiecesOfStatements.{returned_pieces, selector_pieces, break_if_pieces, end_pieces, unended_pieces, unattributed_pieces, statements_pieces, compound_pieces, opened_pieces, if_pieces, if_clause_pieces, else_ifs_pieces, else_if_clause_pieces, else_pieces, else_clause_pieces, switch_pieces, clauses_pieces, switch_clause_pieces, loop_pieces, maybe_continuing_pieces, continuing_pieces, for_pieces, part_pieces, while_pieces, declaration_prints, assert_prints}
 
 -- ---- texts that are not empty
 
-clause_filled : (c : IfClause) → IsFilled (print_if_clause c)
-clause_filled (if_clause e block) = tt
-
 -- a statement that is not empty has a text
 filled : (s : Statement) → is_void s ≡ false → IsFilled (unended s ++ end_of s)
-filled void h = absurd (true≢false h)
-filled (compound (compound_statement a ss)) h = filled_first _ [] (filled_last (print_attribute_line a) _ tt)
-filled (assignment a) h = filled_last (unended (assignment a)) (codes ";") tt
-filled (increment i) h = filled_last (unended (increment i)) (codes ";") tt
-filled (decrement d) h = filled_last (unended (decrement d)) (codes ";") tt
-filled (if_statement (if_else a c others last)) h = filled_first _ [] (filled_first _ (print_else last) (filled_first _ (print_else_ifs others) (filled_last (print_attribute_line a) _ (clause_filled c))))
-filled (switch_statement (switch a e b cs)) h = filled_first _ [] (filled_last (print_attribute_line a ++ codes "switch " ++ print_expression_node e ++ codes " " ++ print_attribute_line b) (braced (clause_texts cs)) tt)
-filled (loop_statement (repeat a b c)) h = filled_first _ [] (filled_last _ (codes "}") tt)
-filled (for_statement (repeat_for a i c u (compound_statement b ss))) h = filled_first _ [] (filled_last _ _ (filled_last (print_attribute_line b) _ tt))
-filled (while_statement (repeat_while a e (compound_statement b ss))) h = filled_first _ [] (filled_last _ _ (filled_last (print_attribute_line b) _ tt))
-filled break_statement h = tt
-filled continue_statement h = tt
-filled discard_statement h = tt
-filled (return_statement r) h = tt
-filled (function_call_statement c) h = filled_last (unended (function_call_statement c)) (codes ";") tt
-filled (const_assert c) h = tt
-filled (declaration d) h = filled_last (unended (declaration d)) (codes ";") tt
+filled (statement a void) h = absurd (true≢false h)
+filled (statement a (compound ss)) h = filled_first _ [] (filled_last (print_attribute_line a) _ tt)
+filled (statement a (if_statement (if_else (if_clause e block) others last))) h = filled_first _ [] (filled_last (print_attribute_line a) _ tt)
+filled (statement a (switch_statement (switch e b cs))) h = filled_first _ [] (filled_last (print_attribute_line a) _ tt)
+filled (statement a (loop_statement (repeat b c))) h = filled_first _ [] (filled_last (print_attribute_line a) _ tt)
+filled (statement a (for_statement (repeat_for i c u b))) h = filled_first _ [] (filled_last (print_attribute_line a) _ tt)
+filled (statement a (while_statement (repeat_while e b))) h = filled_first _ [] (filled_last (print_attribute_line a) _ tt)
+filled (statement a (assignment x)) h = filled_last (unended (statement a (assignment x))) (codes ";") tt
+filled (statement a (increment x)) h = filled_last (unended (statement a (increment x))) (codes ";") tt
+filled (statement a (decrement x)) h = filled_last (unended (statement a (decrement x))) (codes ";") tt
+filled (statement a break_statement) h = filled_last (unended (statement a break_statement)) (codes ";") tt
+filled (statement a continue_statement) h = filled_last (unended (statement a continue_statement)) (codes ";") tt
+filled (statement a discard_statement) h = filled_last (unended (statement a discard_statement)) (codes ";") tt
+filled (statement a (return_statement x)) h = filled_last (unended (statement a (return_statement x))) (codes ";") tt
+filled (statement a (function_call_statement x)) h = filled_last (unended (statement a (function_call_statement x))) (codes ";") tt
+filled (statement a (const_assert x)) h = filled_last (unended (statement a (const_assert x))) (codes ";") tt
+filled (statement a (declaration x)) h = filled_last (unended (statement a (declaration x))) (codes ";") tt
 
 -- ---- what holds no statements
 
 end_prints : {n : ℕ} (s : Statement) → Prints n (end_of s) (end_pieces s) (end_token s)
-end_prints void = word_prints
-end_prints (compound b) = none_prints
-end_prints (assignment a) = word_prints
-end_prints (increment i) = word_prints
-end_prints (decrement d) = word_prints
-end_prints (if_statement s) = none_prints
-end_prints (switch_statement s) = none_prints
-end_prints (loop_statement s) = none_prints
-end_prints (for_statement s) = none_prints
-end_prints (while_statement s) = none_prints
-end_prints break_statement = word_prints
-end_prints continue_statement = word_prints
-end_prints discard_statement = word_prints
-end_prints (return_statement r) = word_prints
-end_prints (function_call_statement c) = word_prints
-end_prints (const_assert c) = word_prints
-end_prints (declaration d) = word_prints
+end_prints (statement attributes void) = word_prints
+end_prints (statement attributes (compound b)) = none_prints
+end_prints (statement attributes (assignment a)) = word_prints
+end_prints (statement attributes (increment i)) = word_prints
+end_prints (statement attributes (decrement d)) = word_prints
+end_prints (statement attributes (if_statement s)) = none_prints
+end_prints (statement attributes (switch_statement s)) = none_prints
+end_prints (statement attributes (loop_statement s)) = none_prints
+end_prints (statement attributes (for_statement s)) = none_prints
+end_prints (statement attributes (while_statement s)) = none_prints
+end_prints (statement attributes break_statement) = word_prints
+end_prints (statement attributes continue_statement) = word_prints
+end_prints (statement attributes discard_statement) = word_prints
+end_prints (statement attributes (return_statement r)) = word_prints
+end_prints (statement attributes (function_call_statement c)) = word_prints
+end_prints (statement attributes (const_assert c)) = word_prints
+end_prints (statement attributes (declaration d)) = word_prints
 
 returned_prints : {n : ℕ} (o : Option ExpressionNode) → Prints n (print_returned o) (optional_pieces returned_pieces o) (optional_tokens expression_node_tokens o)
 returned_prints None = none_prints
@@ -112,23 +108,26 @@ clause_text_filled (switch_clause selectors block) = tt
 
 mutual
   pub unended_prints : {n : ℕ} (s : Statement) → Prints n (unended s) (unended_pieces n s) (unended_tokens s)
-  unended_prints void = none_prints
-  unended_prints (compound b) = compound_prints b
-  unended_prints (assignment a) = expression_node_prints a.lhs before space_prints before word_prints before space_prints before expression_node_prints a.rhs
-  unended_prints (increment i) = expression_node_prints i.expression before word_prints
-  unended_prints (decrement d) = expression_node_prints d.expression before word_prints
-  unended_prints (if_statement s) = if_prints s
-  unended_prints (switch_statement s) = switch_prints s
-  unended_prints (loop_statement s) = loop_prints s
-  unended_prints (for_statement s) = for_prints s
-  unended_prints (while_statement s) = while_prints s
-  unended_prints break_statement = word_prints
-  unended_prints continue_statement = word_prints
-  unended_prints discard_statement = word_prints
-  unended_prints (return_statement r) = word_prints before returned_prints r.expression
-  unended_prints (function_call_statement c) = call_prints c.call
-  unended_prints (const_assert c) = assert_prints c
-  unended_prints (declaration d) = declaration_prints d
+  unended_prints (statement a s) = line_of_attributes a before unattributed_prints s
+
+  unattributed_prints : {n : ℕ} (s : UnattributedStatement) → Prints n (unended_unattributed s) (unattributed_pieces n s) (unattributed_tokens s)
+  unattributed_prints void = none_prints
+  unattributed_prints {n} (compound ss) = (word_prints before line_prints n) before first_prints ss before (line_prints n before word_prints)
+  unattributed_prints (assignment a) = expression_node_prints a.lhs before space_prints before word_prints before space_prints before expression_node_prints a.rhs
+  unattributed_prints (increment i) = expression_node_prints i.expression before word_prints
+  unattributed_prints (decrement d) = expression_node_prints d.expression before word_prints
+  unattributed_prints (if_statement s) = if_prints s
+  unattributed_prints (switch_statement s) = switch_prints s
+  unattributed_prints (loop_statement s) = loop_prints s
+  unattributed_prints (for_statement s) = for_prints s
+  unattributed_prints (while_statement s) = while_prints s
+  unattributed_prints break_statement = word_prints
+  unattributed_prints continue_statement = word_prints
+  unattributed_prints discard_statement = word_prints
+  unattributed_prints (return_statement r) = word_prints before returned_prints r.expression
+  unattributed_prints (function_call_statement c) = call_prints c.call
+  unattributed_prints (const_assert c) = assert_prints c
+  unattributed_prints (declaration d) = declaration_prints d
 
   first_prints : {n : ℕ} (ss : StatementNodes) → Prints n (indented (joined (codes "\n") (statement_texts ss))) (statements_pieces (suc n) four ss) (statements_tokens ss)
   first_prints no_statements = none_prints
@@ -145,7 +144,7 @@ mutual
   opened_prints {n} (compound_statement a ss) = line_of_attributes a before (word_prints before line_prints n) before (first_prints ss before line_prints n)
 
   if_prints : {n : ℕ} (s : IfStatement) → Prints n (print_if s) (if_pieces n s) (if_tokens s)
-  if_prints (if_else a first others last) = line_of_attributes a before if_clause_prints first before else_ifs_prints others before else_prints last
+  if_prints (if_else first others last) = if_clause_prints first before else_ifs_prints others before else_prints last
 
   if_clause_prints : {n : ℕ} (c : IfClause) → Prints n (print_if_clause c) (if_clause_pieces n c) (if_clause_tokens c)
   if_clause_prints (if_clause e block) = (word_prints before space_prints) before expression_node_prints e before space_prints before compound_prints block
@@ -165,8 +164,8 @@ mutual
   else_clause_prints (else_clause block) = (word_prints before space_prints) before compound_prints block
 
   switch_prints : {n : ℕ} (s : SwitchStatement) → Prints n (print_switch s) (switch_pieces n s) (switch_tokens s)
-  switch_prints {n} (switch a e body_attributes cs) =
-      line_of_attributes a before (word_prints before space_prints) before expression_node_prints e before space_prints before line_of_attributes body_attributes
+  switch_prints {n} (switch e body_attributes cs) =
+      (word_prints before space_prints) before expression_node_prints e before space_prints before line_of_attributes body_attributes
       before ((word_prints before line_prints n) before first_clause_prints cs before (line_prints n before word_prints))
 
   first_clause_prints : {n : ℕ} (cs : SwitchClauses) → Prints n (indented (joined (codes "\n") (clause_texts cs))) (clauses_pieces (suc n) four cs) (clauses_tokens cs)
@@ -181,7 +180,7 @@ mutual
   switch_clause_prints (switch_clause selectors block) = (word_prints before space_prints) before list_prints selector_prints selectors before space_prints before compound_prints block
 
   loop_prints : {n : ℕ} (s : LoopStatement) → Prints n (print_loop s) (loop_pieces n s) (loop_tokens s)
-  loop_prints (repeat a body last) = line_of_attributes a before (word_prints before space_prints) before opened_prints body before maybe_continuing_prints last before word_prints
+  loop_prints (repeat body last) = (word_prints before space_prints) before opened_prints body before maybe_continuing_prints last before word_prints
 
   maybe_continuing_prints : {n : ℕ} (c : MaybeContinuing) → Prints n (continuing_line c) (maybe_continuing_pieces n c) (maybe_continuing_tokens c)
   maybe_continuing_prints no_continuing = none_prints
@@ -191,8 +190,8 @@ mutual
   continuing_prints (continuing body condition) = (word_prints before space_prints) before opened_prints body before break_if_prints condition before word_prints
 
   for_prints : {n : ℕ} (s : ForStatement) → Prints n (print_for s) (for_pieces n s) (for_tokens s)
-  for_prints (repeat_for a init condition update block) =
-      line_of_attributes a before (word_prints before space_prints before word_prints) before part_prints init before (word_prints before space_prints) before condition_prints condition
+  for_prints (repeat_for init condition update block) =
+      (word_prints before space_prints before word_prints) before part_prints init before (word_prints before space_prints) before condition_prints condition
       before (word_prints before space_prints) before part_prints update before (word_prints before space_prints) before compound_prints block
 
   part_prints : {n : ℕ} (p : MaybeStatement) → Prints n (unended_part p) (part_pieces n p) (part_tokens p)
@@ -200,4 +199,4 @@ mutual
   part_prints (one_statement (statement_node s span)) = unended_prints s
 
   while_prints : {n : ℕ} (s : WhileStatement) → Prints n (print_while s) (while_pieces n s) (while_tokens s)
-  while_prints (repeat_while a e block) = line_of_attributes a before (word_prints before space_prints) before expression_node_prints e before space_prints before compound_prints block
+  while_prints (repeat_while e block) = (word_prints before space_prints) before expression_node_prints e before space_prints before compound_prints block

@@ -3,9 +3,9 @@ use Rattle.std.proofs.Common.{ℕ, ◌==◌, Bool, true, false, List, [], ◌∷
 use Rattle.wgsl_model.specs.Spanned.{Spanned}
 use Rattle.wgsl_model.specs.Expressions.{ExpressionNode, expression_node, Expression, literal, unary, binary}
 use Rattle.wgsl_model.specs.Attributes.{Attribute, with_argument, diagnostic, workgroup_size, type_constraint, custom, Attributes}
-use Rattle.wgsl_model.specs.Statements.{Declaration, BreakIfStatement, CaseSelector, default_selector, expression_selector, statement_node, Statement, compound, assignment, increment, decrement, if_statement, switch_statement, loop_statement, for_statement, while_statement, return_statement, function_call_statement, const_assert, declaration, CompoundStatement, compound_statement, IfStatement, if_else, IfClause, if_clause, ElseIfClause, else_if_clause, ElseClause, else_clause, SwitchStatement, switch, SwitchClause, switch_clause, LoopStatement, repeat, ContinuingStatement, continuing, ForStatement, repeat_for, WhileStatement, repeat_while, StatementNodes, no_statements, statement_before, ElseIfClauses, no_else_ifs, else_if_before, MaybeElseClause, no_else, one_else, SwitchClauses, no_clauses, clause_before, MaybeContinuing, no_continuing, one_continuing, MaybeStatement, no_statement, one_statement}
+use Rattle.wgsl_model.specs.Statements.{Declaration, BreakIfStatement, CaseSelector, default_selector, expression_selector, statement_node, Statement, compound, assignment, increment, decrement, if_statement, switch_statement, loop_statement, for_statement, while_statement, return_statement, function_call_statement, const_assert, declaration, CompoundStatement, compound_statement, IfStatement, if_else, IfClause, if_clause, ElseIfClause, else_if_clause, ElseClause, else_clause, SwitchStatement, switch, SwitchClause, switch_clause, LoopStatement, repeat, ContinuingStatement, continuing, ForStatement, repeat_for, WhileStatement, repeat_while, StatementNodes, no_statements, statement_before, ElseIfClauses, no_else_ifs, else_if_before, MaybeElseClause, no_else, one_else, SwitchClauses, no_clauses, clause_before, MaybeContinuing, no_continuing, one_continuing, MaybeStatement, no_statement, one_statement, statement, UnattributedStatement}
 use Rattle.wgsl_model.specs.Units as units
-use Rattle.wgsl_model.specs.Units.{GlobalDirective, StructMember, FormalParameter, Function, GlobalDeclaration, TranslationUnit}
+use Rattle.wgsl_model.specs.Units.{GlobalDirective, StructMember, FormalParameter, Function, GlobalDeclaration, UnattributedDeclaration, TranslationUnit}
 use Rattle.wgsl_theory.proofs.Ends.{IsNameText}
 use Rattle.wgsl_theory.proofs.SoundExpressions.{IsSoundNode, IsSoundCall, IsSoundType}
 
@@ -49,7 +49,7 @@ AreSoundAttributes = Every (λ (a : Spanned Attribute). IsSoundAttribute a.node)
 -- ---- statements
 
 abbrev pub IsSoundDeclaration : Declaration → Type 0
-IsSoundDeclaration d = AreSoundAttributes d.attributes × IsNameText d.ident × IfSome IsSoundType d.ty × IfSome IsSoundNode d.initializer
+IsSoundDeclaration d = IsNameText d.ident × IfSome IsSoundType d.ty × IfSome IsSoundNode d.initializer
 
 -- an expression that ends with a name or a bracket
 abbrev mutual
@@ -68,20 +68,23 @@ IsSoundSelector (expression_selector e) = IsSoundNode e
 
 abbrev mutual
   pub IsSoundStatement : Statement → Type 0
-  IsSoundStatement (compound b) = IsSoundCompound b
-  IsSoundStatement (assignment a) = IsSoundNode a.lhs × IsSoundNode a.rhs
-  IsSoundStatement (increment i) = EndsWithNameNode i.expression × IsSoundNode i.expression
-  IsSoundStatement (decrement d) = EndsWithNameNode d.expression × IsSoundNode d.expression
-  IsSoundStatement (if_statement s) = IsSoundIf s
-  IsSoundStatement (switch_statement s) = IsSoundSwitch s
-  IsSoundStatement (loop_statement s) = IsSoundLoop s
-  IsSoundStatement (for_statement s) = IsSoundFor s
-  IsSoundStatement (while_statement s) = IsSoundWhile s
-  IsSoundStatement (return_statement r) = IfSome IsSoundNode r.expression
-  IsSoundStatement (function_call_statement c) = IsSoundCall c.call
-  IsSoundStatement (const_assert c) = IsSoundNode c.expression
-  IsSoundStatement (declaration d) = IsSoundDeclaration d
-  IsSoundStatement s = Unit {0}
+  IsSoundStatement (statement attributes s) = AreSoundAttributes attributes × IsSoundUnattributed s
+
+  pub IsSoundUnattributed : UnattributedStatement → Type 0
+  IsSoundUnattributed (compound ss) = AreSoundStatements ss
+  IsSoundUnattributed (assignment a) = IsSoundNode a.lhs × IsSoundNode a.rhs
+  IsSoundUnattributed (increment i) = EndsWithNameNode i.expression × IsSoundNode i.expression
+  IsSoundUnattributed (decrement d) = EndsWithNameNode d.expression × IsSoundNode d.expression
+  IsSoundUnattributed (if_statement s) = IsSoundIf s
+  IsSoundUnattributed (switch_statement s) = IsSoundSwitch s
+  IsSoundUnattributed (loop_statement s) = IsSoundLoop s
+  IsSoundUnattributed (for_statement s) = IsSoundFor s
+  IsSoundUnattributed (while_statement s) = IsSoundWhile s
+  IsSoundUnattributed (return_statement r) = IfSome IsSoundNode r.expression
+  IsSoundUnattributed (function_call_statement c) = IsSoundCall c.call
+  IsSoundUnattributed (const_assert c) = IsSoundNode c.expression
+  IsSoundUnattributed (declaration d) = IsSoundDeclaration d
+  IsSoundUnattributed s = Unit {0}
 
   pub AreSoundStatements : StatementNodes → Type 0
   AreSoundStatements no_statements = Unit {0}
@@ -91,7 +94,7 @@ abbrev mutual
   IsSoundCompound (compound_statement attributes ss) = AreSoundAttributes attributes × AreSoundStatements ss
 
   pub IsSoundIf : IfStatement → Type 0
-  IsSoundIf (if_else attributes first others last) = AreSoundAttributes attributes × IsSoundIfClause first × AreSoundElseIfs others × IsSoundElse last
+  IsSoundIf (if_else first others last) = IsSoundIfClause first × AreSoundElseIfs others × IsSoundElse last
 
   pub IsSoundIfClause : IfClause → Type 0
   IsSoundIfClause (if_clause e block) = IsSoundNode e × IsSoundCompound block
@@ -111,7 +114,7 @@ abbrev mutual
   IsSoundElseClause (else_clause block) = IsSoundCompound block
 
   pub IsSoundSwitch : SwitchStatement → Type 0
-  IsSoundSwitch (switch attributes e body_attributes cs) = AreSoundAttributes attributes × IsSoundNode e × AreSoundAttributes body_attributes × AreSoundClauses cs
+  IsSoundSwitch (switch e body_attributes cs) = IsSoundNode e × AreSoundAttributes body_attributes × AreSoundClauses cs
 
   pub AreSoundClauses : SwitchClauses → Type 0
   AreSoundClauses no_clauses = Unit {0}
@@ -121,7 +124,7 @@ abbrev mutual
   IsSoundClause (switch_clause selectors block) = Every IsSoundSelector selectors × IsSoundCompound block
 
   pub IsSoundLoop : LoopStatement → Type 0
-  IsSoundLoop (repeat attributes body last) = AreSoundAttributes attributes × IsSoundCompound body × IsSoundMaybeContinuing last
+  IsSoundLoop (repeat body last) = IsSoundCompound body × IsSoundMaybeContinuing last
 
   pub IsSoundMaybeContinuing : MaybeContinuing → Type 0
   IsSoundMaybeContinuing no_continuing = Unit {0}
@@ -131,14 +134,14 @@ abbrev mutual
   IsSoundContinuing (continuing body condition) = IsSoundCompound body × IfSome (λ (b : BreakIfStatement). IsSoundNode b.expression) condition
 
   pub IsSoundFor : ForStatement → Type 0
-  IsSoundFor (repeat_for attributes init condition update block) = AreSoundAttributes attributes × IsSoundPart init × IfSome IsSoundNode condition × IsSoundPart update × IsSoundCompound block
+  IsSoundFor (repeat_for init condition update block) = IsSoundPart init × IfSome IsSoundNode condition × IsSoundPart update × IsSoundCompound block
 
   pub IsSoundPart : MaybeStatement → Type 0
   IsSoundPart no_statement = Unit {0}
   IsSoundPart (one_statement (statement_node s span)) = IsSoundStatement s
 
   pub IsSoundWhile : WhileStatement → Type 0
-  IsSoundWhile (repeat_while attributes e block) = AreSoundAttributes attributes × IsSoundNode e × IsSoundCompound block
+  IsSoundWhile (repeat_while e block) = IsSoundNode e × IsSoundCompound block
 
 -- ---- modules
 
@@ -154,15 +157,18 @@ abbrev pub IsSoundParameter : FormalParameter → Type 0
 IsSoundParameter p = AreSoundAttributes p.attributes × IsNameText p.ident × IsSoundType p.ty
 
 abbrev pub IsSoundFunction : Function → Type 0
-IsSoundFunction f = AreSoundAttributes f.attributes × IsNameText f.ident × Every IsSoundParameter f.parameters × AreSoundAttributes f.return_attributes × IfSome IsSoundType f.return_type × IsSoundCompound f.body
+IsSoundFunction f = IsNameText f.ident × Every IsSoundParameter f.parameters × AreSoundAttributes f.return_attributes × IfSome IsSoundType f.return_type × IsSoundCompound f.body
+
+abbrev pub IsSoundUnattributedDeclaration : UnattributedDeclaration → Type 0
+IsSoundUnattributedDeclaration units.void = Unit {0}
+IsSoundUnattributedDeclaration (units.declaration d) = IsSoundDeclaration d
+IsSoundUnattributedDeclaration (units.type_alias a) = IsNameText a.ident × IsSoundType a.ty
+IsSoundUnattributedDeclaration (units.structure s) = IsNameText s.ident × Every IsSoundMember s.members
+IsSoundUnattributedDeclaration (units.function f) = IsSoundFunction f
+IsSoundUnattributedDeclaration (units.const_assert c) = IsSoundNode c.expression
 
 abbrev pub IsSoundGlobal : GlobalDeclaration → Type 0
-IsSoundGlobal units.void = Unit {0}
-IsSoundGlobal (units.declaration d) = IsSoundDeclaration d
-IsSoundGlobal (units.type_alias a) = IsNameText a.ident × IsSoundType a.ty
-IsSoundGlobal (units.structure s) = IsNameText s.ident × Every IsSoundMember s.members
-IsSoundGlobal (units.function f) = IsSoundFunction f
-IsSoundGlobal (units.const_assert c) = IsSoundNode c.expression
+IsSoundGlobal d = AreSoundAttributes d.attributes × IsSoundUnattributedDeclaration d.node
 
 abbrev pub IsSoundUnit : TranslationUnit → Type 0
 IsSoundUnit u = Every IsSoundDirective u.global_directives × Every (λ (d : Spanned GlobalDeclaration). IsSoundGlobal d.node) u.global_declarations

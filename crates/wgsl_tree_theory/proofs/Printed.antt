@@ -11,23 +11,23 @@ use Rattle.wgsl_model.specs.EmptyItems as items
 use Rattle.wgsl_tree_theory.proofs.Twice.{void_kept}
 
 end_kept : (s : tree.Statement) → printed.end_of (items.full_statement s) ≡ printed.end_of s
-end_kept tree.void = refl
-end_kept (tree.assignment a) = refl
-end_kept (tree.increment i) = refl
-end_kept (tree.decrement d) = refl
-end_kept tree.break_statement = refl
-end_kept tree.continue_statement = refl
-end_kept tree.discard_statement = refl
-end_kept (tree.return_statement r) = refl
-end_kept (tree.function_call_statement c) = refl
-end_kept (tree.const_assert c) = refl
-end_kept (tree.declaration d) = refl
-end_kept (tree.compound s) = refl
-end_kept (tree.if_statement s) = refl
-end_kept (tree.switch_statement s) = refl
-end_kept (tree.loop_statement s) = refl
-end_kept (tree.for_statement s) = refl
-end_kept (tree.while_statement s) = refl
+end_kept (tree.statement attributes tree.void) = refl
+end_kept (tree.statement attributes (tree.assignment a)) = refl
+end_kept (tree.statement attributes (tree.increment i)) = refl
+end_kept (tree.statement attributes (tree.decrement d)) = refl
+end_kept (tree.statement attributes tree.break_statement) = refl
+end_kept (tree.statement attributes tree.continue_statement) = refl
+end_kept (tree.statement attributes tree.discard_statement) = refl
+end_kept (tree.statement attributes (tree.return_statement r)) = refl
+end_kept (tree.statement attributes (tree.function_call_statement c)) = refl
+end_kept (tree.statement attributes (tree.const_assert c)) = refl
+end_kept (tree.statement attributes (tree.declaration d)) = refl
+end_kept (tree.statement attributes (tree.compound s)) = refl
+end_kept (tree.statement attributes (tree.if_statement s)) = refl
+end_kept (tree.statement attributes (tree.switch_statement s)) = refl
+end_kept (tree.statement attributes (tree.loop_statement s)) = refl
+end_kept (tree.statement attributes (tree.for_statement s)) = refl
+end_kept (tree.statement attributes (tree.while_statement s)) = refl
 
 one_text : (s : tree.Statement) (span : Span) (rest : tree.StatementNodes) (texts : List (List ℕ)) (b : Bool) → printed.is_void (items.full_statement s) ≡ b → printed.print_statement (items.full_statement s) ≡ printed.print_statement s → printed.statement_texts rest ≡ texts
     → printed.statement_texts (if b then rest else tree.statement_before (tree.statement_node (items.full_statement s) span) rest) ≡ (if b then texts else printed.print_statement s ∷ texts)
@@ -38,23 +38,26 @@ one_text s span rest texts false e same others =
 
 mutual
   unended_kept : (s : tree.Statement) → printed.unended (items.full_statement s) ≡ printed.unended s
-  unended_kept (tree.compound s) = compound_printed s
-  unended_kept (tree.if_statement s) = if_printed s
-  unended_kept (tree.switch_statement s) = switch_printed s
-  unended_kept (tree.loop_statement s) = loop_printed s
-  unended_kept (tree.for_statement s) = for_printed s
-  unended_kept (tree.while_statement s) = while_printed s
-  unended_kept tree.void = refl
-  unended_kept (tree.assignment a) = refl
-  unended_kept (tree.increment i) = refl
-  unended_kept (tree.decrement d) = refl
-  unended_kept tree.break_statement = refl
-  unended_kept tree.continue_statement = refl
-  unended_kept tree.discard_statement = refl
-  unended_kept (tree.return_statement r) = refl
-  unended_kept (tree.function_call_statement c) = refl
-  unended_kept (tree.const_assert c) = refl
-  unended_kept (tree.declaration d) = refl
+  unended_kept (tree.statement attributes s) = ap (λ text. print_attribute_line attributes ++ text) (unattributed_kept s)
+
+  unattributed_kept : (s : tree.UnattributedStatement) → printed.unended_unattributed (items.full_unattributed s) ≡ printed.unended_unattributed s
+  unattributed_kept (tree.compound ss) = ap (λ texts. printed.braced texts) (texts_kept ss)
+  unattributed_kept (tree.if_statement s) = if_printed s
+  unattributed_kept (tree.switch_statement s) = switch_printed s
+  unattributed_kept (tree.loop_statement s) = loop_printed s
+  unattributed_kept (tree.for_statement s) = for_printed s
+  unattributed_kept (tree.while_statement s) = while_printed s
+  unattributed_kept tree.void = refl
+  unattributed_kept (tree.assignment a) = refl
+  unattributed_kept (tree.increment i) = refl
+  unattributed_kept (tree.decrement d) = refl
+  unattributed_kept tree.break_statement = refl
+  unattributed_kept tree.continue_statement = refl
+  unattributed_kept tree.discard_statement = refl
+  unattributed_kept (tree.return_statement r) = refl
+  unattributed_kept (tree.function_call_statement c) = refl
+  unattributed_kept (tree.const_assert c) = refl
+  unattributed_kept (tree.declaration d) = refl
 
   texts_kept : (ss : tree.StatementNodes) → printed.statement_texts (items.full_statements ss) ≡ printed.statement_texts ss
   texts_kept tree.no_statements = refl
@@ -67,7 +70,7 @@ mutual
   opened_printed (tree.compound_statement attributes ss) = ap (λ texts. print_attribute_line attributes ++ codes "{\n" ++ printed.indented_line (joined (codes "\n") texts)) (texts_kept ss)
 
   if_printed : (s : tree.IfStatement) → printed.print_if (items.full_if s) ≡ printed.print_if s
-  if_printed (tree.if_else attributes first others last) = λ i. print_attribute_line attributes ++ if_clause_printed first i ++ else_ifs_printed others i ++ else_printed last i
+  if_printed (tree.if_else first others last) = λ i. if_clause_printed first i ++ else_ifs_printed others i ++ else_printed last i
 
   if_clause_printed : (c : tree.IfClause) → printed.print_if_clause (items.full_if_clause c) ≡ printed.print_if_clause c
   if_clause_printed (tree.if_clause e block) = λ i. codes "if " ++ print_expression_node e ++ codes " " ++ compound_printed block i
@@ -87,7 +90,7 @@ mutual
   else_printed (tree.one_else c) = λ i. codes "\n" ++ else_clause_printed c i
 
   switch_printed : (s : tree.SwitchStatement) → printed.print_switch (items.full_switch s) ≡ printed.print_switch s
-  switch_printed (tree.switch attributes e body_attributes cs) = λ i. print_attribute_line attributes ++ codes "switch " ++ print_expression_node e ++ codes " " ++ print_attribute_line body_attributes ++ printed.braced (clauses_printed cs i)
+  switch_printed (tree.switch e body_attributes cs) = λ i. codes "switch " ++ print_expression_node e ++ codes " " ++ print_attribute_line body_attributes ++ printed.braced (clauses_printed cs i)
 
   clauses_printed : (cs : tree.SwitchClauses) → printed.clause_texts (items.full_clauses cs) ≡ printed.clause_texts cs
   clauses_printed tree.no_clauses = refl
@@ -97,7 +100,7 @@ mutual
   switch_clause_printed (tree.switch_clause selectors block) = λ i. codes "case " ++ joined (codes ", ") (map print_selector selectors) ++ codes " " ++ compound_printed block i
 
   loop_printed : (s : tree.LoopStatement) → printed.print_loop (items.full_loop s) ≡ printed.print_loop s
-  loop_printed (tree.repeat attributes body last) = λ i. print_attribute_line attributes ++ codes "loop " ++ opened_printed body i ++ continuing_line_kept last i ++ codes "}"
+  loop_printed (tree.repeat body last) = λ i. codes "loop " ++ opened_printed body i ++ continuing_line_kept last i ++ codes "}"
 
   continuing_line_kept : (c : tree.MaybeContinuing) → printed.continuing_line (items.full_maybe_continuing c) ≡ printed.continuing_line c
   continuing_line_kept tree.no_continuing = refl
@@ -107,14 +110,14 @@ mutual
   continuing_printed (tree.continuing body condition) = λ i. codes "continuing " ++ opened_printed body i ++ printed.break_if_line condition ++ codes "}"
 
   for_printed : (s : tree.ForStatement) → printed.print_for (items.full_for s) ≡ printed.print_for s
-  for_printed (tree.repeat_for attributes init condition update block) = λ i. print_attribute_line attributes ++ codes "for (" ++ part_printed init i ++ codes "; " ++ print_condition condition ++ codes "; " ++ part_printed update i ++ codes ") " ++ compound_printed block i
+  for_printed (tree.repeat_for init condition update block) = λ i. codes "for (" ++ part_printed init i ++ codes "; " ++ print_condition condition ++ codes "; " ++ part_printed update i ++ codes ") " ++ compound_printed block i
 
   part_printed : (p : tree.MaybeStatement) → printed.unended_part (items.full_part p) ≡ printed.unended_part p
   part_printed tree.no_statement = refl
   part_printed (tree.one_statement (tree.statement_node s span)) = unended_kept s
 
   while_printed : (s : tree.WhileStatement) → printed.print_while (items.full_while s) ≡ printed.print_while s
-  while_printed (tree.repeat_while attributes e block) = λ i. print_attribute_line attributes ++ codes "while " ++ print_expression_node e ++ codes " " ++ compound_printed block i
+  while_printed (tree.repeat_while e block) = λ i. codes "while " ++ print_expression_node e ++ codes " " ++ compound_printed block i
 
 pub statement_printed : (s : tree.Statement) → printed.print_statement (items.full_statement s) ≡ printed.print_statement s
 statement_printed s = λ i. unended_kept s i ++ end_kept s i

@@ -38,66 +38,69 @@ selectors_bare (tree.default_selector ∷ ss) = λ i. codes "default" ∷ select
 selectors_bare (tree.expression_selector e ∷ ss) = λ i. node_bare e i ∷ selectors_bare ss i
 
 pub declaration_bare : (d : tree.Declaration) → unended_declaration (bare.bare_declaration d) ≡ unended_declaration d
-declaration_bare d = λ i. attribute_line_bare d.attributes i ++ print_kind d.kind ++ codes " " ++ d.ident ++ typed_bare d.ty i ++ initializer_bare d.initializer i
+declaration_bare d = λ i. print_kind d.kind ++ codes " " ++ d.ident ++ typed_bare d.ty i ++ initializer_bare d.initializer i
 
 -- ---- statements
 end_bare : (s : tree.Statement) → printed.end_of (bare.bare_statement s) ≡ printed.end_of s
-end_bare tree.void = refl
-end_bare (tree.compound b) = refl
-end_bare (tree.assignment a) = refl
-end_bare (tree.increment j) = refl
-end_bare (tree.decrement d) = refl
-end_bare (tree.if_statement s) = refl
-end_bare (tree.switch_statement s) = refl
-end_bare (tree.loop_statement s) = refl
-end_bare (tree.for_statement s) = refl
-end_bare (tree.while_statement s) = refl
-end_bare tree.break_statement = refl
-end_bare tree.continue_statement = refl
-end_bare tree.discard_statement = refl
-end_bare (tree.return_statement r) = refl
-end_bare (tree.function_call_statement c) = refl
-end_bare (tree.const_assert c) = refl
-end_bare (tree.declaration d) = refl
+end_bare (tree.statement attributes tree.void) = refl
+end_bare (tree.statement attributes (tree.compound b)) = refl
+end_bare (tree.statement attributes (tree.assignment a)) = refl
+end_bare (tree.statement attributes (tree.increment j)) = refl
+end_bare (tree.statement attributes (tree.decrement d)) = refl
+end_bare (tree.statement attributes (tree.if_statement s)) = refl
+end_bare (tree.statement attributes (tree.switch_statement s)) = refl
+end_bare (tree.statement attributes (tree.loop_statement s)) = refl
+end_bare (tree.statement attributes (tree.for_statement s)) = refl
+end_bare (tree.statement attributes (tree.while_statement s)) = refl
+end_bare (tree.statement attributes tree.break_statement) = refl
+end_bare (tree.statement attributes tree.continue_statement) = refl
+end_bare (tree.statement attributes tree.discard_statement) = refl
+end_bare (tree.statement attributes (tree.return_statement r)) = refl
+end_bare (tree.statement attributes (tree.function_call_statement c)) = refl
+end_bare (tree.statement attributes (tree.const_assert c)) = refl
+end_bare (tree.statement attributes (tree.declaration d)) = refl
 
 void_bare : (s : tree.Statement) → printed.is_void (bare.bare_statement s) ≡ printed.is_void s
-void_bare tree.void = refl
-void_bare (tree.compound b) = refl
-void_bare (tree.assignment a) = refl
-void_bare (tree.increment j) = refl
-void_bare (tree.decrement d) = refl
-void_bare (tree.if_statement s) = refl
-void_bare (tree.switch_statement s) = refl
-void_bare (tree.loop_statement s) = refl
-void_bare (tree.for_statement s) = refl
-void_bare (tree.while_statement s) = refl
-void_bare tree.break_statement = refl
-void_bare tree.continue_statement = refl
-void_bare tree.discard_statement = refl
-void_bare (tree.return_statement r) = refl
-void_bare (tree.function_call_statement c) = refl
-void_bare (tree.const_assert c) = refl
-void_bare (tree.declaration d) = refl
+void_bare (tree.statement attributes tree.void) = refl
+void_bare (tree.statement attributes (tree.compound b)) = refl
+void_bare (tree.statement attributes (tree.assignment a)) = refl
+void_bare (tree.statement attributes (tree.increment j)) = refl
+void_bare (tree.statement attributes (tree.decrement d)) = refl
+void_bare (tree.statement attributes (tree.if_statement s)) = refl
+void_bare (tree.statement attributes (tree.switch_statement s)) = refl
+void_bare (tree.statement attributes (tree.loop_statement s)) = refl
+void_bare (tree.statement attributes (tree.for_statement s)) = refl
+void_bare (tree.statement attributes (tree.while_statement s)) = refl
+void_bare (tree.statement attributes tree.break_statement) = refl
+void_bare (tree.statement attributes tree.continue_statement) = refl
+void_bare (tree.statement attributes tree.discard_statement) = refl
+void_bare (tree.statement attributes (tree.return_statement r)) = refl
+void_bare (tree.statement attributes (tree.function_call_statement c)) = refl
+void_bare (tree.statement attributes (tree.const_assert c)) = refl
+void_bare (tree.statement attributes (tree.declaration d)) = refl
 
 mutual
   unended_bare : (s : tree.Statement) → printed.unended (bare.bare_statement s) ≡ printed.unended s
-  unended_bare tree.void = refl
-  unended_bare (tree.compound b) = compound_bare b
-  unended_bare (tree.assignment a) = λ i. node_bare a.lhs i ++ codes " " ++ assignment_operator_text a.operator ++ codes " " ++ node_bare a.rhs i
-  unended_bare (tree.increment j) = λ i. node_bare j.expression i ++ codes "++"
-  unended_bare (tree.decrement d) = λ i. node_bare d.expression i ++ codes "--"
-  unended_bare (tree.if_statement s) = if_bare s
-  unended_bare (tree.switch_statement s) = switch_bare s
-  unended_bare (tree.loop_statement s) = loop_bare s
-  unended_bare (tree.for_statement s) = for_bare s
-  unended_bare (tree.while_statement s) = while_bare s
-  unended_bare tree.break_statement = refl
-  unended_bare tree.continue_statement = refl
-  unended_bare tree.discard_statement = refl
-  unended_bare (tree.return_statement r) = λ i. codes "return" ++ returned_bare r.expression i
-  unended_bare (tree.function_call_statement c) = call_bare c.call
-  unended_bare (tree.const_assert c) = λ i. codes "const_assert " ++ node_bare c.expression i
-  unended_bare (tree.declaration d) = declaration_bare d
+  unended_bare (tree.statement attributes s) = λ i. attribute_line_bare attributes i ++ unattributed_bare s i
+
+  unattributed_bare : (s : tree.UnattributedStatement) → printed.unended_unattributed (bare.bare_unattributed s) ≡ printed.unended_unattributed s
+  unattributed_bare tree.void = refl
+  unattributed_bare (tree.compound ss) = ap (λ texts. printed.braced texts) (texts_bare ss)
+  unattributed_bare (tree.assignment a) = λ i. node_bare a.lhs i ++ codes " " ++ assignment_operator_text a.operator ++ codes " " ++ node_bare a.rhs i
+  unattributed_bare (tree.increment j) = λ i. node_bare j.expression i ++ codes "++"
+  unattributed_bare (tree.decrement d) = λ i. node_bare d.expression i ++ codes "--"
+  unattributed_bare (tree.if_statement s) = if_bare s
+  unattributed_bare (tree.switch_statement s) = switch_bare s
+  unattributed_bare (tree.loop_statement s) = loop_bare s
+  unattributed_bare (tree.for_statement s) = for_bare s
+  unattributed_bare (tree.while_statement s) = while_bare s
+  unattributed_bare tree.break_statement = refl
+  unattributed_bare tree.continue_statement = refl
+  unattributed_bare tree.discard_statement = refl
+  unattributed_bare (tree.return_statement r) = λ i. codes "return" ++ returned_bare r.expression i
+  unattributed_bare (tree.function_call_statement c) = call_bare c.call
+  unattributed_bare (tree.const_assert c) = λ i. codes "const_assert " ++ node_bare c.expression i
+  unattributed_bare (tree.declaration d) = declaration_bare d
 
   texts_bare : (ss : tree.StatementNodes) → printed.statement_texts (bare.bare_statements ss) ≡ printed.statement_texts ss
   texts_bare tree.no_statements = refl
@@ -111,7 +114,7 @@ mutual
   opened_bare (tree.compound_statement attributes ss) = λ i. attribute_line_bare attributes i ++ codes "{\n" ++ printed.indented_line (joined (codes "\n") (texts_bare ss i))
 
   if_bare : (s : tree.IfStatement) → printed.print_if (bare.bare_if s) ≡ printed.print_if s
-  if_bare (tree.if_else attributes first others last) = λ i. attribute_line_bare attributes i ++ if_clause_bare first i ++ else_ifs_bare others i ++ else_bare last i
+  if_bare (tree.if_else first others last) = λ i. if_clause_bare first i ++ else_ifs_bare others i ++ else_bare last i
 
   if_clause_bare : (c : tree.IfClause) → printed.print_if_clause (bare.bare_if_clause c) ≡ printed.print_if_clause c
   if_clause_bare (tree.if_clause e block) = λ i. codes "if " ++ node_bare e i ++ codes " " ++ compound_bare block i
@@ -131,8 +134,8 @@ mutual
   else_bare (tree.one_else c) = λ i. codes "\n" ++ else_clause_bare c i
 
   switch_bare : (s : tree.SwitchStatement) → printed.print_switch (bare.bare_switch s) ≡ printed.print_switch s
-  switch_bare (tree.switch attributes e body_attributes cs) =
-      λ i. attribute_line_bare attributes i ++ codes "switch " ++ node_bare e i ++ codes " " ++ attribute_line_bare body_attributes i ++ printed.braced (clauses_bare cs i)
+  switch_bare (tree.switch e body_attributes cs) =
+      λ i. codes "switch " ++ node_bare e i ++ codes " " ++ attribute_line_bare body_attributes i ++ printed.braced (clauses_bare cs i)
 
   clauses_bare : (cs : tree.SwitchClauses) → printed.clause_texts (bare.bare_clauses cs) ≡ printed.clause_texts cs
   clauses_bare tree.no_clauses = refl
@@ -142,7 +145,7 @@ mutual
   switch_clause_bare (tree.switch_clause selectors block) = λ i. codes "case " ++ joined (codes ", ") (selectors_bare selectors i) ++ codes " " ++ compound_bare block i
 
   loop_bare : (s : tree.LoopStatement) → printed.print_loop (bare.bare_loop s) ≡ printed.print_loop s
-  loop_bare (tree.repeat attributes body last) = λ i. attribute_line_bare attributes i ++ codes "loop " ++ opened_bare body i ++ continuing_line_bare last i ++ codes "}"
+  loop_bare (tree.repeat body last) = λ i. codes "loop " ++ opened_bare body i ++ continuing_line_bare last i ++ codes "}"
 
   continuing_line_bare : (c : tree.MaybeContinuing) → printed.continuing_line (bare.bare_maybe_continuing c) ≡ printed.continuing_line c
   continuing_line_bare tree.no_continuing = refl
@@ -152,15 +155,15 @@ mutual
   continuing_bare (tree.continuing body condition) = λ i. codes "continuing " ++ opened_bare body i ++ break_if_bare condition i ++ codes "}"
 
   for_bare : (s : tree.ForStatement) → printed.print_for (bare.bare_for s) ≡ printed.print_for s
-  for_bare (tree.repeat_for attributes init condition update block) =
-      λ i. attribute_line_bare attributes i ++ codes "for (" ++ part_bare init i ++ codes "; " ++ condition_bare condition i ++ codes "; " ++ part_bare update i ++ codes ") " ++ compound_bare block i
+  for_bare (tree.repeat_for init condition update block) =
+      λ i. codes "for (" ++ part_bare init i ++ codes "; " ++ condition_bare condition i ++ codes "; " ++ part_bare update i ++ codes ") " ++ compound_bare block i
 
   part_bare : (p : tree.MaybeStatement) → printed.unended_part (bare.bare_part p) ≡ printed.unended_part p
   part_bare tree.no_statement = refl
   part_bare (tree.one_statement (tree.statement_node s span)) = unended_bare s
 
   while_bare : (s : tree.WhileStatement) → printed.print_while (bare.bare_while s) ≡ printed.print_while s
-  while_bare (tree.repeat_while attributes e block) = λ i. attribute_line_bare attributes i ++ codes "while " ++ node_bare e i ++ codes " " ++ compound_bare block i
+  while_bare (tree.repeat_while e block) = λ i. codes "while " ++ node_bare e i ++ codes " " ++ compound_bare block i
 
 pub statement_bare : (s : tree.Statement) → printed.print_statement (bare.bare_statement s) ≡ printed.print_statement s
 statement_bare s = λ i. unended_bare s i ++ end_bare s i

@@ -26,17 +26,20 @@ result_bare attributes None = refl
 result_bare attributes (Some t) = λ i. codes "-> " ++ attributes_before_bare attributes i ++ type_bare t i ++ codes " "
 
 function_bare : (f : tree.Function) → printed.print_function (bare.bare_function f) ≡ printed.print_function f
-function_bare f = λ i. attribute_line_bare f.attributes i ++ codes "fn " ++ f.ident ++ codes "(" ++ joined (codes ", ") (parameters_bare f.parameters i) ++ codes ") " ++ result_bare f.return_attributes f.return_type i ++ compound_bare f.body i
+function_bare f = λ i. codes "fn " ++ f.ident ++ codes "(" ++ joined (codes ", ") (parameters_bare f.parameters i) ++ codes ") " ++ result_bare f.return_attributes f.return_type i ++ compound_bare f.body i
+
+unattributed_bare : (d : tree.UnattributedDeclaration) → printed.print_unattributed_declaration (bare.bare_unattributed_declaration d) ≡ printed.print_unattributed_declaration d
+unattributed_bare tree.void = refl
+unattributed_bare (tree.declaration d) = λ i. declaration_bare d i ++ codes ";"
+unattributed_bare (tree.type_alias a) = λ i. codes "alias " ++ a.ident ++ codes " = " ++ type_bare a.ty i ++ codes ";"
+unattributed_bare (tree.structure s) = λ i. codes "struct " ++ s.ident ++ codes " {\n" ++ indented (joined (codes ",\n") (members_bare s.members i)) ++ codes "\n}"
+unattributed_bare (tree.function f) = function_bare f
+unattributed_bare (tree.const_assert c) = λ i. (codes "const_assert " ++ node_bare c.expression i) ++ codes ";"
 
 pub global_bare : (d : tree.GlobalDeclaration) → printed.print_global_declaration (bare.bare_global_declaration d) ≡ printed.print_global_declaration d
-global_bare tree.void = refl
-global_bare (tree.declaration d) = λ i. declaration_bare d i ++ codes ";"
-global_bare (tree.type_alias a) = λ i. codes "alias " ++ a.ident ++ codes " = " ++ type_bare a.ty i ++ codes ";"
-global_bare (tree.structure s) = λ i. codes "struct " ++ s.ident ++ codes " {\n" ++ indented (joined (codes ",\n") (members_bare s.members i)) ++ codes "\n}"
-global_bare (tree.function f) = function_bare f
-global_bare (tree.const_assert c) = λ i. (codes "const_assert " ++ node_bare c.expression i) ++ codes ";"
+global_bare d = λ i. attribute_line_bare d.attributes i ++ unattributed_bare d.node i
 
-void_bare : (d : tree.GlobalDeclaration) → printed.is_void (bare.bare_global_declaration d) ≡ printed.is_void d
+void_bare : (d : tree.UnattributedDeclaration) → printed.is_empty (bare.bare_unattributed_declaration d) ≡ printed.is_empty d
 void_bare tree.void = refl
 void_bare (tree.declaration d) = refl
 void_bare (tree.type_alias a) = refl
@@ -46,7 +49,7 @@ void_bare (tree.const_assert c) = refl
 
 texts_bare : (ds : List (Spanned tree.GlobalDeclaration)) → printed.declaration_texts (map (bare_spanned bare.bare_global_declaration) ds) ≡ printed.declaration_texts ds
 texts_bare [] = refl
-texts_bare (d ∷ ds) = λ i. if void_bare d.node i then texts_bare ds i else global_bare d.node i ∷ texts_bare ds i
+texts_bare (d ∷ ds) = λ i. if void_bare d.node.node i then texts_bare ds i else global_bare d.node i ∷ texts_bare ds i
 
 pub unit_print_bare : (u : tree.TranslationUnit) → printed.print_unit (bare.bare_unit u) ≡ printed.print_unit u
 unit_print_bare u = λ i. printed.print_directives u.global_directives ++ joined (codes "\n\n") (texts_bare u.global_declarations i) ++ codes "\n"

@@ -7,23 +7,23 @@ use Rattle.wgsl_model.specs.EmptyItems as items
 
 -- a statement that is not empty does not become so
 pub void_kept : (s : tree.Statement) → is_void (items.full_statement s) ≡ is_void s
-void_kept tree.void = refl
-void_kept (tree.assignment a) = refl
-void_kept (tree.increment i) = refl
-void_kept (tree.decrement d) = refl
-void_kept tree.break_statement = refl
-void_kept tree.continue_statement = refl
-void_kept tree.discard_statement = refl
-void_kept (tree.return_statement r) = refl
-void_kept (tree.function_call_statement c) = refl
-void_kept (tree.const_assert c) = refl
-void_kept (tree.declaration d) = refl
-void_kept (tree.compound s) = refl
-void_kept (tree.if_statement s) = refl
-void_kept (tree.switch_statement s) = refl
-void_kept (tree.loop_statement s) = refl
-void_kept (tree.for_statement s) = refl
-void_kept (tree.while_statement s) = refl
+void_kept (tree.statement attributes tree.void) = refl
+void_kept (tree.statement attributes (tree.assignment a)) = refl
+void_kept (tree.statement attributes (tree.increment i)) = refl
+void_kept (tree.statement attributes (tree.decrement d)) = refl
+void_kept (tree.statement attributes tree.break_statement) = refl
+void_kept (tree.statement attributes tree.continue_statement) = refl
+void_kept (tree.statement attributes tree.discard_statement) = refl
+void_kept (tree.statement attributes (tree.return_statement r)) = refl
+void_kept (tree.statement attributes (tree.function_call_statement c)) = refl
+void_kept (tree.statement attributes (tree.const_assert c)) = refl
+void_kept (tree.statement attributes (tree.declaration d)) = refl
+void_kept (tree.statement attributes (tree.compound s)) = refl
+void_kept (tree.statement attributes (tree.if_statement s)) = refl
+void_kept (tree.statement attributes (tree.switch_statement s)) = refl
+void_kept (tree.statement attributes (tree.loop_statement s)) = refl
+void_kept (tree.statement attributes (tree.for_statement s)) = refl
+void_kept (tree.statement attributes (tree.while_statement s)) = refl
 
 -- one statement more before the rest
 one_twice : (s : tree.Statement) (span : Span) (rest : tree.StatementNodes) (b : Bool) → is_void (items.full_statement s) ≡ b → items.full_statement (items.full_statement s) ≡ items.full_statement s → items.full_statements rest ≡ rest
@@ -35,23 +35,26 @@ one_twice s span rest false e same others =
 
 mutual
   pub statement_twice : (s : tree.Statement) → items.full_statement (items.full_statement s) ≡ items.full_statement s
-  statement_twice (tree.compound s) = ap (λ s. tree.compound s) (compound_twice s)
-  statement_twice (tree.if_statement s) = ap (λ s. tree.if_statement s) (if_twice s)
-  statement_twice (tree.switch_statement s) = ap (λ s. tree.switch_statement s) (switch_twice s)
-  statement_twice (tree.loop_statement s) = ap (λ s. tree.loop_statement s) (loop_twice s)
-  statement_twice (tree.for_statement s) = ap (λ s. tree.for_statement s) (for_twice s)
-  statement_twice (tree.while_statement s) = ap (λ s. tree.while_statement s) (while_twice s)
-  statement_twice tree.void = refl
-  statement_twice (tree.assignment a) = refl
-  statement_twice (tree.increment i) = refl
-  statement_twice (tree.decrement d) = refl
-  statement_twice tree.break_statement = refl
-  statement_twice tree.continue_statement = refl
-  statement_twice tree.discard_statement = refl
-  statement_twice (tree.return_statement r) = refl
-  statement_twice (tree.function_call_statement c) = refl
-  statement_twice (tree.const_assert c) = refl
-  statement_twice (tree.declaration d) = refl
+  statement_twice (tree.statement attributes s) = ap (tree.statement attributes) (unattributed_twice s)
+
+  unattributed_twice : (s : tree.UnattributedStatement) → items.full_unattributed (items.full_unattributed s) ≡ items.full_unattributed s
+  unattributed_twice (tree.compound ss) = ap (λ ss. tree.compound ss) (statements_twice ss)
+  unattributed_twice (tree.if_statement s) = ap (λ s. tree.if_statement s) (if_twice s)
+  unattributed_twice (tree.switch_statement s) = ap (λ s. tree.switch_statement s) (switch_twice s)
+  unattributed_twice (tree.loop_statement s) = ap (λ s. tree.loop_statement s) (loop_twice s)
+  unattributed_twice (tree.for_statement s) = ap (λ s. tree.for_statement s) (for_twice s)
+  unattributed_twice (tree.while_statement s) = ap (λ s. tree.while_statement s) (while_twice s)
+  unattributed_twice tree.void = refl
+  unattributed_twice (tree.assignment a) = refl
+  unattributed_twice (tree.increment i) = refl
+  unattributed_twice (tree.decrement d) = refl
+  unattributed_twice tree.break_statement = refl
+  unattributed_twice tree.continue_statement = refl
+  unattributed_twice tree.discard_statement = refl
+  unattributed_twice (tree.return_statement r) = refl
+  unattributed_twice (tree.function_call_statement c) = refl
+  unattributed_twice (tree.const_assert c) = refl
+  unattributed_twice (tree.declaration d) = refl
 
   statements_twice : (ss : tree.StatementNodes) → items.full_statements (items.full_statements ss) ≡ items.full_statements ss
   statements_twice tree.no_statements = refl
@@ -61,7 +64,7 @@ mutual
   compound_twice (tree.compound_statement attributes ss) = ap (tree.compound_statement attributes) (statements_twice ss)
 
   if_twice : (s : tree.IfStatement) → items.full_if (items.full_if s) ≡ items.full_if s
-  if_twice (tree.if_else attributes first others last) = λ i. tree.if_else attributes (if_clause_twice first i) (else_ifs_twice others i) (else_twice last i)
+  if_twice (tree.if_else first others last) = λ i. tree.if_else (if_clause_twice first i) (else_ifs_twice others i) (else_twice last i)
 
   if_clause_twice : (c : tree.IfClause) → items.full_if_clause (items.full_if_clause c) ≡ items.full_if_clause c
   if_clause_twice (tree.if_clause e block) = ap (tree.if_clause e) (compound_twice block)
@@ -81,7 +84,7 @@ mutual
   else_twice (tree.one_else c) = ap (λ c. tree.one_else c) (else_clause_twice c)
 
   switch_twice : (s : tree.SwitchStatement) → items.full_switch (items.full_switch s) ≡ items.full_switch s
-  switch_twice (tree.switch attributes e body_attributes cs) = ap (tree.switch attributes e body_attributes) (clauses_twice cs)
+  switch_twice (tree.switch e body_attributes cs) = ap (tree.switch e body_attributes) (clauses_twice cs)
 
   clauses_twice : (cs : tree.SwitchClauses) → items.full_clauses (items.full_clauses cs) ≡ items.full_clauses cs
   clauses_twice tree.no_clauses = refl
@@ -91,7 +94,7 @@ mutual
   switch_clause_twice (tree.switch_clause selectors block) = ap (tree.switch_clause selectors) (compound_twice block)
 
   loop_twice : (s : tree.LoopStatement) → items.full_loop (items.full_loop s) ≡ items.full_loop s
-  loop_twice (tree.repeat attributes body last) = λ i. tree.repeat attributes (compound_twice body i) (maybe_continuing_twice last i)
+  loop_twice (tree.repeat body last) = λ i. tree.repeat (compound_twice body i) (maybe_continuing_twice last i)
 
   maybe_continuing_twice : (c : tree.MaybeContinuing) → items.full_maybe_continuing (items.full_maybe_continuing c) ≡ items.full_maybe_continuing c
   maybe_continuing_twice tree.no_continuing = refl
@@ -101,11 +104,11 @@ mutual
   continuing_twice (tree.continuing body condition) = ap (λ b. tree.continuing b condition) (compound_twice body)
 
   for_twice : (s : tree.ForStatement) → items.full_for (items.full_for s) ≡ items.full_for s
-  for_twice (tree.repeat_for attributes init condition update block) = λ i. tree.repeat_for attributes (part_twice init i) condition (part_twice update i) (compound_twice block i)
+  for_twice (tree.repeat_for init condition update block) = λ i. tree.repeat_for (part_twice init i) condition (part_twice update i) (compound_twice block i)
 
   part_twice : (p : tree.MaybeStatement) → items.full_part (items.full_part p) ≡ items.full_part p
   part_twice tree.no_statement = refl
   part_twice (tree.one_statement (tree.statement_node s span)) = ap (λ s. tree.one_statement (tree.statement_node s span)) (statement_twice s)
 
   while_twice : (s : tree.WhileStatement) → items.full_while (items.full_while s) ≡ items.full_while s
-  while_twice (tree.repeat_while attributes e block) = ap (tree.repeat_while attributes e) (compound_twice block)
+  while_twice (tree.repeat_while e block) = ap (tree.repeat_while e) (compound_twice block)

@@ -1,9 +1,12 @@
 -- `==` of modules, of their directives and of their declarations is sameness of their codes.
-use Rattle.std.proofs.Common.{true, ◌&&◌, ◌==◌, ◌≡◌, ◌↔◌, refl, sym, subst, string_bytes}
+use Rattle.std.proofs.Common.{true, ◌&&◌, ◌==◌, ◌≡◌, ◌↔◌, refl, sym, ◌∙◌, subst, string_bytes}
 use denote.Enum.Declared.{tag_of}
+use Rattle.std.proofs.Math.Bool.{and_comm, and-true}
 use Rattle.std.specs.Cmp.{IsEquivalence, on_equiv}
 use Rattle.std.specs.Cmp.Lexicographic.{pointwise}
-use Rattle.wgsl_model.specs.StatementsWithoutSpans.{bare_type_alias, bare_member, bare_struct, bare_parameter, bare_function, bare_global_declaration, bare_unit}
+use Rattle.wgsl_model.specs.Attributed.{without_attributes}
+use Rattle.wgsl_model.specs.Units as plain
+use Rattle.wgsl_model.specs.StatementsWithoutSpans.{bare_attributed, bare_type_alias, bare_member, bare_struct, bare_parameter, bare_function, bare_global_declaration, bare_unit}
 use Rattle.wgsl_span.specs.Spanned.{spanned_node}
 use Rattle.wgsl_span.specs.View.{spanned_view}
 use Rattle.wgsl_named_values.specs.declared.severity.DiagnosticSeverity.{DiagnosticSeverity}
@@ -12,14 +15,18 @@ use Rattle.wgsl_named_values.specs.contracts.severity.DiagnosticSeverity.{the_ty
 use Rattle.wgsl_named_values.specs.View.{severity_view}
 use Rattle.wgsl_expression.specs.View.{ident_name, type_expression_view}
 use Rattle.wgsl_attribute.proofs.Equalities.{options_same, lists_same, attribute_lists_same}
+use Rattle.wgsl_simple_statement.specs.View.{assert_view}
 use Rattle.wgsl_statement.specs.View.{compound_statement_view}
 use Rattle.wgsl_simple_statement.proofs.Equalities.{declarations_same, asserts_same, agree}
 use Rattle.wgsl_equality.specs.Code.{text, same}
 use Rattle.wgsl_equality.specs.Laws.{same_equivalence}
 use Rattle.wgsl_equality.specs.NamedValues.{severity_number}
 use Rattle.wgsl_equality.specs.Expressions.{type_code}
+use Rattle.wgsl_equality.specs.Attributes.{attributes_code}
+use Rattle.wgsl_equality.specs.Declarations.{attributed_code}
 use Rattle.wgsl_equality.specs.Statements.{compound_code}
-use Rattle.wgsl_equality.specs.Units.{diagnostic_directive_code, enable_directive_code, requires_directive_code, global_directive_code, type_alias_code, member_code, struct_code, parameter_code, function_code, global_declaration_code, unit_code}
+use Rattle.wgsl_equality.specs.Units.{diagnostic_directive_code, enable_directive_code, requires_directive_code, global_directive_code, type_alias_code, member_code, struct_code, parameter_code, function_code, unattributed_declaration_code, global_declaration_code, unit_code}
+use Rattle.wgsl_equality.proofs.DeclarationLaws.{attributed_equal}
 use Rattle.wgsl_equality.proofs.UnitLaws as law
 use Rattle.wgsl_unit.specs.declared.unit.DiagnosticDirective.{DiagnosticDirective}
 use Rattle.wgsl_unit.specs.declared.unit.EnableDirective.{EnableDirective}
@@ -79,28 +86,33 @@ parameters_same a b = λ i.
     attribute_lists_same a.attributes.items b.attributes.items i
     && (pointwise ◌==◌ (ident_name a.ident) (ident_name b.ident) && same (type_code (type_expression_view a.ty)) (type_code (type_expression_view b.ty)))
 
-functions_same : (a b : Function) → equal_functions a b ≡ same (function_code (function_view a)) (function_code (function_view b))
+functions_same : (a b : Function) → equal_functions a b ≡ same (attributed_code function_code (function_view a)) (attributed_code function_code (function_view b))
 functions_same a b =
     let parameters = lists_same parameter_view parameter_code equal_parameters parameters_same a.parameters.items b.parameters.items in
     let types = options_same type_expression_view type_code _ (λ x y. refl) a.return_type b.return_type in
-    λ i. attribute_lists_same a.attributes.items b.attributes.items i
+    (λ i. attribute_lists_same a.attributes.items b.attributes.items i
     && (pointwise ◌==◌ (ident_name a.ident) (ident_name b.ident)
     && (parameters i
     && (attribute_lists_same a.return_attributes.items b.return_attributes.items i
-    && (types i && same (compound_code (compound_statement_view a.body)) (compound_code (compound_statement_view b.body))))))
+    && (types i && same (compound_code (compound_statement_view a.body)) (compound_code (compound_statement_view b.body)))))))
+    ∙ and_comm (same (attributes_code (function_view a).attributes) (attributes_code (function_view b).attributes)) (same (function_code (function_view a).node) (function_code (function_view b).node))
+
+-- declarations without attributes, by what stands behind these
+unattributed_same : (c d : plain.UnattributedDeclaration) → same (unattributed_declaration_code c) (unattributed_declaration_code d) ≡ same (global_declaration_code (without_attributes c)) (global_declaration_code (without_attributes d))
+unattributed_same c d = sym (and-true (same (unattributed_declaration_code c) (unattributed_declaration_code d)))
 
 global_declarations_same : (a b : GlobalDeclaration) → equal_global_declarations a b ≡ same (global_declaration_code (global_declaration_view a)) (global_declaration_code (global_declaration_view b))
 global_declarations_same declaration.Void declaration.Void = refl
 global_declarations_same declaration.Void other = refl
 global_declarations_same (declaration.Declaration d) (declaration.Declaration e) = declarations_same d e
 global_declarations_same (declaration.Declaration d) other = refl
-global_declarations_same (declaration.TypeAlias d) (declaration.TypeAlias e) = type_aliases_same d e
+global_declarations_same (declaration.TypeAlias d) (declaration.TypeAlias e) = type_aliases_same d e ∙ unattributed_same (plain.type_alias (type_alias_view d)) (plain.type_alias (type_alias_view e))
 global_declarations_same (declaration.TypeAlias d) other = refl
-global_declarations_same (declaration.Struct d) (declaration.Struct e) = structs_same d e
+global_declarations_same (declaration.Struct d) (declaration.Struct e) = structs_same d e ∙ unattributed_same (plain.structure (struct_view d)) (plain.structure (struct_view e))
 global_declarations_same (declaration.Struct d) other = refl
 global_declarations_same (declaration.Function d) (declaration.Function e) = functions_same d e
 global_declarations_same (declaration.Function d) other = refl
-global_declarations_same (declaration.ConstAssert d) (declaration.ConstAssert e) = asserts_same d e
+global_declarations_same (declaration.ConstAssert d) (declaration.ConstAssert e) = asserts_same d e ∙ unattributed_same (plain.const_assert (assert_view d)) (plain.const_assert (assert_view e))
 global_declarations_same (declaration.ConstAssert d) other = refl
 
 -- modules
@@ -135,8 +147,8 @@ structs_agree = agree equal_structs struct_view struct_code structs_same bare_st
 pub parameters_agree : (a b : FormalParameter) → (equal_parameters a b ≡ true) ↔ (bare_parameter (parameter_view a) ≡ bare_parameter (parameter_view b))
 parameters_agree = agree equal_parameters parameter_view parameter_code parameters_same bare_parameter law.parameters_equal
 
-pub functions_agree : (a b : Function) → (equal_functions a b ≡ true) ↔ (bare_function (function_view a) ≡ bare_function (function_view b))
-functions_agree = agree equal_functions function_view function_code functions_same bare_function law.functions_equal
+pub functions_agree : (a b : Function) → (equal_functions a b ≡ true) ↔ (bare_attributed bare_function (function_view a) ≡ bare_attributed bare_function (function_view b))
+functions_agree = agree equal_functions function_view (attributed_code function_code) functions_same (bare_attributed bare_function) (attributed_equal function_code bare_function law.functions_equal)
 
 pub global_declarations_agree : (a b : GlobalDeclaration) → (equal_global_declarations a b ≡ true) ↔ (bare_global_declaration (global_declaration_view a) ≡ bare_global_declaration (global_declaration_view b))
 global_declarations_agree = agree equal_global_declarations global_declaration_view global_declaration_code global_declarations_same bare_global_declaration law.global_declarations_equal

@@ -2,21 +2,21 @@
 use Rattle.std.proofs.Common.{◌≡◌, refl, ◌∙◌, ap, Bool, true, false, not, cond, List, [], ◌∷◌, map, if◌then◌else◌}
 use Rattle.std.specs.List.Retain.{RetainsInTurn}
 use Rattle.wgsl_model.specs.Units as plain
-use Rattle.wgsl_model.specs.PrintedUnits.{is_void}
-use Rattle.wgsl_model.specs.EmptyItems.{full_declaration, full_declarations}
+use Rattle.wgsl_model.specs.PrintedUnits.{is_empty, is_void}
+use Rattle.wgsl_model.specs.EmptyItems.{full_unattributed_declaration, full_declaration, full_declarations}
 use Rattle.wgsl_span.specs.declared.Spanned.{Spanned}
 use Rattle.wgsl_span.specs.Spanned.{spanned_node, spanned_span}
 use Rattle.wgsl_span.specs.View.{span_view, spanned_view}
 use Rattle.wgsl_unit.specs.declared.unit.GlobalDeclaration.{GlobalDeclaration}
 use Rattle.wgsl_unit.specs.View.{global_declaration_view}
 
-void_full : (d : plain.GlobalDeclaration) → is_void (full_declaration d) ≡ is_void d
-void_full plain.void = refl
-void_full (plain.declaration d) = refl
-void_full (plain.type_alias a) = refl
-void_full (plain.structure s) = refl
-void_full (plain.function f) = refl
-void_full (plain.const_assert c) = refl
+empty_full : (d : plain.UnattributedDeclaration) → is_empty (full_unattributed_declaration d) ≡ is_empty d
+empty_full plain.void = refl
+empty_full (plain.declaration d) = refl
+empty_full (plain.type_alias a) = refl
+empty_full (plain.structure s) = refl
+empty_full (plain.function f) = refl
+empty_full (plain.const_assert c) = refl
 
 -- y is x without its empty statements, and stays where it is not empty
 abbrev pub Emptied : Spanned GlobalDeclaration → Bool → Spanned GlobalDeclaration → Type 0
@@ -32,7 +32,7 @@ module _ {S : Type 0} (R : S → Spanned GlobalDeclaration → Bool → S → Sp
       let view = spanned_view global_declaration_view in
       let d = global_declaration_view (spanned_node x) in
       let emptied = says s x stays t y called in
-      let answer : stays ≡ not (is_void d) = emptied.1 ∙ ap (λ z. not (is_void z)) emptied.0 ∙ ap not (void_full d) in
+      let answer : stays ≡ not (is_void d) = emptied.1 ∙ ap (λ z. not (is_void z)) emptied.0 ∙ ap not (empty_full d.node) in
       let further = retained_full t xs zs rest in
       ap (map view) (e ∙ ap (λ b. cond b (y ∷ zs) zs) answer)
       ∙ (elim (is_void d) as (λ b. map view (cond (not b) (y ∷ zs) zs) ≡ (if b then full_declarations (map view xs) else record (view x) { node = full_declaration d } ∷ full_declarations (map view xs))) [

@@ -14,22 +14,38 @@ abbrev pub is_requires : plain.GlobalDirective → Bool
 is_requires (plain.requires d) = true
 is_requires other = false
 
+-- ---- declarations, by what stands behind their attributes
+abbrev declares_value : plain.UnattributedDeclaration → Bool
+declares_value (plain.declaration d) = true
+declares_value other = false
+
 abbrev pub is_declaration : plain.GlobalDeclaration → Bool
-is_declaration (plain.declaration d) = true
-is_declaration other = false
+is_declaration d = declares_value d.node
+
+abbrev declares_alias : plain.UnattributedDeclaration → Bool
+declares_alias (plain.type_alias a) = true
+declares_alias other = false
 
 abbrev pub is_type_alias : plain.GlobalDeclaration → Bool
-is_type_alias (plain.type_alias a) = true
-is_type_alias other = false
+is_type_alias d = declares_alias d.node
+
+abbrev declares_struct : plain.UnattributedDeclaration → Bool
+declares_struct (plain.structure s) = true
+declares_struct other = false
 
 abbrev pub is_struct : plain.GlobalDeclaration → Bool
-is_struct (plain.structure s) = true
-is_struct other = false
+is_struct d = declares_struct d.node
+
+abbrev declares_function : plain.UnattributedDeclaration → Bool
+declares_function (plain.function f) = true
+declares_function other = false
 
 abbrev pub is_function : plain.GlobalDeclaration → Bool
-is_function (plain.function f) = true
-is_function other = false
+is_function d = declares_function d.node
+
+abbrev declares_assert : plain.UnattributedDeclaration → Bool
+declares_assert (plain.const_assert c) = true
+declares_assert other = false
 
 abbrev pub is_const_assert : plain.GlobalDeclaration → Bool
-is_const_assert (plain.const_assert c) = true
-is_const_assert other = false
+is_const_assert d = declares_assert d.node

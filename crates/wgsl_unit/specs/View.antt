@@ -1,6 +1,7 @@
 -- Modules, their directives and their declarations as plain data.
 use Rattle.std.specs.Prelude.{map, string_bytes}
 use Rattle.std.specs.Option.{option_map}
+use Rattle.wgsl_model.specs.Attributed.{Attributed, with_attributes, without_attributes}
 use Rattle.wgsl_model.specs.Units as plain
 use Rattle.wgsl_span.specs.View.{spanned_view}
 use Rattle.wgsl_named_values.specs.View.{severity_view}
@@ -50,23 +51,22 @@ struct_view s = record { ident = ident_name s.ident; members = map (spanned_view
 abbrev pub parameter_view : FormalParameter → plain.FormalParameter
 parameter_view p = record { attributes = attributes_view p.attributes.items; ident = ident_name p.ident; ty = type_expression_view p.ty }
 
-abbrev pub function_view : Function → plain.Function
-function_view f = record {
-  attributes = attributes_view f.attributes.items;
+abbrev pub function_view : Function → Attributed plain.Function
+function_view f = with_attributes (attributes_view f.attributes.items) (record {
   ident = ident_name f.ident;
   parameters = map parameter_view f.parameters.items;
   return_attributes = attributes_view f.return_attributes.items;
   return_type = option_map type_expression_view f.return_type;
   body = compound_statement_view f.body;
-}
+})
 
 abbrev pub global_declaration_view : GlobalDeclaration → plain.GlobalDeclaration
-global_declaration_view declaration.Void = plain.void
-global_declaration_view (declaration.Declaration d) = plain.declaration (declaration_view d)
-global_declaration_view (declaration.TypeAlias a) = plain.type_alias (type_alias_view a)
-global_declaration_view (declaration.Struct s) = plain.structure (struct_view s)
-global_declaration_view (declaration.Function f) = plain.function (function_view f)
-global_declaration_view (declaration.ConstAssert c) = plain.const_assert (assert_view c)
+global_declaration_view declaration.Void = without_attributes plain.void
+global_declaration_view (declaration.Declaration d) = plain.as_declaration plain.declaration (declaration_view d)
+global_declaration_view (declaration.TypeAlias a) = without_attributes (plain.type_alias (type_alias_view a))
+global_declaration_view (declaration.Struct s) = without_attributes (plain.structure (struct_view s))
+global_declaration_view (declaration.Function f) = plain.as_declaration plain.function (function_view f)
+global_declaration_view (declaration.ConstAssert c) = without_attributes (plain.const_assert (assert_view c))
 
 -- a module
 abbrev pub unit_view : TranslationUnit → plain.TranslationUnit

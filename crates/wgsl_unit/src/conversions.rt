@@ -1,6 +1,7 @@
 //! What becomes a directive or a declaration of a module, and nodes made from their names.
 
 ghost use Rattle.std.specs.Prelude.{◌≡◌, None, []};
+ghost use Rattle.wgsl_model.specs.Attributed.{without_attributes};
 ghost use Rattle.wgsl_model.specs.Statements.{compound_statement, no_statements};
 ghost use Rattle.wgsl_expression.specs.View.{ident_name, type_expression_view};
 ghost use Rattle.wgsl_unit.specs.View.{unit_view, struct_view, member_view, parameter_view, function_view};
@@ -140,14 +141,13 @@ impl FormalParameter {
 impl Function {
     /// The function without attributes and parameters, which returns nothing and has an empty body.
     pub fn new(alloc: Global, ident: Ident) -> Self
-        ensures { function_view result ≡ record {
-          attributes = [];
+        ensures { function_view result ≡ without_attributes (record {
           ident = ident_name ident;
           parameters = [];
           return_attributes = [];
           return_type = None;
           body = compound_statement [] no_statements;
-        } }
+        }) }
     {
         Function {
             attributes: Vec::new(alloc),

@@ -5,6 +5,7 @@ ghost use Rattle.std.specs.Option.{option_map};
 ghost use Rattle.std.specs.Fmt.{DisplaysOnOk};
 ghost use Rattle.wgsl_model.specs.Indentation.{indented};
 ghost use Rattle.wgsl_model.specs.PrintedAttributes.{print_attribute_line};
+ghost use Rattle.wgsl_model.specs.PrintedDeclarations.{print_attributed};
 ghost use Rattle.wgsl_model.specs.PrintedUnits.{print_directive, print_diagnostic, print_enable, print_requires, print_type_alias, print_member, print_struct, print_parameter, print_result, print_function, print_global_declaration, print_directives, print_unit};
 ghost use Rattle.wgsl_expression.specs.View.{ident_name, type_expression_view};
 ghost use Rattle.wgsl_attribute.specs.View.{attributes_view};
@@ -186,7 +187,7 @@ impl fmt::Display for FormalParameter {
 }
 
 impl fmt::Display for Function {
-    ghost output = { λ function. Some (print_function (function_view function)) };
+    ghost output = { λ function. Some (print_attributed print_function (function_view function)) };
 
     fn fmt<W: fmt::Write>(&self, f: &mut fmt::Formatter<W>) -> fmt::Result {
         let body = &self.body;

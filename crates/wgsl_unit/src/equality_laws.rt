@@ -2,7 +2,7 @@
 
 ghost use Rattle.std.specs.Prelude.{◌≡◌, ◌↔◌, IsTrue};
 ghost use Rattle.std.specs.Cmp.{IsEquivalence};
-ghost use Rattle.wgsl_model.specs.StatementsWithoutSpans.{bare_type_alias, bare_member, bare_struct, bare_parameter, bare_function, bare_global_declaration, bare_unit};
+ghost use Rattle.wgsl_model.specs.StatementsWithoutSpans.{bare_attributed, bare_type_alias, bare_member, bare_struct, bare_parameter, bare_function, bare_global_declaration, bare_unit};
 ghost use Rattle.wgsl_unit.specs.declared.unit.DiagnosticDirective.{DiagnosticDirective};
 ghost use Rattle.wgsl_unit.specs.declared.unit.EnableDirective.{EnableDirective};
 ghost use Rattle.wgsl_unit.specs.declared.unit.RequiresDirective.{RequiresDirective};
@@ -41,6 +41,6 @@ pub fn global_declarations()
     ensures alias { (a b : TypeAlias) → IsTrue (equal_type_aliases a b) ↔ (bare_type_alias (type_alias_view a) ≡ bare_type_alias (type_alias_view b)) }
     ensures structure { (a b : Struct) → IsTrue (equal_structs a b) ↔ (bare_struct (struct_view a) ≡ bare_struct (struct_view b)) }
     ensures member { (a b : StructMember) → IsTrue (equal_members a b) ↔ (bare_member (member_view a) ≡ bare_member (member_view b)) }
-    ensures function { (a b : Function) → IsTrue (equal_functions a b) ↔ (bare_function (function_view a) ≡ bare_function (function_view b)) }
+    ensures function { (a b : Function) → IsTrue (equal_functions a b) ↔ (bare_attributed bare_function (function_view a) ≡ bare_attributed bare_function (function_view b)) }
     ensures parameter { (a b : FormalParameter) → IsTrue (equal_parameters a b) ↔ (bare_parameter (parameter_view a) ≡ bare_parameter (parameter_view b)) }
 {}

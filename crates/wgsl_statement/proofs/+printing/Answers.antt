@@ -18,6 +18,7 @@ use Rattle.wgsl_statement.specs.declared.statement.ContinuingStatement.{Continui
 use Rattle.wgsl_simple_statement.specs.View.{selector_view}
 use Rattle.wgsl_statement.specs.View.{statement_view, statement_node_view, statement_nodes_view, compound_statement_view, else_clause_view, switch_clause_view, continuing_statement_view}
 use Rattle.wgsl_statement.proofs.StatementViews.{is_compound, is_assignment, is_increment, is_decrement, is_if, is_switch, is_loop, is_for, is_while, is_break, is_continue, is_return, is_discard, is_function_call, is_const_assert, is_declaration}
+use Rattle.wgsl_statement.proofs.BlockStatements.{block_unended}
 use Rattle.wgsl_statement.proofs.Views.{compound_statement_out, if_statement_out, switch_statement_out, switch_clause_out, loop_statement_out, for_statement_out, while_statement_out}
 use Rattle.wgsl_statement.proofs.ClauseViews.{if_clause_out, else_if_clause_out, else_clause_out, continuing_statement_out}
 use Rattle.wgsl_simple_statement.proofs.Blocks.{lines_at, lines_within, statements_filled, clauses_filled}
@@ -30,7 +31,7 @@ use Rattle.wgsl_statement.proofs.+printing.Goals as goal
 -- the statements, one by one
 
 pub write::write_unended-returns-in-Compound : goal.write::write_unended-returns-in-Compound
-write::write_unended-returns-in-Compound g t c = let e = ap (λ (s : Statement). statement_view s) c.in-Compound.is ∙ is_compound _ in search rules
+write::write_unended-returns-in-Compound g t c = let e = ap (λ (s : Statement). unended (statement_view s)) c.in-Compound.is ∙ ap unended (is_compound _) ∙ block_unended (compound_statement_view c.in-Compound.inner) in search rules
 
 pub write::write_unended-returns-in-Assignment : goal.write::write_unended-returns-in-Assignment
 write::write_unended-returns-in-Assignment g t c = let e = ap (λ (s : Statement). statement_view s) c.in-Assignment.is ∙ is_assignment _ in search rules

@@ -3,12 +3,14 @@ use Rattle.std.proofs.lemmas.List.{with_items_is}
 use Rattle.std.proofs.lemmas.List.Elements.{filter_from_retain}
 use Rattle.std.specs.Option.{option_map}
 use Rattle.std.specs.Vec.{with_items}
+use Rattle.wgsl_model.specs.Attributed.{Attributed, with_attributes}
 use Rattle.wgsl_model.specs.Statements as plain
-use Rattle.wgsl_model.specs.EmptyItems.{full_statement, full_compound, full_if, full_if_clause, full_else_if_clause, full_else_ifs, full_else_clause, full_else, full_part, full_switch, full_switch_clause, full_maybe_continuing, full_continuing}
+use Rattle.wgsl_model.specs.EmptyItems.{full_attributed, full_statement, full_compound, full_if, full_if_clause, full_else_if_clause, full_else_ifs, full_else_clause, full_else, full_part, full_switch, full_switch_clause, full_maybe_continuing, full_continuing}
 use Rattle.wgsl_expression.specs.View.{expression_node_view}
 use Rattle.wgsl_attribute.specs.View.{attributes_view}
 use Rattle.wgsl_simple_statement.specs.View.{selector_view, break_if_view}
 use Rattle.wgsl_statement.specs.View.{statement_node_view, statement_nodes_view, else_if_clause_view, switch_clause_view}
+use Rattle.wgsl_statement.proofs.BlockStatements.{block_full}
 use Rattle.wgsl_statement.proofs.EmptyStatements.{next_done, all_done, full_node, list_full, else_ifs_full, clauses_full}
 use Rattle.wgsl_statement.specs.declared.statement.ElseIfClause.{ElseIfClause}
 use Rattle.wgsl_statement.specs.declared.statement.Statement.TheViews as layers
@@ -36,7 +38,7 @@ use Rattle.wgsl_statement.proofs.+remove.Goals as goal
 
 else_if_clause_roll : (x : layer.ElseIfClause-F Statement CompoundStatement ContinuingStatement ElseClause ElseIfClause ForStatement IfClause IfStatement LoopStatement SwitchClause SwitchStatement WhileStatement) → else_if_clause_view (layers.roll-ElseIfClause x)
     ≡ plain.else_if_clause (expression_node_view x.expression) (V.compound_statement_view x.body)
-else_if_clause_roll x = folds.fold-roll-ElseIfClause plain.Statement plain.CompoundStatement plain.ContinuingStatement plain.ElseClause plain.ElseIfClause plain.ForStatement plain.IfClause plain.IfStatement plain.LoopStatement plain.SwitchClause plain.SwitchStatement plain.WhileStatement V.statement_step V.compound_statement_step V.continuing_statement_step V.else_clause_step V.else_if_clause_step V.for_statement_step V.if_clause_step V.if_statement_step V.loop_statement_step V.switch_clause_step V.switch_statement_step V.while_statement_step x
+else_if_clause_roll x = folds.fold-roll-ElseIfClause plain.Statement plain.CompoundStatement plain.ContinuingStatement plain.ElseClause plain.ElseIfClause (Attributed plain.ForStatement) plain.IfClause (Attributed plain.IfStatement) (Attributed plain.LoopStatement) plain.SwitchClause (Attributed plain.SwitchStatement) (Attributed plain.WhileStatement) V.statement_step V.compound_statement_step V.continuing_statement_step V.else_clause_step V.else_if_clause_step V.for_statement_step V.if_clause_step V.if_statement_step V.loop_statement_step V.switch_clause_step V.switch_statement_step V.while_statement_step x
 
 pub statement::CompoundStatement::remove_voids-statements-preserved : goal.statement::CompoundStatement::remove_voids-statements-preserved
 statement::CompoundStatement::remove_voids-statements-preserved t c =
@@ -72,10 +74,10 @@ statement::SwitchStatement::remove_voids-returns t c =
     let xs = c.clauses.clauses.items in
     let ys = original.clauses.items in
     switch_statement_roll _
-    ∙ ap (plain.switch (attributes_view original.attributes.items) (expression_node_view original.expression) (attributes_view original.body_attributes.items))
+    ∙ ap (λ cs. with_attributes (attributes_view original.attributes.items) (plain.switch (expression_node_view original.expression) (attributes_view original.body_attributes.items) cs))
     (ap plain.clauses_of (all_done switch_clause_view full_switch_clause xs ys c.clauses.invariant.0.0 (λ k d lt. c.clauses.invariant.1 k d (search rules)))
     ∙ clauses_full (map switch_clause_view ys))
-    ∙ sym (ap full_switch (switch_statement_out c.args.self.now))
+    ∙ sym (ap (full_attributed full_switch) (switch_statement_out c.args.self.now))
 
 pub voids::remove_from_else_ifs-clauses-preserved : goal.voids::remove_from_else_ifs-clauses-preserved
 voids::remove_from_else_ifs-clauses-preserved t c =
@@ -100,21 +102,21 @@ pub statement::Statement::remove_voids-returns-in-Compound : goal.statement::Sta
 unfolding roll-Statement Carrier.roll
 statement::Statement::remove_voids-returns-in-Compound t c =
     let seen = c.remove_voids.ensures ∙ ap (λ (b : CompoundStatement). full_compound (V.compound_statement_view b)) c.in-Compound.block-is in
-    let whole = is_compound c.remove_voids.new.self ∙ ap plain.compound seen ∙ sym (ap full_statement (is_compound c.in-Compound.block)) in
+    let whole = is_compound c.remove_voids.new.self ∙ ap plain.block_statement seen ∙ sym (block_full (V.compound_statement_view c.in-Compound.block)) ∙ sym (ap full_statement (is_compound c.in-Compound.block)) in
     rw c.in-Compound.is (search (rules, whole))
 
 pub statement::Statement::remove_voids-returns-in-If : goal.statement::Statement::remove_voids-returns-in-If
 unfolding roll-Statement Carrier.roll
 statement::Statement::remove_voids-returns-in-If t c =
-    let seen = c.remove_voids-in-If.ensures ∙ ap (λ (b : IfStatement). full_if (V.if_statement_view b)) c.in-If.statement-is in
-    let whole = is_if c.remove_voids-in-If.new.self ∙ ap plain.if_statement seen ∙ sym (ap full_statement (is_if c.in-If.statement)) in
+    let seen = c.remove_voids-in-If.ensures ∙ ap (λ (b : IfStatement). full_attributed full_if (V.if_statement_view b)) c.in-If.statement-is in
+    let whole = is_if c.remove_voids-in-If.new.self ∙ ap (plain.as_statement plain.if_statement) seen ∙ sym (ap full_statement (is_if c.in-If.statement)) in
     rw c.in-If.is (search (rules, whole))
 
 pub statement::Statement::remove_voids-returns-in-Switch : goal.statement::Statement::remove_voids-returns-in-Switch
 unfolding roll-Statement Carrier.roll
 statement::Statement::remove_voids-returns-in-Switch t c =
-    let seen = c.remove_voids-in-Switch.ensures ∙ ap (λ (b : SwitchStatement). full_switch (V.switch_statement_view b)) c.in-Switch.statement-is in
-    let whole = is_switch c.remove_voids-in-Switch.new.self ∙ ap plain.switch_statement seen ∙ sym (ap full_statement (is_switch c.in-Switch.statement)) in
+    let seen = c.remove_voids-in-Switch.ensures ∙ ap (λ (b : SwitchStatement). full_attributed full_switch (V.switch_statement_view b)) c.in-Switch.statement-is in
+    let whole = is_switch c.remove_voids-in-Switch.new.self ∙ ap (plain.as_statement plain.switch_statement) seen ∙ sym (ap full_statement (is_switch c.in-Switch.statement)) in
     rw c.in-Switch.is (search (rules, whole))
 
 pub statement::Statement::remove_voids-returns-in-While : goal.statement::Statement::remove_voids-returns-in-While
@@ -124,8 +126,8 @@ statement::Statement::remove_voids-returns-in-While t c =
     let body = c.remove_voids-in-While.ensures ∙ ap (λ (w : WhileStatement). full_compound (V.compound_statement_view (layers.out-WhileStatement w).body)) c.in-While.statement-is in
     let changed = record original { body = c.remove_voids-in-While.new.self } in
     let whole = is_while (layers.roll-WhileStatement changed)
-    ∙ ap plain.while_statement (while_statement_roll changed ∙ ap (plain.repeat_while (attributes_view original.attributes.items) (expression_node_view original.condition)) body)
-    ∙ sym (ap full_statement (is_while c.in-While.statement ∙ ap plain.while_statement (while_statement_out c.in-While.statement))) in
+    ∙ ap (plain.as_statement plain.while_statement) (while_statement_roll changed ∙ ap (λ b. with_attributes (attributes_view original.attributes.items) (plain.repeat_while (expression_node_view original.condition) b)) body)
+    ∙ sym (ap full_statement (is_while c.in-While.statement ∙ ap (plain.as_statement plain.while_statement) (while_statement_out c.in-While.statement))) in
     rw c.in-While.is (search (rules, whole))
 
 pub statement::Statement::remove_voids-returns-in-For : goal.statement::Statement::remove_voids-returns-in-For
@@ -137,13 +139,13 @@ statement::Statement::remove_voids-returns-in-For t c =
     let body = c.remove_voids-in-For.ensures ∙ ap (λ (f : ForStatement). full_compound (V.compound_statement_view (layers.out-ForStatement f).body)) c.in-For.statement-is in
     let changed = record original { initializer = c.remove_from_part.new.part; update = c.remove_from_part-in-For.new.part; body = c.remove_voids-in-For.new.self } in
     let whole = is_for (layers.roll-ForStatement changed)
-    ∙ ap plain.for_statement (for_statement_roll changed.attributes changed.initializer changed.condition changed.update changed.body
-    ∙ (λ i. plain.repeat_for (attributes_view original.attributes.items) (initializer i) (option_map expression_node_view original.condition) (update i) (body i)))
-    ∙ sym (ap full_statement (is_for c.in-For.statement ∙ ap plain.for_statement (for_statement_out c.in-For.statement))) in
+    ∙ ap (plain.as_statement plain.for_statement) (for_statement_roll changed.attributes changed.initializer changed.condition changed.update changed.body
+    ∙ (λ i. with_attributes (attributes_view original.attributes.items) (plain.repeat_for (initializer i) (option_map expression_node_view original.condition) (update i) (body i))))
+    ∙ sym (ap full_statement (is_for c.in-For.statement ∙ ap (plain.as_statement plain.for_statement) (for_statement_out c.in-For.statement))) in
     rw c.in-For.is (search (rules, whole))
 
 continuing_statement_roll : (x : layer.ContinuingStatement-F Statement CompoundStatement ContinuingStatement ElseClause ElseIfClause ForStatement IfClause IfStatement LoopStatement SwitchClause SwitchStatement WhileStatement) → V.continuing_statement_view (layers.roll-ContinuingStatement x) ≡ plain.continuing (V.compound_statement_view x.body) (option_map break_if_view x.break_if)
-continuing_statement_roll x = folds.fold-roll-ContinuingStatement plain.Statement plain.CompoundStatement plain.ContinuingStatement plain.ElseClause plain.ElseIfClause plain.ForStatement plain.IfClause plain.IfStatement plain.LoopStatement plain.SwitchClause plain.SwitchStatement plain.WhileStatement V.statement_step V.compound_statement_step V.continuing_statement_step V.else_clause_step V.else_if_clause_step V.for_statement_step V.if_clause_step V.if_statement_step V.loop_statement_step V.switch_clause_step V.switch_statement_step V.while_statement_step x
+continuing_statement_roll x = folds.fold-roll-ContinuingStatement plain.Statement plain.CompoundStatement plain.ContinuingStatement plain.ElseClause plain.ElseIfClause (Attributed plain.ForStatement) plain.IfClause (Attributed plain.IfStatement) (Attributed plain.LoopStatement) plain.SwitchClause (Attributed plain.SwitchStatement) (Attributed plain.WhileStatement) V.statement_step V.compound_statement_step V.continuing_statement_step V.else_clause_step V.else_if_clause_step V.for_statement_step V.if_clause_step V.if_statement_step V.loop_statement_step V.switch_clause_step V.switch_statement_step V.while_statement_step x
 
 abbrev LoopLayer : Type 0
 LoopLayer = layer.LoopStatement-F Statement CompoundStatement ContinuingStatement ElseClause ElseIfClause ForStatement IfClause IfStatement LoopStatement SwitchClause SwitchStatement WhileStatement
@@ -163,10 +165,10 @@ statement::Statement::remove_voids-returns-in-Some t c =
     ∙ sym (ap full_continuing (continuing_statement_out inner)))
     ∙ ap (λ (o : Option ContinuingStatement). full_maybe_continuing (plain.continuing_of (option_map V.continuing_statement_view o))) (sym c.in-Some.is ∙ ap (λ (r : LoopLayer). r.continuing) (layers.out-roll-LoopStatement _) ∙ ap (λ (l : LoopStatement). (layers.out-LoopStatement l).continuing) c.in-Loop.statement-is) in
     let whole = is_loop (layers.roll-LoopStatement (record (layers.out-LoopStatement (layers.roll-LoopStatement first)) { continuing = Some last }))
-    ∙ ap plain.loop_statement (ap (λ (r : LoopLayer). V.loop_statement_view (layers.roll-LoopStatement (record r { continuing = Some last }))) (layers.out-roll-LoopStatement first)
+    ∙ ap (plain.as_statement plain.loop_statement) (ap (λ (r : LoopLayer). V.loop_statement_view (layers.roll-LoopStatement (record r { continuing = Some last }))) (layers.out-roll-LoopStatement first)
     ∙ loop_statement_roll first.attributes first.body (Some last)
-    ∙ (λ i. plain.repeat (attributes_view original.attributes.items) (body i) (continuing i)))
-    ∙ sym (ap full_statement (is_loop statement ∙ ap plain.loop_statement (loop_statement_out statement))) in
+    ∙ (λ i. with_attributes (attributes_view original.attributes.items) (plain.repeat (body i) (continuing i))))
+    ∙ sym (ap full_statement (is_loop statement ∙ ap (plain.as_statement plain.loop_statement) (loop_statement_out statement))) in
     rw c.in-Loop.is (search (rules, whole))
 
 pub statement::Statement::remove_voids-returns-in_default : goal.statement::Statement::remove_voids-returns-in_default
@@ -181,17 +183,17 @@ statement::Statement::remove_voids-returns-in_default t c =
     ap (λ (o : Option ContinuingStatement). plain.continuing_of (option_map V.continuing_statement_view o)) none
     ∙ sym (ap (λ (o : Option ContinuingStatement). full_maybe_continuing (plain.continuing_of (option_map V.continuing_statement_view o))) none) in
     let whole = is_loop (layers.roll-LoopStatement (layers.out-LoopStatement (layers.roll-LoopStatement first)))
-    ∙ ap plain.loop_statement (ap (λ (r : LoopLayer). V.loop_statement_view (layers.roll-LoopStatement r)) (layers.out-roll-LoopStatement first)
+    ∙ ap (plain.as_statement plain.loop_statement) (ap (λ (r : LoopLayer). V.loop_statement_view (layers.roll-LoopStatement r)) (layers.out-roll-LoopStatement first)
     ∙ loop_statement_roll first.attributes first.body first.continuing
-    ∙ (λ i. plain.repeat (attributes_view original.attributes.items) (body i) (continuing i)))
-    ∙ sym (ap full_statement (is_loop statement ∙ ap plain.loop_statement (loop_statement_out statement))) in
+    ∙ (λ i. with_attributes (attributes_view original.attributes.items) (plain.repeat (body i) (continuing i))))
+    ∙ sym (ap full_statement (is_loop statement ∙ ap (plain.as_statement plain.loop_statement) (loop_statement_out statement))) in
     rw c.in-Loop.is (search (rules, whole))
 
 if_clause_roll : (x : layer.IfClause-F Statement CompoundStatement ContinuingStatement ElseClause ElseIfClause ForStatement IfClause IfStatement LoopStatement SwitchClause SwitchStatement WhileStatement) → V.if_clause_view (layers.roll-IfClause x) ≡ plain.if_clause (expression_node_view x.expression) (V.compound_statement_view x.body)
-if_clause_roll x = folds.fold-roll-IfClause plain.Statement plain.CompoundStatement plain.ContinuingStatement plain.ElseClause plain.ElseIfClause plain.ForStatement plain.IfClause plain.IfStatement plain.LoopStatement plain.SwitchClause plain.SwitchStatement plain.WhileStatement V.statement_step V.compound_statement_step V.continuing_statement_step V.else_clause_step V.else_if_clause_step V.for_statement_step V.if_clause_step V.if_statement_step V.loop_statement_step V.switch_clause_step V.switch_statement_step V.while_statement_step x
+if_clause_roll x = folds.fold-roll-IfClause plain.Statement plain.CompoundStatement plain.ContinuingStatement plain.ElseClause plain.ElseIfClause (Attributed plain.ForStatement) plain.IfClause (Attributed plain.IfStatement) (Attributed plain.LoopStatement) plain.SwitchClause (Attributed plain.SwitchStatement) (Attributed plain.WhileStatement) V.statement_step V.compound_statement_step V.continuing_statement_step V.else_clause_step V.else_if_clause_step V.for_statement_step V.if_clause_step V.if_statement_step V.loop_statement_step V.switch_clause_step V.switch_statement_step V.while_statement_step x
 
 else_clause_roll : (x : layer.ElseClause-F Statement CompoundStatement ContinuingStatement ElseClause ElseIfClause ForStatement IfClause IfStatement LoopStatement SwitchClause SwitchStatement WhileStatement) → V.else_clause_view (layers.roll-ElseClause x) ≡ plain.else_clause (V.compound_statement_view x.body)
-else_clause_roll x = folds.fold-roll-ElseClause plain.Statement plain.CompoundStatement plain.ContinuingStatement plain.ElseClause plain.ElseIfClause plain.ForStatement plain.IfClause plain.IfStatement plain.LoopStatement plain.SwitchClause plain.SwitchStatement plain.WhileStatement V.statement_step V.compound_statement_step V.continuing_statement_step V.else_clause_step V.else_if_clause_step V.for_statement_step V.if_clause_step V.if_statement_step V.loop_statement_step V.switch_clause_step V.switch_statement_step V.while_statement_step x
+else_clause_roll x = folds.fold-roll-ElseClause plain.Statement plain.CompoundStatement plain.ContinuingStatement plain.ElseClause plain.ElseIfClause (Attributed plain.ForStatement) plain.IfClause (Attributed plain.IfStatement) (Attributed plain.LoopStatement) plain.SwitchClause (Attributed plain.SwitchStatement) (Attributed plain.WhileStatement) V.statement_step V.compound_statement_step V.continuing_statement_step V.else_clause_step V.else_if_clause_step V.for_statement_step V.if_clause_step V.if_statement_step V.loop_statement_step V.switch_clause_step V.switch_statement_step V.while_statement_step x
 
 abbrev IfLayer : Type 0
 IfLayer = layer.IfStatement-F Statement CompoundStatement ContinuingStatement ElseClause ElseIfClause ForStatement IfClause IfStatement LoopStatement SwitchClause SwitchStatement WhileStatement
@@ -218,8 +220,8 @@ statement::IfStatement::remove_voids-returns-in-Some t c =
     ∙ ap (λ (o : Option ElseClause). full_else (plain.else_of (option_map V.else_clause_view o))) (sym c.in-Some.is ∙ ap (λ (r : IfLayer). r.else_clause) changed) in
     ap (λ (r : IfLayer). V.if_statement_view (layers.roll-IfStatement (record r { else_clause = Some last }))) changed
     ∙ if_statement_roll third.attributes third.if_clause third.else_if_clauses (Some last)
-    ∙ (λ i. plain.if_else (attributes_view original.attributes.items) (if_part i) (else_ifs i) (last_part i))
-    ∙ sym (ap full_if (if_statement_out c.args.self.now))
+    ∙ (λ i. with_attributes (attributes_view original.attributes.items) (plain.if_else (if_part i) (else_ifs i) (last_part i)))
+    ∙ sym (ap (full_attributed full_if) (if_statement_out c.args.self.now))
 
 pub statement::IfStatement::remove_voids-returns-in_default : goal.statement::IfStatement::remove_voids-returns-in_default
 statement::IfStatement::remove_voids-returns-in_default t c =
@@ -242,8 +244,8 @@ statement::IfStatement::remove_voids-returns-in_default t c =
     ∙ sym (ap (λ (o : Option ElseClause). full_else (plain.else_of (option_map V.else_clause_view o))) none) in
     ap (λ (r : IfLayer). V.if_statement_view (layers.roll-IfStatement r)) changed
     ∙ if_statement_roll third.attributes third.if_clause third.else_if_clauses third.else_clause
-    ∙ (λ i. plain.if_else (attributes_view original.attributes.items) (if_part i) (else_ifs i) (last_part i))
-    ∙ sym (ap full_if (if_statement_out c.args.self.now))
+    ∙ (λ i. with_attributes (attributes_view original.attributes.items) (plain.if_else (if_part i) (else_ifs i) (last_part i)))
+    ∙ sym (ap (full_attributed full_if) (if_statement_out c.args.self.now))
 
 pub voids::remove_from_part-returns-in-Some : goal.voids::remove_from_part-returns-in-Some
 voids::remove_from_part-returns-in-Some t c =

@@ -2,6 +2,7 @@ use Rattle.std.proofs.Common.{rules, ◌≡◌, ◌∙◌, sym, ap, map, Some}
 use Rattle.std.proofs.lemmas.List.{take_all}
 use Rattle.std.proofs.lemmas.Result.{IfOk-from_err}
 use Rattle.std.specs.Option.{option_map}
+use Rattle.wgsl_model.specs.Attributed.{with_attributes}
 use Rattle.wgsl_model.specs.Statements as plain
 use Rattle.wgsl_expression.specs.View.{expression_node_view}
 use Rattle.wgsl_statement.specs.declared.statement.Statement.TheViews as layers
@@ -40,7 +41,7 @@ IfStatementCloneWith::clone_with-returns t c =
     let attributes = attributes_shown original.attributes.items _ c.in_ok-attributes.ensures.copy in
     let else_ifs = c.clauses.invariant ∙ ap (map V.else_if_clause_view) (take_all _ c.deref-clause-items.result.now c.clauses-test.false ∙ c.deref-clause-items.ensures.value) in record {
       copy = if_statement_roll _ _ _ _
-          ∙ (λ i. plain.if_else (attributes i) (c.in_ok-if_clause.ensures.copy i) (plain.else_ifs_of (else_ifs i)) (plain.else_of (c.in_ok-clone_else.ensures i)))
+          ∙ (λ i. with_attributes (attributes i) (plain.if_else (c.in_ok-if_clause.ensures.copy i) (plain.else_ifs_of (else_ifs i)) (plain.else_of (c.in_ok-clone_else.ensures i))))
           ∙ sym (if_statement_out c.args.self.now);
     }
 
@@ -57,7 +58,7 @@ SwitchStatementCloneWith::clone_with-returns t c =
     let expression : expression_node_view c.in_ok-expression.expression ≡ expression_node_view original.expression = search rules in
     let clauses = c.clauses.invariant ∙ ap (map V.switch_clause_view) (take_all _ c.deref-clause-items.result.now c.clauses-test.false ∙ c.deref-clause-items.ensures.value) in record {
       copy = switch_statement_roll _
-          ∙ (λ i. plain.switch (attributes i) (expression i) (body_attributes i) (plain.clauses_of (clauses i)))
+          ∙ (λ i. with_attributes (attributes i) (plain.switch (expression i) (body_attributes i) (plain.clauses_of (clauses i))))
           ∙ sym (switch_statement_out c.args.self.now);
     }
 
@@ -66,7 +67,7 @@ LoopStatementCloneWith::clone_with-returns t c =
     let original = layers.out-LoopStatement c.args.self.now in
     let attributes = attributes_shown original.attributes.items _ c.in_ok-clone_with.ensures.copy in record {
       copy = loop_statement_roll _ _ _
-          ∙ (λ i. plain.repeat (attributes i) (c.in_ok-clone_with-2.ensures.copy i) (plain.continuing_of (c.in_ok-clone_continuing.ensures i)))
+          ∙ (λ i. with_attributes (attributes i) (plain.repeat (c.in_ok-clone_with-2.ensures.copy i) (plain.continuing_of (c.in_ok-clone_continuing.ensures i))))
           ∙ sym (loop_statement_out c.args.self.now);
     }
 
@@ -76,7 +77,7 @@ ForStatementCloneWith::clone_with-returns t c =
     let attributes = attributes_shown original.attributes.items _ c.in_ok-clone_with.ensures.copy in
     let condition = maybe_node_shown original.condition _ c.in_ok-clone_with-2.ensures.copy in record {
       copy = for_statement_roll _ _ _ _ _
-          ∙ (λ i. plain.repeat_for (attributes i) (plain.maybe_statement (c.in_ok-clone_part.ensures i)) (condition i) (plain.maybe_statement (c.in_ok-clone_part-2.ensures i)) (c.in_ok-clone_with-3.ensures.copy i))
+          ∙ (λ i. with_attributes (attributes i) (plain.repeat_for (plain.maybe_statement (c.in_ok-clone_part.ensures i)) (condition i) (plain.maybe_statement (c.in_ok-clone_part-2.ensures i)) (c.in_ok-clone_with-3.ensures.copy i)))
           ∙ sym (for_statement_out c.args.self.now);
     }
 
@@ -95,36 +96,36 @@ WhileStatementCloneWith::clone_with-returns t c =
     let attributes = attributes_shown original.attributes.items _ c.in_ok-clone_with.ensures.copy in
     let condition : expression_node_view c.in_ok-clone_with-2.field-0 ≡ expression_node_view original.condition = search rules in record {
       copy = while_statement_roll _
-          ∙ (λ i. plain.repeat_while (attributes i) (condition i) (c.in_ok-clone_with-3.ensures.copy i))
+          ∙ (λ i. with_attributes (attributes i) (plain.repeat_while (condition i) (c.in_ok-clone_with-3.ensures.copy i)))
           ∙ sym (while_statement_out c.args.self.now);
     }
 
 pub StatementCloneWith::clone_with-returns-in_ok-clone_with-in-Compound : goal.StatementCloneWith::clone_with-returns-in_ok-clone_with-in-Compound
-StatementCloneWith::clone_with-returns-in_ok-clone_with-in-Compound t c = record { copy = is_compound _ ∙ ap plain.compound c.in_ok-clone_with-in-Compound.ensures.copy ∙ sym (ap (λ (s : Statement). V.statement_view s) c.in-Compound.is ∙ is_compound _) }
+StatementCloneWith::clone_with-returns-in_ok-clone_with-in-Compound t c = record { copy = is_compound _ ∙ ap plain.block_statement c.in_ok-clone_with-in-Compound.ensures.copy ∙ sym (ap (λ (s : Statement). V.statement_view s) c.in-Compound.is ∙ is_compound _) }
 
 pub StatementCloneWith::clone_with-returns-in_ok-clone_with-in-Assignment : goal.StatementCloneWith::clone_with-returns-in_ok-clone_with-in-Assignment
-StatementCloneWith::clone_with-returns-in_ok-clone_with-in-Assignment t c = record { copy = is_assignment _ ∙ ap plain.assignment c.in_ok-clone_with-in-Assignment.ensures.copy ∙ sym (ap (λ (s : Statement). V.statement_view s) c.in-Assignment.is ∙ is_assignment _) }
+StatementCloneWith::clone_with-returns-in_ok-clone_with-in-Assignment t c = record { copy = is_assignment _ ∙ ap (λ s. plain.unattributed (plain.assignment s)) c.in_ok-clone_with-in-Assignment.ensures.copy ∙ sym (ap (λ (s : Statement). V.statement_view s) c.in-Assignment.is ∙ is_assignment _) }
 
 pub StatementCloneWith::clone_with-returns-in_ok-clone_with-in-Increment : goal.StatementCloneWith::clone_with-returns-in_ok-clone_with-in-Increment
-StatementCloneWith::clone_with-returns-in_ok-clone_with-in-Increment t c = record { copy = is_increment _ ∙ ap plain.increment c.in_ok-clone_with-in-Increment.ensures.copy ∙ sym (ap (λ (s : Statement). V.statement_view s) c.in-Increment.is ∙ is_increment _) }
+StatementCloneWith::clone_with-returns-in_ok-clone_with-in-Increment t c = record { copy = is_increment _ ∙ ap (λ s. plain.unattributed (plain.increment s)) c.in_ok-clone_with-in-Increment.ensures.copy ∙ sym (ap (λ (s : Statement). V.statement_view s) c.in-Increment.is ∙ is_increment _) }
 
 pub StatementCloneWith::clone_with-returns-in_ok-clone_with-in-Decrement : goal.StatementCloneWith::clone_with-returns-in_ok-clone_with-in-Decrement
-StatementCloneWith::clone_with-returns-in_ok-clone_with-in-Decrement t c = record { copy = is_decrement _ ∙ ap plain.decrement c.in_ok-clone_with-in-Decrement.ensures.copy ∙ sym (ap (λ (s : Statement). V.statement_view s) c.in-Decrement.is ∙ is_decrement _) }
+StatementCloneWith::clone_with-returns-in_ok-clone_with-in-Decrement t c = record { copy = is_decrement _ ∙ ap (λ s. plain.unattributed (plain.decrement s)) c.in_ok-clone_with-in-Decrement.ensures.copy ∙ sym (ap (λ (s : Statement). V.statement_view s) c.in-Decrement.is ∙ is_decrement _) }
 
 pub StatementCloneWith::clone_with-returns-in_ok-clone_with-in-If : goal.StatementCloneWith::clone_with-returns-in_ok-clone_with-in-If
-StatementCloneWith::clone_with-returns-in_ok-clone_with-in-If t c = record { copy = is_if _ ∙ ap plain.if_statement c.in_ok-clone_with-in-If.ensures.copy ∙ sym (ap (λ (s : Statement). V.statement_view s) c.in-If.is ∙ is_if _) }
+StatementCloneWith::clone_with-returns-in_ok-clone_with-in-If t c = record { copy = is_if _ ∙ ap (plain.as_statement plain.if_statement) c.in_ok-clone_with-in-If.ensures.copy ∙ sym (ap (λ (s : Statement). V.statement_view s) c.in-If.is ∙ is_if _) }
 
 pub StatementCloneWith::clone_with-returns-in_ok-clone_with-in-Switch : goal.StatementCloneWith::clone_with-returns-in_ok-clone_with-in-Switch
-StatementCloneWith::clone_with-returns-in_ok-clone_with-in-Switch t c = record { copy = is_switch _ ∙ ap plain.switch_statement c.in_ok-clone_with-in-Switch.ensures.copy ∙ sym (ap (λ (s : Statement). V.statement_view s) c.in-Switch.is ∙ is_switch _) }
+StatementCloneWith::clone_with-returns-in_ok-clone_with-in-Switch t c = record { copy = is_switch _ ∙ ap (plain.as_statement plain.switch_statement) c.in_ok-clone_with-in-Switch.ensures.copy ∙ sym (ap (λ (s : Statement). V.statement_view s) c.in-Switch.is ∙ is_switch _) }
 
 pub StatementCloneWith::clone_with-returns-in_ok-clone_with-in-Loop : goal.StatementCloneWith::clone_with-returns-in_ok-clone_with-in-Loop
-StatementCloneWith::clone_with-returns-in_ok-clone_with-in-Loop t c = record { copy = is_loop _ ∙ ap plain.loop_statement c.in_ok-clone_with-in-Loop.ensures.copy ∙ sym (ap (λ (s : Statement). V.statement_view s) c.in-Loop.is ∙ is_loop _) }
+StatementCloneWith::clone_with-returns-in_ok-clone_with-in-Loop t c = record { copy = is_loop _ ∙ ap (plain.as_statement plain.loop_statement) c.in_ok-clone_with-in-Loop.ensures.copy ∙ sym (ap (λ (s : Statement). V.statement_view s) c.in-Loop.is ∙ is_loop _) }
 
 pub StatementCloneWith::clone_with-returns-in_ok-clone_with-in-For : goal.StatementCloneWith::clone_with-returns-in_ok-clone_with-in-For
-StatementCloneWith::clone_with-returns-in_ok-clone_with-in-For t c = record { copy = is_for _ ∙ ap plain.for_statement c.in_ok-clone_with-in-For.ensures.copy ∙ sym (ap (λ (s : Statement). V.statement_view s) c.in-For.is ∙ is_for _) }
+StatementCloneWith::clone_with-returns-in_ok-clone_with-in-For t c = record { copy = is_for _ ∙ ap (plain.as_statement plain.for_statement) c.in_ok-clone_with-in-For.ensures.copy ∙ sym (ap (λ (s : Statement). V.statement_view s) c.in-For.is ∙ is_for _) }
 
 pub StatementCloneWith::clone_with-returns-in_ok-clone_with-in-While : goal.StatementCloneWith::clone_with-returns-in_ok-clone_with-in-While
-StatementCloneWith::clone_with-returns-in_ok-clone_with-in-While t c = record { copy = is_while _ ∙ ap plain.while_statement c.in_ok-clone_with-in-While.ensures.copy ∙ sym (ap (λ (s : Statement). V.statement_view s) c.in-While.is ∙ is_while _) }
+StatementCloneWith::clone_with-returns-in_ok-clone_with-in-While t c = record { copy = is_while _ ∙ ap (plain.as_statement plain.while_statement) c.in_ok-clone_with-in-While.ensures.copy ∙ sym (ap (λ (s : Statement). V.statement_view s) c.in-While.is ∙ is_while _) }
 
 pub StatementCloneWith::clone_with-returns-in_ok-clone_with-in-Break : goal.StatementCloneWith::clone_with-returns-in_ok-clone_with-in-Break
 StatementCloneWith::clone_with-returns-in_ok-clone_with-in-Break t c = record { copy = is_break _ ∙ sym (ap (λ (s : Statement). V.statement_view s) c.in-Break.is ∙ is_break _) }
@@ -133,19 +134,19 @@ pub StatementCloneWith::clone_with-returns-in_ok-clone_with-in-Continue : goal.S
 StatementCloneWith::clone_with-returns-in_ok-clone_with-in-Continue t c = record { copy = is_continue _ ∙ sym (ap (λ (s : Statement). V.statement_view s) c.in-Continue.is ∙ is_continue _) }
 
 pub StatementCloneWith::clone_with-returns-in_ok-clone_with-in-Return : goal.StatementCloneWith::clone_with-returns-in_ok-clone_with-in-Return
-StatementCloneWith::clone_with-returns-in_ok-clone_with-in-Return t c = record { copy = is_return _ ∙ ap plain.return_statement c.in_ok-clone_with-in-Return.ensures.copy ∙ sym (ap (λ (s : Statement). V.statement_view s) c.in-Return.is ∙ is_return _) }
+StatementCloneWith::clone_with-returns-in_ok-clone_with-in-Return t c = record { copy = is_return _ ∙ ap (λ s. plain.unattributed (plain.return_statement s)) c.in_ok-clone_with-in-Return.ensures.copy ∙ sym (ap (λ (s : Statement). V.statement_view s) c.in-Return.is ∙ is_return _) }
 
 pub StatementCloneWith::clone_with-returns-in_ok-clone_with-in-Discard : goal.StatementCloneWith::clone_with-returns-in_ok-clone_with-in-Discard
 StatementCloneWith::clone_with-returns-in_ok-clone_with-in-Discard t c = record { copy = is_discard _ ∙ sym (ap (λ (s : Statement). V.statement_view s) c.in-Discard.is ∙ is_discard _) }
 
 pub StatementCloneWith::clone_with-returns-in_ok-clone_with-in-FunctionCall : goal.StatementCloneWith::clone_with-returns-in_ok-clone_with-in-FunctionCall
-StatementCloneWith::clone_with-returns-in_ok-clone_with-in-FunctionCall t c = record { copy = is_function_call _ ∙ ap plain.function_call_statement c.in_ok-clone_with-in-FunctionCall.ensures.copy ∙ sym (ap (λ (s : Statement). V.statement_view s) c.in-FunctionCall.is ∙ is_function_call _) }
+StatementCloneWith::clone_with-returns-in_ok-clone_with-in-FunctionCall t c = record { copy = is_function_call _ ∙ ap (λ s. plain.unattributed (plain.function_call_statement s)) c.in_ok-clone_with-in-FunctionCall.ensures.copy ∙ sym (ap (λ (s : Statement). V.statement_view s) c.in-FunctionCall.is ∙ is_function_call _) }
 
 pub StatementCloneWith::clone_with-returns-in_ok-clone_with-in-ConstAssert : goal.StatementCloneWith::clone_with-returns-in_ok-clone_with-in-ConstAssert
-StatementCloneWith::clone_with-returns-in_ok-clone_with-in-ConstAssert t c = record { copy = is_const_assert _ ∙ ap plain.const_assert c.in_ok-clone_with-in-ConstAssert.ensures.copy ∙ sym (ap (λ (s : Statement). V.statement_view s) c.in-ConstAssert.is ∙ is_const_assert _) }
+StatementCloneWith::clone_with-returns-in_ok-clone_with-in-ConstAssert t c = record { copy = is_const_assert _ ∙ ap (λ s. plain.unattributed (plain.const_assert s)) c.in_ok-clone_with-in-ConstAssert.ensures.copy ∙ sym (ap (λ (s : Statement). V.statement_view s) c.in-ConstAssert.is ∙ is_const_assert _) }
 
 pub StatementCloneWith::clone_with-returns-in_ok-clone_with-in-Declaration : goal.StatementCloneWith::clone_with-returns-in_ok-clone_with-in-Declaration
-StatementCloneWith::clone_with-returns-in_ok-clone_with-in-Declaration t c = record { copy = is_declaration _ ∙ ap plain.declaration c.in_ok-clone_with-in-Declaration.ensures.copy ∙ sym (ap (λ (s : Statement). V.statement_view s) c.in-Declaration.is ∙ is_declaration _) }
+StatementCloneWith::clone_with-returns-in_ok-clone_with-in-Declaration t c = record { copy = is_declaration _ ∙ ap (plain.as_statement plain.declaration) c.in_ok-clone_with-in-Declaration.ensures.copy ∙ sym (ap (λ (s : Statement). V.statement_view s) c.in-Declaration.is ∙ is_declaration _) }
 
 -- an error, handed on
 

@@ -1,4 +1,5 @@
 use Rattle.std.proofs.Common.{rules, ◌≡◌, true, false, refl, sym, ◌∙◌, ◌&&◌}
+use Rattle.wgsl_model.specs.Statements as plain
 use Rattle.wgsl_expression.specs.View.{expression_node_view}
 use Rattle.wgsl_attribute.proofs.Equalities.{options_same, lists_same, attribute_lists_same}
 use Rattle.wgsl_equality.specs.Code.{same}
@@ -7,11 +8,12 @@ use Rattle.wgsl_equality.specs.Declarations.{selector_code}
 use Rattle.wgsl_equality.specs.Statements.{statement_code}
 use Rattle.wgsl_equality.specs.Lists.{unlike, next_differs, none_left}
 use Rattle.wgsl_statement.specs.declared.statement.Statement.TheViews as layers
-use Rattle.wgsl_simple_statement.specs.View.{selector_view}
-use Rattle.wgsl_statement.specs.View.{statement_view}
+use Rattle.wgsl_simple_statement.specs.View.{selector_view, assignment_view, increment_view, decrement_view, return_view, call_statement_view, assert_view}
+use Rattle.wgsl_statement.specs.View.{statement_view, compound_statement_view}
 use Rattle.wgsl_statement.proofs.StatementViews.{is_compound, is_assignment, is_increment, is_decrement, is_if, is_switch, is_loop, is_for, is_while, is_return, is_function_call, is_const_assert, is_declaration}
 use Rattle.wgsl_simple_statement.proofs.Equalities.{declarations_same, assignments_same, increments_same, decrements_same, call_statements_same, asserts_same, returns_same, selectors_same}
-use Rattle.wgsl_statement.proofs.Equalities.{and_true, and_false, attributes_part, expression_part, condition_part, selectors_part, block_part, statements_part, if_clause_part, else_ifs_part, else_part, clauses_part, continuing_part, header_part, compounds_same, ifs_same, switches_same, switch_clauses_same, loops_same, fors_same, whiles_same, node_code, else_if_view_code, switch_clause_view_code, nodes_same, else_ifs_same, clauses_same}
+use Rattle.wgsl_statement.proofs.BlockStatements.{blocks_same}
+use Rattle.wgsl_statement.proofs.Equalities.{unattributed_same, and_true, and_false, attributes_part, expression_part, condition_part, selectors_part, block_part, statements_part, if_clause_part, else_ifs_part, else_part, clauses_part, continuing_part, header_part, compounds_same, ifs_same, switches_same, switch_clauses_same, loops_same, fors_same, whiles_same, node_code, else_if_view_code, switch_clause_view_code, nodes_same, else_ifs_same, clauses_same}
 use Rattle.wgsl_statement.proofs.equality.+equal.Goals as goal
 use Rattle.wgsl_statement.proofs.equality.+equal.Goals.{LoopStatementPartialEq::eq-then-eq, LoopStatementPartialEq::eq-else-eq, WhileStatementPartialEq::eq-then-eq, WhileStatementPartialEq::eq-else-eq, IfStatementPartialEq::eq-then-eq, IfStatementPartialEq::eq-else-eq, IfStatementPartialEq::eq-then-eq-2, IfStatementPartialEq::eq-else-eq-2, SwitchStatementPartialEq::eq-then-eq, SwitchStatementPartialEq::eq-else-eq, SwitchStatementPartialEq::eq-then-eq-2, SwitchStatementPartialEq::eq-else-eq-2, ForStatementPartialEq::eq-then-eq, ForStatementPartialEq::eq-else-eq, ForStatementPartialEq::eq-then-part_equal, ForStatementPartialEq::eq-else-part_equal, ForStatementPartialEq::eq-then-eq-2, ForStatementPartialEq::eq-else-eq-2}
 
@@ -317,6 +319,7 @@ StatementPartialEq::eq-returns-in-Compound-matches t c =
     let answer : c.eq.result ≡ true = search rules in
     sym ((λ i. same (statement_code (statement_view (c.in-Compound.is i))) (statement_code (statement_view (c.in-Compound-matches.is i))))
     ∙ (λ i. same (statement_code (is_compound x i)) (statement_code (is_compound y i)))
+    ∙ blocks_same (compound_statement_view x) (compound_statement_view y)
     ∙ sym c.eq.ensures
     ∙ answer)
 
@@ -327,6 +330,7 @@ StatementPartialEq::eq-returns-in_default-matches-4 t c =
     let answer : c.eq.result ≡ false = search rules in
     sym ((λ i. same (statement_code (statement_view (c.in-Compound.is i))) (statement_code (statement_view (c.in-Compound-matches.is i))))
     ∙ (λ i. same (statement_code (is_compound x i)) (statement_code (is_compound y i)))
+    ∙ blocks_same (compound_statement_view x) (compound_statement_view y)
     ∙ sym c.eq.ensures
     ∙ answer)
 
@@ -337,6 +341,7 @@ StatementPartialEq::eq-returns-in-Assignment-matches t c =
     let answer : c.eq-in-Assignment.result ≡ true = search rules in
     sym ((λ i. same (statement_code (statement_view (c.in-Assignment.is i))) (statement_code (statement_view (c.in-Assignment-matches.is i))))
     ∙ (λ i. same (statement_code (is_assignment x i)) (statement_code (is_assignment y i)))
+    ∙ unattributed_same (plain.assignment (assignment_view x)) (plain.assignment (assignment_view y))
     ∙ sym (assignments_same x y)
     ∙ sym c.eq-in-Assignment.ensures
     ∙ answer)
@@ -348,6 +353,7 @@ StatementPartialEq::eq-returns-in_default-matches-5 t c =
     let answer : c.eq-in-Assignment.result ≡ false = search rules in
     sym ((λ i. same (statement_code (statement_view (c.in-Assignment.is i))) (statement_code (statement_view (c.in-Assignment-matches.is i))))
     ∙ (λ i. same (statement_code (is_assignment x i)) (statement_code (is_assignment y i)))
+    ∙ unattributed_same (plain.assignment (assignment_view x)) (plain.assignment (assignment_view y))
     ∙ sym (assignments_same x y)
     ∙ sym c.eq-in-Assignment.ensures
     ∙ answer)
@@ -359,6 +365,7 @@ StatementPartialEq::eq-returns-in-Increment-matches t c =
     let answer : c.eq-in-Increment.result ≡ true = search rules in
     sym ((λ i. same (statement_code (statement_view (c.in-Increment.is i))) (statement_code (statement_view (c.in-Increment-matches.is i))))
     ∙ (λ i. same (statement_code (is_increment x i)) (statement_code (is_increment y i)))
+    ∙ unattributed_same (plain.increment (increment_view x)) (plain.increment (increment_view y))
     ∙ sym (increments_same x y)
     ∙ sym c.eq-in-Increment.ensures
     ∙ answer)
@@ -370,6 +377,7 @@ StatementPartialEq::eq-returns-in_default-matches-6 t c =
     let answer : c.eq-in-Increment.result ≡ false = search rules in
     sym ((λ i. same (statement_code (statement_view (c.in-Increment.is i))) (statement_code (statement_view (c.in-Increment-matches.is i))))
     ∙ (λ i. same (statement_code (is_increment x i)) (statement_code (is_increment y i)))
+    ∙ unattributed_same (plain.increment (increment_view x)) (plain.increment (increment_view y))
     ∙ sym (increments_same x y)
     ∙ sym c.eq-in-Increment.ensures
     ∙ answer)
@@ -381,6 +389,7 @@ StatementPartialEq::eq-returns-in-Decrement-matches t c =
     let answer : c.eq-in-Decrement.result ≡ true = search rules in
     sym ((λ i. same (statement_code (statement_view (c.in-Decrement.is i))) (statement_code (statement_view (c.in-Decrement-matches.is i))))
     ∙ (λ i. same (statement_code (is_decrement x i)) (statement_code (is_decrement y i)))
+    ∙ unattributed_same (plain.decrement (decrement_view x)) (plain.decrement (decrement_view y))
     ∙ sym (decrements_same x y)
     ∙ sym c.eq-in-Decrement.ensures
     ∙ answer)
@@ -392,6 +401,7 @@ StatementPartialEq::eq-returns-in_default-matches-7 t c =
     let answer : c.eq-in-Decrement.result ≡ false = search rules in
     sym ((λ i. same (statement_code (statement_view (c.in-Decrement.is i))) (statement_code (statement_view (c.in-Decrement-matches.is i))))
     ∙ (λ i. same (statement_code (is_decrement x i)) (statement_code (is_decrement y i)))
+    ∙ unattributed_same (plain.decrement (decrement_view x)) (plain.decrement (decrement_view y))
     ∙ sym (decrements_same x y)
     ∙ sym c.eq-in-Decrement.ensures
     ∙ answer)
@@ -503,6 +513,7 @@ StatementPartialEq::eq-returns-in-Return-matches t c =
     let answer : c.eq-in-Return.result ≡ true = search rules in
     sym ((λ i. same (statement_code (statement_view (c.in-Return.is i))) (statement_code (statement_view (c.in-Return-matches.is i))))
     ∙ (λ i. same (statement_code (is_return x i)) (statement_code (is_return y i)))
+    ∙ unattributed_same (plain.return_statement (return_view x)) (plain.return_statement (return_view y))
     ∙ sym (returns_same x y)
     ∙ sym c.eq-in-Return.ensures
     ∙ answer)
@@ -514,6 +525,7 @@ StatementPartialEq::eq-returns-in_default-matches-13 t c =
     let answer : c.eq-in-Return.result ≡ false = search rules in
     sym ((λ i. same (statement_code (statement_view (c.in-Return.is i))) (statement_code (statement_view (c.in-Return-matches.is i))))
     ∙ (λ i. same (statement_code (is_return x i)) (statement_code (is_return y i)))
+    ∙ unattributed_same (plain.return_statement (return_view x)) (plain.return_statement (return_view y))
     ∙ sym (returns_same x y)
     ∙ sym c.eq-in-Return.ensures
     ∙ answer)
@@ -525,6 +537,7 @@ StatementPartialEq::eq-returns-in-FunctionCall-matches t c =
     let answer : c.eq-in-FunctionCall.result ≡ true = search rules in
     sym ((λ i. same (statement_code (statement_view (c.in-FunctionCall.is i))) (statement_code (statement_view (c.in-FunctionCall-matches.is i))))
     ∙ (λ i. same (statement_code (is_function_call x i)) (statement_code (is_function_call y i)))
+    ∙ unattributed_same (plain.function_call_statement (call_statement_view x)) (plain.function_call_statement (call_statement_view y))
     ∙ sym (call_statements_same x y)
     ∙ sym c.eq-in-FunctionCall.ensures
     ∙ answer)
@@ -536,6 +549,7 @@ StatementPartialEq::eq-returns-in_default-matches-14 t c =
     let answer : c.eq-in-FunctionCall.result ≡ false = search rules in
     sym ((λ i. same (statement_code (statement_view (c.in-FunctionCall.is i))) (statement_code (statement_view (c.in-FunctionCall-matches.is i))))
     ∙ (λ i. same (statement_code (is_function_call x i)) (statement_code (is_function_call y i)))
+    ∙ unattributed_same (plain.function_call_statement (call_statement_view x)) (plain.function_call_statement (call_statement_view y))
     ∙ sym (call_statements_same x y)
     ∙ sym c.eq-in-FunctionCall.ensures
     ∙ answer)
@@ -547,6 +561,7 @@ StatementPartialEq::eq-returns-in-ConstAssert-matches t c =
     let answer : c.eq-in-ConstAssert.result ≡ true = search rules in
     sym ((λ i. same (statement_code (statement_view (c.in-ConstAssert.is i))) (statement_code (statement_view (c.in-ConstAssert-matches.is i))))
     ∙ (λ i. same (statement_code (is_const_assert x i)) (statement_code (is_const_assert y i)))
+    ∙ unattributed_same (plain.const_assert (assert_view x)) (plain.const_assert (assert_view y))
     ∙ sym (asserts_same x y)
     ∙ sym c.eq-in-ConstAssert.ensures
     ∙ answer)
@@ -558,6 +573,7 @@ StatementPartialEq::eq-returns-in_default-matches-15 t c =
     let answer : c.eq-in-ConstAssert.result ≡ false = search rules in
     sym ((λ i. same (statement_code (statement_view (c.in-ConstAssert.is i))) (statement_code (statement_view (c.in-ConstAssert-matches.is i))))
     ∙ (λ i. same (statement_code (is_const_assert x i)) (statement_code (is_const_assert y i)))
+    ∙ unattributed_same (plain.const_assert (assert_view x)) (plain.const_assert (assert_view y))
     ∙ sym (asserts_same x y)
     ∙ sym c.eq-in-ConstAssert.ensures
     ∙ answer)

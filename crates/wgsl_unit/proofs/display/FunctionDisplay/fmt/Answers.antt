@@ -1,8 +1,12 @@
-use Rattle.std.proofs.Common.{rules, codes}
-use Rattle.std.proofs.Output.{has_written_append}
-use Rattle.wgsl_model.specs.PrintedUnits.{print_parameter}
+use Rattle.std.proofs.Common.{rules, codes, ◌≡◌, ◌++◌, map}
+use Rattle.std.proofs.lemmas.List.{append_assoc}
+use Rattle.std.proofs.Output.{has_written_append, has_written_of_eq}
+use Rattle.wgsl_model.specs.Joining.{joined}
+use Rattle.wgsl_model.specs.PrintedAttributes.{print_attribute_line}
+use Rattle.wgsl_model.specs.PrintedStatements.{print_compound}
+use Rattle.wgsl_model.specs.PrintedUnits.{print_parameter, print_result}
 use Rattle.wgsl_writer.proofs.Joins.{displays_joined}
-use Rattle.wgsl_unit.specs.View.{parameter_view}
+use Rattle.wgsl_unit.specs.View.{parameter_view, function_view}
 use Rattle.wgsl_unit.proofs.display.FunctionDisplay.fmt.Goals as goal
 
 pub returns-clause-writes : goal.returns-clause-writes
@@ -13,4 +17,11 @@ returns-clause-writes g c = λ plain ok.
     let three = c.write_str.ensures.writes two.plain (search rules) in
     let four = c.write_result.ensures three.plain (search rules) in
     let five = c.write.ensures.writes four.plain ok in
-    has_written_append _ _ _ _ _ _ (has_written_append _ _ _ _ _ _ (has_written_append _ _ _ _ _ _ (has_written_append _ _ _ _ _ _ one two) three) four) five
+    let function = function_view c.args.self.now in
+    let line = print_attribute_line function.attributes in
+    let ident = function.node.ident in
+    let list = joined (codes ", ") (map print_parameter function.node.parameters) in
+    let returned = print_result function.node.return_attributes function.node.return_type in
+    let body = print_compound function.node.body in
+    let whole : line ++ codes "fn " ++ ident ++ codes "(" ++ list ++ codes ") " ++ returned ++ body ≡ line ++ (codes "fn " ++ ident ++ codes "(" ++ list ++ codes ") " ++ returned ++ body) = simp append_assoc in
+    has_written_of_eq _ _ _ _ _ whole (has_written_append _ _ _ _ _ _ (has_written_append _ _ _ _ _ _ (has_written_append _ _ _ _ _ _ (has_written_append _ _ _ _ _ _ one two) three) four) five)
