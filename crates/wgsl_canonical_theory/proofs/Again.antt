@@ -14,7 +14,7 @@ use Rattle.wgsl_model.specs.Statements.{StatementNode, statement_node, Statement
 use Rattle.wgsl_model.specs.Checks.{Checked.right, attribute_of, var_kind_of}
 use Rattle.wgsl_model.specs.TokenValues.{text_of}
 use Rattle.wgsl_model.specs.WithoutSpans.{bare_spanned, bare_expression, bare_expression_node, bare_call, bare_type}
-use Rattle.wgsl_model.specs.StatementsWithoutSpans.{bare_assert, bare_selector, bare_statement, bare_statement_node, bare_compound, bare_switch_clause, bare_continuing, bare_member, bare_parameter, bare_global_declaration, bare_unit}
+use Rattle.wgsl_model.specs.StatementsWithoutSpans.{bare_assert, bare_selector, bare_statement, bare_statement_node, bare_compound, bare_switch_clause, bare_continuing, bare_member, bare_parameter, bare_directive, bare_global_declaration, bare_unit}
 use Rattle.wgsl_model.specs.EmptyItems.{full_statement, full_compound, full_switch_clause, full_continuing, full_declaration, full_unit}
 use Rattle.wgsl_model.specs.Symbols.{Symbol, ident, type_specifier, template_list, expressions, call, arguments, literal, primary_expression, singular_expression, component, unary_expression, multiplicative_expression, negated_expression, additive_expression, shift_expression, relational_expression, expression, lhs_expression, attribute, compound_statement, statement, return_statement, if_statement, switch_statement, loop_statement, for_statement, while_statement, call_statement, var_statement, value_statement, break_statement, continue_statement, discard_statement, assignment, phony_assignment, increment, decrement, const_assert, switch_clause, case_selector, continuing_statement, for_init, for_update, var_template, typed_ident, struct_member, formal_parameter, global_declaration, var_declaration, const_declaration, override_declaration, alias_declaration, struct_declaration, function_declaration, diagnostic_severity, global_directive, enable_directive, requires_directive, diagnostic_directive, unit, Value}
 use Rattle.wgsl_model.specs.Written.{written}
@@ -164,10 +164,10 @@ Same alias_declaration w v = bare_global_declaration w ≡ bare_global_declarati
 Same struct_declaration w v = bare_global_declaration w ≡ bare_global_declaration (full_declaration v)
 Same function_declaration w v = bare_global_declaration w ≡ bare_global_declaration (full_declaration v)
 Same diagnostic_severity w v = text_of w ≡ text_of v
-Same global_directive w v = w ≡ v
-Same enable_directive w v = w ≡ v
-Same requires_directive w v = w ≡ v
-Same diagnostic_directive w v = w ≡ v
+Same global_directive w v = bare_directive w ≡ bare_directive v
+Same enable_directive w v = bare_directive w ≡ bare_directive v
+Same requires_directive w v = bare_directive w ≡ bare_directive v
+Same diagnostic_directive w v = bare_directive w ≡ bare_directive v
 Same unit w v = bare_unit w ≡ bare_unit (full_unit v)
 
 -- a statement that ends with a `;`, and one that does not

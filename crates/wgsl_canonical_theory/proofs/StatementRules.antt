@@ -126,7 +126,7 @@ clause_body_reads : Reads clause_body (λ p rest. compound_tokens p.1 rest) (λ 
 clause_body_reads = then_reads no_sign_reads (symbol_reads compound_statement)
 
 case_clause_reads : Reads case_clause switch_clause_tokens LikeClause
-case_clause_reads = gives_reads (before_reads KwCase refl (then_reads (list_reads (symbol_reads case_selector)) clause_body_reads)) (λ a rest. refl) (λ w a h. λ i. tree.switch_clause (h.0 i) (h.1.1 i))
+case_clause_reads = gives_reads (before_reads KwCase refl (then_reads (list_reads (symbol_reads case_selector)) clause_body_reads)) (λ a rest. refl) (λ w a h. λ i. tree.switch_clause [] (h.0 i) (h.1.1 i))
 
 -- `case` before `default` and its block
 case_default : (p : Option Token × CompoundStatement) (t : Token) (xs zs ys : List Token) → is_among t.class (KwCase ∷ []) ≡ true → xs ≡ t ∷ zs → Means full D (KwDefault ▹ clause_body) p zs ys → Means full D case_clause (clause_of (default_selector ∷ []) p.1) xs ys
@@ -146,7 +146,7 @@ default_clause_reads v xs ys d words = subst (λ (z : SwitchClause). Outcome cas
             value = clause_of (default_selector ∷ []) a.value.1;
             rest = a.rest;
             kinds = a.kinds;
-            like = λ i. tree.switch_clause (default_selector ∷ []) (a.like.1 i);
+            like = λ i. tree.switch_clause [] (default_selector ∷ []) (a.like.1 i);
             derived = case_default a.value first.token us first.rest a.rest (class_of (plain KwCase) first.token (KwCase ∷ []) first.kind refl) first.whole a.derived;
           },
     )

@@ -1,5 +1,5 @@
 -- The rules of declarations, directives and modules: what each derives is read again.
-use Rattle.std.proofs.Common.{◌≡◌, ℕ, Bool, true, false, List, [], ◌∷◌, ◌++◌, map, map-id, Option, Some, refl, sym, ap, ap₂, subst, ◌∙◌}
+use Rattle.std.proofs.Common.{◌≡◌, ℕ, Bool, true, false, List, [], ◌∷◌, ◌++◌, map, Option, Some, refl, sym, ap, ap₂, subst, ◌∙◌}
 use Rattle.std.specs.Prelude.{if◌then◌else◌}
 use Rattle.std.specs.Option.{option_map}
 use mathlib.Core.List.{append-nil}
@@ -22,7 +22,7 @@ use Rattle.wgsl_model.specs.TokenValues.{text_of}
 use Rattle.wgsl_model.specs.StatementParts.{attributed}
 use Rattle.wgsl_model.specs.UnitParts.{diagnostic_of}
 use Rattle.wgsl_model.specs.WithoutSpans.{no_span, bare_spanned}
-use Rattle.wgsl_model.specs.StatementsWithoutSpans.{bare_member, bare_parameter, bare_global_declaration, bare_unattributed_declaration}
+use Rattle.wgsl_model.specs.StatementsWithoutSpans.{bare_member, bare_parameter, bare_directive, bare_global_declaration, bare_unattributed_declaration}
 use Rattle.wgsl_model.specs.EmptyItems.{full_declaration, full_declarations, full_unattributed_declaration}
 use Rattle.wgsl_model.specs.Symbols.{ident, struct_member, formal_parameter, global_declaration, var_declaration, const_declaration, override_declaration, alias_declaration, struct_declaration, function_declaration, diagnostic_severity, global_directive, enable_directive, requires_directive, diagnostic_directive, unit, Rule, compound_statement, const_assert, type_specifier, typed_ident}
 use Rattle.wgsl_model.specs.Written.{written}
@@ -30,7 +30,7 @@ use Rattle.wgsl_canonical_theory.specs.CanonicalExpressions.{Writes, all_tokens,
 use Rattle.wgsl_canonical_theory.specs.CanonicalUnits.{directive_tokens, unattributed_declaration_tokens, global_declaration_tokens, kept_declaration_tokens}
 use Rattle.wgsl_canonical_theory.proofs.Words.{NoPeriod, AllWords}
 use Rattle.wgsl_canonical_theory.proofs.Again.{D, Again, write, Same, Known, Found, Finds}
-use Rattle.wgsl_canonical_theory.proofs.Ways.{Outcome, Reads, found_in, known_reads, words_behind, then_reads, or_reads, gives_reads, makes_reads, equal_reads, before_reads, behind_reads, means_reads, none_reads, optional_reads, no_sign_reads, all_behind, map_behind, many_reads, list_reads, list_or_none_reads}
+use Rattle.wgsl_canonical_theory.proofs.Ways.{Outcome, Reads, found_in, known_reads, words_behind, then_reads, or_reads, gives_reads, makes_reads, before_reads, behind_reads, means_reads, none_reads, optional_reads, no_sign_reads, all_behind, map_behind, many_reads, list_reads, list_or_none_reads}
 use Rattle.wgsl_canonical_theory.proofs.Rules.{AttributeReads, attributes_read, initializer_reads, var_kind_reads, symbol_reads}
 use Rattle.wgsl_canonical_theory.proofs.NamedWords.{severity_word}
 use Rattle.wgsl_canonical_theory.proofs.UnitParts.{attributed_ident_reads, names_read, returned_reads, function_written, same_function, period_tokens, rule_written, same_rule}
@@ -90,10 +90,10 @@ global_declaration_written = makes_reads {writes = global_declaration_tokens} {l
 
 -- ---- directives
 pub enable_directive_written : Reads (written enable_directive) (write enable_directive) (Same enable_directive)
-enable_directive_written = gives_reads (before_reads KwEnable refl (behind_reads SymSemicolon refl names_read)) (λ a rest. refl) (λ w a h. λ i. tree.enable (record { extensions = h i }))
+enable_directive_written = gives_reads (before_reads KwEnable refl (behind_reads SymSemicolon refl names_read)) (λ a rest. refl) (λ w a h. λ i. without_attributes (tree.enable (record { extensions = h i })))
 
 pub requires_directive_written : Reads (written requires_directive) (write requires_directive) (Same requires_directive)
-requires_directive_written = gives_reads (before_reads KwRequires refl (behind_reads SymSemicolon refl names_read)) (λ a rest. refl) (λ w a h. λ i. tree.requires (record { extensions = h i }))
+requires_directive_written = gives_reads (before_reads KwRequires refl (behind_reads SymSemicolon refl names_read)) (λ a rest. refl) (λ w a h. λ i. without_attributes (tree.requires (record { extensions = h i })))
 
 pub global_directive_written : Reads (written global_directive) (write global_directive) (Same global_directive)
 global_directive_written = or_reads (symbol_reads enable_directive) (or_reads (symbol_reads requires_directive) (symbol_reads diagnostic_directive))
@@ -133,7 +133,7 @@ diagnostic_tokens p known rest =
 
 pub diagnostic_directive_written : Reads (written diagnostic_directive) (write diagnostic_directive) (Same diagnostic_directive)
 diagnostic_directive_written = known_reads {Fact = KnownParts} diagnostic_parts_read known_parts diagnostic_tokens
-    (λ w a h. λ i. tree.diagnostic (record { severity = given_or error (look_up severities (h.0 i)); rule_name = same_rule w.1.0 a.1.0 w.1.1.0 a.1.1.0 h.1.0 h.1.1.0 i }))
+    (λ w a h. λ i. without_attributes (tree.diagnostic (record { severity = given_or error (look_up severities (h.0 i)); rule_name = same_rule w.1.0 a.1.0 w.1.1.0 a.1.1.0 h.1.0 h.1.1.0 i })))
 
 -- ---- modules, where empty declarations are left out
 abbrev bare_item : Spanned GlobalDeclaration → Spanned GlobalDeclaration
@@ -201,8 +201,8 @@ declarations_read = record { again = λ v xs ys d words. go xs v ys d words } wh
       let last = (symbol_reads global_declaration).again b ys zs d before.0 in
       (last.0, λ us ks e. one_more a b last.1 us ks (before.1 us (kept_declaration_tokens b ks) (e ∙ all_behind kept_declaration_tokens a b ks)))
 
-directives_read : Reads (many (symbol global_directive)) (all_tokens directive_tokens) (λ w v. w ≡ v)
-directives_read = equal_reads (many_reads {bare = λ d. d} {kept = λ d. d} (symbol_reads global_directive)) (λ v rest. refl) (λ w v h. sym (map-id w) ∙ h ∙ map-id v)
+directives_read : Reads (many (symbol global_directive)) (all_tokens directive_tokens) (λ w v. map bare_directive w ≡ map bare_directive v)
+directives_read = many_reads {bare = bare_directive} {kept = bare_directive} (symbol_reads global_directive)
 
 pub unit_written : Reads (written unit) (write unit) (Same unit)
 unit_written = gives_reads (then_reads directives_read declarations_read) (λ a rest. refl)

@@ -65,8 +65,8 @@ three_minuses_tokens = word (codes "a") ∷ plain SymMinus ∷ plain SymMinus �
 -- switch a { case 1, default: {} default {;} }
 abbrev pub switch_tree : tree.StatementNode
 switch_tree = stands (tree.switch_statement (tree.switch (name_at (codes "a")) [] (tree.clauses_of (
-    tree.switch_clause (tree.expression_selector (number_at 1) ∷ tree.default_selector ∷ []) (block_of [])
-    ∷ tree.switch_clause (tree.default_selector ∷ []) (block_of (stands tree.void ∷ [])) ∷ []
+    tree.switch_clause [] (tree.expression_selector (number_at 1) ∷ tree.default_selector ∷ []) (block_of [])
+    ∷ tree.switch_clause [] (tree.default_selector ∷ []) (block_of (stands tree.void ∷ [])) ∷ []
     ))))
 
 -- switch a { case 1, default { } case default { } }
@@ -103,7 +103,7 @@ if_tokens =
 -- diagnostic(off, a.b,); ; struct S { @size(16) x: f32, } ; @const @type(T, A | B) fn f() {}
 abbrev pub unit_tree : units.TranslationUnit
 unit_tree = record {
-  global_directives = units.diagnostic (record { severity = off; rule_name = codes "a.b" }) ∷ [];
+  global_directives = without_attributes (units.diagnostic (record { severity = off; rule_name = codes "a.b" })) ∷ [];
   global_declarations = spanned (without_attributes units.void) no_span
       ∷ spanned (without_attributes (units.structure (record { ident = codes "S"; members = spanned (record { attributes = spanned (with_argument size (number_at 16)) no_span ∷ []; ident = codes "x"; ty = type_of_name (codes "f32") }) no_span ∷ [] }))) no_span
       ∷ spanned (without_attributes units.void) no_span

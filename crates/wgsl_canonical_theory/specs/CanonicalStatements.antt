@@ -143,7 +143,8 @@ abbrev mutual
   clauses_tokens (clause_before c cs) rest = switch_clause_tokens c (clauses_tokens cs rest)
 
   pub switch_clause_tokens : SwitchClause → List Kind → List Kind
-  switch_clause_tokens (switch_clause selectors block) rest = plain KwCase ∷ list_tokens selector_tokens selectors (compound_tokens block rest)
+  switch_clause_tokens (switch_clause attributes selectors block) rest =
+      attributes_tokens attributes (plain KwCase ∷ list_tokens selector_tokens selectors (compound_tokens block rest))
 
   pub loop_tokens : LoopStatement → List Kind → List Kind
   loop_tokens (repeat body last) rest = plain KwLoop ∷ opened_tokens body (maybe_continuing_tokens last (plain SymBraceRight ∷ rest))

@@ -9,18 +9,22 @@ use Rattle.wgsl_model.specs.NamedValues.{severity_text}
 use Rattle.wgsl_model.specs.Spanned.{Spanned}
 use Rattle.wgsl_model.specs.Expressions.{TypeExpression}
 use Rattle.wgsl_model.specs.Attributes.{Attributes}
-use Rattle.wgsl_model.specs.Units.{GlobalDirective, diagnostic, enable, requires, StructMember, FormalParameter, Function, GlobalDeclaration, UnattributedDeclaration, void, declaration, type_alias, structure, function, const_assert, TranslationUnit}
+use Rattle.wgsl_model.specs.Units.{GlobalDirective, UnattributedDirective, diagnostic, enable, requires, StructMember, FormalParameter, Function, GlobalDeclaration, UnattributedDeclaration, void, declaration, type_alias, structure, function, const_assert, TranslationUnit}
 use Rattle.wgsl_model.specs.PrintedUnits.{is_void}
 use Rattle.wgsl_model.specs.TokenList.{IsTokenList}
 use Rattle.wgsl_canonical_theory.specs.CanonicalExpressions.{Writes, all_tokens, list_tokens, word_token, type_tokens}
 use Rattle.wgsl_canonical_theory.specs.CanonicalAttributes.{rule_tokens, attributes_tokens}
 use Rattle.wgsl_canonical_theory.specs.CanonicalStatements.{declaration_tokens, assert_tokens, compound_tokens}
 
+-- what stands behind the attributes of a directive
+abbrev pub unattributed_directive_tokens : Writes UnattributedDirective
+unattributed_directive_tokens (diagnostic d) rest = plain KwDiagnostic ∷ (plain SymParenLeft ∷ (word_of (severity_text d.severity) ∷ (plain SymComma ∷ rule_tokens d.rule_name (plain SymParenRight ∷ (plain SymSemicolon ∷ rest)))))
+unattributed_directive_tokens (enable d) rest = plain KwEnable ∷ list_tokens word_token d.extensions (plain SymSemicolon ∷ rest)
+unattributed_directive_tokens (requires d) rest = plain KwRequires ∷ list_tokens word_token d.extensions (plain SymSemicolon ∷ rest)
+
 -- a directive
 abbrev pub directive_tokens : Writes GlobalDirective
-directive_tokens (diagnostic d) rest = plain KwDiagnostic ∷ (plain SymParenLeft ∷ (word_of (severity_text d.severity) ∷ (plain SymComma ∷ rule_tokens d.rule_name (plain SymParenRight ∷ (plain SymSemicolon ∷ rest)))))
-directive_tokens (enable d) rest = plain KwEnable ∷ list_tokens word_token d.extensions (plain SymSemicolon ∷ rest)
-directive_tokens (requires d) rest = plain KwRequires ∷ list_tokens word_token d.extensions (plain SymSemicolon ∷ rest)
+directive_tokens d rest = attributes_tokens d.attributes (unattributed_directive_tokens d.node rest)
 
 -- attributes, a name and its type
 abbrev pub attributed_tokens : Attributes → List ℕ → TypeExpression → List Kind → List Kind

@@ -6,7 +6,8 @@ use Rattle.grammar.specs.Tokens.{Token}
 use Rattle.grammar.specs.States.{State, Read, Read.done, Read.stop, ◌>>=◌, is_at, take}
 use Rattle.wgsl_model.specs.Classes.{SymComma, SymSemicolon, KwEnable, KwRequires}
 use Rattle.wgsl_model.specs.TokenValues.{text_of}
-use Rattle.wgsl_model.specs.Units.{GlobalDirective, GlobalDirective.enable, GlobalDirective.requires}
+use Rattle.wgsl_model.specs.Attributed.{without_attributes}
+use Rattle.wgsl_model.specs.Units.{GlobalDirective, UnattributedDirective.enable, UnattributedDirective.requires}
 use Rattle.wgsl_model.specs.UnitParts.{rule_of, texts_of}
 use Rattle.wgsl_model.specs.Symbols.{Symbol.ident, Symbol.enable_directive, Symbol.requires_directive}
 use Rattle.wgsl_grammar_theory.specs.Factored.{FactoredSymbol.of, FactoredSymbol.further, Further.name_items, Further.name_rest, Further.name_more}
@@ -105,10 +106,10 @@ abbrev directive_at : ℕ → (List (List ℕ) → GlobalDirective) → State �
 directive_at keyword directive s = take keyword s >>= λ t s'. names_at s' >>= λ names s''. done (directive names) s''
 
 unfoldable pub enable_directive_at : State → Read GlobalDirective
-enable_directive_at s = directive_at KwEnable (λ names. enable (record { extensions = names })) s
+enable_directive_at s = directive_at KwEnable (λ names. without_attributes (enable (record { extensions = names }))) s
 
 unfoldable pub requires_directive_at : State → Read GlobalDirective
-requires_directive_at s = directive_at KwRequires (λ names. requires (record { extensions = names })) s
+requires_directive_at s = directive_at KwRequires (λ names. without_attributes (requires (record { extensions = names }))) s
 
 of_names : (directive : List (List ℕ) → GlobalDirective) (t : Token) (m : Read (List Token)) → (((m >>= λ l s. done (t, l) s) >>= λ (p : Token × List Token) s. done p.1 s) >>= λ ts s. done (directive (texts_of ts)) s)
     ≡ (as_texts m >>= λ names s. done (directive names) s)
@@ -123,8 +124,8 @@ past_keyword directive (stop e) = refl
 
 pub enable_directive_is : (s : State) → reader (of enable_directive) s ≡ enable_directive_at s
 unfolding enable_directive_at
-enable_directive_is s = step (of enable_directive) s ∙ past_keyword (λ names. enable (record { extensions = names })) (take KwEnable s)
+enable_directive_is s = step (of enable_directive) s ∙ past_keyword (λ names. without_attributes (enable (record { extensions = names }))) (take KwEnable s)
 
 pub requires_directive_is : (s : State) → reader (of requires_directive) s ≡ requires_directive_at s
 unfolding requires_directive_at
-requires_directive_is s = step (of requires_directive) s ∙ past_keyword (λ names. requires (record { extensions = names })) (take KwRequires s)
+requires_directive_is s = step (of requires_directive) s ∙ past_keyword (λ names. without_attributes (requires (record { extensions = names }))) (take KwRequires s)

@@ -81,8 +81,8 @@ abbrev mutual
   clauses_of c = no_clauses
 
   switch_clause_of : Code → SwitchClause
-  switch_clause_of (pair ss block) = switch_clause (list_of selector_of ss) (compound_of block)
-  switch_clause_of c = switch_clause [] (compound_statement [] no_statements)
+  switch_clause_of (pair a (pair ss block)) = switch_clause (attributes_of a) (list_of selector_of ss) (compound_of block)
+  switch_clause_of c = switch_clause [] [] (compound_statement [] no_statements)
 
   loop_of : Code → LoopStatement
   loop_of (pair body last) = repeat (compound_of body) (maybe_continuing_of last)
@@ -169,7 +169,8 @@ mutual
   clauses_decoded (clause_before c cs) = λ i. clause_before (switch_clause_decoded c i) (clauses_decoded cs i)
 
   switch_clause_decoded : (c : SwitchClause) → switch_clause_of (switch_clause_code c) ≡ bare_switch_clause c
-  switch_clause_decoded (switch_clause selectors block) = λ i. switch_clause (list_decoded selector_code selector_of bare_selector selector_decoded selectors i) (compound_decoded block i)
+  switch_clause_decoded (switch_clause attributes selectors block) =
+      λ i. switch_clause (attributes_decoded attributes i) (list_decoded selector_code selector_of bare_selector selector_decoded selectors i) (compound_decoded block i)
 
   loop_decoded : (s : LoopStatement) → loop_of (loop_code s) ≡ bare_loop s
   loop_decoded (repeat body last) = λ i. repeat (compound_decoded body i) (maybe_continuing_decoded last i)
@@ -252,7 +253,8 @@ mutual
   clauses_coded (clause_before c cs) = λ i. pair (switch_clause_coded c i) (clauses_coded cs i)
 
   switch_clause_coded : (c : SwitchClause) → switch_clause_code (bare_switch_clause c) ≡ switch_clause_code c
-  switch_clause_coded (switch_clause selectors block) = λ i. pair (list_coded selector_code bare_selector selector_coded selectors i) (compound_coded block i)
+  switch_clause_coded (switch_clause attributes selectors block) =
+      λ i. pair (attributes_coded attributes i) (pair (list_coded selector_code bare_selector selector_coded selectors i) (compound_coded block i))
 
   loop_coded : (s : LoopStatement) → loop_code (bare_loop s) ≡ loop_code s
   loop_coded (repeat body last) = λ i. pair (compound_coded body i) (maybe_continuing_coded last i)

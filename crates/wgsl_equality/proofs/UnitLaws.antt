@@ -3,13 +3,13 @@ use Rattle.std.specs.Prelude.{ℕ, true, List, [], ◌∷◌, map, ◌≡◌, �
 use Rattle.std.proofs.Common.{refl, ap}
 use Rattle.wgsl_model.specs.Spanned.{Spanned}
 use Rattle.wgsl_model.specs.Attributed.{with_attributes}
-use Rattle.wgsl_model.specs.Units.{DiagnosticDirective, EnableDirective, RequiresDirective, GlobalDirective, diagnostic, enable, requires, TypeAlias, StructMember, Struct, FormalParameter, Function, GlobalDeclaration, UnattributedDeclaration, void, declaration, type_alias, structure, function, const_assert, TranslationUnit}
+use Rattle.wgsl_model.specs.Units.{DiagnosticDirective, EnableDirective, RequiresDirective, GlobalDirective, UnattributedDirective, diagnostic, enable, requires, TypeAlias, StructMember, Struct, FormalParameter, Function, GlobalDeclaration, UnattributedDeclaration, void, declaration, type_alias, structure, function, const_assert, TranslationUnit}
 use Rattle.wgsl_model.specs.WithoutSpans.{no_span, bare_spanned, bare_type}
-use Rattle.wgsl_model.specs.StatementsWithoutSpans.{bare_type_alias, bare_member, bare_struct, bare_parameter, bare_function, bare_unattributed_declaration, bare_global_declaration, bare_unit}
+use Rattle.wgsl_model.specs.StatementsWithoutSpans.{bare_directive, bare_type_alias, bare_member, bare_struct, bare_parameter, bare_function, bare_unattributed_declaration, bare_global_declaration, bare_unit}
 use Rattle.wgsl_equality.specs.Code.{Code, number, text, pair, same, list_code}
 use Rattle.wgsl_equality.specs.Laws.{same_is}
 use Rattle.wgsl_equality.specs.Expressions.{type_code}
-use Rattle.wgsl_equality.specs.Units.{diagnostic_directive_code, enable_directive_code, requires_directive_code, global_directive_code, type_alias_code, member_code, struct_code, parameter_code, function_code, unattributed_declaration_code, global_declaration_code, unit_code}
+use Rattle.wgsl_equality.specs.Units.{diagnostic_directive_code, enable_directive_code, requires_directive_code, unattributed_directive_code, global_directive_code, type_alias_code, member_code, struct_code, parameter_code, function_code, unattributed_declaration_code, global_declaration_code, unit_code}
 use Rattle.wgsl_equality.proofs.Parts.{value_at, number_of, text_of, option_of, option_decoded, option_coded, list_of, list_decoded, list_coded}
 use Rattle.wgsl_equality.proofs.NamedValueLaws.{severity_of, severity_decoded}
 use Rattle.wgsl_equality.proofs.ExpressionLaws.{type_of, type_decoded, type_coded}
@@ -34,7 +34,7 @@ module _ {X : Type 0} (code : X → Code) (tree : Code → X) (bare : X → X) w
   nodes_coded : ((x : X) → code (bare x) ≡ code x) → (xs : List (Spanned X)) → list_code spanned_code (map (bare_spanned bare) xs) ≡ list_code spanned_code xs
   nodes_coded coded = list_coded spanned_code (bare_spanned bare) (λ s. coded s.node)
 
--- directives, which have no spans
+-- directives, which have no spans but in their attributes
 texts_decoded : (ts : List (List ℕ)) → list_of text_of (list_code text ts) ≡ ts
 texts_decoded [] = refl
 texts_decoded (t ∷ ts) = ap (λ us. t ∷ us) (texts_decoded ts)
@@ -57,20 +57,25 @@ enable_decoded d = λ i. record { extensions = texts_decoded d.extensions i }
 requires_decoded : (d : RequiresDirective) → requires_of (requires_directive_code d) ≡ d
 requires_decoded d = λ i. record { extensions = texts_decoded d.extensions i }
 
-abbrev directive_at : ℕ → Code → GlobalDirective
-directive_at = value_at (λ c. requires (requires_of c)) ((λ c. diagnostic (diagnostic_of c)) ∷ (λ c. enable (enable_of c)) ∷ [])
+abbrev unattributed_directive_at : ℕ → Code → UnattributedDirective
+unattributed_directive_at = value_at (λ c. requires (requires_of c)) ((λ c. diagnostic (diagnostic_of c)) ∷ (λ c. enable (enable_of c)) ∷ [])
+
+abbrev unattributed_directive_of : Code → UnattributedDirective
+unattributed_directive_of c = unattributed_directive_at (number_of (first_of c)) (second_of c)
+
+unattributed_directive_decoded : (d : UnattributedDirective) → unattributed_directive_of (unattributed_directive_code d) ≡ d
+unattributed_directive_decoded (diagnostic d) = ap diagnostic (diagnostic_decoded d)
+unattributed_directive_decoded (enable d) = ap enable (enable_decoded d)
+unattributed_directive_decoded (requires d) = ap requires (requires_decoded d)
 
 abbrev directive_of : Code → GlobalDirective
-directive_of c = directive_at (number_of (first_of c)) (second_of c)
+directive_of c = with_attributes (attributes_of (second_of c)) (unattributed_directive_of (first_of c))
 
-directive_decoded : (d : GlobalDirective) → directive_of (global_directive_code d) ≡ d
-directive_decoded (diagnostic d) = ap diagnostic (diagnostic_decoded d)
-directive_decoded (enable d) = ap enable (enable_decoded d)
-directive_decoded (requires d) = ap requires (requires_decoded d)
+directive_decoded : (d : GlobalDirective) → directive_of (global_directive_code d) ≡ bare_directive d
+directive_decoded = attributed_decoded unattributed_directive_code (λ d. d) unattributed_directive_of unattributed_directive_decoded
 
-directives_decoded : (ds : List GlobalDirective) → list_of directive_of (list_code global_directive_code ds) ≡ ds
-directives_decoded [] = refl
-directives_decoded (d ∷ ds) = λ i. directive_decoded d i ∷ directives_decoded ds i
+directive_coded : (d : GlobalDirective) → global_directive_code (bare_directive d) ≡ global_directive_code d
+directive_coded = attributed_coded unattributed_directive_code (λ d. d) (λ d. refl)
 
 -- each declaration, read back
 abbrev type_alias_of : Code → TypeAlias
@@ -173,12 +178,13 @@ unit_of c = record { global_directives = list_of directive_of (first_of c); glob
 
 unit_decoded : (u : TranslationUnit) → unit_of (unit_code u) ≡ bare_unit u
 unit_decoded u = λ i. record {
-  global_directives = directives_decoded u.global_directives i;
+  global_directives = list_decoded global_directive_code directive_of bare_directive directive_decoded u.global_directives i;
   global_declarations = nodes_decoded global_declaration_code global_declaration_of bare_global_declaration global_declaration_decoded u.global_declarations i;
 }
 
 unit_coded : (u : TranslationUnit) → unit_code (bare_unit u) ≡ unit_code u
-unit_coded u = ap (pair (list_code global_directive_code u.global_directives)) (nodes_coded global_declaration_code global_declaration_of bare_global_declaration global_declaration_coded u.global_declarations)
+unit_coded u = λ i. pair (list_coded global_directive_code bare_directive directive_coded u.global_directives i)
+    (nodes_coded global_declaration_code global_declaration_of bare_global_declaration global_declaration_coded u.global_declarations i)
 
 -- where the codes are the same, the two are equal with their spans aside
 pub diagnostics_equal : (a b : DiagnosticDirective) → (same (diagnostic_directive_code a) (diagnostic_directive_code b) ≡ true) ↔ (a ≡ b)
@@ -190,8 +196,8 @@ enables_equal = same_is enable_directive_code enable_of (λ d. d) enable_decoded
 pub requires_equal : (a b : RequiresDirective) → (same (requires_directive_code a) (requires_directive_code b) ≡ true) ↔ (a ≡ b)
 requires_equal = same_is requires_directive_code requires_of (λ d. d) requires_decoded (λ d. refl)
 
-pub directives_equal : (a b : GlobalDirective) → (same (global_directive_code a) (global_directive_code b) ≡ true) ↔ (a ≡ b)
-directives_equal = same_is global_directive_code directive_of (λ d. d) directive_decoded (λ d. refl)
+pub directives_equal : (a b : GlobalDirective) → (same (global_directive_code a) (global_directive_code b) ≡ true) ↔ (bare_directive a ≡ bare_directive b)
+directives_equal = same_is global_directive_code directive_of bare_directive directive_decoded directive_coded
 
 pub type_aliases_equal : (a b : TypeAlias) → (same (type_alias_code a) (type_alias_code b) ≡ true) ↔ (bare_type_alias a ≡ bare_type_alias b)
 type_aliases_equal = same_is type_alias_code type_alias_of bare_type_alias type_alias_decoded type_alias_coded

@@ -66,7 +66,7 @@ abbrev mutual
   clauses_code (clause_before c cs) = pair (switch_clause_code c) (clauses_code cs)
 
   pub switch_clause_code : SwitchClause → Code
-  switch_clause_code (switch_clause selectors block) = pair (list_code selector_code selectors) (compound_code block)
+  switch_clause_code (switch_clause attributes selectors block) = pair (attributes_code attributes) (pair (list_code selector_code selectors) (compound_code block))
 
   pub loop_code : LoopStatement → Code
   loop_code (repeat body last) = pair (compound_code body) (maybe_continuing_code last)

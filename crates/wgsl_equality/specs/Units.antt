@@ -1,5 +1,5 @@
 -- Modules, their directives and their declarations as numbers and texts, without their spans.
-use Rattle.wgsl_model.specs.Units.{DiagnosticDirective, EnableDirective, RequiresDirective, GlobalDirective, diagnostic, enable, requires, TypeAlias, StructMember, Struct, FormalParameter, Function, GlobalDeclaration, UnattributedDeclaration, void, declaration, type_alias, structure, function, const_assert, TranslationUnit}
+use Rattle.wgsl_model.specs.Units.{DiagnosticDirective, EnableDirective, RequiresDirective, GlobalDirective, UnattributedDirective, diagnostic, enable, requires, TypeAlias, StructMember, Struct, FormalParameter, Function, GlobalDeclaration, UnattributedDeclaration, void, declaration, type_alias, structure, function, const_assert, TranslationUnit}
 use Rattle.wgsl_equality.specs.Code.{Code, number, text, pair, list_code, option_code}
 use Rattle.wgsl_equality.specs.NamedValues.{severity_number}
 use Rattle.wgsl_equality.specs.Expressions.{type_code}
@@ -17,10 +17,13 @@ enable_directive_code d = list_code text d.extensions
 abbrev pub requires_directive_code : RequiresDirective → Code
 requires_directive_code d = list_code text d.extensions
 
+abbrev pub unattributed_directive_code : UnattributedDirective → Code
+unattributed_directive_code (diagnostic d) = pair (number 0) (diagnostic_directive_code d)
+unattributed_directive_code (enable d) = pair (number 1) (enable_directive_code d)
+unattributed_directive_code (requires d) = pair (number 2) (requires_directive_code d)
+
 abbrev pub global_directive_code : GlobalDirective → Code
-global_directive_code (diagnostic d) = pair (number 0) (diagnostic_directive_code d)
-global_directive_code (enable d) = pair (number 1) (enable_directive_code d)
-global_directive_code (requires d) = pair (number 2) (requires_directive_code d)
+global_directive_code = attributed_code unattributed_directive_code
 
 -- declarations
 abbrev pub type_alias_code : TypeAlias → Code

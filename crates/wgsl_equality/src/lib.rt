@@ -7,7 +7,7 @@ ghost use Rattle.wgsl_model.specs.Expressions.{LiteralExpression, Expression, Ex
 ghost use Rattle.wgsl_model.specs.WithoutSpans.{bare_expression, bare_expression_node, bare_call, bare_type};
 ghost use Rattle.wgsl_model.specs.Statements as tree;
 ghost use Rattle.wgsl_model.specs.StatementsWithoutSpans.{bare_declaration, bare_assignment, bare_increment, bare_decrement, bare_return, bare_call_statement, bare_assert, bare_break_if, bare_selector, bare_statement, bare_statement_node, bare_compound, bare_if, bare_if_clause, bare_else_if_clause, bare_else_clause, bare_switch, bare_switch_clause, bare_loop, bare_continuing, bare_for, bare_while};
-ghost use Rattle.wgsl_model.specs.StatementsWithoutSpans.{bare_type_alias, bare_member, bare_struct, bare_parameter, bare_function, bare_global_declaration, bare_unit};
+ghost use Rattle.wgsl_model.specs.StatementsWithoutSpans.{bare_directive, bare_type_alias, bare_member, bare_struct, bare_parameter, bare_function, bare_global_declaration, bare_unit};
 ghost use Rattle.wgsl_model.specs.Units as unit_tree;
 ghost use Rattle.wgsl_equality.specs.Code.{same};
 ghost use Rattle.wgsl_equality.specs.Declarations.{declaration_kind_code, declaration_code, assignment_code, increment_code, decrement_code, return_code, call_statement_code, assert_code, break_if_code, selector_code};
@@ -88,9 +88,9 @@ pub fn loops()
     ensures while_statement { (a b : tree.WhileStatement) → IsTrue (same (while_code a) (while_code b)) ↔ (bare_while a ≡ bare_while b) }
 {}
 
-/// Where two directives are equal: where they are one, since they have no spans.
+/// Where two directives are equal: where they are one, the spans in their attributes set aside.
 pub fn directives()
-    ensures directive { (a b : unit_tree.GlobalDirective) → IsTrue (same (global_directive_code a) (global_directive_code b)) ↔ (a ≡ b) }
+    ensures directive { (a b : unit_tree.GlobalDirective) → IsTrue (same (global_directive_code a) (global_directive_code b)) ↔ (bare_directive a ≡ bare_directive b) }
     ensures diagnostic { (a b : unit_tree.DiagnosticDirective) → IsTrue (same (diagnostic_directive_code a) (diagnostic_directive_code b)) ↔ (a ≡ b) }
     ensures enable { (a b : unit_tree.EnableDirective) → IsTrue (same (enable_directive_code a) (enable_directive_code b)) ↔ (a ≡ b) }
     ensures require { (a b : unit_tree.RequiresDirective) → IsTrue (same (requires_directive_code a) (requires_directive_code b)) ↔ (a ≡ b) }

@@ -61,7 +61,7 @@ abbrev mutual
   full_clauses (clause_before c cs) = clause_before (full_switch_clause c) (full_clauses cs)
 
   pub full_switch_clause : SwitchClause → SwitchClause
-  full_switch_clause (switch_clause selectors block) = switch_clause selectors (full_compound block)
+  full_switch_clause (switch_clause attributes selectors block) = switch_clause attributes selectors (full_compound block)
 
   pub full_loop : LoopStatement → LoopStatement
   full_loop (repeat body last) = repeat (full_compound body) (full_maybe_continuing last)

@@ -101,7 +101,8 @@ abbrev mutual
   clause_texts (clause_before c cs) = print_switch_clause c ∷ clause_texts cs
 
   pub print_switch_clause : SwitchClause → List ℕ
-  print_switch_clause (switch_clause selectors block) = codes "case " ++ joined (codes ", ") (map print_selector selectors) ++ codes " " ++ print_compound block
+  print_switch_clause (switch_clause attributes selectors block) =
+      print_attribute_line attributes ++ codes "case " ++ joined (codes ", ") (map print_selector selectors) ++ codes " " ++ print_compound block
 
   -- the lines of a body up to its closing brace
   pub print_opened : CompoundStatement → List ℕ

@@ -4,7 +4,7 @@ use Rattle.wgsl_model.specs.NamedValues.{severity_text}
 use Rattle.wgsl_model.specs.Spanned.{Spanned}
 use Rattle.wgsl_model.specs.Expressions.{TypeExpression}
 use Rattle.wgsl_model.specs.Attributes.{Attributes}
-use Rattle.wgsl_model.specs.Units.{GlobalDirective, diagnostic, enable, requires, DiagnosticDirective, EnableDirective, RequiresDirective, TypeAlias, StructMember, Struct, FormalParameter, Function, GlobalDeclaration, UnattributedDeclaration, void, declaration, type_alias, structure, function, const_assert, TranslationUnit}
+use Rattle.wgsl_model.specs.Units.{GlobalDirective, UnattributedDirective, diagnostic, enable, requires, DiagnosticDirective, EnableDirective, RequiresDirective, TypeAlias, StructMember, Struct, FormalParameter, Function, GlobalDeclaration, UnattributedDeclaration, void, declaration, type_alias, structure, function, const_assert, TranslationUnit}
 use Rattle.wgsl_model.specs.Joining.{joined}
 use Rattle.wgsl_model.specs.Indentation.{indented}
 use Rattle.wgsl_model.specs.PrintedExpressions.{print_type}
@@ -22,10 +22,14 @@ print_enable d = codes "enable " ++ joined (codes ", ") d.extensions ++ codes ";
 abbrev pub print_requires : RequiresDirective → List ℕ
 print_requires d = codes "requires " ++ joined (codes ", ") d.extensions ++ codes ";"
 
+-- what stands behind the attributes of a directive
+abbrev pub print_unattributed_directive : UnattributedDirective → List ℕ
+print_unattributed_directive (diagnostic d) = print_diagnostic d
+print_unattributed_directive (enable d) = print_enable d
+print_unattributed_directive (requires d) = print_requires d
+
 abbrev pub print_directive : GlobalDirective → List ℕ
-print_directive (diagnostic d) = print_diagnostic d
-print_directive (enable d) = print_enable d
-print_directive (requires d) = print_requires d
+print_directive = print_attributed print_unattributed_directive
 
 -- declarations
 abbrev pub print_type_alias : TypeAlias → List ℕ

@@ -1,5 +1,5 @@
 -- The trees that the rules of statements make, and the parts that these rules share.
-use Rattle.std.specs.Prelude.{ℕ, List, Option, codes}
+use Rattle.std.specs.Prelude.{ℕ, List, [], Option, codes}
 use Rattle.grammar.specs.Tokens.{Token, Span}
 use Rattle.grammar.specs.Grammar.{Grammar.symbol}
 use Rattle.grammar.specs.Notation.{◌means◌, ◌or◌, ◌then◌, ◌gives◌, ◌▹◌, ◌◃◌, many}
@@ -110,7 +110,7 @@ assert_statement c = unattributed (tree.const_assert c)
 
 -- what a clause selects, and its block
 abbrev pub clause_of : List CaseSelector → CompoundStatement → SwitchClause
-clause_of selectors block = tree.switch_clause selectors block
+clause_of selectors block = tree.switch_clause [] selectors block
 
 -- what is compared, the attributes of the body, and the clauses
 abbrev pub switch_of : ExpressionNode → Attributes → List SwitchClause → UnattributedStatement

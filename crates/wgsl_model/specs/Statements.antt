@@ -105,9 +105,9 @@ mutual
   pub data SwitchStatement : Type 0 where
     switch : ExpressionNode → Attributes → SwitchClauses → SwitchStatement
 
-  -- what is selected, and the block
+  -- a clause: its attributes, what is selected, and the block
   pub data SwitchClause : Type 0 where
-    switch_clause : List CaseSelector → CompoundStatement → SwitchClause
+    switch_clause : Attributes → List CaseSelector → CompoundStatement → SwitchClause
 
   -- the body, and its `continuing`
   pub data LoopStatement : Type 0 where

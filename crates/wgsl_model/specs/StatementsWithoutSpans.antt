@@ -3,7 +3,7 @@ use Rattle.std.specs.Prelude.{map}
 use Rattle.std.specs.Option.{option_map}
 use Rattle.wgsl_model.specs.Attributed.{Attributed}
 use Rattle.wgsl_model.specs.Statements.{Declaration, AssignmentStatement, IncrementStatement, DecrementStatement, ReturnStatement, FunctionCallStatement, ConstAssert, BreakIfStatement, CaseSelector, default_selector, expression_selector, StatementNode, statement_node, Statement, statement, UnattributedStatement, compound, assignment, increment, decrement, if_statement, switch_statement, loop_statement, for_statement, while_statement, return_statement, function_call_statement, const_assert, declaration, CompoundStatement, compound_statement, IfStatement, if_else, IfClause, if_clause, ElseIfClause, else_if_clause, ElseClause, else_clause, SwitchStatement, switch, SwitchClause, switch_clause, LoopStatement, repeat, ContinuingStatement, continuing, ForStatement, repeat_for, WhileStatement, repeat_while, StatementNodes, no_statements, statement_before, ElseIfClauses, no_else_ifs, else_if_before, MaybeElseClause, no_else, one_else, SwitchClauses, no_clauses, clause_before, MaybeContinuing, no_continuing, one_continuing, MaybeStatement, no_statement, one_statement}
-use Rattle.wgsl_model.specs.Units.{TypeAlias, StructMember, Struct, FormalParameter, Function, GlobalDeclaration, UnattributedDeclaration, UnattributedDeclaration.declaration, UnattributedDeclaration.type_alias, UnattributedDeclaration.structure, UnattributedDeclaration.function, UnattributedDeclaration.const_assert, TranslationUnit}
+use Rattle.wgsl_model.specs.Units.{TypeAlias, StructMember, Struct, FormalParameter, Function, GlobalDirective, GlobalDeclaration, UnattributedDeclaration, UnattributedDeclaration.declaration, UnattributedDeclaration.type_alias, UnattributedDeclaration.structure, UnattributedDeclaration.function, UnattributedDeclaration.const_assert, TranslationUnit}
 use Rattle.wgsl_model.specs.WithoutSpans.{no_span, bare_spanned, bare_expression_node, bare_call, bare_type, bare_attributes}
 
 -- a node behind its attributes
@@ -96,7 +96,8 @@ abbrev mutual
   bare_clauses (clause_before c cs) = clause_before (bare_switch_clause c) (bare_clauses cs)
 
   pub bare_switch_clause : SwitchClause → SwitchClause
-  bare_switch_clause (switch_clause selectors block) = switch_clause (map bare_selector selectors) (bare_compound block)
+  bare_switch_clause (switch_clause attributes selectors block) =
+      switch_clause (bare_attributes attributes) (map bare_selector selectors) (bare_compound block)
 
   pub bare_loop : LoopStatement → LoopStatement
   bare_loop (repeat body last) = repeat (bare_compound body) (bare_maybe_continuing last)
@@ -118,6 +119,10 @@ abbrev mutual
 
   pub bare_while : WhileStatement → WhileStatement
   bare_while (repeat_while e block) = repeat_while (bare_expression_node e) (bare_compound block)
+
+-- directives of modules, in which nothing else has a span
+abbrev pub bare_directive : GlobalDirective → GlobalDirective
+bare_directive = bare_attributed (λ d. d)
 
 -- declarations of modules, and modules
 abbrev pub bare_type_alias : TypeAlias → TypeAlias
@@ -152,4 +157,7 @@ abbrev pub bare_global_declaration : GlobalDeclaration → GlobalDeclaration
 bare_global_declaration = bare_attributed bare_unattributed_declaration
 
 abbrev pub bare_unit : TranslationUnit → TranslationUnit
-bare_unit u = record u { global_declarations = map (bare_spanned bare_global_declaration) u.global_declarations }
+bare_unit u = record {
+  global_directives = map bare_directive u.global_directives;
+  global_declarations = map (bare_spanned bare_global_declaration) u.global_declarations;
+}

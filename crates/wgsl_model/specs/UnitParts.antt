@@ -66,11 +66,11 @@ texts_of (t ∷ ts) = text_of t ∷ texts_of ts
 
 -- `enable` with its names
 abbrev pub enable_of : List Token → GlobalDirective
-enable_of names = tree.enable (record { extensions = texts_of names })
+enable_of names = without_attributes (tree.enable (record { extensions = texts_of names }))
 
 -- `requires` with its names
 abbrev pub requires_of : List Token → GlobalDirective
-requires_of names = tree.requires (record { extensions = texts_of names })
+requires_of names = without_attributes (tree.requires (record { extensions = texts_of names }))
 
 -- the name of a rule: a name, or two with `.` between
 abbrev pub rule_of : Token → Option Token → List ℕ
@@ -79,4 +79,5 @@ rule_of first (Some second) = text_of first ++ (codes "." ++ text_of second)
 
 -- `diagnostic` with a severity and the name of a rule
 abbrev pub diagnostic_of : Token → Token → Option Token → GlobalDirective
-diagnostic_of severity first second = tree.diagnostic (record { severity = severity_of severity; rule_name = rule_of first second })
+diagnostic_of severity first second =
+    without_attributes (tree.diagnostic (record { severity = severity_of severity; rule_name = rule_of first second }))

@@ -20,11 +20,15 @@ pub record EnableDirective : Type 0 where
 pub record RequiresDirective : Type 0 where
   pub extensions : List (List ℕ)
 
--- a directive of a module
-pub data GlobalDirective : Type 0 where
-  diagnostic : DiagnosticDirective → GlobalDirective
-  enable : EnableDirective → GlobalDirective
-  requires : RequiresDirective → GlobalDirective
+-- what stands behind the attributes of a directive of a module
+pub data UnattributedDirective : Type 0 where
+  diagnostic : DiagnosticDirective → UnattributedDirective
+  enable : EnableDirective → UnattributedDirective
+  requires : RequiresDirective → UnattributedDirective
+
+-- a directive of a module: its attributes, and what stands behind them
+abbrev pub GlobalDirective : Type 0
+GlobalDirective = Attributed UnattributedDirective
 
 -- `alias` with a name and a type
 pub record TypeAlias : Type 0 where

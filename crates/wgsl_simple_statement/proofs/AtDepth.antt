@@ -102,9 +102,9 @@ module _ (gap : List ℕ) where
       braced_is (print_attribute_line attributes) (codes "switch ") (print_expression_node e) (print_attribute_line body_attributes) (indented (joined (codes "\n") (clause_texts cs)))
       ∙ sym (ap (λ s. at (print_attributed print_switch s)) same)
 
-  pub switch_clause_is : (c : SwitchClause) (selectors : List CaseSelector) (block : CompoundStatement) → c ≡ switch_clause selectors block → codes "case " ++ at (joined (codes ", ") (map print_selector selectors)) ++ codes " " ++ at (print_compound block) ≡ at (print_switch_clause c)
+  pub switch_clause_is : (c : SwitchClause) (selectors : List CaseSelector) (block : CompoundStatement) → c ≡ switch_clause [] selectors block → codes "case " ++ at (joined (codes ", ") (map print_selector selectors)) ++ codes " " ++ at (print_compound block) ≡ at (print_switch_clause c)
   switch_clause_is c selectors block same =
-      let whole : codes "case " ++ at (joined (codes ", ") (map print_selector selectors)) ++ codes " " ++ at (print_compound block) ≡ at (print_switch_clause (switch_clause selectors block)) = ap (λ z. codes "case " ++ z) (before_block (joined (codes ", ") (map print_selector selectors)) (print_compound block)) in
+      let whole : codes "case " ++ at (joined (codes ", ") (map print_selector selectors)) ++ codes " " ++ at (print_compound block) ≡ at (print_switch_clause (switch_clause [] selectors block)) = ap (λ z. codes "case " ++ z) (before_block (joined (codes ", ") (map print_selector selectors)) (print_compound block)) in
       whole ∙ sym (ap (λ c. at (print_switch_clause c)) same)
 
   pub loop_is : (s : Attributed LoopStatement) (attributes : Attributes) (body : CompoundStatement) (last : MaybeContinuing) → s ≡ with_attributes attributes (repeat body last) → (at (print_attribute_line attributes) ++ codes "loop ") ++ at (print_opened body) ++ at (continuing_line last) ++ codes "}" ≡ at (print_attributed print_loop s)

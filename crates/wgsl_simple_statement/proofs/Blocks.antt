@@ -7,7 +7,7 @@ use Rattle.wgsl_model.specs.Statements.{statement_node, Statement, statement, vo
 use Rattle.wgsl_model.specs.Joining.{joined}
 use Rattle.wgsl_model.specs.Indentation.{after_line_ends, indented}
 use Rattle.wgsl_model.specs.PrintedAttributes.{print_attribute_line}
-use Rattle.wgsl_model.specs.PrintedStatements.{is_void, unended, print_statement, statement_texts, clause_texts}
+use Rattle.wgsl_model.specs.PrintedStatements.{is_void, unended, print_statement, statement_texts, print_switch_clause, clause_texts}
 use Rattle.wgsl_writer.proofs.Indents.{after_append}
 
 -- with no gap nothing changes
@@ -114,4 +114,6 @@ statements_filled (statement_before (statement_node s span) ss) =
 
 pub clauses_filled : (cs : SwitchClauses) → BeginsFilled (clause_texts cs)
 clauses_filled no_clauses = tt
-clauses_filled (clause_before (switch_clause selectors block) cs) = tt
+clauses_filled (clause_before (switch_clause attributes selectors block) cs) =
+    begins (print_switch_clause (switch_clause attributes selectors block)) (clause_texts cs)
+    (left_filled _ _ (left_filled _ _ (left_filled _ _ (right_filled (print_attribute_line attributes) (codes "case ") tt))))

@@ -81,7 +81,7 @@ abbrev pub loop_statement_step : layer.LoopStatement-F plain.Statement plain.Com
 loop_statement_step s = with_attributes (attributes_view s.attributes.items) (plain.repeat s.body (plain.continuing_of s.continuing))
 
 abbrev pub switch_clause_step : layer.SwitchClause-F plain.Statement plain.CompoundStatement plain.ContinuingStatement plain.ElseClause plain.ElseIfClause (Attributed plain.ForStatement) plain.IfClause (Attributed plain.IfStatement) (Attributed plain.LoopStatement) plain.SwitchClause (Attributed plain.SwitchStatement) (Attributed plain.WhileStatement) → plain.SwitchClause
-switch_clause_step s = plain.switch_clause (map selector_view s.case_selectors.items) s.body
+switch_clause_step s = plain.switch_clause [] (map selector_view s.case_selectors.items) s.body
 
 abbrev pub switch_statement_step : layer.SwitchStatement-F plain.Statement plain.CompoundStatement plain.ContinuingStatement plain.ElseClause plain.ElseIfClause (Attributed plain.ForStatement) plain.IfClause (Attributed plain.IfStatement) (Attributed plain.LoopStatement) plain.SwitchClause (Attributed plain.SwitchStatement) (Attributed plain.WhileStatement) → Attributed plain.SwitchStatement
 switch_statement_step s = with_attributes (attributes_view s.attributes.items) (plain.switch (expression_node_view s.expression) (attributes_view s.body_attributes.items) (plain.clauses_of s.clauses.items))

@@ -71,8 +71,8 @@ const_assert_gives = gives_sound (sign_before KwConstAssert (symbol_sound expres
 
 switch_clause_gives : Gives (written switch_clause) (Sound switch_clause)
 switch_clause_gives = or_sound
-    (gives_sound (sign_before KwCase (then_sound (list_sound SymComma (symbol_sound case_selector)) (then_sound (optional_sound (anything (token (SymColon ∷ [])))) (symbol_sound compound_statement)))) (λ p. clause_of p.0 p.1.1) IsSoundClause (λ p h. (h.0, h.1.1)))
-    (gives_sound (sign_before KwDefault (then_sound (optional_sound (anything (token (SymColon ∷ [])))) (symbol_sound compound_statement))) (λ p. clause_of (CaseSelector.default_selector ∷ []) p.1) IsSoundClause (λ p h. ((tt, tt), h.1)))
+    (gives_sound (sign_before KwCase (then_sound (list_sound SymComma (symbol_sound case_selector)) (then_sound (optional_sound (anything (token (SymColon ∷ [])))) (symbol_sound compound_statement)))) (λ p. clause_of p.0 p.1.1) IsSoundClause (λ p h. (tt, h.0, h.1.1)))
+    (gives_sound (sign_before KwDefault (then_sound (optional_sound (anything (token (SymColon ∷ [])))) (symbol_sound compound_statement))) (λ p. clause_of (CaseSelector.default_selector ∷ []) p.1) IsSoundClause (λ p h. (tt, (tt, tt), h.1)))
 
 case_selector_gives : Gives (written case_selector) (Sound case_selector)
 case_selector_gives = or_sound (means_sound KwDefault CaseSelector.default_selector IsSoundSelector tt) (gives_sound (symbol_sound expression) CaseSelector.expression_selector IsSoundSelector (λ e h. h))
@@ -158,16 +158,16 @@ global_directive_gives : Gives (written global_directive) (Sound global_directiv
 global_directive_gives = or_sound (symbol_sound enable_directive) (or_sound (symbol_sound requires_directive) (symbol_sound diagnostic_directive))
 
 enable_directive_gives : Gives (written enable_directive) (Sound enable_directive)
-enable_directive_gives = gives_sound (sign_before KwEnable (sign_behind SymSemicolon (list_sound SymComma (symbol_sound ident)))) enable_of IsSoundDirective (λ ts h. texts_sound ts h)
+enable_directive_gives = gives_sound (sign_before KwEnable (sign_behind SymSemicolon (list_sound SymComma (symbol_sound ident)))) enable_of IsSoundDirective (λ ts h. (tt, texts_sound ts h))
 
 requires_directive_gives : Gives (written requires_directive) (Sound requires_directive)
-requires_directive_gives = gives_sound (sign_before KwRequires (sign_behind SymSemicolon (list_sound SymComma (symbol_sound ident)))) requires_of IsSoundDirective (λ ts h. texts_sound ts h)
+requires_directive_gives = gives_sound (sign_before KwRequires (sign_behind SymSemicolon (list_sound SymComma (symbol_sound ident)))) requires_of IsSoundDirective (λ ts h. (tt, texts_sound ts h))
 
 diagnostic_directive_gives : Gives (written diagnostic_directive) (Sound diagnostic_directive)
 diagnostic_directive_gives = gives_sound
     (then_sound (sign_behind SymComma (symbol_sound diagnostic_severity)) (then_sound (symbol_sound ident) (then_sound (optional_sound (sign_before SymPeriod (symbol_sound ident)))
     (sign_behind SymSemicolon (sign_behind SymParenRight (optional_sound (anything (token (SymComma ∷ [])))))))))
-    (λ p. diagnostic_of p.0 p.1.0 p.1.1.0) IsSoundDirective (λ p h. rule_of_sound p.1.0 p.1.1.0 h.1.0 h.1.1.0)
+    (λ p. diagnostic_of p.0 p.1.0 p.1.1.0) IsSoundDirective (λ p h. (tt, rule_of_sound p.1.0 p.1.1.0 h.1.0 h.1.1.0))
 
 unit_gives : Gives (written unit) (Sound unit)
 unit_gives = gives_sound (then_sound (many_sound (symbol_sound global_directive)) (many_sound (symbol_sound global_declaration))) (λ p. record { global_directives = p.0; global_declarations = p.1 }) IsSoundUnit (λ p h. h)

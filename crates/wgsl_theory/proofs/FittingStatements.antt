@@ -278,7 +278,8 @@ mutual
   clauses_fit n start p (clause_before x cs) rest s c f = p _ (clause_fits n x (clauses_pieces n (line n) cs rest) s.0 (clauses_fit n (line n) (line_fits n) cs rest s.1 c f))
 
   clause_fits : (n : ℕ) (x : SwitchClause) (rest : List Piece) → IsSoundClause x → Fits rest → Fits (switch_clause_pieces n x rest)
-  clause_fits n (switch_clause selectors block) rest s f = (case_fits _ refl, list_fits selector_pieces IsSoundSelector selector_fits selectors _ s.0 refl (compound_fits n block rest s.1 f))
+  clause_fits n (switch_clause a selectors block) rest s f =
+      attribute_lines_fit n a _ s.0 (case_fits _ refl, list_fits selector_pieces IsSoundSelector selector_fits selectors _ s.1 refl (compound_fits n block rest s.2 f))
 
   loop_fits : (n : ℕ) (x : LoopStatement) (rest : List Piece) → IsSoundLoop x → Fits rest → Fits (loop_pieces n x rest)
   loop_fits n (repeat body last) rest s f = (loop_word_fits _ refl, opened_fits n body _ s.0 (maybe_continuing_fits n last (sign (codes "}") SymBraceRight rest) s.1 (right_brace_fits _, f)))

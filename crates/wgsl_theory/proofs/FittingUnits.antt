@@ -7,7 +7,7 @@ use Rattle.wgsl_model.specs.NamedValues.{severity_text}
 use Rattle.wgsl_model.specs.Spanned.{Spanned}
 use Rattle.wgsl_model.specs.Expressions.{TypeExpression}
 use Rattle.wgsl_model.specs.Attributes.{Attributes}
-use Rattle.wgsl_model.specs.Units.{GlobalDirective, diagnostic, enable, requires, StructMember, FormalParameter, Function, GlobalDeclaration, UnattributedDeclaration, void, declaration, type_alias, structure, function, const_assert, TranslationUnit}
+use Rattle.wgsl_model.specs.Units.{GlobalDirective, UnattributedDirective, diagnostic, enable, requires, StructMember, FormalParameter, Function, GlobalDeclaration, UnattributedDeclaration, void, declaration, type_alias, structure, function, const_assert, TranslationUnit}
 use Rattle.wgsl_model.specs.PrintedUnits.{is_void, print_unit}
 use Rattle.wgsl_canonical_theory.specs.CanonicalUnits.{canonical}
 use Rattle.wgsl_theory.proofs.Pieces.{Piece, space, render, Fits}
@@ -18,18 +18,18 @@ use Rattle.wgsl_theory.proofs.FittingWords.{name_fits, sign_fits}
 use Rattle.wgsl_theory.proofs.SoundExpressions.{IsSoundType, Closed}
 use Rattle.wgsl_theory.proofs.FittingSigns.{as_text, left_paren_fits, right_paren_fits, comma_fits}
 use Rattle.wgsl_theory.proofs.FittingExpressions.{closed_by_paren, closed_by_comma, ends_at_paren}
-use Rattle.wgsl_theory.proofs.SoundUnits.{IfSome, Every, AreSoundAttributes, IsSoundDirective, IsSoundMember, IsSoundParameter, IsSoundFunction, IsSoundUnattributedDeclaration, IsSoundGlobal, IsSoundUnit}
+use Rattle.wgsl_theory.proofs.SoundUnits.{IfSome, Every, AreSoundAttributes, IsSoundUnattributedDirective, IsSoundDirective, IsSoundMember, IsSoundParameter, IsSoundFunction, IsSoundUnattributedDeclaration, IsSoundGlobal, IsSoundUnit}
 use Rattle.wgsl_theory.proofs.WrittenWords.{severity_name, alias_fits, diagnostic_fits, enable_fits, fn_fits, requires_fits, struct_fits}
 use Rattle.wgsl_theory.proofs.FittingAttributes.{list_fits, closed_type_fits, plain_name_fits, rule_fits, attributes_fit}
 use Rattle.wgsl_theory.proofs.FittingStatements.{line_fits, closed_line, attribute_lines_fit, left_brace_fits, right_brace_fits, semicolon_fits, colon_fits, equal_fits, closed_by_semicolon, declaration_fits, assert_fits, compound_fits, one_fits}
 use Rattle.wgsl_theory.proofs.PiecesOfExpressions.{sign, name, comma, type_pieces}
 use Rattle.wgsl_theory.proofs.PiecesOfAttributes.{list_pieces, rule_pieces}
 use Rattle.wgsl_theory.proofs.PiecesOfStatements.{compound_pieces}
-use Rattle.wgsl_theory.proofs.PiecesOfUnits.{directive_pieces, member_pieces, further_members_pieces, members_pieces, one_space, parameter_pieces, result_pieces, function_pieces, unattributed_declaration_pieces, global_declaration_pieces, two_lines, declarations_pieces, further_directives_pieces, directives_pieces, nothing_before, unit_pieces}
+use Rattle.wgsl_theory.proofs.PiecesOfUnits.{unattributed_directive_pieces, directive_pieces, member_pieces, further_members_pieces, members_pieces, one_space, parameter_pieces, result_pieces, function_pieces, unattributed_declaration_pieces, global_declaration_pieces, two_lines, declarations_pieces, further_directives_pieces, directives_pieces, nothing_before, unit_pieces}
 use Rattle.wgsl_theory.proofs.PrintedAlong.{printed_utf8, printed_along}
 
-directive_fits : (d : GlobalDirective) (rest : List Piece) → IsSoundDirective d → Fits rest → Fits (directive_pieces d rest)
-directive_fits (diagnostic d) rest s f =
+unattributed_directive_fits : (d : UnattributedDirective) (rest : List Piece) → IsSoundUnattributedDirective d → Fits rest → Fits (unattributed_directive_pieces d rest)
+unattributed_directive_fits (diagnostic d) rest s f =
     let last = sign (codes ";") SymSemicolon rest in
     let more = rule_pieces d.rule_name (sign (codes ")") SymParenRight last) in (
       diagnostic_fits _ refl,
@@ -39,8 +39,11 @@ directive_fits (diagnostic d) rest s f =
             (comma_fits _, rule_fits d.rule_name (sign (codes ")") SymParenRight last) s (closed_by_paren last) (right_paren_fits _, (semicolon_fits _, f))),
       ),
     )
-directive_fits (enable d) rest s f = (enable_fits _ refl, list_fits name IsNameText plain_name_fits d.extensions (sign (codes ";") SymSemicolon rest) s (closed_by_semicolon rest) (semicolon_fits _, f))
-directive_fits (requires d) rest s f = (requires_fits _ refl, list_fits name IsNameText plain_name_fits d.extensions (sign (codes ";") SymSemicolon rest) s (closed_by_semicolon rest) (semicolon_fits _, f))
+unattributed_directive_fits (enable d) rest s f = (enable_fits _ refl, list_fits name IsNameText plain_name_fits d.extensions (sign (codes ";") SymSemicolon rest) s (closed_by_semicolon rest) (semicolon_fits _, f))
+unattributed_directive_fits (requires d) rest s f = (requires_fits _ refl, list_fits name IsNameText plain_name_fits d.extensions (sign (codes ";") SymSemicolon rest) s (closed_by_semicolon rest) (semicolon_fits _, f))
+
+directive_fits : (d : GlobalDirective) (rest : List Piece) → IsSoundDirective d → Fits rest → Fits (directive_pieces d rest)
+directive_fits d rest s f = attribute_lines_fit 0 d.attributes _ s.0 (unattributed_directive_fits d.node rest s.1 f)
 
 -- attributes, a name and its type
 attributed_fits : (ident : List ℕ) (ty : TypeExpression) (rest : List Piece) → IsNameText ident → IsSoundType ty → Closed (render rest) → Fits rest → Fits (name ident (sign (codes ":") SymColon (space ∷ type_pieces ty rest)))

@@ -140,7 +140,8 @@ abbrev mutual
   clauses_pieces n start (clause_before c cs) rest = start (switch_clause_pieces n c (clauses_pieces n (line n) cs rest))
 
   pub switch_clause_pieces : ℕ → SwitchClause → List Piece → List Piece
-  switch_clause_pieces n (switch_clause selectors block) rest = sign (codes "case") KwCase (space ∷ list_pieces selector_pieces selectors (space ∷ compound_pieces n block rest))
+  switch_clause_pieces n (switch_clause attributes selectors block) rest =
+      attributes_pieces (line n) attributes (sign (codes "case") KwCase (space ∷ list_pieces selector_pieces selectors (space ∷ compound_pieces n block rest)))
 
   pub loop_pieces : ℕ → LoopStatement → List Piece → List Piece
   loop_pieces n (repeat body last) rest = sign (codes "loop") KwLoop (space ∷ opened_pieces n body (maybe_continuing_pieces n last (sign (codes "}") SymBraceRight rest)))

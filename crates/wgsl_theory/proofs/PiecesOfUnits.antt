@@ -7,14 +7,14 @@ use Rattle.wgsl_model.specs.NamedValues.{severity_text}
 use Rattle.wgsl_model.specs.Spanned.{Spanned}
 use Rattle.wgsl_model.specs.Expressions.{TypeExpression}
 use Rattle.wgsl_model.specs.Attributes.{Attributes}
-use Rattle.wgsl_model.specs.Units.{GlobalDirective, diagnostic, enable, requires, StructMember, FormalParameter, Function, GlobalDeclaration, UnattributedDeclaration, void, declaration, type_alias, structure, function, const_assert, TranslationUnit}
+use Rattle.wgsl_model.specs.Units.{GlobalDirective, UnattributedDirective, diagnostic, enable, requires, StructMember, FormalParameter, Function, GlobalDeclaration, UnattributedDeclaration, void, declaration, type_alias, structure, function, const_assert, TranslationUnit}
 use Rattle.wgsl_model.specs.Joining.{joined}
 use Rattle.wgsl_model.specs.Indentation.{indented}
 use Rattle.wgsl_model.specs.PrintedExpressions.{print_type}
 use Rattle.wgsl_model.specs.PrintedAttributes.{print_attributes, print_attribute_line}
-use Rattle.wgsl_model.specs.PrintedUnits.{print_directive, print_member, print_parameter, print_result, print_function, print_unattributed_declaration, print_global_declaration, is_void, declaration_texts, print_directives, print_unit}
+use Rattle.wgsl_model.specs.PrintedUnits.{print_unattributed_directive, print_directive, print_member, print_parameter, print_result, print_function, print_unattributed_declaration, print_global_declaration, is_void, declaration_texts, print_directives, print_unit}
 use Rattle.wgsl_canonical_theory.specs.CanonicalExpressions.{all_tokens, list_tokens, further_tokens, word_token}
-use Rattle.wgsl_canonical_theory.specs.CanonicalUnits.{directive_tokens, attributed_tokens, member_tokens, parameter_tokens, result_tokens, function_tokens, unattributed_declaration_tokens, global_declaration_tokens, kept_declaration_tokens, unit_tokens, canonical}
+use Rattle.wgsl_canonical_theory.specs.CanonicalUnits.{unattributed_directive_tokens, directive_tokens, attributed_tokens, member_tokens, parameter_tokens, result_tokens, function_tokens, unattributed_declaration_tokens, global_declaration_tokens, kept_declaration_tokens, unit_tokens, canonical}
 use Rattle.wgsl_theory.proofs.Pieces.{Piece, space, bytes_of, kinds, Fits}
 use Rattle.wgsl_theory.proofs.Printing.{Puts, Prints, none_prints, ◌before◌, word_prints, space_prints, four, line, line_prints, indented_prints, IsFilled, filled_first, filled_last}
 use Rattle.wgsl_theory.proofs.PiecesOfExpressions.{sign, name, comma, type_pieces, name_prints, comma_prints, type_prints}
@@ -24,12 +24,16 @@ use Rattle.wgsl_theory.proofs.PrintingStatements.{compound_prints}
 
 -- ---- the pieces
 
+-- what stands behind the attributes of a directive
+abbrev pub unattributed_directive_pieces : UnattributedDirective → Puts
+unattributed_directive_pieces (diagnostic d) rest =
+    sign (codes "diagnostic") KwDiagnostic (space ∷ sign (codes "(") SymParenLeft (name (severity_text d.severity) (comma (rule_pieces d.rule_name (sign (codes ")") SymParenRight (sign (codes ";") SymSemicolon rest))))))
+unattributed_directive_pieces (enable d) rest = sign (codes "enable") KwEnable (space ∷ list_pieces name d.extensions (sign (codes ";") SymSemicolon rest))
+unattributed_directive_pieces (requires d) rest = sign (codes "requires") KwRequires (space ∷ list_pieces name d.extensions (sign (codes ";") SymSemicolon rest))
+
 -- a directive
 abbrev pub directive_pieces : GlobalDirective → Puts
-directive_pieces (diagnostic d) rest =
-    sign (codes "diagnostic") KwDiagnostic (space ∷ sign (codes "(") SymParenLeft (name (severity_text d.severity) (comma (rule_pieces d.rule_name (sign (codes ")") SymParenRight (sign (codes ";") SymSemicolon rest))))))
-directive_pieces (enable d) rest = sign (codes "enable") KwEnable (space ∷ list_pieces name d.extensions (sign (codes ";") SymSemicolon rest))
-directive_pieces (requires d) rest = sign (codes "requires") KwRequires (space ∷ list_pieces name d.extensions (sign (codes ";") SymSemicolon rest))
+directive_pieces d rest = attributes_pieces (line 0) d.attributes (unattributed_directive_pieces d.node rest)
 
 -- attributes, a name and its type
 abbrev pub attributed_pieces : Puts → Attributes → List ℕ → TypeExpression → Puts
@@ -118,10 +122,13 @@ names_print : {n : ℕ} (texts : List (List ℕ)) → Prints n (joined (codes ",
 names_print [] = none_prints
 names_print (text ∷ texts) = name_prints text before further_names_print texts
 
-directive_prints : {n : ℕ} (d : GlobalDirective) → Prints n (print_directive d) (directive_pieces d) (directive_tokens d)
-directive_prints (diagnostic d) = (word_prints before space_prints before word_prints) before name_prints (severity_text d.severity) before comma_prints before rule_prints d.rule_name before (word_prints before word_prints)
-directive_prints (enable d) = (word_prints before space_prints) before names_print d.extensions before word_prints
-directive_prints (requires d) = (word_prints before space_prints) before names_print d.extensions before word_prints
+unattributed_directive_prints : {n : ℕ} (d : UnattributedDirective) → Prints n (print_unattributed_directive d) (unattributed_directive_pieces d) (unattributed_directive_tokens d)
+unattributed_directive_prints (diagnostic d) = (word_prints before space_prints before word_prints) before name_prints (severity_text d.severity) before comma_prints before rule_prints d.rule_name before (word_prints before word_prints)
+unattributed_directive_prints (enable d) = (word_prints before space_prints) before names_print d.extensions before word_prints
+unattributed_directive_prints (requires d) = (word_prints before space_prints) before names_print d.extensions before word_prints
+
+directive_prints : (d : GlobalDirective) → Prints 0 (print_directive d) (directive_pieces d) (directive_tokens d)
+directive_prints d = attributes_print (line_prints 0) d.attributes before unattributed_directive_prints d.node
 
 attributed_prints : {n : ℕ} {end : List ℕ} {put : Puts} → Prints n end put (λ rest. rest) → (a : Attributes) (ident : List ℕ) (ty : TypeExpression)
     → Prints n (print_attributes end a ++ ident ++ codes ": " ++ print_type ty) (attributed_pieces put a ident ty) (attributed_tokens a ident ty)

@@ -104,7 +104,7 @@ continuing_filled : (c : ContinuingStatement) → IsFilled (print_continuing c)
 continuing_filled (continuing body condition) = tt
 
 clause_text_filled : (c : SwitchClause) → IsFilled (print_switch_clause c)
-clause_text_filled (switch_clause selectors block) = tt
+clause_text_filled (switch_clause a selectors block) = filled_first _ _ (filled_first _ _ (filled_first _ _ (filled_last (print_attribute_line a) (codes "case ") tt)))
 
 mutual
   pub unended_prints : {n : ℕ} (s : Statement) → Prints n (unended s) (unended_pieces n s) (unended_tokens s)
@@ -177,7 +177,7 @@ mutual
   further_clauses_prints {n} (clause_before c cs) = (line_prints n before switch_clause_prints c) before further_clauses_prints cs
 
   switch_clause_prints : {n : ℕ} (c : SwitchClause) → Prints n (print_switch_clause c) (switch_clause_pieces n c) (switch_clause_tokens c)
-  switch_clause_prints (switch_clause selectors block) = (word_prints before space_prints) before list_prints selector_prints selectors before space_prints before compound_prints block
+  switch_clause_prints (switch_clause a selectors block) = line_of_attributes a before (word_prints before space_prints) before list_prints selector_prints selectors before space_prints before compound_prints block
 
   loop_prints : {n : ℕ} (s : LoopStatement) → Prints n (print_loop s) (loop_pieces n s) (loop_tokens s)
   loop_prints (repeat body last) = (word_prints before space_prints) before opened_prints body before maybe_continuing_prints last before word_prints

@@ -5,7 +5,7 @@ use Rattle.wgsl_model.specs.Expressions.{ExpressionNode, expression_node, Expres
 use Rattle.wgsl_model.specs.Attributes.{Attribute, with_argument, diagnostic, workgroup_size, type_constraint, custom, Attributes}
 use Rattle.wgsl_model.specs.Statements.{Declaration, BreakIfStatement, CaseSelector, default_selector, expression_selector, statement_node, Statement, compound, assignment, increment, decrement, if_statement, switch_statement, loop_statement, for_statement, while_statement, return_statement, function_call_statement, const_assert, declaration, CompoundStatement, compound_statement, IfStatement, if_else, IfClause, if_clause, ElseIfClause, else_if_clause, ElseClause, else_clause, SwitchStatement, switch, SwitchClause, switch_clause, LoopStatement, repeat, ContinuingStatement, continuing, ForStatement, repeat_for, WhileStatement, repeat_while, StatementNodes, no_statements, statement_before, ElseIfClauses, no_else_ifs, else_if_before, MaybeElseClause, no_else, one_else, SwitchClauses, no_clauses, clause_before, MaybeContinuing, no_continuing, one_continuing, MaybeStatement, no_statement, one_statement, statement, UnattributedStatement}
 use Rattle.wgsl_model.specs.Units as units
-use Rattle.wgsl_model.specs.Units.{GlobalDirective, StructMember, FormalParameter, Function, GlobalDeclaration, UnattributedDeclaration, TranslationUnit}
+use Rattle.wgsl_model.specs.Units.{GlobalDirective, UnattributedDirective, StructMember, FormalParameter, Function, GlobalDeclaration, UnattributedDeclaration, TranslationUnit}
 use Rattle.wgsl_theory.proofs.Ends.{IsNameText}
 use Rattle.wgsl_theory.proofs.SoundExpressions.{IsSoundNode, IsSoundCall, IsSoundType}
 
@@ -121,7 +121,7 @@ abbrev mutual
   AreSoundClauses (clause_before c cs) = IsSoundClause c × AreSoundClauses cs
 
   pub IsSoundClause : SwitchClause → Type 0
-  IsSoundClause (switch_clause selectors block) = Every IsSoundSelector selectors × IsSoundCompound block
+  IsSoundClause (switch_clause attributes selectors block) = AreSoundAttributes attributes × Every IsSoundSelector selectors × IsSoundCompound block
 
   pub IsSoundLoop : LoopStatement → Type 0
   IsSoundLoop (repeat body last) = IsSoundCompound body × IsSoundMaybeContinuing last
@@ -145,10 +145,13 @@ abbrev mutual
 
 -- ---- modules
 
+abbrev pub IsSoundUnattributedDirective : UnattributedDirective → Type 0
+IsSoundUnattributedDirective (units.diagnostic d) = IsSoundRule [] d.rule_name
+IsSoundUnattributedDirective (units.enable d) = Every IsNameText d.extensions
+IsSoundUnattributedDirective (units.requires d) = Every IsNameText d.extensions
+
 abbrev pub IsSoundDirective : GlobalDirective → Type 0
-IsSoundDirective (units.diagnostic d) = IsSoundRule [] d.rule_name
-IsSoundDirective (units.enable d) = Every IsNameText d.extensions
-IsSoundDirective (units.requires d) = Every IsNameText d.extensions
+IsSoundDirective d = AreSoundAttributes d.attributes × IsSoundUnattributedDirective d.node
 
 abbrev pub IsSoundMember : Spanned StructMember → Type 0
 IsSoundMember m = AreSoundAttributes m.node.attributes × IsNameText m.node.ident × IsSoundType m.node.ty

@@ -97,7 +97,8 @@ mutual
   clauses_printed (tree.clause_before c cs) = λ i. switch_clause_printed c i ∷ clauses_printed cs i
 
   switch_clause_printed : (c : tree.SwitchClause) → printed.print_switch_clause (items.full_switch_clause c) ≡ printed.print_switch_clause c
-  switch_clause_printed (tree.switch_clause selectors block) = λ i. codes "case " ++ joined (codes ", ") (map print_selector selectors) ++ codes " " ++ compound_printed block i
+  switch_clause_printed (tree.switch_clause attributes selectors block) =
+      λ i. print_attribute_line attributes ++ codes "case " ++ joined (codes ", ") (map print_selector selectors) ++ codes " " ++ compound_printed block i
 
   loop_printed : (s : tree.LoopStatement) → printed.print_loop (items.full_loop s) ≡ printed.print_loop s
   loop_printed (tree.repeat body last) = λ i. codes "loop " ++ opened_printed body i ++ continuing_line_kept last i ++ codes "}"

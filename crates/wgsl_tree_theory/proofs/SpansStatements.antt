@@ -142,7 +142,8 @@ mutual
   clauses_bare (tree.clause_before c cs) = λ i. switch_clause_bare c i ∷ clauses_bare cs i
 
   switch_clause_bare : (c : tree.SwitchClause) → printed.print_switch_clause (bare.bare_switch_clause c) ≡ printed.print_switch_clause c
-  switch_clause_bare (tree.switch_clause selectors block) = λ i. codes "case " ++ joined (codes ", ") (selectors_bare selectors i) ++ codes " " ++ compound_bare block i
+  switch_clause_bare (tree.switch_clause attributes selectors block) =
+      λ i. attribute_line_bare attributes i ++ codes "case " ++ joined (codes ", ") (selectors_bare selectors i) ++ codes " " ++ compound_bare block i
 
   loop_bare : (s : tree.LoopStatement) → printed.print_loop (bare.bare_loop s) ≡ printed.print_loop s
   loop_bare (tree.repeat body last) = λ i. codes "loop " ++ opened_bare body i ++ continuing_line_bare last i ++ codes "}"

@@ -51,5 +51,13 @@ texts_bare : (ds : List (Spanned tree.GlobalDeclaration)) → printed.declaratio
 texts_bare [] = refl
 texts_bare (d ∷ ds) = λ i. if void_bare d.node.node i then texts_bare ds i else global_bare d.node i ∷ texts_bare ds i
 
+directives_bare : (ds : List tree.GlobalDirective) → map printed.print_directive (map bare.bare_directive ds) ≡ map printed.print_directive ds
+directives_bare [] = refl
+directives_bare (d ∷ ds) = λ i. (attribute_line_bare d.attributes i ++ printed.print_unattributed_directive d.node) ∷ directives_bare ds i
+
+all_directives_bare : (ds : List tree.GlobalDirective) → printed.print_directives (map bare.bare_directive ds) ≡ printed.print_directives ds
+all_directives_bare [] = refl
+all_directives_bare (d ∷ ds) = λ i. joined (codes "\n") (directives_bare (d ∷ ds) i) ++ codes "\n\n"
+
 pub unit_print_bare : (u : tree.TranslationUnit) → printed.print_unit (bare.bare_unit u) ≡ printed.print_unit u
-unit_print_bare u = λ i. printed.print_directives u.global_directives ++ joined (codes "\n\n") (texts_bare u.global_declarations i) ++ codes "\n"
+unit_print_bare u = λ i. all_directives_bare u.global_directives i ++ joined (codes "\n\n") (texts_bare u.global_declarations i) ++ codes "\n"

@@ -91,7 +91,7 @@ mutual
   clauses_twice (tree.clause_before c cs) = λ i. tree.clause_before (switch_clause_twice c i) (clauses_twice cs i)
 
   switch_clause_twice : (c : tree.SwitchClause) → items.full_switch_clause (items.full_switch_clause c) ≡ items.full_switch_clause c
-  switch_clause_twice (tree.switch_clause selectors block) = ap (tree.switch_clause selectors) (compound_twice block)
+  switch_clause_twice (tree.switch_clause attributes selectors block) = ap (tree.switch_clause attributes selectors) (compound_twice block)
 
   loop_twice : (s : tree.LoopStatement) → items.full_loop (items.full_loop s) ≡ items.full_loop s
   loop_twice (tree.repeat body last) = λ i. tree.repeat (compound_twice body i) (maybe_continuing_twice last i)

@@ -1,12 +1,12 @@
 -- `==` of modules, of their directives and of their declarations is sameness of their codes.
-use Rattle.std.proofs.Common.{true, ◌&&◌, ◌==◌, ◌≡◌, ◌↔◌, refl, sym, ◌∙◌, subst, string_bytes}
+use Rattle.std.proofs.Common.{true, ◌&&◌, ◌==◌, ◌≡◌, ◌↔◌, refl, sym, ◌∙◌, subst, subst₂, string_bytes}
 use denote.Enum.Declared.{tag_of}
 use Rattle.std.proofs.Math.Bool.{and_comm, and-true}
 use Rattle.std.specs.Cmp.{IsEquivalence, on_equiv}
 use Rattle.std.specs.Cmp.Lexicographic.{pointwise}
 use Rattle.wgsl_model.specs.Attributed.{without_attributes}
 use Rattle.wgsl_model.specs.Units as plain
-use Rattle.wgsl_model.specs.StatementsWithoutSpans.{bare_attributed, bare_type_alias, bare_member, bare_struct, bare_parameter, bare_function, bare_global_declaration, bare_unit}
+use Rattle.wgsl_model.specs.StatementsWithoutSpans.{bare_attributed, bare_directive, bare_type_alias, bare_member, bare_struct, bare_parameter, bare_function, bare_global_declaration, bare_unit}
 use Rattle.wgsl_span.specs.Spanned.{spanned_node}
 use Rattle.wgsl_span.specs.View.{spanned_view}
 use Rattle.wgsl_named_values.specs.declared.severity.DiagnosticSeverity.{DiagnosticSeverity}
@@ -18,14 +18,14 @@ use Rattle.wgsl_attribute.proofs.Equalities.{options_same, lists_same, attribute
 use Rattle.wgsl_simple_statement.specs.View.{assert_view}
 use Rattle.wgsl_statement.specs.View.{compound_statement_view}
 use Rattle.wgsl_simple_statement.proofs.Equalities.{declarations_same, asserts_same, agree}
-use Rattle.wgsl_equality.specs.Code.{text, same}
+use Rattle.wgsl_equality.specs.Code.{Code, text, same}
 use Rattle.wgsl_equality.specs.Laws.{same_equivalence}
 use Rattle.wgsl_equality.specs.NamedValues.{severity_number}
 use Rattle.wgsl_equality.specs.Expressions.{type_code}
 use Rattle.wgsl_equality.specs.Attributes.{attributes_code}
 use Rattle.wgsl_equality.specs.Declarations.{attributed_code}
 use Rattle.wgsl_equality.specs.Statements.{compound_code}
-use Rattle.wgsl_equality.specs.Units.{diagnostic_directive_code, enable_directive_code, requires_directive_code, global_directive_code, type_alias_code, member_code, struct_code, parameter_code, function_code, unattributed_declaration_code, global_declaration_code, unit_code}
+use Rattle.wgsl_equality.specs.Units.{diagnostic_directive_code, enable_directive_code, requires_directive_code, unattributed_directive_code, global_directive_code, type_alias_code, member_code, struct_code, parameter_code, function_code, unattributed_declaration_code, global_declaration_code, unit_code}
 use Rattle.wgsl_equality.proofs.DeclarationLaws.{attributed_equal}
 use Rattle.wgsl_equality.proofs.UnitLaws as law
 use Rattle.wgsl_unit.specs.declared.unit.DiagnosticDirective.{DiagnosticDirective}
@@ -49,6 +49,10 @@ severity_tag : (s : DiagnosticSeverity) → tag_of severity_type s ≡ severity_
 severity_tag severity.Error = refl
 severity_tag _ = refl
 
+-- nodes without attributes, by what stands behind these
+unattributed_same : {Node : Type 0} (code : Node → Code) (m n : Node) → same (code m) (code n) ≡ same (attributed_code code (without_attributes m)) (attributed_code code (without_attributes n))
+unattributed_same code m n = sym (and-true (same (code m) (code n)))
+
 -- directives
 diagnostics_same : (a b : DiagnosticDirective) → equal_diagnostics a b ≡ same (diagnostic_directive_code (diagnostic_directive_view a)) (diagnostic_directive_code (diagnostic_directive_view b))
 diagnostics_same a b = λ i. (severity_tag a.severity i == severity_tag b.severity i) && pointwise ◌==◌ (string_bytes a.rule_name) (string_bytes b.rule_name)
@@ -60,11 +64,11 @@ requires_same : (a b : RequiresDirective) → equal_requires a b ≡ same (requi
 requires_same a b = lists_same string_bytes text _ (λ x y. refl) a.extensions.items b.extensions.items
 
 directives_same : (a b : GlobalDirective) → equal_directives a b ≡ same (global_directive_code (global_directive_view a)) (global_directive_code (global_directive_view b))
-directives_same (directive.Diagnostic d) (directive.Diagnostic e) = diagnostics_same d e
+directives_same (directive.Diagnostic d) (directive.Diagnostic e) = diagnostics_same d e ∙ unattributed_same unattributed_directive_code (plain.diagnostic (diagnostic_directive_view d)) (plain.diagnostic (diagnostic_directive_view e))
 directives_same (directive.Diagnostic d) other = refl
-directives_same (directive.Enable d) (directive.Enable e) = enables_same d e
+directives_same (directive.Enable d) (directive.Enable e) = enables_same d e ∙ unattributed_same unattributed_directive_code (plain.enable (enable_directive_view d)) (plain.enable (enable_directive_view e))
 directives_same (directive.Enable d) other = refl
-directives_same (directive.Requires d) (directive.Requires e) = requires_same d e
+directives_same (directive.Requires d) (directive.Requires e) = requires_same d e ∙ unattributed_same unattributed_directive_code (plain.requires (requires_directive_view d)) (plain.requires (requires_directive_view e))
 directives_same (directive.Requires d) other = refl
 
 -- declarations
@@ -97,22 +101,18 @@ functions_same a b =
     && (types i && same (compound_code (compound_statement_view a.body)) (compound_code (compound_statement_view b.body)))))))
     ∙ and_comm (same (attributes_code (function_view a).attributes) (attributes_code (function_view b).attributes)) (same (function_code (function_view a).node) (function_code (function_view b).node))
 
--- declarations without attributes, by what stands behind these
-unattributed_same : (c d : plain.UnattributedDeclaration) → same (unattributed_declaration_code c) (unattributed_declaration_code d) ≡ same (global_declaration_code (without_attributes c)) (global_declaration_code (without_attributes d))
-unattributed_same c d = sym (and-true (same (unattributed_declaration_code c) (unattributed_declaration_code d)))
-
 global_declarations_same : (a b : GlobalDeclaration) → equal_global_declarations a b ≡ same (global_declaration_code (global_declaration_view a)) (global_declaration_code (global_declaration_view b))
 global_declarations_same declaration.Void declaration.Void = refl
 global_declarations_same declaration.Void other = refl
 global_declarations_same (declaration.Declaration d) (declaration.Declaration e) = declarations_same d e
 global_declarations_same (declaration.Declaration d) other = refl
-global_declarations_same (declaration.TypeAlias d) (declaration.TypeAlias e) = type_aliases_same d e ∙ unattributed_same (plain.type_alias (type_alias_view d)) (plain.type_alias (type_alias_view e))
+global_declarations_same (declaration.TypeAlias d) (declaration.TypeAlias e) = type_aliases_same d e ∙ unattributed_same unattributed_declaration_code (plain.type_alias (type_alias_view d)) (plain.type_alias (type_alias_view e))
 global_declarations_same (declaration.TypeAlias d) other = refl
-global_declarations_same (declaration.Struct d) (declaration.Struct e) = structs_same d e ∙ unattributed_same (plain.structure (struct_view d)) (plain.structure (struct_view e))
+global_declarations_same (declaration.Struct d) (declaration.Struct e) = structs_same d e ∙ unattributed_same unattributed_declaration_code (plain.structure (struct_view d)) (plain.structure (struct_view e))
 global_declarations_same (declaration.Struct d) other = refl
 global_declarations_same (declaration.Function d) (declaration.Function e) = functions_same d e
 global_declarations_same (declaration.Function d) other = refl
-global_declarations_same (declaration.ConstAssert d) (declaration.ConstAssert e) = asserts_same d e ∙ unattributed_same (plain.const_assert (assert_view d)) (plain.const_assert (assert_view e))
+global_declarations_same (declaration.ConstAssert d) (declaration.ConstAssert e) = asserts_same d e ∙ unattributed_same unattributed_declaration_code (plain.const_assert (assert_view d)) (plain.const_assert (assert_view e))
 global_declarations_same (declaration.ConstAssert d) other = refl
 
 -- modules
@@ -132,8 +132,16 @@ enables_agree = agree equal_enables enable_directive_view enable_directive_code 
 pub requires_agree : (a b : RequiresDirective) → (equal_requires a b ≡ true) ↔ (requires_directive_view a ≡ requires_directive_view b)
 requires_agree = agree equal_requires requires_directive_view requires_directive_code requires_same (λ d. d) law.requires_equal
 
+-- a directive has no attributes, and so no spans
+directive_bare : (d : GlobalDirective) → bare_directive (global_directive_view d) ≡ global_directive_view d
+directive_bare (directive.Diagnostic d) = refl
+directive_bare (directive.Enable d) = refl
+directive_bare (directive.Requires d) = refl
+
 pub directives_agree : (a b : GlobalDirective) → (equal_directives a b ≡ true) ↔ (global_directive_view a ≡ global_directive_view b)
-directives_agree = agree equal_directives global_directive_view global_directive_code directives_same (λ d. d) law.directives_equal
+directives_agree a b =
+    subst₂ (λ (x y : plain.GlobalDirective). (equal_directives a b ≡ true) ↔ (x ≡ y)) (directive_bare a) (directive_bare b)
+    (agree equal_directives global_directive_view global_directive_code directives_same bare_directive law.directives_equal a b)
 
 pub type_aliases_agree : (a b : TypeAlias) → (equal_type_aliases a b ≡ true) ↔ (bare_type_alias (type_alias_view a) ≡ bare_type_alias (type_alias_view b))
 type_aliases_agree = agree equal_type_aliases type_alias_view type_alias_code type_aliases_same bare_type_alias law.type_aliases_equal

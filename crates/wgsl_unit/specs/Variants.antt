@@ -2,17 +2,27 @@
 use Rattle.std.specs.Prelude.{Bool, true, false}
 use Rattle.wgsl_model.specs.Units as plain
 
+-- ---- directives, by what stands behind their attributes
+abbrev filters_diagnostics : plain.UnattributedDirective → Bool
+filters_diagnostics (plain.diagnostic d) = true
+filters_diagnostics other = false
+
 abbrev pub is_diagnostic : plain.GlobalDirective → Bool
-is_diagnostic (plain.diagnostic d) = true
-is_diagnostic other = false
+is_diagnostic d = filters_diagnostics d.node
+
+abbrev enables_extensions : plain.UnattributedDirective → Bool
+enables_extensions (plain.enable d) = true
+enables_extensions other = false
 
 abbrev pub is_enable : plain.GlobalDirective → Bool
-is_enable (plain.enable d) = true
-is_enable other = false
+is_enable d = enables_extensions d.node
+
+abbrev requires_extensions : plain.UnattributedDirective → Bool
+requires_extensions (plain.requires d) = true
+requires_extensions other = false
 
 abbrev pub is_requires : plain.GlobalDirective → Bool
-is_requires (plain.requires d) = true
-is_requires other = false
+is_requires d = requires_extensions d.node
 
 -- ---- declarations, by what stands behind their attributes
 abbrev declares_value : plain.UnattributedDeclaration → Bool

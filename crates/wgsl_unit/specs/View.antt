@@ -34,9 +34,9 @@ abbrev pub requires_directive_view : RequiresDirective → plain.RequiresDirecti
 requires_directive_view d = record { extensions = map string_bytes d.extensions.items }
 
 abbrev pub global_directive_view : GlobalDirective → plain.GlobalDirective
-global_directive_view (directive.Diagnostic d) = plain.diagnostic (diagnostic_directive_view d)
-global_directive_view (directive.Enable d) = plain.enable (enable_directive_view d)
-global_directive_view (directive.Requires d) = plain.requires (requires_directive_view d)
+global_directive_view (directive.Diagnostic d) = without_attributes (plain.diagnostic (diagnostic_directive_view d))
+global_directive_view (directive.Enable d) = without_attributes (plain.enable (enable_directive_view d))
+global_directive_view (directive.Requires d) = without_attributes (plain.requires (requires_directive_view d))
 
 -- declarations
 abbrev pub type_alias_view : TypeAlias → plain.TypeAlias

@@ -1,4 +1,4 @@
-use Rattle.std.proofs.Common.{rules, ◌≡◌, ◌∙◌, sym, ap, map, length, get_or, arith, List, Option, Some, None}
+use Rattle.std.proofs.Common.{[], rules, ◌≡◌, ◌∙◌, sym, ap, map, length, get_or, arith, List, Option, Some, None}
 use Rattle.std.proofs.lemmas.List.{with_items_is}
 use Rattle.std.proofs.lemmas.List.Elements.{filter_from_retain}
 use Rattle.std.specs.Option.{option_map}
@@ -64,7 +64,7 @@ statement::SwitchStatement::remove_voids-clauses-preserved t c =
     let y = layers.roll-SwitchClause (record (layers.out-SwitchClause x) { body = c.remove_voids.new.self }) in
     let full : switch_clause_view y ≡ full_switch_clause (switch_clause_view x) =
     switch_clause_roll _
-    ∙ ap (plain.switch_clause (map selector_view (layers.out-SwitchClause x).case_selectors.items)) c.remove_voids.ensures
+    ∙ ap (plain.switch_clause [] (map selector_view (layers.out-SwitchClause x).case_selectors.items)) c.remove_voids.ensures
     ∙ sym (ap full_switch_clause (switch_clause_out x)) in
     next_done switch_clause_view full_switch_clause c.clauses.clauses.items (layers.out-SwitchStatement c.args.self.now).clauses.items c.clauses.i x y (search rules) c.index_mut.ensures.value full c.clauses.invariant
 

@@ -1,4 +1,4 @@
-use Rattle.std.proofs.Common.{rules, ◌≡◌, ◌∙◌, sym, ap, map, Some}
+use Rattle.std.proofs.Common.{[], rules, ◌≡◌, ◌∙◌, sym, ap, map, Some}
 use Rattle.std.proofs.lemmas.List.{take_all}
 use Rattle.std.proofs.lemmas.Result.{IfOk-from_err}
 use Rattle.std.specs.Option.{option_map}
@@ -86,7 +86,7 @@ SwitchClauseCloneWith::clone_with-returns t c =
     let original = layers.out-SwitchClause c.args.self.now in
     let selectors = selectors_shown original.case_selectors.items _ c.in_ok-clone_with.ensures.copy in record {
       copy = switch_clause_roll _
-          ∙ (λ i. plain.switch_clause (selectors i) (c.in_ok-clone_with-2.ensures.copy i))
+          ∙ (λ i. plain.switch_clause [] (selectors i) (c.in_ok-clone_with-2.ensures.copy i))
           ∙ sym (switch_clause_out c.args.self.now);
     }
 
