@@ -2,7 +2,7 @@
 
 ghost use Rattle.std.specs.Prelude.{Some, map};
 ghost use Rattle.std.specs.Option.{option_map};
-ghost use Rattle.std.specs.Fmt.{DisplaysOnOk};
+ghost use Rattle.std.specs.Fmt.{WritesOnOk};
 ghost use Rattle.wgsl_model.specs.PrintedAttributes.{print_attribute, print_type_constraint, print_diagnostic_attribute, print_interpolate, print_workgroup_size, print_custom, print_further, print_arguments, print_attributes};
 ghost use Rattle.wgsl_expression.specs.View.{expression_node_view};
 ghost use Rattle.wgsl_attribute.specs.View.{attribute_view, attributes_view, diagnostic_view, interpolate_view, workgroup_size_view, type_constraint_view, custom_view, expressions_view};
@@ -61,7 +61,7 @@ fn write_diagnostic<W: fmt::Write>(
     attribute: &DiagnosticAttribute,
     f: &mut fmt::Formatter<W>,
 ) -> fmt::Result
-    ensures { DisplaysOnOk W.write_str_gives f.old result (Some (print_diagnostic_attribute (diagnostic_view attribute.now))) f.new }
+    ensures { WritesOnOk W.write_str_gives f.old result (print_diagnostic_attribute (diagnostic_view attribute.now)) f.new }
 {
     let severity = attribute.severity;
     let rule = &attribute.rule;
@@ -72,7 +72,7 @@ fn write_custom<W: fmt::Write>(
     attribute: &CustomAttribute,
     f: &mut fmt::Formatter<W>,
 ) -> fmt::Result
-    ensures { DisplaysOnOk W.write_str_gives f.old result (Some (print_custom (custom_view attribute.now))) f.new }
+    ensures { WritesOnOk W.write_str_gives f.old result (print_custom (custom_view attribute.now)) f.new }
 {
     let name = &attribute.name;
     write!(f, "@{name}")?;
@@ -83,7 +83,7 @@ fn write_interpolate<W: fmt::Write>(
     attribute: &InterpolateAttribute,
     f: &mut fmt::Formatter<W>,
 ) -> fmt::Result
-    ensures { DisplaysOnOk W.write_str_gives f.old result (Some (print_interpolate (interpolate_view attribute.now))) f.new }
+    ensures { WritesOnOk W.write_str_gives f.old result (print_interpolate (interpolate_view attribute.now)) f.new }
 {
     let ty = attribute.ty;
     match attribute.sampling {
@@ -96,7 +96,7 @@ fn write_workgroup_size<W: fmt::Write>(
     attribute: &WorkgroupSizeAttribute,
     f: &mut fmt::Formatter<W>,
 ) -> fmt::Result
-    ensures { DisplaysOnOk W.write_str_gives f.old result (Some (print_workgroup_size (workgroup_size_view attribute.now))) f.new }
+    ensures { WritesOnOk W.write_str_gives f.old result (print_workgroup_size (workgroup_size_view attribute.now)) f.new }
 {
     let x = &attribute.x;
     write!(f, "@workgroup_size({x}")?;
@@ -110,7 +110,7 @@ fn write_further<W: fmt::Write>(
     argument: &Option<ExpressionNode>,
     f: &mut fmt::Formatter<W>,
 ) -> fmt::Result
-    ensures { DisplaysOnOk W.write_str_gives f.old result (Some (print_further (option_map expression_node_view argument.now))) f.new }
+    ensures { WritesOnOk W.write_str_gives f.old result (print_further (option_map expression_node_view argument.now)) f.new }
 {
     match argument {
         None => Ok(()),
@@ -123,7 +123,7 @@ fn write_arguments<W: fmt::Write>(
     arguments: &Option<Vec<ExpressionNode>>,
     f: &mut fmt::Formatter<W>,
 ) -> fmt::Result
-    ensures { DisplaysOnOk W.write_str_gives f.old result (Some (print_arguments (option_map expressions_view arguments.now))) f.new }
+    ensures { WritesOnOk W.write_str_gives f.old result (print_arguments (option_map expressions_view arguments.now)) f.new }
 {
     match arguments {
         None => Ok(()),

@@ -2,7 +2,7 @@
 
 ghost use Rattle.std.specs.Prelude.{Some, MatchResult};
 ghost use Rattle.std.specs.Option.{option_map};
-ghost use Rattle.std.specs.Fmt.{DisplaysOnOk};
+ghost use Rattle.std.specs.Fmt.{WritesOnOk};
 ghost use Rattle.wgsl_model.specs.Statements as plain;
 ghost use Rattle.wgsl_model.specs.PrintedDeclarations.{print_attributed, print_kind, print_typed, print_initializer, print_declaration, unended_declaration};
 ghost use Rattle.wgsl_expression.specs.View.{expression_node_view, type_expression_view};
@@ -91,7 +91,7 @@ impl fmt::Display for Unended<'_, Declaration> {
 
 /// Writes a declaration without its attributes and without the `;` that ends it.
 fn write_value<W: fmt::Write>(declaration: &Declaration, f: &mut fmt::Formatter<W>) -> fmt::Result
-    ensures { DisplaysOnOk W.write_str_gives f.old result (Some (unended_declaration (declaration_view declaration.now).node)) f.new }
+    ensures { WritesOnOk W.write_str_gives f.old result (unended_declaration (declaration_view declaration.now).node) f.new }
 {
     let kind = declaration.kind;
     let ident = &declaration.ident;
@@ -102,7 +102,7 @@ fn write_value<W: fmt::Write>(declaration: &Declaration, f: &mut fmt::Formatter<
 
 /// Writes the type behind a colon, if there is one.
 fn write_type<W: fmt::Write>(ty: &Option<TypeExpression>, f: &mut fmt::Formatter<W>) -> fmt::Result
-    ensures { DisplaysOnOk W.write_str_gives f.old result (Some (print_typed (option_map type_expression_view ty.now))) f.new }
+    ensures { WritesOnOk W.write_str_gives f.old result (print_typed (option_map type_expression_view ty.now)) f.new }
 {
     match ty {
         None => Ok(()),
@@ -115,7 +115,7 @@ fn write_initializer<W: fmt::Write>(
     initializer: &Option<ExpressionNode>,
     f: &mut fmt::Formatter<W>,
 ) -> fmt::Result
-    ensures { DisplaysOnOk W.write_str_gives f.old result (Some (print_initializer (option_map expression_node_view initializer.now))) f.new }
+    ensures { WritesOnOk W.write_str_gives f.old result (print_initializer (option_map expression_node_view initializer.now)) f.new }
 {
     match initializer {
         None => Ok(()),

@@ -2,7 +2,7 @@
 
 ghost use Rattle.std.specs.Prelude.{Some, ◌++◌, codes, map, if◌then◌else◌};
 ghost use Rattle.std.specs.Option.{option_map};
-ghost use Rattle.std.specs.Fmt.{DisplaysOnOk};
+ghost use Rattle.std.specs.Fmt.{WritesOnOk};
 ghost use Rattle.wgsl_model.specs.Joining.{joined};
 ghost use Rattle.wgsl_model.specs.Indentation.{after_line_ends};
 ghost use Rattle.wgsl_model.specs.PrintedAttributes.{print_attribute_line};
@@ -10,6 +10,7 @@ ghost use Rattle.wgsl_model.specs.PrintedExpressions.{print_expression_node};
 ghost use Rattle.wgsl_model.specs.PrintedDeclarations.{print_condition, print_selector};
 ghost use Rattle.wgsl_model.specs.PrintedStatements.{break_if_line};
 ghost use Rattle.wgsl_writer.specs.Depth.{spaces};
+ghost use Rattle.wgsl_writer.specs.Writing.{WritesAt};
 ghost use Rattle.wgsl_expression.specs.View.{expression_node_view};
 ghost use Rattle.wgsl_attribute.specs.View.{attributes_view};
 ghost use Rattle.wgsl_simple_statement.specs.View.{break_if_view, selector_view};
@@ -26,7 +27,7 @@ pub fn write_attribute_line<W: fmt::Write>(
     depth: &Depth<'_>,
     f: &mut fmt::Formatter<W>,
 ) -> fmt::Result
-    ensures { DisplaysOnOk W.write_str_gives f.old result (Some (after_line_ends (spaces depth.now) (print_attribute_line (attributes_view attributes.now.items)))) f.new }
+    ensures { WritesAt W.write_str_gives depth.now f.old result (print_attribute_line (attributes_view attributes.now.items)) f.new }
 {
     let line = AttributesBefore {
         attributes: attributes.as_slice(),
@@ -42,7 +43,7 @@ pub fn write_start<W: fmt::Write>(
     depth: &Depth<'_>,
     f: &mut fmt::Formatter<W>,
 ) -> fmt::Result
-    ensures { DisplaysOnOk W.write_str_gives f.old result (Some (after_line_ends (spaces depth.now) (print_attribute_line (attributes_view attributes.now.items)) ++ word.now)) f.new }
+    ensures { WritesOnOk W.write_str_gives f.old result (after_line_ends (spaces depth.now) (print_attribute_line (attributes_view attributes.now.items)) ++ word.now) f.new }
 {
     write_attribute_line(attributes, depth, f)?;
     f.write_str(word)
@@ -54,7 +55,7 @@ pub fn write_open<W: fmt::Write>(
     depth: &Depth<'_>,
     f: &mut fmt::Formatter<W>,
 ) -> fmt::Result
-    ensures { DisplaysOnOk W.write_str_gives f.old result (Some (after_line_ends (spaces depth.now) (print_attribute_line (attributes_view attributes.now.items)) ++ codes "{\n" ++ spaces depth.now)) f.new }
+    ensures { WritesOnOk W.write_str_gives f.old result (after_line_ends (spaces depth.now) (print_attribute_line (attributes_view attributes.now.items)) ++ codes "{\n" ++ spaces depth.now) f.new }
 {
     write_attribute_line(attributes, depth, f)?;
     f.write_str("{\n")?;
@@ -63,7 +64,7 @@ pub fn write_open<W: fmt::Write>(
 
 /// Writes a line end, and the spaces before the next line.
 pub fn write_line_end<W: fmt::Write>(depth: &Depth<'_>, f: &mut fmt::Formatter<W>) -> fmt::Result
-    ensures { DisplaysOnOk W.write_str_gives f.old result (Some (codes "\n" ++ spaces depth.now)) f.new }
+    ensures { WritesOnOk W.write_str_gives f.old result (codes "\n" ++ spaces depth.now) f.new }
 {
     f.write_str("\n")?;
     write_spaces(depth, f)
@@ -76,7 +77,7 @@ pub fn write_head<W: fmt::Write>(
     depth: &Depth<'_>,
     f: &mut fmt::Formatter<W>,
 ) -> fmt::Result
-    ensures { DisplaysOnOk W.write_str_gives f.old result (Some (word.now ++ after_line_ends (spaces depth.now) (print_expression_node (expression_node_view expression.now)) ++ codes " ")) f.new }
+    ensures { WritesOnOk W.write_str_gives f.old result (word.now ++ after_line_ends (spaces depth.now) (print_expression_node (expression_node_view expression.now)) ++ codes " ") f.new }
 {
     f.write_str(word)?;
     write_indented(expression, depth, f)?;
@@ -88,7 +89,7 @@ fn write_expression<W: fmt::Write>(
     depth: &Depth<'_>,
     f: &mut fmt::Formatter<W>,
 ) -> fmt::Result
-    ensures { DisplaysOnOk W.write_str_gives f.old result (Some (after_line_ends (spaces depth.now) (print_condition (option_map expression_node_view expression.now)))) f.new }
+    ensures { WritesAt W.write_str_gives depth.now f.old result (print_condition (option_map expression_node_view expression.now)) f.new }
 {
     match expression {
         None => Ok(()),
@@ -102,7 +103,7 @@ pub fn write_condition<W: fmt::Write>(
     depth: &Depth<'_>,
     f: &mut fmt::Formatter<W>,
 ) -> fmt::Result
-    ensures { DisplaysOnOk W.write_str_gives f.old result (Some (codes "; " ++ after_line_ends (spaces depth.now) (print_condition (option_map expression_node_view condition.now)) ++ codes "; ")) f.new }
+    ensures { WritesOnOk W.write_str_gives f.old result (codes "; " ++ after_line_ends (spaces depth.now) (print_condition (option_map expression_node_view condition.now)) ++ codes "; ") f.new }
 {
     f.write_str("; ")?;
     write_expression(condition, depth, f)?;
@@ -114,7 +115,7 @@ pub fn write_break_if<W: fmt::Write>(
     depth: &Depth<'_>,
     f: &mut fmt::Formatter<W>,
 ) -> fmt::Result
-    ensures { DisplaysOnOk W.write_str_gives f.old result (Some (after_line_ends (spaces depth.now) (break_if_line (option_map break_if_view statement.now)))) f.new }
+    ensures { WritesAt W.write_str_gives depth.now f.old result (break_if_line (option_map break_if_view statement.now)) f.new }
 {
     match statement {
         None => Ok(()),
@@ -145,7 +146,7 @@ pub fn write_case<W: fmt::Write>(
     depth: &Depth<'_>,
     f: &mut fmt::Formatter<W>,
 ) -> fmt::Result
-    ensures { DisplaysOnOk W.write_str_gives f.old result (Some (codes "case " ++ after_line_ends (spaces depth.now) (joined (codes ", ") (map print_selector (map selector_view selectors.now))) ++ codes " ")) f.new }
+    ensures { WritesOnOk W.write_str_gives f.old result (codes "case " ++ after_line_ends (spaces depth.now) (joined (codes ", ") (map print_selector (map selector_view selectors.now))) ++ codes " ") f.new }
 {
     f.write_str("case ")?;
     write_indented(&Selectors(selectors), depth, f)?;
@@ -159,7 +160,7 @@ pub fn write_gap<W: fmt::Write>(
     inner: &Depth<'_>,
     f: &mut fmt::Formatter<W>,
 ) -> fmt::Result
-    ensures { DisplaysOnOk W.write_str_gives f.old result (Some (if first then codes "    " else codes "\n" ++ spaces inner.now)) f.new }
+    ensures { WritesOnOk W.write_str_gives f.old result (if first then codes "    " else codes "\n" ++ spaces inner.now) f.new }
 {
     if first {
         f.write_str("    ")

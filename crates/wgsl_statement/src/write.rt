@@ -1,11 +1,9 @@
 //! Statements and blocks, written at a depth: nothing is formatted twice to be indented.
 
-ghost use Rattle.std.specs.Prelude.{◌≡◌, Some};
-ghost use Rattle.std.specs.Fmt.{DisplaysOnOk};
-ghost use Rattle.wgsl_model.specs.Indentation.{after_line_ends};
+ghost use Rattle.std.specs.Prelude.{◌≡◌};
 ghost use Rattle.wgsl_model.specs.PrintedStatements.{end_of, unended, print_statement, print_opened, print_compound};
-ghost use Rattle.wgsl_writer.specs.Depth.{spaces};
 ghost use Rattle.wgsl_statement.specs.View.{statement_view, compound_statement_view};
+ghost use Rattle.wgsl_writer.specs.Writing.{WritesAt};
 
 use crate::statement::{CompoundStatement, Statement};
 use crate::write_if::write_if;
@@ -49,7 +47,7 @@ pub fn write_statement<W: fmt::Write>(
     depth: &Depth<'_>,
     f: &mut fmt::Formatter<W>,
 ) -> fmt::Result
-    ensures { DisplaysOnOk W.write_str_gives f.old result (Some (after_line_ends (spaces depth.now) (print_statement (statement_view statement.now)))) f.new }
+    ensures { WritesAt W.write_str_gives depth.now f.old result (print_statement (statement_view statement.now)) f.new }
 {
     write_unended(statement, depth, f)?;
     f.write_str(statement.end())
@@ -62,7 +60,7 @@ pub fn write_unended<W: fmt::Write>(
     depth: &Depth<'_>,
     f: &mut fmt::Formatter<W>,
 ) -> fmt::Result
-    ensures { DisplaysOnOk W.write_str_gives f.old result (Some (after_line_ends (spaces depth.now) (unended (statement_view statement.now)))) f.new }
+    ensures { WritesAt W.write_str_gives depth.now f.old result (unended (statement_view statement.now)) f.new }
 {
     match statement {
         Statement::Void => Ok(()),
@@ -91,7 +89,7 @@ pub fn write_compound<W: fmt::Write>(
     depth: &Depth<'_>,
     f: &mut fmt::Formatter<W>,
 ) -> fmt::Result
-    ensures { DisplaysOnOk W.write_str_gives f.old result (Some (after_line_ends (spaces depth.now) (print_compound (compound_statement_view block.now)))) f.new }
+    ensures { WritesAt W.write_str_gives depth.now f.old result (print_compound (compound_statement_view block.now)) f.new }
 {
     write_opened(block, depth, f)?;
     f.write_str("}")
@@ -104,7 +102,7 @@ pub fn write_opened<W: fmt::Write>(
     depth: &Depth<'_>,
     f: &mut fmt::Formatter<W>,
 ) -> fmt::Result
-    ensures { DisplaysOnOk W.write_str_gives f.old result (Some (after_line_ends (spaces depth.now) (print_opened (compound_statement_view block.now)))) f.new }
+    ensures { WritesAt W.write_str_gives depth.now f.old result (print_opened (compound_statement_view block.now)) f.new }
 {
     write_open(&block.attributes, depth, f)?;
     let inner = Depth::Below(&*depth);

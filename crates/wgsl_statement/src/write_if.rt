@@ -1,12 +1,9 @@
 //! `if` statements, written at a depth.
 
-ghost use Rattle.std.specs.Prelude.{Some};
-ghost use Rattle.std.specs.Fmt.{DisplaysOnOk};
-ghost use Rattle.wgsl_model.specs.Indentation.{after_line_ends};
 ghost use Rattle.wgsl_model.specs.PrintedDeclarations.{print_attributed};
 ghost use Rattle.wgsl_model.specs.PrintedStatements.{print_if, print_if_clause, print_else_if_clause, print_else_clause};
-ghost use Rattle.wgsl_writer.specs.Depth.{spaces};
 ghost use Rattle.wgsl_statement.specs.View.{if_statement_view, if_clause_view, else_if_clause_view, else_clause_view};
+ghost use Rattle.wgsl_writer.specs.Writing.{WritesAt};
 
 use crate::statement::{ElseClause, ElseIfClause, IfClause, IfStatement};
 use crate::write::write_compound;
@@ -21,7 +18,7 @@ pub fn write_if<W: fmt::Write>(
     depth: &Depth<'_>,
     f: &mut fmt::Formatter<W>,
 ) -> fmt::Result
-    ensures { DisplaysOnOk W.write_str_gives f.old result (Some (after_line_ends (spaces depth.now) (print_attributed print_if (if_statement_view statement.now)))) f.new }
+    ensures { WritesAt W.write_str_gives depth.now f.old result (print_attributed print_if (if_statement_view statement.now)) f.new }
 {
     write_attribute_line(&statement.attributes, depth, f)?;
     write_if_clause(&statement.if_clause, depth, f)?;
@@ -44,7 +41,7 @@ pub fn write_if_clause<W: fmt::Write>(
     depth: &Depth<'_>,
     f: &mut fmt::Formatter<W>,
 ) -> fmt::Result
-    ensures { DisplaysOnOk W.write_str_gives f.old result (Some (after_line_ends (spaces depth.now) (print_if_clause (if_clause_view clause.now)))) f.new }
+    ensures { WritesAt W.write_str_gives depth.now f.old result (print_if_clause (if_clause_view clause.now)) f.new }
 {
     write_head("if ", &clause.expression, depth, f)?;
     write_compound(&clause.body, depth, f)
@@ -56,7 +53,7 @@ pub fn write_else_if_clause<W: fmt::Write>(
     depth: &Depth<'_>,
     f: &mut fmt::Formatter<W>,
 ) -> fmt::Result
-    ensures { DisplaysOnOk W.write_str_gives f.old result (Some (after_line_ends (spaces depth.now) (print_else_if_clause (else_if_clause_view clause.now)))) f.new }
+    ensures { WritesAt W.write_str_gives depth.now f.old result (print_else_if_clause (else_if_clause_view clause.now)) f.new }
 {
     write_head("else if ", &clause.expression, depth, f)?;
     write_compound(&clause.body, depth, f)
@@ -68,7 +65,7 @@ pub fn write_else_clause<W: fmt::Write>(
     depth: &Depth<'_>,
     f: &mut fmt::Formatter<W>,
 ) -> fmt::Result
-    ensures { DisplaysOnOk W.write_str_gives f.old result (Some (after_line_ends (spaces depth.now) (print_else_clause (else_clause_view clause.now)))) f.new }
+    ensures { WritesAt W.write_str_gives depth.now f.old result (print_else_clause (else_clause_view clause.now)) f.new }
 {
     f.write_str("else ")?;
     write_compound(&clause.body, depth, f)

@@ -1,14 +1,11 @@
 //! `loop`, `for` and `while` statements, written at a depth.
 
-ghost use Rattle.std.specs.Prelude.{Some};
 ghost use Rattle.std.specs.Option.{option_map};
-ghost use Rattle.std.specs.Fmt.{DisplaysOnOk};
 ghost use Rattle.wgsl_model.specs.Statements.{maybe_statement};
-ghost use Rattle.wgsl_model.specs.Indentation.{after_line_ends};
 ghost use Rattle.wgsl_model.specs.PrintedDeclarations.{print_attributed};
 ghost use Rattle.wgsl_model.specs.PrintedStatements.{print_loop, print_continuing, print_for, unended_part, print_while};
-ghost use Rattle.wgsl_writer.specs.Depth.{spaces};
 ghost use Rattle.wgsl_statement.specs.View.{statement_node_view, loop_statement_view, continuing_statement_view, for_statement_view, while_statement_view};
+ghost use Rattle.wgsl_writer.specs.Writing.{WritesAt};
 
 use crate::statement::{
     ContinuingStatement, ForStatement, LoopStatement, StatementNode, WhileStatement,
@@ -27,7 +24,7 @@ pub fn write_loop<W: fmt::Write>(
     depth: &Depth<'_>,
     f: &mut fmt::Formatter<W>,
 ) -> fmt::Result
-    ensures { DisplaysOnOk W.write_str_gives f.old result (Some (after_line_ends (spaces depth.now) (print_attributed print_loop (loop_statement_view statement.now)))) f.new }
+    ensures { WritesAt W.write_str_gives depth.now f.old result (print_attributed print_loop (loop_statement_view statement.now)) f.new }
 {
     write_start(&statement.attributes, "loop ", depth, f)?;
     write_opened(&statement.body, depth, f)?;
@@ -49,7 +46,7 @@ pub fn write_continuing<W: fmt::Write>(
     depth: &Depth<'_>,
     f: &mut fmt::Formatter<W>,
 ) -> fmt::Result
-    ensures { DisplaysOnOk W.write_str_gives f.old result (Some (after_line_ends (spaces depth.now) (print_continuing (continuing_statement_view statement.now)))) f.new }
+    ensures { WritesAt W.write_str_gives depth.now f.old result (print_continuing (continuing_statement_view statement.now)) f.new }
 {
     f.write_str("continuing ")?;
     write_opened(&statement.body, depth, f)?;
@@ -63,7 +60,7 @@ pub fn write_for<W: fmt::Write>(
     depth: &Depth<'_>,
     f: &mut fmt::Formatter<W>,
 ) -> fmt::Result
-    ensures { DisplaysOnOk W.write_str_gives f.old result (Some (after_line_ends (spaces depth.now) (print_attributed print_for (for_statement_view statement.now)))) f.new }
+    ensures { WritesAt W.write_str_gives depth.now f.old result (print_attributed print_for (for_statement_view statement.now)) f.new }
 {
     write_start(&statement.attributes, "for (", depth, f)?;
     write_part(&statement.initializer, depth, f)?;
@@ -80,7 +77,7 @@ fn write_part<W: fmt::Write>(
     depth: &Depth<'_>,
     f: &mut fmt::Formatter<W>,
 ) -> fmt::Result
-    ensures { DisplaysOnOk W.write_str_gives f.old result (Some (after_line_ends (spaces depth.now) (unended_part (maybe_statement (option_map statement_node_view part.now))))) f.new }
+    ensures { WritesAt W.write_str_gives depth.now f.old result (unended_part (maybe_statement (option_map statement_node_view part.now))) f.new }
 {
     match part {
         None => Ok(()),
@@ -94,7 +91,7 @@ pub fn write_while<W: fmt::Write>(
     depth: &Depth<'_>,
     f: &mut fmt::Formatter<W>,
 ) -> fmt::Result
-    ensures { DisplaysOnOk W.write_str_gives f.old result (Some (after_line_ends (spaces depth.now) (print_attributed print_while (while_statement_view statement.now)))) f.new }
+    ensures { WritesAt W.write_str_gives depth.now f.old result (print_attributed print_while (while_statement_view statement.now)) f.new }
 {
     write_attribute_line(&statement.attributes, depth, f)?;
     write_head("while ", &statement.condition, depth, f)?;

@@ -1,12 +1,9 @@
 //! `switch` statements, written at a depth.
 
-ghost use Rattle.std.specs.Prelude.{Some};
-ghost use Rattle.std.specs.Fmt.{DisplaysOnOk};
-ghost use Rattle.wgsl_model.specs.Indentation.{after_line_ends};
 ghost use Rattle.wgsl_model.specs.PrintedDeclarations.{print_attributed};
 ghost use Rattle.wgsl_model.specs.PrintedStatements.{print_switch, print_switch_clause};
-ghost use Rattle.wgsl_writer.specs.Depth.{spaces};
 ghost use Rattle.wgsl_statement.specs.View.{switch_statement_view, switch_clause_view};
+ghost use Rattle.wgsl_writer.specs.Writing.{WritesAt};
 
 use crate::statement::{SwitchClause, SwitchStatement};
 use crate::write::write_compound;
@@ -23,7 +20,7 @@ pub fn write_switch<W: fmt::Write>(
     depth: &Depth<'_>,
     f: &mut fmt::Formatter<W>,
 ) -> fmt::Result
-    ensures { DisplaysOnOk W.write_str_gives f.old result (Some (after_line_ends (spaces depth.now) (print_attributed print_switch (switch_statement_view statement.now)))) f.new }
+    ensures { WritesAt W.write_str_gives depth.now f.old result (print_attributed print_switch (switch_statement_view statement.now)) f.new }
 {
     write_attribute_line(&statement.attributes, depth, f)?;
     write_head("switch ", &statement.expression, depth, f)?;
@@ -45,7 +42,7 @@ pub fn write_switch_clause<W: fmt::Write>(
     depth: &Depth<'_>,
     f: &mut fmt::Formatter<W>,
 ) -> fmt::Result
-    ensures { DisplaysOnOk W.write_str_gives f.old result (Some (after_line_ends (spaces depth.now) (print_switch_clause (switch_clause_view clause.now)))) f.new }
+    ensures { WritesAt W.write_str_gives depth.now f.old result (print_switch_clause (switch_clause_view clause.now)) f.new }
 {
     write_case(&clause.case_selectors, depth, f)?;
     write_compound(&clause.body, depth, f)

@@ -2,7 +2,7 @@
 
 ghost use Rattle.std.specs.Prelude.{Some, ◌++◌, codes, map};
 ghost use Rattle.std.specs.Option.{option_map};
-ghost use Rattle.std.specs.Fmt.{DisplaysOnOk};
+ghost use Rattle.std.specs.Fmt.{WritesOnOk};
 ghost use Rattle.wgsl_model.specs.Indentation.{indented};
 ghost use Rattle.wgsl_model.specs.PrintedAttributes.{print_attribute_line};
 ghost use Rattle.wgsl_model.specs.PrintedDeclarations.{print_attributed};
@@ -45,7 +45,7 @@ fn write_directives<W: fmt::Write>(
     directives: &[GlobalDirective],
     f: &mut fmt::Formatter<W>,
 ) -> fmt::Result
-    ensures { DisplaysOnOk W.write_str_gives f.old result (Some (print_directives (map global_directive_view directives.now))) f.new }
+    ensures { WritesOnOk W.write_str_gives f.old result (print_directives (map global_directive_view directives.now)) f.new }
 {
     if directives.is_empty() {
         return Ok(());
@@ -137,7 +137,7 @@ fn write_members<W: fmt::Write>(
     members: &[StructMemberNode],
     f: &mut fmt::Formatter<W>,
 ) -> fmt::Result
-    ensures { DisplaysOnOk W.write_str_gives f.old result (Some (indented (print_members members.now))) f.new }
+    ensures { WritesOnOk W.write_str_gives f.old result (indented (print_members members.now)) f.new }
 {
     if members.is_empty() {
         return Ok(());
@@ -205,7 +205,7 @@ fn write_head<W: fmt::Write>(
     ident: &Ident,
     f: &mut fmt::Formatter<W>,
 ) -> fmt::Result
-    ensures { DisplaysOnOk W.write_str_gives f.old result (Some (print_attribute_line (attributes_view attributes.now.items) ++ codes "fn " ++ ident_name ident.now ++ codes "(")) f.new }
+    ensures { WritesOnOk W.write_str_gives f.old result (print_attribute_line (attributes_view attributes.now.items) ++ codes "fn " ++ ident_name ident.now ++ codes "(") f.new }
 {
     let attributes = AttributesBefore {
         attributes,
@@ -220,7 +220,7 @@ fn write_result<W: fmt::Write>(
     ty: &Option<TypeExpression>,
     f: &mut fmt::Formatter<W>,
 ) -> fmt::Result
-    ensures { DisplaysOnOk W.write_str_gives f.old result (Some (print_result (attributes_view attributes.now.items) (option_map type_expression_view ty.now))) f.new }
+    ensures { WritesOnOk W.write_str_gives f.old result (print_result (attributes_view attributes.now.items) (option_map type_expression_view ty.now)) f.new }
 {
     match ty {
         None => Ok(()),

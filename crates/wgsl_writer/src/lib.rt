@@ -1,12 +1,13 @@
 //! What every print needs: separators between items, and indentation.
 #![tactic(auto)]
 
-ghost use Rattle.std.specs.Prelude.{◌≡◌, Some};
-ghost use Rattle.std.specs.Fmt.{DisplaysOnOk, HasWritten, IsPlainFormatter};
+ghost use Rattle.std.specs.Prelude.{◌≡◌};
+ghost use Rattle.std.specs.Fmt.{DisplaysOnOk, HasWritten, IsPlainFormatter, WritesOnOk};
 ghost use Rattle.std.specs.Option.{option_map};
 ghost use Rattle.wgsl_model.specs.Indentation.{after_line_ends};
 ghost use Rattle.wgsl_writer.specs.Depth.{spaces};
 ghost use Rattle.wgsl_writer.specs.Joined.{joined_output};
+ghost use Rattle.wgsl_writer.specs.Writing.{WritesAt};
 
 use std::fmt;
 use std::fmt::Write;
@@ -37,7 +38,7 @@ pub enum Depth<'a> {
 
 /// Writes four spaces for each level.
 pub fn write_spaces<W: fmt::Write>(depth: &Depth<'_>, f: &mut fmt::Formatter<W>) -> fmt::Result
-    ensures { DisplaysOnOk W.write_str_gives f.old result (Some (spaces depth.now)) f.new }
+    ensures { WritesOnOk W.write_str_gives f.old result (spaces depth.now) f.new }
 {
     match depth {
         Depth::Top => Ok(()),
@@ -69,7 +70,7 @@ pub fn write_lines<W: fmt::Write>(
     depth: &Depth<'_>,
     f: &mut fmt::Formatter<W>,
 ) -> fmt::Result
-    ensures { DisplaysOnOk W.write_str_gives f.old result (Some (after_line_ends (spaces depth.now) s.now)) f.new }
+    ensures { WritesAt W.write_str_gives depth.now f.old result s.now f.new }
 {
     let mut left = s;
     'lines: while let Some((line, rest)) = left.split_once('\n') {
