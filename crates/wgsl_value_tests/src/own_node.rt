@@ -1,4 +1,4 @@
-//! A node of the user's own with a list of attributes, and one without, by the names of `wgsl_parse` alone.
+//! Nodes of the user's own by the names of `wgsl_parse` alone: by all calls, by its parts, and without attributes.
 
 ghost use Rattle.std.specs.Prelude.{◌≡◌, Some, None};
 ghost use Rattle.std.specs.Vec.{with_items};
@@ -7,8 +7,10 @@ ghost use Rattle.wgsl_parse.specs.ExpressionView.{ident_name};
 use crate::making::{ident, size_and_align};
 use std::alloc::{AllocError, Global};
 use std::test::Fail;
-use wgsl_parse::syntax::{Attribute, AttributeNode, Ident, Span};
-use wgsl_parse::syntax_node::{BareNode, SyntaxNode, has_attribute, retain_nodes};
+use wgsl_parse::syntax::{Attribute, AttributeNode, Attributes, Ident, Span};
+use wgsl_parse::syntax_node::{
+    BareNode, NodeAttributes, NodeName, SyntaxNode, has_attribute, retain_nodes,
+};
 
 #[derive(Drop)]
 struct Member {
@@ -53,6 +55,34 @@ impl SyntaxNode for Member {
 }
 
 #[derive(Drop)]
+struct Labelled {
+    attributes: Attributes,
+    label: Ident,
+}
+
+impl NodeName for Labelled {
+    ghost own_name = { λ node. Some (ident_name node.label) };
+
+    fn own_ident(&self) -> Option<&Ident> {
+        Some(&self.label)
+    }
+}
+
+impl NodeAttributes for Labelled {
+    ghost list_of = { λ node. Some node.attributes };
+
+    ghost with_list = { λ node list. record node { attributes = list } };
+
+    fn own_attributes(&self) -> Option<&Attributes> {
+        Some(&self.attributes)
+    }
+
+    fn own_attributes_mut(&mut self) -> Option<&mut Attributes> {
+        Some(&mut self.attributes)
+    }
+}
+
+#[derive(Drop)]
 struct Bare {
     number: u64,
 }
@@ -89,6 +119,23 @@ fn attributes_are_written_and_retained(rt: HostRuntime) -> Result<(), Fail> {
         *attribute.node_mut() = Attribute::Const;
     }
     assert!(rt; member.contains_attribute(&Attribute::Const));
+    Ok(())
+}
+
+#[test]
+fn a_node_by_its_parts(rt: HostRuntime) -> Result<(), Fail> {
+    let mut node = Labelled {
+        attributes: size_and_align(rt.alloc())?,
+        label: ident(rt.alloc(), "x")?,
+    };
+    assert!(rt; node.span().is_none());
+    assert!(rt; node.ident(rt.alloc())?.is_some());
+    node.retain_attributes_mut(|attribute| attribute.is_align());
+    assert_eq!(rt; node.attributes().len(), 1);
+    for attribute in node.attributes_mut() {
+        *attribute.node_mut() = Attribute::Const;
+    }
+    assert!(rt; node.contains_attribute(&Attribute::Const));
     Ok(())
 }
 
