@@ -1,1 +1,2 @@
 pub mod AttributeNames
+pub mod Hints

@@ -1,4 +1,5 @@
 //! The tokens that are left to be read.
+#![tactic(auto, unfolding(crate::proofs::Hints::definitions), using(crate::proofs::Hints::lemmas))]
 
 ghost use Rattle.std.specs.Prelude.{◌≡◌, ◌↔◌, ◌<◌, [], length, map, OnOk, IfOk, IsTrue, if◌then◌else◌, string_bytes};
 ghost use Rattle.grammar.specs.Tokens.{Token};
@@ -46,7 +47,6 @@ impl Cursor {
     }
 
     /// Whether the next token is of a kind.
-    #[tactic(auto, unfolding(grammar::specs::States::is_at))]
     pub fn is_at(&self, kind: TokenKind) -> bool
         ensures { result ≡ is_at (class_of_kind kind) (state self.now) }
     {
@@ -57,7 +57,6 @@ impl Cursor {
     }
 
     /// Where the next token starts.
-    #[tactic(auto, unfolding(grammar::specs::States::start_of))]
     pub fn start(&self) -> usize
         ensures { result ≡ start_of (state self.now) }
     {
@@ -78,7 +77,6 @@ impl Cursor {
     }
 
     /// Takes the next token if it is of a kind.
-    #[tactic(auto, unfolding(grammar::specs::States::is_at, grammar::specs::States::after))]
     pub fn eat(&mut self, kind: TokenKind) -> bool
         ensures value { result ≡ is_at (class_of_kind kind) (state self.old) }
         ensures rest { state self.new ≡ (if result then after (state self.old) else state self.old) }
@@ -94,7 +92,6 @@ impl Cursor {
     }
 
     /// Takes the next token, which has to be of a kind.
-    #[tactic(auto, unfolding(grammar::specs::States::take))]
     pub fn expect(&mut self, kind: TokenKind) -> Result<(), Fault>
         ensures { Parses (λ _. first_of (state self.old)) result self.old self.new (take (class_of_kind kind)) }
     {
@@ -124,7 +121,6 @@ impl Cursor {
     }
 
     /// Takes a name, as its text.
-    #[tactic(auto, unfolding(wgsl_grammar_theory::specs::ExpressionRules::ident_at, grammar::specs::States::is_at, grammar::specs::States::start_of, grammar::specs::States::first_of, grammar::specs::States::after), using(wgsl_grammar_theory::proofs::ExpressionEquations::ident_is))]
     pub fn name(&mut self) -> Result<String, Fault>
         ensures value { Gives (λ _. first_of (state self.old)) result (state self.new) (reader (of ident) (state self.old)) }
         ensures text { IfOk result (λ name. string_bytes name ≡ text_of (first_of (state self.old))) }
@@ -150,7 +146,6 @@ impl Cursor {
     }
 
     /// Takes the name of an attribute: a name, a reserved word or a keyword.
-    #[tactic(auto, unfolding(grammar::specs::States::first_of), using(crate::proofs::AttributeNames::attribute_name_is, crate::proofs::AttributeNames::no_attribute_name, crate::proofs::AttributeNames::keyword_text))]
     pub fn attribute_name(&mut self) -> Result<Word, Fault>
         ensures value { Gives (λ _. first_of (state self.old)) result (state self.new) (attribute_name_at (state self.old)) }
         ensures word { IfOk result (λ word. word_text word ≡ text_of (first_of (state self.old))) }
@@ -178,7 +173,6 @@ impl Cursor {
     }
 
     /// Takes a literal. `expected` is what could stand in its place.
-    #[tactic(auto, unfolding(wgsl_grammar_theory::specs::ExpressionRules::literal_at, grammar::specs::States::is_at, grammar::specs::States::first_of, grammar::specs::States::after), using(wgsl_grammar_theory::proofs::ExpressionEquations::literal_is))]
     pub fn literal(&mut self, expected: Expected) -> Result<LiteralExpression, Fault>
         ensures { Parses literal_view result self.old self.new (reader (of literal)) }
     {

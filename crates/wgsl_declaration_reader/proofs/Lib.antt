@@ -2,3 +2,4 @@ pub mod ClosedLists
 pub mod Turns
 pub mod Names
 pub mod Severities
+pub mod Hints

@@ -1,4 +1,5 @@
 //! Reading directives.
+#![tactic(auto, unfolding(crate::proofs::Hints::definitions), using(crate::proofs::Hints::lemmas))]
 
 ghost use Rattle.std.specs.Prelude.{◌≡◌, ◌<◌, ◌≤◌, length, map, OnOk, IfOk, option_map, string_bytes};
 ghost use Rattle.wgsl_model.specs.TokenValues.{text_of};
@@ -28,7 +29,6 @@ const DIRECTIVE: Expected = Expected::OneOf(&[
 
 /// A directive with its `;` (WGSL, "Directives"). A name in the place of a severity that is none is a checked fault
 /// where that name stands.
-#[tactic(auto, unfolding(wgsl_grammar_theory::specs::UnitRules::global_directive_at, wgsl_grammar_theory::specs::UnitRules::diagnostic_directive_at, wgsl_grammar_theory::specs::UnitRules::diagnostic_severity_at, grammar::specs::States::take), using(wgsl_grammar_theory::proofs::UnitEquations::global_directive_is, wgsl_grammar_theory::proofs::UnitEquations::diagnostic_directive_is, wgsl_grammar_theory::proofs::UnitEquations::diagnostic_severity_is))]
 pub fn parse_global_directive(alloc: Global, tokens: &mut Cursor) -> Result<GlobalDirective, Fault>
     ensures { Parses global_directive_view result tokens.old tokens.new (reader (of global_directive)) }
 {
@@ -44,7 +44,6 @@ pub fn parse_global_directive(alloc: Global, tokens: &mut Cursor) -> Result<Glob
     Err(tokens.refuse(DIRECTIVE))
 }
 
-#[tactic(auto, unfolding(crate::proofs::Names::enable_directive_at), using(crate::proofs::Names::enable_directive_is))]
 fn parse_enable_directive(alloc: Global, tokens: &mut Cursor) -> Result<GlobalDirective, Fault>
     ensures { Parses global_directive_view result tokens.old tokens.new (reader (of enable_directive)) }
 {
@@ -53,7 +52,6 @@ fn parse_enable_directive(alloc: Global, tokens: &mut Cursor) -> Result<GlobalDi
     Ok(GlobalDirective::Enable(EnableDirective { extensions }))
 }
 
-#[tactic(auto, unfolding(crate::proofs::Names::requires_directive_at), using(crate::proofs::Names::requires_directive_is))]
 fn parse_requires_directive(alloc: Global, tokens: &mut Cursor) -> Result<GlobalDirective, Fault>
     ensures { Parses global_directive_view result tokens.old tokens.new (reader (of requires_directive)) }
 {
@@ -63,7 +61,6 @@ fn parse_requires_directive(alloc: Global, tokens: &mut Cursor) -> Result<Global
 }
 
 /// Names, one at least, with a comma after each, or after each but the last, and the `;` behind them.
-#[tactic(auto, unfolding(crate::proofs::Names::first_names, crate::proofs::Names::names_turn, grammar::specs::States::take), using(crate::proofs::Names::names_is, crate::proofs::Names::names_are, std::proofs::lemmas::List::map_push))]
 fn parse_names(alloc: Global, tokens: &mut Cursor) -> Result<Vec<String>, Fault>
     ensures { Parses (λ v. map string_bytes v.items) result tokens.old tokens.new names_at }
 {
@@ -80,7 +77,6 @@ fn parse_names(alloc: Global, tokens: &mut Cursor) -> Result<Vec<String>, Fault>
 }
 
 /// A `diagnostic` with its severity and the name of its rule (WGSL, "Diagnostics").
-#[tactic(auto, unfolding(wgsl_grammar_theory::specs::UnitRules::diagnostic_directive_at, crate::specs::Parts::second_name_at, grammar::specs::States::take), using(wgsl_grammar_theory::proofs::UnitEquations::diagnostic_directive_is, crate::proofs::Names::rule_of_is))]
 fn parse_diagnostic_directive(tokens: &mut Cursor) -> Result<GlobalDirective, Fault>
     ensures { Parses global_directive_view result tokens.old tokens.new (reader (of diagnostic_directive)) }
 {
@@ -98,7 +94,6 @@ fn parse_diagnostic_directive(tokens: &mut Cursor) -> Result<GlobalDirective, Fa
 }
 
 /// `diagnostic (` and a name, which has to be a severity's.
-#[tactic(auto, unfolding(wgsl_grammar_theory::specs::UnitRules::diagnostic_severity_at), using(wgsl_grammar_theory::proofs::UnitEquations::diagnostic_severity_is))]
 fn parse_severity(tokens: &mut Cursor) -> Result<DiagnosticSeverity, Fault>
     ensures value { Gives (λ _. third_of (state tokens.old)) result (state tokens.new) (reader (of diagnostic_severity) (state tokens.old)) }
     ensures severity { IfOk result (λ severity. severity_view severity ≡ severity_of (third_of (state tokens.old))) }
@@ -119,7 +114,6 @@ fn parse_severity(tokens: &mut Cursor) -> Result<DiagnosticSeverity, Fault>
 }
 
 /// A `.` with a name, or none.
-#[tactic(auto, unfolding(crate::specs::Parts::second_name_at, grammar::specs::States::take))]
 fn parse_second_name(tokens: &mut Cursor) -> Result<Option<String>, Fault>
     ensures value { Gives (λ _. second_name_of (state tokens.old)) result (state tokens.new) (second_name_at (state tokens.old)) }
     ensures text { IfOk result (λ name. option_map string_bytes name ≡ option_map text_of (second_name_of (state tokens.old))) }

@@ -1,4 +1,5 @@
 //! Reading structures.
+#![tactic(auto, unfolding(crate::proofs::Hints::definitions), using(crate::proofs::Hints::lemmas))]
 
 ghost use Rattle.std.specs.Prelude.{map};
 ghost use Rattle.wgsl_model.specs.Symbols.{Symbol.struct_declaration, Symbol.struct_member};
@@ -16,7 +17,6 @@ use wgsl_span::Spanned;
 use wgsl_token::kind::TokenKind;
 use wgsl_unit::{GlobalDeclaration, Struct, StructMember, StructMemberNode};
 
-#[tactic(auto, unfolding(wgsl_grammar_theory::specs::UnitRules::struct_declaration_at), using(wgsl_grammar_theory::proofs::UnitEquations::struct_declaration_is))]
 pub fn parse_struct_declaration(
     alloc: Global,
     tokens: &mut Cursor,
@@ -31,7 +31,6 @@ pub fn parse_struct_declaration(
 }
 
 /// Members, one at least, with a comma after each, or after each but the last, and the `}` behind them.
-#[tactic(auto, unfolding(crate::proofs::Turns::members_at, crate::proofs::Turns::members_turn, grammar::specs::States::take), using(crate::proofs::Turns::members_is, crate::proofs::Turns::members_are, std::proofs::lemmas::List::map_push))]
 fn parse_members(alloc: Global, tokens: &mut Cursor) -> Result<Vec<StructMemberNode>, Fault>
     ensures { Parses (λ v. map (spanned_view member_view) v.items) result tokens.old tokens.new (reader (further member_items)) }
 {
@@ -47,7 +46,6 @@ fn parse_members(alloc: Global, tokens: &mut Cursor) -> Result<Vec<StructMemberN
     Ok(members)
 }
 
-#[tactic(auto, unfolding(wgsl_grammar_theory::specs::UnitRules::struct_member_at), using(wgsl_grammar_theory::proofs::UnitEquations::struct_member_is))]
 fn parse_struct_member(alloc: Global, tokens: &mut Cursor) -> Result<StructMemberNode, Fault>
     ensures { Parses (spanned_view member_view) result tokens.old tokens.new (reader (of struct_member)) }
 {

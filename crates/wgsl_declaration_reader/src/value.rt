@@ -1,4 +1,5 @@
 //! Reading the declarations of values, and further names for types.
+#![tactic(auto, unfolding(crate::proofs::Hints::definitions), using(crate::proofs::Hints::lemmas))]
 
 ghost use Rattle.grammar.specs.Grammar.{Grammar.symbol};
 ghost use Rattle.wgsl_model.specs.Symbols.{Symbol.const_declaration, Symbol.alias_declaration};
@@ -19,7 +20,6 @@ use wgsl_token::kind::TokenKind;
 use wgsl_unit::{GlobalDeclaration, TypeAlias};
 
 /// A `var` behind its attributes.
-#[tactic(auto, unfolding(wgsl_grammar_theory::specs::UnitRules::var_part_at, wgsl_attribute_reader::specs::VarKinds::var_kind_at, wgsl_attribute_reader::specs::Initializers::maybe_initializer_at), using(wgsl_grammar_theory::proofs::UnitEquations::var_part_is))]
 pub fn parse_var(
     alloc: Global,
     tokens: &mut Cursor,
@@ -41,7 +41,6 @@ pub fn parse_var(
 }
 
 /// An `override` behind its attributes.
-#[tactic(auto, unfolding(wgsl_grammar_theory::specs::UnitRules::override_part_at, wgsl_attribute_reader::specs::Initializers::maybe_initializer_at), using(wgsl_grammar_theory::proofs::UnitEquations::override_part_is))]
 pub fn parse_override(
     alloc: Global,
     tokens: &mut Cursor,
@@ -62,7 +61,6 @@ pub fn parse_override(
     }))
 }
 
-#[tactic(auto, unfolding(wgsl_grammar_theory::specs::UnitRules::const_declaration_at), using(wgsl_grammar_theory::proofs::UnitEquations::const_declaration_is))]
 pub fn parse_const_declaration(
     alloc: Global,
     tokens: &mut Cursor,
@@ -83,7 +81,6 @@ pub fn parse_const_declaration(
     }))
 }
 
-#[tactic(auto, unfolding(wgsl_grammar_theory::specs::UnitRules::alias_declaration_at), using(wgsl_grammar_theory::proofs::UnitEquations::alias_declaration_is))]
 pub fn parse_alias_declaration(
     alloc: Global,
     tokens: &mut Cursor,

@@ -5,3 +5,4 @@ pub mod Calls
 pub mod Choices
 pub mod Turns
 pub mod Equations
+pub mod Hints

@@ -1,4 +1,5 @@
 //! The arguments of calls.
+#![tactic(auto, unfolding(crate::proofs::Hints::definitions), using(crate::proofs::Hints::lemmas))]
 
 ghost use Rattle.std.specs.Prelude.{map};
 ghost use Rattle.wgsl_model.specs.Symbols.{Symbol.arguments};
@@ -15,7 +16,6 @@ use wgsl_token::kind::TokenKind;
 
 /// Arguments in parentheses.
 #[cycle(expression)]
-#[tactic(auto, unfolding(wgsl_grammar_theory::specs::ExpressionRules::arguments_at, crate::proofs::Turns::arguments_turn, grammar::specs::States::take), using(wgsl_grammar_theory::proofs::ExpressionEquations::arguments_is, crate::proofs::Equations::argument_rest_is, crate::proofs::Equations::arguments_are, std::proofs::lemmas::List::map_push))]
 pub fn parse_arguments(alloc: Global, tokens: &mut Cursor) -> Result<Vec<ExpressionNode>, Fault>
     ensures { Parses (λ args. map expression_node_view args.items) result tokens.old tokens.new (reader (of arguments)) }
 {

@@ -1,4 +1,5 @@
 //! Expressions, from comparisons to chains of one operator.
+#![tactic(auto, unfolding(crate::proofs::Hints::definitions), using(crate::proofs::Hints::lemmas))]
 
 ghost use Rattle.wgsl_model.specs.Symbols.{Symbol.relational_expression, Symbol.expression};
 ghost use Rattle.wgsl_grammar_theory.specs.Factored.{FactoredSymbol.of};
@@ -21,7 +22,6 @@ use wgsl_token::kind::TokenKind;
 
 /// An expression.
 #[cycle(expression)]
-#[tactic(auto, unfolding(crate::proofs::Turns::whole_expression_at), using(crate::proofs::Equations::expression_is))]
 pub fn parse_expression(alloc: Global, tokens: &mut Cursor) -> Result<ExpressionNode, Fault>
     ensures { Parses expression_node_view result tokens.old tokens.new (reader (of expression)) }
 {
@@ -31,7 +31,6 @@ pub fn parse_expression(alloc: Global, tokens: &mut Cursor) -> Result<Expression
 
 /// What makes an operand an expression.
 #[cycle(expression)]
-#[tactic(auto, unfolding(crate::proofs::Turns::expression_turn), using(crate::proofs::Equations::expression_behind_is))]
 fn parse_expression_rest(
     alloc: Global,
     tokens: &mut Cursor,
@@ -73,7 +72,6 @@ fn parse_expression_rest(
 
 /// The operands behind a first one with one bitwise operator between, none too.
 #[cycle(expression)]
-#[tactic(auto, unfolding(crate::proofs::Turns::bitwise_turn, grammar::specs::States::take), using(crate::proofs::Equations::bitwise_are))]
 fn parse_bitwise_operands(
     alloc: Global,
     tokens: &mut Cursor,
@@ -93,7 +91,6 @@ fn parse_bitwise_operands(
 
 /// What makes an operand a comparison, or nothing.
 #[cycle(expression)]
-#[tactic(auto, unfolding(crate::proofs::Turns::relation_turn), using(crate::proofs::Equations::relation_is))]
 fn parse_relation_rest(
     alloc: Global,
     tokens: &mut Cursor,
@@ -110,7 +107,6 @@ fn parse_relation_rest(
 
 /// The operands of `&&` or of `||` behind a first one, none too.
 #[cycle(expression)]
-#[tactic(auto, unfolding(crate::specs::Rules::logical_at))]
 fn parse_logical_rest(
     alloc: Global,
     tokens: &mut Cursor,
@@ -141,7 +137,6 @@ fn parse_logical_rest(
 
 /// The operands behind a first one with one logical operator between, none too.
 #[cycle(expression)]
-#[tactic(auto, unfolding(crate::proofs::Turns::logical_turn, grammar::specs::States::take), using(crate::proofs::Equations::logical_are))]
 fn parse_logical_operands(
     alloc: Global,
     tokens: &mut Cursor,
@@ -161,7 +156,6 @@ fn parse_logical_operands(
 
 /// A comparison or a sum.
 #[cycle(expression)]
-#[tactic(auto, unfolding(crate::proofs::Turns::relational_at), using(crate::proofs::Equations::relational_expression_is))]
 fn parse_relational_expression(alloc: Global, tokens: &mut Cursor) -> Result<ExpressionNode, Fault>
     ensures { Parses expression_node_view result tokens.old tokens.new (reader (of relational_expression)) }
 {

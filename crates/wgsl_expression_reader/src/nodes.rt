@@ -1,4 +1,5 @@
 //! Expressions that are made of what was read.
+#![tactic(auto, unfolding(crate::proofs::Hints::definitions), using(crate::proofs::Hints::lemmas))]
 
 ghost use Rattle.std.specs.Prelude.{◌≡◌, IfOk, map, option_map};
 ghost use Rattle.wgsl_model.specs.Expressions as plain;
@@ -49,7 +50,6 @@ pub fn binary(left: ExpressionNode, operator: BinaryOperator, right: ExpressionN
     })
 }
 
-#[tactic(auto, using(crate::proofs::Calls::call_is))]
 pub fn call(ty: TypeExpression, arguments: Vec<ExpressionNode>) -> Expression
     ensures { expression_view result ≡ plain.function_call (plain.call (type_expression_view ty) (plain.expressions_of (map expression_node_view arguments.items))) }
 {

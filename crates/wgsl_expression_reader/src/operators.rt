@@ -1,4 +1,5 @@
 //! The operators before and between operands.
+#![tactic(auto, unfolding(crate::proofs::Hints::definitions), using(crate::proofs::Hints::lemmas))]
 
 ghost use Rattle.wgsl_named_values.specs.View.{unary_operator_view, binary_operator_view};
 ghost use Rattle.wgsl_expression_reader.specs.Taking.{Takes};
@@ -9,7 +10,6 @@ use wgsl_named_values::{BinaryOperator, UnaryOperator};
 use wgsl_token::kind::TokenKind;
 
 /// Takes an operator that stands before an operand, if it is next.
-#[tactic(auto, unfolding(crate::specs::Rules::unary_operator_at, grammar::specs::States::take))]
 pub fn unary_operator(tokens: &mut Cursor) -> Option<UnaryOperator>
     ensures { Takes unary_operator_view result tokens.old tokens.new unary_operators unary_operator_at }
 {
@@ -32,7 +32,6 @@ pub fn unary_operator(tokens: &mut Cursor) -> Option<UnaryOperator>
 }
 
 /// Takes the operator of a product, if it is next.
-#[tactic(auto, unfolding(crate::specs::Rules::multiplicative_operator_at, grammar::specs::States::take))]
 pub fn multiplicative_operator(tokens: &mut Cursor) -> Option<BinaryOperator>
     ensures { Takes binary_operator_view result tokens.old tokens.new multiplicative_operators multiplicative_operator_at }
 {
@@ -49,7 +48,6 @@ pub fn multiplicative_operator(tokens: &mut Cursor) -> Option<BinaryOperator>
 }
 
 /// Takes `+` or `-`, if it is next.
-#[tactic(auto, unfolding(crate::specs::Rules::additive_operator_at, grammar::specs::States::take))]
 pub fn additive_operator(tokens: &mut Cursor) -> Option<BinaryOperator>
     ensures { Takes binary_operator_view result tokens.old tokens.new additive_operators additive_operator_at }
 {
@@ -63,7 +61,6 @@ pub fn additive_operator(tokens: &mut Cursor) -> Option<BinaryOperator>
 }
 
 /// Takes the operator of a comparison, if it is next.
-#[tactic(auto, unfolding(crate::specs::Rules::relational_operator_at, grammar::specs::States::take))]
 pub fn relational_operator(tokens: &mut Cursor) -> Option<BinaryOperator>
     ensures { Takes binary_operator_view result tokens.old tokens.new relational_operators relational_operator_at }
 {

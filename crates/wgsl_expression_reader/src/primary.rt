@@ -1,4 +1,5 @@
 //! Primary expressions and their components.
+#![tactic(auto, unfolding(crate::proofs::Hints::definitions), using(crate::proofs::Hints::lemmas))]
 
 ghost use Rattle.std.specs.Prelude.{◌≡◌, [], ◌∷◌};
 ghost use Rattle.grammar.specs.States.{is_any};
@@ -23,7 +24,6 @@ use wgsl_token::kind::TokenKind;
 
 /// A primary expression and its components.
 #[cycle(expression)]
-#[tactic(auto, unfolding(crate::proofs::Turns::singular_at, crate::proofs::Turns::components_behind), using(crate::proofs::Equations::singular_expression_is))]
 pub fn parse_singular_expression(
     alloc: Global,
     tokens: &mut Cursor,
@@ -35,7 +35,6 @@ pub fn parse_singular_expression(
 }
 
 #[cycle(expression)]
-#[tactic(auto, unfolding(crate::proofs::Turns::placed_primary_at), using(crate::proofs::Equations::primary_expression_is))]
 fn parse_primary_expression(alloc: Global, tokens: &mut Cursor) -> Result<ExpressionNode, Fault>
     ensures { Parses expression_node_view result tokens.old tokens.new (reader (of primary_expression)) }
 {
@@ -46,7 +45,6 @@ fn parse_primary_expression(alloc: Global, tokens: &mut Cursor) -> Result<Expres
 
 /// A primary expression, without its place.
 #[cycle(expression)]
-#[tactic(auto, unfolding(crate::specs::Rules::primary_at))]
 fn parse_primary(alloc: Global, tokens: &mut Cursor) -> Result<Expression, Fault>
     ensures { Parses expression_view result tokens.old tokens.new primary_at }
 {
@@ -62,7 +60,6 @@ fn parse_primary(alloc: Global, tokens: &mut Cursor) -> Result<Expression, Fault
 
 /// A call where arguments follow the type, else the type or identifier alone.
 #[cycle(expression)]
-#[tactic(auto, unfolding(crate::specs::Rules::call_or_type_at))]
 fn parse_call_or_type(alloc: Global, tokens: &mut Cursor) -> Result<Expression, Fault>
     ensures { Parses expression_view result tokens.old tokens.new call_or_type_at }
 {
@@ -75,7 +72,6 @@ fn parse_call_or_type(alloc: Global, tokens: &mut Cursor) -> Result<Expression, 
 }
 
 #[cycle(expression)]
-#[tactic(auto, unfolding(crate::specs::Rules::parenthesized_at))]
 fn parse_parenthesized(alloc: Global, tokens: &mut Cursor) -> Result<Expression, Fault>
     ensures { Parses expression_view result tokens.old tokens.new parenthesized_at }
 {
@@ -87,7 +83,6 @@ fn parse_parenthesized(alloc: Global, tokens: &mut Cursor) -> Result<Expression,
 
 /// The components behind a base, none too.
 #[cycle(expression)]
-#[tactic(auto, unfolding(crate::proofs::Turns::components_behind, crate::proofs::Turns::components_turn), using(crate::proofs::Equations::components_are))]
 pub fn parse_components(
     alloc: Global,
     tokens: &mut Cursor,
@@ -111,7 +106,6 @@ fn begins_component(tokens: &Cursor) -> bool
 
 /// A component behind a base.
 #[cycle(expression)]
-#[tactic(auto, unfolding(crate::specs::Rules::component_behind, wgsl_grammar_theory::specs::ExpressionRules::component_at, grammar::specs::States::take), using(wgsl_grammar_theory::proofs::ExpressionEquations::component_is))]
 fn parse_component(
     alloc: Global,
     tokens: &mut Cursor,

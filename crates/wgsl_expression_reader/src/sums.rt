@@ -1,4 +1,5 @@
 //! Products, sums and shifts.
+#![tactic(auto, unfolding(crate::proofs::Hints::definitions), using(crate::proofs::Hints::lemmas))]
 
 ghost use Rattle.std.specs.Prelude.{◌≡◌, [], ◌∷◌};
 ghost use Rattle.grammar.specs.States.{is_any};
@@ -24,7 +25,6 @@ use wgsl_token::kind::TokenKind;
 
 /// A shift or a sum.
 #[cycle(expression)]
-#[tactic(auto, unfolding(crate::proofs::Turns::shift_at), using(crate::proofs::Equations::shift_expression_is))]
 pub fn parse_shift_expression(alloc: Global, tokens: &mut Cursor) -> Result<ExpressionNode, Fault>
     ensures { Parses expression_node_view result tokens.old tokens.new (reader (of shift_expression)) }
 {
@@ -34,7 +34,6 @@ pub fn parse_shift_expression(alloc: Global, tokens: &mut Cursor) -> Result<Expr
 
 /// What makes an operand a shift, or a sum of products.
 #[cycle(expression)]
-#[tactic(auto, unfolding(crate::proofs::Turns::sum_turn, grammar::specs::States::take), using(crate::proofs::Equations::sum_is))]
 pub fn parse_sum_rest(
     alloc: Global,
     tokens: &mut Cursor,
@@ -56,7 +55,6 @@ pub fn parse_sum_rest(
 
 /// The factors behind a first one, none too.
 #[cycle(expression)]
-#[tactic(auto, unfolding(crate::proofs::Turns::factors_turn), using(crate::proofs::Equations::factors_are))]
 fn parse_factors(
     alloc: Global,
     tokens: &mut Cursor,
@@ -74,7 +72,6 @@ fn parse_factors(
 
 /// The summands behind a first one, none too.
 #[cycle(expression)]
-#[tactic(auto, unfolding(crate::proofs::Turns::summands_turn), using(crate::proofs::Equations::summands_are))]
 fn parse_summands(
     alloc: Global,
     tokens: &mut Cursor,
@@ -101,7 +98,6 @@ fn begins_summand(tokens: &Cursor) -> bool
 
 /// A summand with its operator; `--` subtracts a negation.
 #[cycle(expression)]
-#[tactic(auto, unfolding(crate::specs::Rules::summand_at))]
 fn parse_summand(
     alloc: Global,
     tokens: &mut Cursor,
@@ -118,7 +114,6 @@ fn parse_summand(
 
 /// A product.
 #[cycle(expression)]
-#[tactic(auto, unfolding(crate::proofs::Turns::product_at), using(crate::proofs::Equations::multiplicative_expression_is))]
 fn parse_multiplicative_expression(
     alloc: Global,
     tokens: &mut Cursor,
@@ -132,7 +127,6 @@ fn parse_multiplicative_expression(
 
 /// A product of the negation that the second minus of `--` begins.
 #[cycle(expression)]
-#[tactic(auto, unfolding(crate::proofs::Turns::negated_product_at), using(crate::proofs::Equations::negated_expression_is))]
 fn parse_negated_expression(alloc: Global, tokens: &mut Cursor) -> Result<ExpressionNode, Fault>
     ensures { Parses expression_node_view result tokens.old tokens.new (reader (of negated_expression)) }
 {
@@ -153,7 +147,6 @@ fn next_place(place: usize) -> usize
 
 /// The factors behind a first one, of a product that starts at a place.
 #[cycle(expression)]
-#[tactic(auto, unfolding(crate::proofs::Turns::products_turn), using(crate::proofs::Equations::products_are))]
 fn parse_product_rest(
     alloc: Global,
     tokens: &mut Cursor,

@@ -1,4 +1,5 @@
 //! Types and template lists.
+#![tactic(auto, unfolding(crate::proofs::Hints::definitions), using(crate::proofs::Hints::lemmas))]
 
 ghost use Rattle.std.specs.Prelude.{map, option_map};
 ghost use Rattle.wgsl_model.specs.Symbols.{Symbol.type_specifier, Symbol.template_list};
@@ -17,7 +18,6 @@ use wgsl_token::kind::TokenKind;
 
 /// A type, or an identifier with the arguments of its template.
 #[cycle(expression)]
-#[tactic(auto, unfolding(wgsl_grammar_theory::specs::ExpressionRules::type_specifier_at, crate::specs::Rules::optional_template_list_at), using(wgsl_grammar_theory::proofs::ExpressionEquations::type_specifier_is))]
 pub fn parse_type_specifier(alloc: Global, tokens: &mut Cursor) -> Result<TypeExpression, Fault>
     ensures { Parses type_expression_view result tokens.old tokens.new (reader (of type_specifier)) }
 {
@@ -28,7 +28,6 @@ pub fn parse_type_specifier(alloc: Global, tokens: &mut Cursor) -> Result<TypeEx
 
 /// A template list where one begins.
 #[cycle(expression)]
-#[tactic(auto, unfolding(crate::specs::Rules::optional_template_list_at))]
 fn parse_optional_template_list(alloc: Global, tokens: &mut Cursor) -> Result<TemplateArgs, Fault>
     ensures { ParsesNullable (λ args. option_map (λ args. map template_arg_view args.items) args) result tokens.old tokens.new optional_template_list_at }
 {
@@ -40,7 +39,6 @@ fn parse_optional_template_list(alloc: Global, tokens: &mut Cursor) -> Result<Te
 
 /// A template list.
 #[cycle(expression)]
-#[tactic(auto, unfolding(wgsl_grammar_theory::specs::ExpressionRules::template_list_at, crate::proofs::Turns::template_items_turn, grammar::specs::States::take), using(wgsl_grammar_theory::proofs::ExpressionEquations::template_list_is, crate::proofs::Equations::template_items_is, crate::proofs::Equations::template_items_are, std::proofs::lemmas::List::map_push))]
 pub fn parse_template_list(alloc: Global, tokens: &mut Cursor) -> Result<Vec<TemplateArg>, Fault>
     ensures { Parses (λ args. map template_arg_view args.items) result tokens.old tokens.new (reader (of template_list)) }
 {

@@ -1,4 +1,5 @@
 //! Operators before operands.
+#![tactic(auto, unfolding(crate::proofs::Hints::definitions), using(crate::proofs::Hints::lemmas))]
 
 ghost use Rattle.wgsl_model.specs.Symbols.{Symbol.unary_expression};
 ghost use Rattle.wgsl_grammar_theory.specs.Factored.{FactoredSymbol.of};
@@ -16,7 +17,6 @@ use wgsl_span::Spanned;
 
 /// An operand with the operators before it.
 #[cycle(expression)]
-#[tactic(auto, unfolding(crate::proofs::Turns::unary_at), using(crate::proofs::Equations::unary_expression_is))]
 pub fn parse_unary_expression(alloc: Global, tokens: &mut Cursor) -> Result<ExpressionNode, Fault>
     ensures { Parses expression_node_view result tokens.old tokens.new (reader (of unary_expression)) }
 {

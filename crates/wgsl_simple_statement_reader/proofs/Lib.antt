@@ -2,3 +2,4 @@ pub mod Binding
 pub mod LeftSides
 pub mod SimpleStatements
 pub mod Made
+pub mod Hints

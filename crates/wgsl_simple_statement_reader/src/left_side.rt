@@ -1,4 +1,5 @@
 //! Left sides of assignments.
+#![tactic(auto, unfolding(crate::proofs::Hints::definitions), using(crate::proofs::Hints::lemmas))]
 
 ghost use Rattle.std.specs.Prelude.{◌≡◌, [], ◌∷◌, IfOk};
 ghost use Rattle.grammar.specs.States.{is_any};
@@ -42,7 +43,6 @@ pub fn begins_name(tokens: &Cursor) -> bool
 
 /// A name with its components, or another left side.
 #[cycle(left_side)]
-#[tactic(auto, unfolding(crate::proofs::LeftSides::lhs_expression_parts), using(crate::proofs::LeftSides::lhs_expression_by_parts))]
 pub fn parse_lhs_expression(alloc: Global, tokens: &mut Cursor) -> Result<ExpressionNode, Fault>
     ensures { Parses expression_node_view result tokens.old tokens.new (reader (of lhs_expression)) }
 {
@@ -54,7 +54,6 @@ pub fn parse_lhs_expression(alloc: Global, tokens: &mut Cursor) -> Result<Expres
 }
 
 /// A name.
-#[tactic(auto, unfolding(crate::specs::LeftSides::left_name_at))]
 fn parse_left_name(alloc: Global, tokens: &mut Cursor) -> Result<ExpressionNode, Fault>
     ensures { Parses expression_node_view result tokens.old tokens.new left_name_at }
 {
@@ -76,7 +75,6 @@ pub fn left_name(alloc: Global, ident: Ident, span: Span) -> Result<ExpressionNo
 
 /// A left side that begins with no name.
 #[cycle(left_side)]
-#[tactic(auto, unfolding(crate::proofs::LeftSides::other_left_side_parts, crate::specs::LeftSides::unary_left_side_at, grammar::specs::States::take), using(crate::proofs::LeftSides::other_left_side_by_parts))]
 pub fn parse_other_left_side(alloc: Global, tokens: &mut Cursor) -> Result<ExpressionNode, Fault>
     ensures { Parses expression_node_view result tokens.old tokens.new (reader (further other_left_side)) }
 {
@@ -99,7 +97,6 @@ pub fn parse_other_left_side(alloc: Global, tokens: &mut Cursor) -> Result<Expre
 }
 
 #[cycle(left_side)]
-#[tactic(auto, unfolding(crate::specs::LeftSides::parenthesized_left_side_at), using(crate::proofs::Made::parenthesized_is))]
 fn parse_parenthesized_left_side(
     alloc: Global,
     tokens: &mut Cursor,
@@ -116,7 +113,6 @@ fn parse_parenthesized_left_side(
 
 /// An operator, by the kind of its token, and its operand.
 #[cycle(left_side)]
-#[tactic(auto, unfolding(crate::specs::LeftSides::unary_left_side_at), using(crate::proofs::Made::unary_is))]
 fn parse_unary_left_side(
     alloc: Global,
     tokens: &mut Cursor,

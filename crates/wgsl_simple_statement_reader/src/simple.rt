@@ -1,4 +1,5 @@
 //! Calls, assignments, increments and decrements, without their `;`.
+#![tactic(auto, unfolding(crate::proofs::Hints::definitions), using(crate::proofs::Hints::lemmas))]
 
 ghost use Rattle.std.specs.Prelude.{◌≡◌, [], ◌∷◌, map, option_map};
 ghost use Rattle.grammar.specs.States.{is_any};
@@ -57,7 +58,6 @@ const LEFT_SIDE_REST: Expected = Expected::OneOf(&[
 ]);
 
 /// A call, an assignment, an increment or a decrement.
-#[tactic(auto, unfolding(crate::proofs::SimpleStatements::simple_statement_parts, wgsl_grammar_theory::specs::StatementRules::phony_assignment_at, crate::specs::SimpleStatements::underscore_left_side_at, grammar::specs::States::take), using(crate::proofs::SimpleStatements::simple_statement_by_parts, wgsl_grammar_theory::proofs::StatementEquations::phony_assignment_is))]
 pub fn parse_simple_statement(alloc: Global, tokens: &mut Cursor) -> Result<Statement, Fault>
     ensures { Parses statement_view result tokens.old tokens.new (reader (further simple_statement)) }
 {
@@ -84,7 +84,6 @@ fn begins_other_left_side(tokens: &Cursor) -> bool
 }
 
 /// A statement that begins with a name.
-#[tactic(auto, unfolding(crate::proofs::SimpleStatements::named_statement_parts), using(crate::proofs::SimpleStatements::named_statement_by_parts))]
 fn parse_named_statement(alloc: Global, tokens: &mut Cursor) -> Result<Statement, Fault>
     ensures { Parses statement_view result tokens.old tokens.new named_statement_at }
 {
@@ -106,7 +105,6 @@ fn begins_call_rest(tokens: &Cursor) -> bool
 }
 
 /// What follows the name in a call.
-#[tactic(auto, unfolding(crate::specs::SimpleStatements::call_rest_at), using(crate::proofs::Made::call_is, wgsl_statement::proofs::StatementViews::is_function_call))]
 fn parse_call_rest(alloc: Global, tokens: &mut Cursor, ident: Ident) -> Result<Statement, Fault>
     ensures { Parses statement_view result tokens.old tokens.new (call_rest_at (ident_name ident)) }
 {
@@ -124,7 +122,6 @@ fn parse_call_rest(alloc: Global, tokens: &mut Cursor, ident: Ident) -> Result<S
 }
 
 /// A template list, or none.
-#[tactic(auto, unfolding(crate::specs::SimpleStatements::maybe_template_list_at))]
 fn parse_maybe_template_list(
     alloc: Global,
     tokens: &mut Cursor,
@@ -138,7 +135,6 @@ fn parse_maybe_template_list(
 }
 
 /// What follows a left side: an assignment to it, or `++` or `--`.
-#[tactic(auto, unfolding(crate::proofs::SimpleStatements::left_side_rest_parts, grammar::specs::States::take), using(crate::proofs::SimpleStatements::left_side_rest_by_parts, wgsl_statement::proofs::StatementViews::is_assignment, wgsl_statement::proofs::StatementViews::is_increment, wgsl_statement::proofs::StatementViews::is_decrement))]
 fn parse_left_side_rest(
     alloc: Global,
     tokens: &mut Cursor,
@@ -182,7 +178,6 @@ fn begins_assignment(tokens: &Cursor) -> bool
 }
 
 /// `=` or a compound operator.
-#[tactic(auto, unfolding(crate::specs::SimpleStatements::assignment_operator_at, grammar::specs::States::take))]
 fn parse_assignment_operator(tokens: &mut Cursor) -> Result<AssignmentOperator, Fault>
     ensures { Parses assignment_operator_view result tokens.old tokens.new assignment_operator_at }
 {
@@ -221,7 +216,6 @@ fn parse_assignment_operator(tokens: &mut Cursor) -> Result<AssignmentOperator, 
 }
 
 /// An assignment to `_`.
-#[tactic(auto, unfolding(wgsl_grammar_theory::specs::StatementRules::phony_assignment_at, crate::specs::SimpleStatements::underscore_left_side_at, wgsl_attribute_reader::specs::Initializers::initializer_at), using(wgsl_grammar_theory::proofs::StatementEquations::phony_assignment_is, wgsl_statement::proofs::StatementViews::is_assignment))]
 fn parse_phony_assignment(alloc: Global, tokens: &mut Cursor) -> Result<Statement, Fault>
     ensures { Parses statement_view result tokens.old tokens.new (reader (of phony_assignment)) }
 {
@@ -235,7 +229,6 @@ fn parse_phony_assignment(alloc: Global, tokens: &mut Cursor) -> Result<Statemen
 }
 
 /// `_` as a left side.
-#[tactic(auto, unfolding(crate::specs::SimpleStatements::underscore_left_side_at))]
 fn parse_underscore(alloc: Global, tokens: &mut Cursor) -> Result<ExpressionNode, Fault>
     ensures { Parses expression_node_view result tokens.old tokens.new underscore_left_side_at }
 {

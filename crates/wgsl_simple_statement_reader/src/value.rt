@@ -1,4 +1,5 @@
 //! Declarations of values, `return`, and the statements of one word or one expression.
+#![tactic(auto, unfolding(crate::proofs::Hints::definitions), using(crate::proofs::Hints::lemmas))]
 
 ghost use Rattle.std.specs.Prelude.{◌≡◌, [], ◌∷◌, option_map};
 ghost use Rattle.grammar.specs.States.{is_any};
@@ -31,7 +32,6 @@ use wgsl_token::kind::TokenKind;
 const VALUE_STATEMENT: Expected = Expected::OneOf(&[TokenKind::KwConst, TokenKind::KwLet]);
 
 /// `return`, with a value if there is one.
-#[tactic(auto, unfolding(wgsl_grammar_theory::specs::StatementRules::return_statement_at, crate::specs::Values::maybe_expression_at), using(wgsl_grammar_theory::proofs::StatementEquations::return_statement_is, wgsl_statement::proofs::StatementViews::is_return))]
 pub fn parse_return_statement(alloc: Global, tokens: &mut Cursor) -> Result<Statement, Fault>
     ensures { Parses statement_view result tokens.old tokens.new (reader (of return_statement)) }
 {
@@ -41,7 +41,6 @@ pub fn parse_return_statement(alloc: Global, tokens: &mut Cursor) -> Result<Stat
 }
 
 /// An expression, or none.
-#[tactic(auto, unfolding(crate::specs::Values::maybe_expression_at))]
 fn parse_maybe_expression(
     alloc: Global,
     tokens: &mut Cursor,
@@ -77,7 +76,6 @@ fn begins_expression(tokens: &Cursor) -> bool
 }
 
 /// A `var`, without its `;`.
-#[tactic(auto, unfolding(wgsl_grammar_theory::specs::StatementRules::var_statement_at, wgsl_attribute_reader::specs::VarKinds::var_kind_at, wgsl_attribute_reader::specs::Initializers::maybe_initializer_at), using(wgsl_grammar_theory::proofs::StatementEquations::var_statement_is, wgsl_statement::proofs::StatementViews::is_declaration))]
 pub fn parse_var_statement(alloc: Global, tokens: &mut Cursor) -> Result<Statement, Fault>
     ensures { Parses statement_view result tokens.old tokens.new (reader (of var_statement)) }
 {
@@ -94,7 +92,6 @@ pub fn parse_var_statement(alloc: Global, tokens: &mut Cursor) -> Result<Stateme
 }
 
 /// A `let` or `const`, without its `;`.
-#[tactic(auto, unfolding(wgsl_grammar_theory::specs::StatementRules::value_statement_at, crate::specs::Values::value_kind_at, wgsl_attribute_reader::specs::Initializers::initializer_at), using(wgsl_grammar_theory::proofs::StatementEquations::value_statement_is, wgsl_statement::proofs::StatementViews::is_declaration))]
 pub fn parse_value_statement(alloc: Global, tokens: &mut Cursor) -> Result<Statement, Fault>
     ensures { Parses statement_view result tokens.old tokens.new (reader (of value_statement)) }
 {
@@ -118,7 +115,6 @@ pub fn begins_value_statement(tokens: &Cursor) -> bool
 }
 
 /// `let` or `const`.
-#[tactic(auto, unfolding(crate::specs::Values::value_kind_at, grammar::specs::States::take))]
 fn parse_value_kind(tokens: &mut Cursor) -> Result<DeclarationKind, Fault>
     ensures { Parses declaration_kind_view result tokens.old tokens.new value_kind_at }
 {
@@ -132,7 +128,6 @@ fn parse_value_kind(tokens: &mut Cursor) -> Result<DeclarationKind, Fault>
 }
 
 /// `break`, without its `;`.
-#[tactic(auto, unfolding(wgsl_grammar_theory::specs::StatementRules::break_statement_at), using(wgsl_grammar_theory::proofs::StatementEquations::break_statement_is, wgsl_statement::proofs::StatementViews::is_break))]
 pub fn parse_break_statement(tokens: &mut Cursor) -> Result<Statement, Fault>
     ensures { Parses statement_view result tokens.old tokens.new (reader (of break_statement)) }
 {
@@ -141,7 +136,6 @@ pub fn parse_break_statement(tokens: &mut Cursor) -> Result<Statement, Fault>
 }
 
 /// `continue`, without its `;`.
-#[tactic(auto, unfolding(wgsl_grammar_theory::specs::StatementRules::continue_statement_at), using(wgsl_grammar_theory::proofs::StatementEquations::continue_statement_is, wgsl_statement::proofs::StatementViews::is_continue))]
 pub fn parse_continue_statement(tokens: &mut Cursor) -> Result<Statement, Fault>
     ensures { Parses statement_view result tokens.old tokens.new (reader (of continue_statement)) }
 {
@@ -150,7 +144,6 @@ pub fn parse_continue_statement(tokens: &mut Cursor) -> Result<Statement, Fault>
 }
 
 /// `discard`, without its `;`.
-#[tactic(auto, unfolding(wgsl_grammar_theory::specs::StatementRules::discard_statement_at), using(wgsl_grammar_theory::proofs::StatementEquations::discard_statement_is, wgsl_statement::proofs::StatementViews::is_discard))]
 pub fn parse_discard_statement(tokens: &mut Cursor) -> Result<Statement, Fault>
     ensures { Parses statement_view result tokens.old tokens.new (reader (of discard_statement)) }
 {
@@ -159,7 +152,6 @@ pub fn parse_discard_statement(tokens: &mut Cursor) -> Result<Statement, Fault>
 }
 
 /// A `const_assert`, without its `;`.
-#[tactic(auto, unfolding(wgsl_grammar_theory::specs::StatementRules::const_assert_at), using(wgsl_grammar_theory::proofs::StatementEquations::const_assert_is))]
 pub fn parse_const_assert(alloc: Global, tokens: &mut Cursor) -> Result<ConstAssert, Fault>
     ensures { Parses assert_view result tokens.old tokens.new (reader (of const_assert)) }
 {

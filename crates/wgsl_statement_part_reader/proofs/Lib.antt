@@ -2,3 +2,4 @@ pub mod Heads
 pub mod Selectors
 pub mod Items
 pub mod TokenSpans
+pub mod Hints

@@ -1,4 +1,5 @@
 //! `break` and `break if` in a `continuing`.
+#![tactic(auto, unfolding(crate::proofs::Hints::definitions), using(crate::proofs::Hints::lemmas))]
 
 ghost use Rattle.std.specs.Prelude.{◌≡◌, IfOk};
 ghost use Rattle.wgsl_model.specs.Statements as plain;
@@ -18,7 +19,6 @@ use wgsl_statement::{Statement, StatementNode};
 use wgsl_token::kind::TokenKind;
 
 /// A `break` that stands there.
-#[tactic(auto, using(wgsl_statement::proofs::StatementViews::is_break))]
 pub fn break_node(alloc: Global, span: Span) -> Result<StatementNode, AllocError>
     ensures { IfOk result (λ node. statement_node_view node ≡ placed_statement (plain.unattributed plain.break_statement) (span_view span)) }
 {
@@ -26,7 +26,6 @@ pub fn break_node(alloc: Global, span: Span) -> Result<StatementNode, AllocError
 }
 
 /// A `break if` behind its `break`, and the `}` behind it.
-#[tactic(auto, unfolding(crate::specs::Plain::break_if_rest_at))]
 pub fn parse_break_if_rest(alloc: Global, tokens: &mut Cursor) -> Result<BreakIfStatement, Fault>
     ensures { Parses break_if_view result tokens.old tokens.new break_if_rest_at }
 {

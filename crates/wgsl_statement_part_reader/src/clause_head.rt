@@ -1,4 +1,5 @@
 //! What stands before the block of a clause of `switch`.
+#![tactic(auto, unfolding(crate::proofs::Hints::definitions), using(crate::proofs::Hints::lemmas))]
 
 ghost use Rattle.std.specs.Prelude.{◌≡◌, ◌≤◌, Some, None, cond, length, map};
 ghost use Rattle.grammar.specs.States.{Read.done, is_at, is_any, first_of};
@@ -21,7 +22,6 @@ use wgsl_token::kind::TokenKind;
 const SWITCH_CLAUSE: Expected = Expected::OneOf(&[TokenKind::KwCase, TokenKind::KwDefault]);
 
 /// `case` with its selectors, or `default`, and a `:` if there is one.
-#[tactic(auto, unfolding(crate::specs::Clauses::clause_head_at, grammar::specs::States::take))]
 pub fn parse_clause_head(alloc: Global, tokens: &mut Cursor) -> Result<Vec<CaseSelector>, Fault>
     ensures { Parses (λ selectors. map selector_view selectors.items) result tokens.old tokens.new clause_head_at }
 {
@@ -38,7 +38,6 @@ pub fn parse_clause_head(alloc: Global, tokens: &mut Cursor) -> Result<Vec<CaseS
 }
 
 /// Takes a `:` if there is one.
-#[tactic(auto, unfolding(crate::specs::Clauses::maybe_colon_at, grammar::specs::States::take))]
 fn skip_colon(tokens: &mut Cursor)
     ensures value { maybe_colon_at (state tokens.old) ≡ done (cond (is_at class.SymColon (state tokens.old)) (Some (first_of (state tokens.old))) None) (state tokens.new) }
     ensures shorter { length (state tokens.new).rest ≤ length (state tokens.old).rest }
@@ -47,7 +46,6 @@ fn skip_colon(tokens: &mut Cursor)
 }
 
 /// Selectors with commas between, also behind the last.
-#[tactic(auto, unfolding(crate::proofs::Selectors::selectors_parts, crate::proofs::Selectors::selectors_turn, grammar::specs::States::take), using(crate::proofs::Selectors::selectors_by_parts, crate::proofs::Selectors::selectors_are, std::proofs::lemmas::List::map_push))]
 fn parse_selectors(alloc: Global, tokens: &mut Cursor) -> Result<Vec<CaseSelector>, Fault>
     ensures { Parses (λ selectors. map selector_view selectors.items) result tokens.old tokens.new (reader (further selectors)) }
 {
@@ -63,7 +61,6 @@ fn parse_selectors(alloc: Global, tokens: &mut Cursor) -> Result<Vec<CaseSelecto
 }
 
 /// `default`, or an expression.
-#[tactic(auto, unfolding(wgsl_grammar_theory::specs::StatementRules::case_selector_at, grammar::specs::States::take), using(wgsl_grammar_theory::proofs::StatementEquations::case_selector_is))]
 fn parse_case_selector(alloc: Global, tokens: &mut Cursor) -> Result<CaseSelector, Fault>
     ensures { Parses selector_view result tokens.old tokens.new (reader (of case_selector)) }
 {

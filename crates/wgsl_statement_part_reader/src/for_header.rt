@@ -1,4 +1,5 @@
 //! The header of `for`.
+#![tactic(auto, unfolding(crate::proofs::Hints::definitions), using(crate::proofs::Hints::lemmas))]
 
 ghost use Rattle.std.specs.Prelude.{option_map};
 ghost use Rattle.wgsl_model.specs.Symbols.{Symbol.for_init, Symbol.for_update};
@@ -29,7 +30,6 @@ pub type ForHeader = (
 );
 
 /// `for` and its header in parentheses.
-#[tactic(auto, unfolding(crate::specs::Heads::for_header_at))]
 pub fn parse_for_header(alloc: Global, tokens: &mut Cursor) -> Result<ForHeader, Fault>
     ensures { Parses (λ header. (option_map statement_node_view header.0, (option_map expression_node_view header.1, option_map statement_node_view header.2))) result tokens.old tokens.new for_header_at }
 {
@@ -42,7 +42,6 @@ pub fn parse_for_header(alloc: Global, tokens: &mut Cursor) -> Result<ForHeader,
 }
 
 /// What is done before the first turn, if anything, and its `;`.
-#[tactic(auto, unfolding(wgsl_grammar_theory::specs::StatementRules::init_part_at, grammar::specs::States::take), using(wgsl_grammar_theory::proofs::StatementEquations::init_part_is))]
 fn parse_init_part(alloc: Global, tokens: &mut Cursor) -> Result<Option<StatementNode>, Fault>
     ensures { Parses (option_map statement_node_view) result tokens.old tokens.new (reader (further init_part)) }
 {
@@ -55,7 +54,6 @@ fn parse_init_part(alloc: Global, tokens: &mut Cursor) -> Result<Option<Statemen
 }
 
 /// What is done before the first turn.
-#[tactic(auto, unfolding(wgsl_grammar_theory::specs::StatementRules::for_init_at, crate::specs::Plain::init_statement_at), using(wgsl_grammar_theory::proofs::StatementEquations::for_init_is))]
 fn parse_for_init(alloc: Global, tokens: &mut Cursor) -> Result<StatementNode, Fault>
     ensures { Parses statement_node_view result tokens.old tokens.new (reader (of for_init)) }
 {
@@ -65,7 +63,6 @@ fn parse_for_init(alloc: Global, tokens: &mut Cursor) -> Result<StatementNode, F
 }
 
 /// What is done before the first turn, without its place.
-#[tactic(auto, unfolding(crate::specs::Plain::init_statement_at))]
 fn parse_init_statement(alloc: Global, tokens: &mut Cursor) -> Result<Statement, Fault>
     ensures { Parses statement_view result tokens.old tokens.new init_statement_at }
 {
@@ -79,7 +76,6 @@ fn parse_init_statement(alloc: Global, tokens: &mut Cursor) -> Result<Statement,
 }
 
 /// The condition, if there is one, and its `;`.
-#[tactic(auto, unfolding(wgsl_grammar_theory::specs::StatementRules::condition_part_at, grammar::specs::States::take), using(wgsl_grammar_theory::proofs::StatementEquations::condition_part_is))]
 fn parse_condition_part(alloc: Global, tokens: &mut Cursor) -> Result<Option<ExpressionNode>, Fault>
     ensures { Parses (option_map expression_node_view) result tokens.old tokens.new (reader (further condition_part)) }
 {
@@ -92,7 +88,6 @@ fn parse_condition_part(alloc: Global, tokens: &mut Cursor) -> Result<Option<Exp
 }
 
 /// What is done after each turn, if anything, and the `)`.
-#[tactic(auto, unfolding(wgsl_grammar_theory::specs::StatementRules::update_part_at, grammar::specs::States::take), using(wgsl_grammar_theory::proofs::StatementEquations::update_part_is))]
 fn parse_update_part(alloc: Global, tokens: &mut Cursor) -> Result<Option<StatementNode>, Fault>
     ensures { Parses (option_map statement_node_view) result tokens.old tokens.new (reader (further update_part)) }
 {
@@ -105,7 +100,6 @@ fn parse_update_part(alloc: Global, tokens: &mut Cursor) -> Result<Option<Statem
 }
 
 /// What is done after each turn.
-#[tactic(auto, unfolding(wgsl_grammar_theory::specs::StatementRules::for_update_at), using(wgsl_grammar_theory::proofs::StatementEquations::for_update_is))]
 fn parse_for_update(alloc: Global, tokens: &mut Cursor) -> Result<StatementNode, Fault>
     ensures { Parses statement_node_view result tokens.old tokens.new (reader (of for_update)) }
 {

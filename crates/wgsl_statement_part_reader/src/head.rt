@@ -1,4 +1,5 @@
 //! What stands before a block or between its attributes and its statements.
+#![tactic(auto, unfolding(crate::proofs::Hints::definitions), using(crate::proofs::Hints::lemmas))]
 
 ghost use Rattle.wgsl_token.specs.View.{class_of_kind};
 ghost use Rattle.wgsl_expression.specs.View.{expression_node_view};
@@ -15,7 +16,6 @@ use wgsl_expression_reader::parse_expression;
 use wgsl_token::kind::TokenKind;
 
 /// A keyword and the condition behind it.
-#[tactic(auto, unfolding(crate::specs::Heads::condition_at))]
 pub fn parse_condition(
     alloc: Global,
     tokens: &mut Cursor,
@@ -28,7 +28,6 @@ pub fn parse_condition(
 }
 
 /// Attributes and the `{` behind them.
-#[tactic(auto, unfolding(crate::specs::Heads::block_start_at))]
 pub fn parse_block_start(alloc: Global, tokens: &mut Cursor) -> Result<Attributes, Fault>
     ensures { Parses (λ attributes. attributes_view attributes.items) result tokens.old tokens.new block_start_at }
 {
@@ -38,7 +37,6 @@ pub fn parse_block_start(alloc: Global, tokens: &mut Cursor) -> Result<Attribute
 }
 
 /// A keyword, attributes, and the `{` behind them.
-#[tactic(auto, unfolding(crate::specs::Heads::block_start_after_at))]
 pub fn parse_block_start_after(
     alloc: Global,
     tokens: &mut Cursor,
@@ -51,7 +49,6 @@ pub fn parse_block_start_after(
 }
 
 /// `switch`, its expression, the attributes of its body, and the `{` behind them.
-#[tactic(auto, unfolding(crate::specs::Heads::switch_head_at))]
 pub fn parse_switch_head(
     alloc: Global,
     tokens: &mut Cursor,

@@ -1,4 +1,5 @@
 //! The statements that a `;` ends.
+#![tactic(auto, unfolding(crate::proofs::Hints::definitions), using(crate::proofs::Hints::lemmas))]
 
 ghost use Rattle.std.specs.Prelude.{◌≡◌};
 ghost use Rattle.grammar.specs.States.{is_any};
@@ -44,7 +45,6 @@ const STATEMENT: Expected = Expected::OneOf(&[
 ]);
 
 /// `break` with its `;`.
-#[tactic(auto, unfolding(crate::specs::Plain::ended_break_at))]
 pub fn parse_ended_break(alloc: Global, tokens: &mut Cursor) -> Result<StatementNode, Fault>
     ensures { Parses statement_node_view result tokens.old tokens.new ended_break_at }
 {
@@ -68,7 +68,6 @@ pub fn begins_attributed_statement(tokens: &Cursor) -> bool
 }
 
 /// A statement that has no attributes, other than `break`, with its `;`, without its place.
-#[tactic(auto, unfolding(crate::specs::Plain::unattributed_statement_at, grammar::specs::States::take))]
 pub fn parse_unattributed_statement(alloc: Global, tokens: &mut Cursor) -> Result<Statement, Fault>
     ensures { Parses statement_view result tokens.old tokens.new unattributed_statement_at }
 {
@@ -86,7 +85,6 @@ pub fn parse_unattributed_statement(alloc: Global, tokens: &mut Cursor) -> Resul
 }
 
 /// A statement that a `;` ends, without it, but for `break` and `return`.
-#[tactic(auto, unfolding(crate::specs::Plain::plain_statement_at, crate::specs::Plain::assert_statement_at, wgsl_grammar_theory::specs::StatementRules::const_assert_at, grammar::specs::States::take), using(wgsl_grammar_theory::proofs::StatementEquations::const_assert_is))]
 fn parse_plain_statement(alloc: Global, tokens: &mut Cursor) -> Result<Statement, Fault>
     ensures { Parses statement_view result tokens.old tokens.new plain_statement_at }
 {
@@ -124,7 +122,6 @@ fn begins_simple_statement(tokens: &Cursor) -> bool
 }
 
 /// A `const_assert` as a statement.
-#[tactic(auto, unfolding(crate::specs::Plain::assert_statement_at), using(wgsl_statement::proofs::StatementViews::is_const_assert))]
 fn parse_assert_statement(alloc: Global, tokens: &mut Cursor) -> Result<Statement, Fault>
     ensures { Parses statement_view result tokens.old tokens.new assert_statement_at }
 {

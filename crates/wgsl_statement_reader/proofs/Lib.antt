@@ -7,3 +7,4 @@ pub mod LoopItems
 pub mod ContinuingItems
 pub mod MadeStatements
 pub mod ReadParts
+pub mod Hints

@@ -1,4 +1,5 @@
 //! Blocks.
+#![tactic(auto, unfolding(crate::proofs::Hints::definitions), using(crate::proofs::Hints::lemmas))]
 
 ghost use Rattle.std.specs.Prelude.{map};
 ghost use Rattle.wgsl_model.specs.Symbols.{Symbol.compound_statement};
@@ -19,7 +20,6 @@ use wgsl_token::kind::TokenKind;
 
 /// A block.
 #[cycle(statement)]
-#[tactic(auto, unfolding(crate::proofs::Blocks::compound_parts), using(crate::proofs::Blocks::compound_by_parts, crate::proofs::MadeStatements::compound_is))]
 pub fn parse_compound_statement(
     alloc: Global,
     tokens: &mut Cursor,
@@ -36,7 +36,6 @@ pub fn parse_compound_statement(
 
 /// A block as a statement, behind its attributes.
 #[cycle(statement)]
-#[tactic(auto, unfolding(wgsl_grammar_theory::specs::StatementRules::block_part_at), using(wgsl_grammar_theory::proofs::StatementEquations::block_part_is, crate::proofs::MadeStatements::block_is))]
 pub fn parse_block_part(
     alloc: Global,
     tokens: &mut Cursor,
@@ -54,7 +53,6 @@ pub fn parse_block_part(
 
 /// Statements up to the `}` behind them.
 #[cycle(statement)]
-#[tactic(auto, unfolding(crate::proofs::Blocks::statements_turn, grammar::specs::States::take), using(crate::proofs::Blocks::statement_rest_from, crate::proofs::Blocks::statements_are, std::proofs::lemmas::List::map_push))]
 fn parse_statement_rest(alloc: Global, tokens: &mut Cursor) -> Result<Vec<StatementNode>, Fault>
     ensures { Parses (λ statements. map statement_node_view statements.items) result tokens.old tokens.new (reader (further statement_rest)) }
 {

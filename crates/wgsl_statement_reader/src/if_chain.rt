@@ -1,4 +1,5 @@
 //! `if` and its `else` parts.
+#![tactic(auto, unfolding(crate::proofs::Hints::definitions), using(crate::proofs::Hints::lemmas))]
 
 ghost use Rattle.std.specs.Prelude.{map, option_map};
 ghost use Rattle.wgsl_attribute.specs.View.{attributes_view};
@@ -19,7 +20,6 @@ use wgsl_token::kind::TokenKind;
 
 /// An `if` with all of its clauses, behind its attributes.
 #[cycle(statement)]
-#[tactic(auto, unfolding(crate::proofs::IfChains::if_parts), using(crate::proofs::IfChains::if_by_parts, crate::proofs::MadeStatements::if_statement_is))]
 pub fn parse_if_part(
     alloc: Global,
     tokens: &mut Cursor,
@@ -40,7 +40,6 @@ pub fn parse_if_part(
 
 /// The clauses behind the first.
 #[cycle(statement)]
-#[tactic(auto, unfolding(crate::proofs::IfChains::elses_turn, grammar::specs::States::take), using(crate::proofs::IfChains::else_rest_from, crate::proofs::IfChains::elses_are, crate::proofs::MadeStatements::else_if_clause_is, crate::proofs::MadeStatements::else_clause_is, std::proofs::lemmas::List::map_push))]
 fn parse_else_rest(
     alloc: Global,
     tokens: &mut Cursor,

@@ -1,4 +1,5 @@
 //! `loop` with its `continuing`, `while` and `for`.
+#![tactic(auto, unfolding(crate::proofs::Hints::definitions), using(crate::proofs::Hints::lemmas))]
 
 ghost use Rattle.std.specs.Prelude.{map, option_map};
 ghost use Rattle.wgsl_model.specs.Symbols.{Symbol.continuing_statement};
@@ -27,7 +28,6 @@ use wgsl_token::kind::TokenKind;
 
 /// A `loop`, behind its attributes.
 #[cycle(statement)]
-#[tactic(auto, unfolding(crate::proofs::LoopParts::loop_parts), using(crate::proofs::LoopParts::loop_by_parts, crate::proofs::MadeStatements::loop_statement_is))]
 pub fn parse_loop_part(
     alloc: Global,
     tokens: &mut Cursor,
@@ -49,7 +49,6 @@ pub fn parse_loop_part(
 
 /// The statements of a `loop`, its `continuing` if there is one, and the `}` behind them.
 #[cycle(statement)]
-#[tactic(auto, unfolding(crate::proofs::LoopItems::loop_items_turn, grammar::specs::States::take), using(crate::proofs::LoopItems::loop_rest_from, crate::proofs::LoopItems::loop_items_are, std::proofs::lemmas::List::map_push))]
 fn parse_loop_rest(
     alloc: Global,
     tokens: &mut Cursor,
@@ -70,7 +69,6 @@ fn parse_loop_rest(
 
 /// What a `loop` does after each turn.
 #[cycle(statement)]
-#[tactic(auto, unfolding(crate::proofs::LoopParts::continuing_parts), using(crate::proofs::LoopParts::continuing_by_parts, crate::proofs::MadeStatements::continuing_statement_is))]
 fn parse_continuing_statement(
     alloc: Global,
     tokens: &mut Cursor,
@@ -90,7 +88,6 @@ fn parse_continuing_statement(
 
 /// The statements of a `continuing`, its `break if` if there is one, and the `}` behind them.
 #[cycle(statement)]
-#[tactic(auto, unfolding(crate::proofs::ContinuingItems::continuing_items_turn, grammar::specs::States::take), using(crate::proofs::ContinuingItems::continuing_rest_from, crate::proofs::ContinuingItems::continuing_items_are, std::proofs::lemmas::List::map_push))]
 fn parse_continuing_rest(
     alloc: Global,
     tokens: &mut Cursor,
@@ -115,7 +112,6 @@ fn parse_continuing_rest(
 
 /// A `while`, behind its attributes.
 #[cycle(statement)]
-#[tactic(auto, unfolding(crate::proofs::LoopParts::while_parts), using(crate::proofs::LoopParts::while_by_parts, crate::proofs::MadeStatements::while_statement_is))]
 pub fn parse_while_part(
     alloc: Global,
     tokens: &mut Cursor,
@@ -134,7 +130,6 @@ pub fn parse_while_part(
 
 /// A `for`, behind its attributes.
 #[cycle(statement)]
-#[tactic(auto, unfolding(crate::proofs::LoopParts::for_parts), using(crate::proofs::LoopParts::for_by_parts, crate::proofs::MadeStatements::for_statement_is))]
 pub fn parse_for_part(
     alloc: Global,
     tokens: &mut Cursor,

@@ -1,4 +1,5 @@
 //! Statements.
+#![tactic(auto, unfolding(crate::proofs::Hints::definitions), using(crate::proofs::Hints::lemmas))]
 
 ghost use Rattle.wgsl_model.specs.Symbols.{Symbol.statement};
 ghost use Rattle.wgsl_attribute.specs.View.{attributes_view};
@@ -36,7 +37,6 @@ const ATTRIBUTED_STATEMENT: Expected = Expected::OneOf(&[
 
 /// A statement.
 #[cycle(statement)]
-#[tactic(auto, unfolding(wgsl_grammar_theory::specs::StatementRules::statement_at, wgsl_statement_part_reader::specs::Plain::ended_break_at), using(wgsl_grammar_theory::proofs::StatementEquations::statement_is))]
 pub fn parse_statement(alloc: Global, tokens: &mut Cursor) -> Result<StatementNode, Fault>
     ensures { Parses statement_node_view result tokens.old tokens.new (reader (of statement)) }
 {
@@ -48,7 +48,6 @@ pub fn parse_statement(alloc: Global, tokens: &mut Cursor) -> Result<StatementNo
 
 /// A statement other than `break`.
 #[cycle(statement)]
-#[tactic(auto, unfolding(crate::proofs::Statements::other_statement_parts), using(crate::proofs::Statements::other_statement_by_parts))]
 pub fn parse_other_statement(alloc: Global, tokens: &mut Cursor) -> Result<StatementNode, Fault>
     ensures { Parses statement_node_view result tokens.old tokens.new (reader (further other_statement)) }
 {
@@ -59,7 +58,6 @@ pub fn parse_other_statement(alloc: Global, tokens: &mut Cursor) -> Result<State
 
 /// A statement other than `break`, without its place.
 #[cycle(statement)]
-#[tactic(auto, unfolding(crate::specs::Statements::unplaced_statement_at))]
 fn parse_unplaced_statement(alloc: Global, tokens: &mut Cursor) -> Result<Statement, Fault>
     ensures { Parses statement_view result tokens.old tokens.new unplaced_statement_at }
 {
@@ -71,7 +69,6 @@ fn parse_unplaced_statement(alloc: Global, tokens: &mut Cursor) -> Result<Statem
 
 /// A statement with its attributes.
 #[cycle(statement)]
-#[tactic(auto, unfolding(crate::specs::Statements::attributed_statement_at))]
 fn parse_attributed_statement(alloc: Global, tokens: &mut Cursor) -> Result<Statement, Fault>
     ensures { Parses statement_view result tokens.old tokens.new attributed_statement_at }
 {
@@ -81,7 +78,6 @@ fn parse_attributed_statement(alloc: Global, tokens: &mut Cursor) -> Result<Stat
 
 /// A statement from its first word on.
 #[cycle(statement)]
-#[tactic(auto, unfolding(crate::specs::Statements::statement_part_at, wgsl_grammar_theory::specs::StatementRules::block_part_at, grammar::specs::States::take), using(wgsl_grammar_theory::proofs::StatementEquations::block_part_is))]
 fn parse_statement_part(
     alloc: Global,
     tokens: &mut Cursor,

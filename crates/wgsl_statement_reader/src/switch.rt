@@ -1,4 +1,5 @@
 //! `switch` with its clauses.
+#![tactic(auto, unfolding(crate::proofs::Hints::definitions), using(crate::proofs::Hints::lemmas))]
 
 ghost use Rattle.std.specs.Prelude.{map};
 ghost use Rattle.wgsl_model.specs.Symbols.{Symbol.switch_clause};
@@ -20,7 +21,6 @@ use wgsl_token::kind::TokenKind;
 
 /// A `switch`, behind its attributes.
 #[cycle(statement)]
-#[tactic(auto, unfolding(crate::proofs::Switches::switch_parts), using(crate::proofs::Switches::switch_by_parts, crate::proofs::MadeStatements::switch_statement_is))]
 pub fn parse_switch_part(
     alloc: Global,
     tokens: &mut Cursor,
@@ -40,7 +40,6 @@ pub fn parse_switch_part(
 
 /// The clauses, one at least, up to the `}` behind them.
 #[cycle(statement)]
-#[tactic(auto, unfolding(crate::proofs::Switches::clauses_parts, crate::proofs::Switches::clauses_turn, grammar::specs::States::take), using(crate::proofs::Switches::clauses_by_parts, crate::proofs::Switches::clauses_are, std::proofs::lemmas::List::map_push))]
 fn parse_clauses(alloc: Global, tokens: &mut Cursor) -> Result<Vec<SwitchClause>, Fault>
     ensures { Parses (λ clauses. map switch_clause_view clauses.items) result tokens.old tokens.new clauses_at }
 {
@@ -55,7 +54,6 @@ fn parse_clauses(alloc: Global, tokens: &mut Cursor) -> Result<Vec<SwitchClause>
 
 /// A clause: `case` with its selectors, or `default`, and a block.
 #[cycle(statement)]
-#[tactic(auto, unfolding(crate::proofs::Switches::switch_clause_parts), using(crate::proofs::Switches::switch_clause_by_parts, crate::proofs::MadeStatements::switch_clause_is))]
 fn parse_switch_clause(alloc: Global, tokens: &mut Cursor) -> Result<SwitchClause, Fault>
     ensures { Parses switch_clause_view result tokens.old tokens.new (reader (of switch_clause)) }
 {

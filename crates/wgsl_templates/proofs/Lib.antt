@@ -23,3 +23,4 @@ pub mod Searched
 pub mod Listed
 pub mod Stepped
 pub mod Known
+pub mod Hints

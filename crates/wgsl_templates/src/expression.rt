@@ -1,4 +1,5 @@
 //! Expressions, a function for each rule: what is left behind one at the front of the tokens.
+#![tactic(auto, unfolding(crate::proofs::Hints::definitions), using(crate::proofs::Hints::lemmas))]
 
 ghost use Rattle.std.specs.Prelude.{◌<◌, ◌≤◌, length, IfSome};
 ghost use Rattle.wgsl_model.specs.Symbols.{Symbol.expression, Symbol.relational_expression, Symbol.shift_expression, Symbol.unary_expression, Symbol.singular_expression, Symbol.primary_expression};
@@ -52,7 +53,6 @@ const RELATIONAL_OPERATORS: &[TokenKind] = &[
 ];
 
 #[cycle(expression)]
-#[tactic(auto, unfolding(crate::proofs::Rules::expression_at), using(crate::proofs::Equations::expression_is))]
 pub fn expression(kinds: &[TokenKind]) -> Option<&[TokenKind]>
     ensures value { Leaves result (advances (of expression) (classes kinds.now)) }
     ensures shorter { IfSome result (λ left. length (classes left.now) < length (classes kinds.now)) }
@@ -62,7 +62,6 @@ pub fn expression(kinds: &[TokenKind]) -> Option<&[TokenKind]>
 
 /// What an expression goes on with behind its first operand.
 #[cycle(expression)]
-#[tactic(auto, unfolding(crate::proofs::Rules::expression_rest_at), using(crate::proofs::Equations::expression_rest_is))]
 fn expression_rest(kinds: &[TokenKind]) -> Option<&[TokenKind]>
     ensures value { Leaves result (advances (further expression_rest) (classes kinds.now)) }
     ensures shorter { IfSome result (λ left. length (classes left.now) ≤ length (classes kinds.now)) }
@@ -88,7 +87,6 @@ fn expression_rest(kinds: &[TokenKind]) -> Option<&[TokenKind]>
 
 /// Operands with one bitwise operator between them.
 #[cycle(expression)]
-#[tactic(auto, unfolding(crate::specs::Advancing::bitwise_operands), using(crate::proofs::Equations::bitwise_more_is))]
 fn bitwise_operands(kinds: &[TokenKind], operator: TokenKind) -> Option<&[TokenKind]>
     ensures value { Leaves result (bitwise_operands (class_of_kind operator) (classes kinds.now)) }
     ensures shorter { IfSome result (λ left. length (classes left.now) < length (classes kinds.now)) }
@@ -102,7 +100,6 @@ fn bitwise_operands(kinds: &[TokenKind], operator: TokenKind) -> Option<&[TokenK
 
 /// Relations with one short-circuit operator between them.
 #[cycle(expression)]
-#[tactic(auto, unfolding(crate::specs::Advancing::relations), using(crate::proofs::Equations::relations_more_is))]
 fn relations(kinds: &[TokenKind], operator: TokenKind) -> Option<&[TokenKind]>
     ensures value { Leaves result (relations (class_of_kind operator) (classes kinds.now)) }
     ensures shorter { IfSome result (λ left. length (classes left.now) < length (classes kinds.now)) }
@@ -115,7 +112,6 @@ fn relations(kinds: &[TokenKind], operator: TokenKind) -> Option<&[TokenKind]>
 }
 
 #[cycle(expression)]
-#[tactic(auto, unfolding(crate::proofs::Rules::relational_expression_at), using(crate::proofs::Equations::relational_expression_is))]
 fn relational_expression(kinds: &[TokenKind]) -> Option<&[TokenKind]>
     ensures value { Leaves result (advances (of relational_expression) (classes kinds.now)) }
     ensures shorter { IfSome result (λ left. length (classes left.now) < length (classes kinds.now)) }
@@ -125,7 +121,6 @@ fn relational_expression(kinds: &[TokenKind]) -> Option<&[TokenKind]>
 
 /// A comparison behind its first operand, or nothing.
 #[cycle(expression)]
-#[tactic(auto, unfolding(crate::proofs::Rules::relation_rest_at), using(crate::proofs::Equations::relation_rest_is))]
 fn relation_rest(kinds: &[TokenKind]) -> Option<&[TokenKind]>
     ensures value { Leaves result (advances (further relation_rest) (classes kinds.now)) }
     ensures shorter { IfSome result (λ left. length (classes left.now) ≤ length (classes kinds.now)) }
@@ -137,7 +132,6 @@ fn relation_rest(kinds: &[TokenKind]) -> Option<&[TokenKind]>
 }
 
 #[cycle(expression)]
-#[tactic(auto, unfolding(crate::proofs::Rules::shift_expression_at), using(crate::proofs::Equations::shift_expression_is))]
 fn shift_expression(kinds: &[TokenKind]) -> Option<&[TokenKind]>
     ensures value { Leaves result (advances (of shift_expression) (classes kinds.now)) }
     ensures shorter { IfSome result (λ left. length (classes left.now) < length (classes kinds.now)) }
@@ -147,7 +141,6 @@ fn shift_expression(kinds: &[TokenKind]) -> Option<&[TokenKind]>
 
 /// A shift, or products and sums, behind its first operand, or nothing.
 #[cycle(expression)]
-#[tactic(auto, unfolding(crate::proofs::Rules::sum_rest_at), using(crate::proofs::Equations::sum_rest_is))]
 fn sum_rest(kinds: &[TokenKind]) -> Option<&[TokenKind]>
     ensures value { Leaves result (advances (further sum_rest) (classes kinds.now)) }
     ensures shorter { IfSome result (λ left. length (classes left.now) ≤ length (classes kinds.now)) }
@@ -163,7 +156,6 @@ fn sum_rest(kinds: &[TokenKind]) -> Option<&[TokenKind]>
 
 /// Further products of a sum.
 #[cycle(expression)]
-#[tactic(auto, unfolding(crate::proofs::Rules::summands_at), using(crate::proofs::Equations::summands_is))]
 fn summands(kinds: &[TokenKind]) -> Option<&[TokenKind]>
     ensures value { Leaves result (advances (further summands) (classes kinds.now)) }
     ensures shorter { IfSome result (λ left. length (classes left.now) ≤ length (classes kinds.now)) }
@@ -177,7 +169,6 @@ fn summands(kinds: &[TokenKind]) -> Option<&[TokenKind]>
 
 /// Further factors of a product.
 #[cycle(expression)]
-#[tactic(auto, unfolding(crate::proofs::Rules::factors_at), using(crate::proofs::Equations::factors_is))]
 fn factors(kinds: &[TokenKind]) -> Option<&[TokenKind]>
     ensures value { Leaves result (advances (further factors) (classes kinds.now)) }
     ensures shorter { IfSome result (λ left. length (classes left.now) ≤ length (classes kinds.now)) }
@@ -190,7 +181,6 @@ fn factors(kinds: &[TokenKind]) -> Option<&[TokenKind]>
 }
 
 #[cycle(expression)]
-#[tactic(auto, unfolding(crate::proofs::Rules::unary_expression_at), using(crate::proofs::Equations::unary_expression_is))]
 fn unary_expression(kinds: &[TokenKind]) -> Option<&[TokenKind]>
     ensures value { Leaves result (advances (of unary_expression) (classes kinds.now)) }
     ensures shorter { IfSome result (λ left. length (classes left.now) < length (classes kinds.now)) }
@@ -203,7 +193,6 @@ fn unary_expression(kinds: &[TokenKind]) -> Option<&[TokenKind]>
 }
 
 #[cycle(expression)]
-#[tactic(auto, unfolding(crate::proofs::Rules::singular_expression_at), using(crate::proofs::Equations::singular_expression_is))]
 fn singular_expression(kinds: &[TokenKind]) -> Option<&[TokenKind]>
     ensures value { Leaves result (advances (of singular_expression) (classes kinds.now)) }
     ensures shorter { IfSome result (λ left. length (classes left.now) < length (classes kinds.now)) }
@@ -213,7 +202,6 @@ fn singular_expression(kinds: &[TokenKind]) -> Option<&[TokenKind]>
 
 /// Indices in brackets, and names behind a period.
 #[cycle(expression)]
-#[tactic(auto, unfolding(crate::proofs::Rules::components_at), using(crate::proofs::Operands::components_is))]
 fn components(kinds: &[TokenKind]) -> Option<&[TokenKind]>
     ensures value { Leaves result (advances (further components) (classes kinds.now)) }
     ensures shorter { IfSome result (λ left. length (classes left.now) ≤ length (classes kinds.now)) }
@@ -233,7 +221,6 @@ fn components(kinds: &[TokenKind]) -> Option<&[TokenKind]>
 }
 
 #[cycle(expression)]
-#[tactic(auto, unfolding(crate::proofs::Rules::primary_expression_at), using(crate::proofs::Operands::primary_expression_is))]
 fn primary_expression(kinds: &[TokenKind]) -> Option<&[TokenKind]>
     ensures value { Leaves result (advances (of primary_expression) (classes kinds.now)) }
     ensures shorter { IfSome result (λ left. length (classes left.now) < length (classes kinds.now)) }
@@ -251,7 +238,6 @@ fn primary_expression(kinds: &[TokenKind]) -> Option<&[TokenKind]>
 }
 
 #[cycle(expression)]
-#[tactic(auto, unfolding(crate::specs::Advancing::optional_template_list))]
 fn optional_template_list(kinds: &[TokenKind]) -> Option<&[TokenKind]>
     ensures value { Leaves result (optional_template_list (classes kinds.now)) }
     ensures shorter { IfSome result (λ left. length (classes left.now) ≤ length (classes kinds.now)) }
@@ -264,7 +250,6 @@ fn optional_template_list(kinds: &[TokenKind]) -> Option<&[TokenKind]>
 
 /// The arguments of a template, with the token that ends it.
 #[cycle(expression)]
-#[tactic(auto, unfolding(crate::proofs::Rules::template_items_at, crate::proofs::Rules::template_more_at), using(crate::proofs::Equations::template_items_is, crate::proofs::Equations::template_more_is))]
 fn template_items(kinds: &[TokenKind]) -> Option<&[TokenKind]>
     ensures value { Leaves result (advances (further template_items) (classes kinds.now)) }
     ensures shorter { IfSome result (λ left. length (classes left.now) < length (classes kinds.now)) }
@@ -280,7 +265,6 @@ fn template_items(kinds: &[TokenKind]) -> Option<&[TokenKind]>
 }
 
 #[cycle(expression)]
-#[tactic(auto, unfolding(crate::specs::Advancing::optional_arguments))]
 fn optional_arguments(kinds: &[TokenKind]) -> Option<&[TokenKind]>
     ensures value { Leaves result (optional_arguments (classes kinds.now)) }
     ensures shorter { IfSome result (λ left. length (classes left.now) ≤ length (classes kinds.now)) }
@@ -293,7 +277,6 @@ fn optional_arguments(kinds: &[TokenKind]) -> Option<&[TokenKind]>
 
 /// The arguments of a call, with the parenthesis that ends them.
 #[cycle(expression)]
-#[tactic(auto, unfolding(crate::proofs::Rules::argument_rest_at, crate::proofs::Rules::argument_more_at), using(crate::proofs::Equations::argument_rest_is, crate::proofs::Equations::argument_more_is))]
 fn argument_rest(kinds: &[TokenKind]) -> Option<&[TokenKind]>
     ensures value { Leaves result (advances (further argument_rest) (classes kinds.now)) }
     ensures shorter { IfSome result (λ left. length (classes left.now) < length (classes kinds.now)) }

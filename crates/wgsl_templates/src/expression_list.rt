@@ -1,4 +1,5 @@
 //! Lists of expressions.
+#![tactic(auto, unfolding(crate::proofs::Hints::definitions), using(crate::proofs::Hints::lemmas))]
 
 ghost use Rattle.std.specs.Prelude.{◌↔◌, List, IsTrue};
 ghost use Rattle.grammar.specs.Tokens.{Token};
@@ -10,7 +11,6 @@ use wgsl_token::kind::TokenKind;
 
 /// Whether tokens of these kinds are list(Expression): one expression at least, with commas between, and perhaps one behind the last.
 /// A reserved word or a comment is of no expression. Each kind is read once, and no memory is taken.
-#[tactic(auto, unfolding(crate::proofs::Rules::whole_list_at, crate::proofs::Rules::whole_rest_at), using(crate::proofs::Operands::whole_list_is, crate::proofs::Operands::whole_rest_is, crate::proofs::Operands::no_kinds, crate::proofs::Decided::decided))]
 pub fn is_expression_list(kinds: &[TokenKind]) -> bool
     ensures { (ts : List Token) → AreOfKinds ts kinds.now → IsTrue result ↔ IsExpressionList ts }
 {

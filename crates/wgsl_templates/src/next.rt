@@ -1,4 +1,5 @@
 //! Taking the next token.
+#![tactic(auto, unfolding(crate::proofs::Hints::definitions), using(crate::proofs::Hints::lemmas))]
 
 ghost use Rattle.std.specs.Prelude.{◌≡◌, ◌<◌, length, IfSome};
 ghost use Rattle.grammar.specs.Grammar.{is_among};
@@ -9,7 +10,6 @@ ghost use Rattle.wgsl_templates.specs.ExpressionLists.{classes};
 use wgsl_token::kind::TokenKind;
 
 /// Whether a kind is one of some kinds.
-#[tactic(auto, using(crate::proofs::Among::among))]
 fn is_among(kind: TokenKind, kinds: &[TokenKind]) -> bool
     ensures { result ≡ is_among (class_of_kind kind) (classes kinds.now) }
 {
@@ -17,7 +17,6 @@ fn is_among(kind: TokenKind, kinds: &[TokenKind]) -> bool
 }
 
 /// What is left behind the next token, which has to be of one of some kinds.
-#[tactic(auto, unfolding(crate::specs::Advancing::take_any))]
 pub fn take_any<'k>(kinds: &'k [TokenKind], among: &[TokenKind]) -> Option<&'k [TokenKind]>
     ensures value { Leaves result (take_any (classes among.now) (classes kinds.now)) }
     ensures shorter { IfSome result (λ left. length (classes left.now) < length (classes kinds.now)) }
@@ -31,7 +30,6 @@ pub fn take_any<'k>(kinds: &'k [TokenKind], among: &[TokenKind]) -> Option<&'k [
 }
 
 /// What is left behind the next token, which has to be of a kind.
-#[tactic(auto, unfolding(crate::specs::Advancing::take))]
 pub fn take(kinds: &[TokenKind], kind: TokenKind) -> Option<&[TokenKind]>
     ensures value { Leaves result (take (class_of_kind kind) (classes kinds.now)) }
     ensures shorter { IfSome result (λ left. length (classes left.now) < length (classes kinds.now)) }

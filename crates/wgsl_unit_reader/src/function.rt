@@ -1,4 +1,5 @@
 //! Reading functions.
+#![tactic(auto, unfolding(crate::proofs::Hints::definitions), using(crate::proofs::Hints::lemmas))]
 
 ghost use Rattle.std.specs.Prelude.{◌≡◌, map, option_map};
 ghost use Rattle.grammar.specs.Grammar.{Grammar.symbol};
@@ -24,7 +25,6 @@ use wgsl_token::kind::TokenKind;
 use wgsl_unit::{FormalParameter, Function, GlobalDeclaration};
 
 /// A function behind its attributes.
-#[tactic(auto, unfolding(wgsl_grammar_theory::specs::UnitRules::function_part_at, crate::specs::Parts::return_part_at), using(wgsl_grammar_theory::proofs::UnitEquations::function_part_is, crate::proofs::Results::function_parts_is))]
 pub fn parse_function(
     alloc: Global,
     tokens: &mut Cursor,
@@ -50,7 +50,6 @@ pub fn parse_function(
 }
 
 /// Parameters, none too, with a comma after each, or after each but the last, and the `)` behind them.
-#[tactic(auto, unfolding(crate::proofs::Turns::parameters_turn, grammar::specs::States::take), using(crate::proofs::Turns::parameters_is, crate::proofs::Turns::parameters_are, std::proofs::lemmas::List::map_push))]
 fn parse_parameters(alloc: Global, tokens: &mut Cursor) -> Result<Vec<FormalParameter>, Fault>
     ensures { Parses (λ v. map parameter_view v.items) result tokens.old tokens.new (reader (further parameter_rest)) }
 {
@@ -65,7 +64,6 @@ fn parse_parameters(alloc: Global, tokens: &mut Cursor) -> Result<Vec<FormalPara
     Ok(parameters)
 }
 
-#[tactic(auto, unfolding(wgsl_grammar_theory::specs::UnitRules::formal_parameter_at), using(wgsl_grammar_theory::proofs::UnitEquations::formal_parameter_is))]
 fn parse_formal_parameter(alloc: Global, tokens: &mut Cursor) -> Result<FormalParameter, Fault>
     ensures { Parses parameter_view result tokens.old tokens.new (reader (of formal_parameter)) }
 {
@@ -81,7 +79,6 @@ fn parse_formal_parameter(alloc: Global, tokens: &mut Cursor) -> Result<FormalPa
 }
 
 /// The attributes and the type of what a function returns behind a `->`, or none.
-#[tactic(auto, unfolding(crate::specs::Parts::return_part_at, grammar::specs::States::take))]
 fn parse_return_part(
     alloc: Global,
     tokens: &mut Cursor,

@@ -1,4 +1,5 @@
 //! Reading modules and their declarations.
+#![tactic(auto, unfolding(crate::proofs::Hints::definitions), using(crate::proofs::Hints::lemmas))]
 
 ghost use Rattle.std.specs.Prelude.{◌≡◌, map};
 ghost use Rattle.grammar.specs.States.{is_any};
@@ -33,7 +34,6 @@ const ATTRIBUTED_DECLARATION: Expected = Expected::OneOf(&[
 ]);
 
 /// A module: its directives, then its declarations. Whatever begins neither is left (WGSL, "WGSL Module").
-#[tactic(auto, unfolding(wgsl_grammar_theory::specs::UnitRules::unit_at), using(wgsl_grammar_theory::proofs::UnitEquations::unit_is))]
 pub fn parse_translation_unit(alloc: Global, tokens: &mut Cursor) -> Result<TranslationUnit, Fault>
     ensures { ParsesNullable unit_view result tokens.old tokens.new (reader (of unit)) }
 {
@@ -45,7 +45,6 @@ pub fn parse_translation_unit(alloc: Global, tokens: &mut Cursor) -> Result<Tran
     })
 }
 
-#[tactic(auto, unfolding(crate::proofs::Turns::directives_at, crate::proofs::Turns::directives_turn), using(crate::proofs::Turns::directives_is, crate::proofs::Turns::directives_are, std::proofs::lemmas::List::map_push))]
 fn parse_global_directives(
     alloc: Global,
     tokens: &mut Cursor,
@@ -68,7 +67,6 @@ fn begins_directive(tokens: &Cursor) -> bool
         || tokens.is_at(TokenKind::KwRequires)
 }
 
-#[tactic(auto, unfolding(crate::proofs::Turns::declarations_at, crate::proofs::Turns::declarations_turn), using(crate::proofs::Turns::declarations_is, crate::proofs::Turns::declarations_are, std::proofs::lemmas::List::map_push))]
 fn parse_global_declarations(
     alloc: Global,
     tokens: &mut Cursor,
@@ -99,7 +97,6 @@ fn begins_declaration(tokens: &Cursor) -> bool
 
 /// A declaration with its `;`, if it has one, and where it stands, its attributes included (WGSL, "WGSL Module").
 /// Attributes stand before a `var`, an `override` and a function alone.
-#[tactic(auto, unfolding(wgsl_grammar_theory::specs::UnitRules::global_declaration_at, crate::specs::Parts::unplaced_declaration_at), using(wgsl_grammar_theory::proofs::UnitEquations::global_declaration_is))]
 pub fn parse_global_declaration(
     alloc: Global,
     tokens: &mut Cursor,
@@ -112,7 +109,6 @@ pub fn parse_global_declaration(
 }
 
 /// A declaration without where it stands.
-#[tactic(auto, unfolding(crate::specs::Parts::unplaced_declaration_at, crate::specs::Parts::attributed_declaration_at, crate::specs::Parts::const_assert_declaration_at, wgsl_grammar_theory::specs::StatementRules::const_assert_at, grammar::specs::States::take), using(wgsl_grammar_theory::proofs::StatementEquations::const_assert_is))]
 fn parse_unplaced_declaration(
     alloc: Global,
     tokens: &mut Cursor,
@@ -151,7 +147,6 @@ fn begins_attributed_declaration(tokens: &Cursor) -> bool
 }
 
 /// Attributes, and a declaration that may have some.
-#[tactic(auto, unfolding(crate::specs::Parts::attributed_declaration_at, wgsl_grammar_theory::specs::UnitRules::function_part_at, grammar::specs::States::take), using(wgsl_grammar_theory::proofs::UnitEquations::function_part_is))]
 fn parse_attributed_declaration(
     alloc: Global,
     tokens: &mut Cursor,
@@ -171,7 +166,6 @@ fn parse_attributed_declaration(
     Err(tokens.refuse(ATTRIBUTED_DECLARATION))
 }
 
-#[tactic(auto, unfolding(crate::specs::Parts::const_assert_declaration_at))]
 fn parse_const_assert_declaration(
     alloc: Global,
     tokens: &mut Cursor,
