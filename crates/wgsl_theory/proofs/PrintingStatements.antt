@@ -5,7 +5,7 @@ use Rattle.std.specs.List.{flat_map}
 use Rattle.std.proofs.lemmas.Bool.{true≢false}
 use Rattle.wgsl_model.specs.Attributes.{Attributes}
 use Rattle.wgsl_model.specs.Expressions.{ExpressionNode}
-use Rattle.wgsl_model.specs.Statements.{BreakIfStatement, CaseSelector, default_selector, expression_selector, statement_node, Statement, statement, UnattributedStatement, void, compound, assignment, increment, decrement, if_statement, switch_statement, loop_statement, for_statement, while_statement, break_statement, continue_statement, discard_statement, return_statement, function_call_statement, const_assert, declaration, CompoundStatement, compound_statement, IfStatement, if_else, IfClause, if_clause, ElseIfClause, else_if_clause, ElseClause, else_clause, SwitchStatement, switch, SwitchClause, switch_clause, LoopStatement, repeat, ContinuingStatement, continuing, ForStatement, repeat_for, WhileStatement, repeat_while, StatementNodes, no_statements, statement_before, ElseIfClauses, no_else_ifs, else_if_before, MaybeElseClause, no_else, one_else, SwitchClauses, no_clauses, clause_before, MaybeContinuing, no_continuing, one_continuing, MaybeStatement, no_statement, one_statement}
+use Rattle.wgsl_model.specs.Statements.{BreakIfStatement, CaseSelector, default_selector, expression_selector, statement_node, Statement, statement, UnattributedStatement, void, compound, assignment, increment, decrement, if_statement, switch_statement, loop_statement, for_statement, while_statement, return_statement, function_call_statement, const_assert, declaration, CompoundStatement, compound_statement, IfStatement, if_else, IfClause, if_clause, ElseIfClause, else_if_clause, ElseClause, else_clause, SwitchStatement, switch, SwitchClause, switch_clause, LoopStatement, repeat, ContinuingStatement, continuing, ForStatement, repeat_for, WhileStatement, repeat_while, StatementNodes, no_statements, statement_before, ElseIfClauses, no_else_ifs, else_if_before, MaybeElseClause, no_else, one_else, SwitchClauses, no_clauses, clause_before, MaybeContinuing, no_continuing, one_continuing, MaybeStatement, no_statement, one_statement}
 use Rattle.wgsl_model.specs.Joining.{joined}
 use Rattle.wgsl_model.specs.Indentation.{indented}
 use Rattle.wgsl_model.specs.PrintedAttributes.{print_attribute_line}
@@ -30,37 +30,18 @@ filled (statement a (switch_statement (switch e b cs))) h = filled_first _ [] (f
 filled (statement a (loop_statement (repeat b c))) h = filled_first _ [] (filled_last (print_attribute_line a) _ tt)
 filled (statement a (for_statement (repeat_for i c u b))) h = filled_first _ [] (filled_last (print_attribute_line a) _ tt)
 filled (statement a (while_statement (repeat_while e b))) h = filled_first _ [] (filled_last (print_attribute_line a) _ tt)
-filled (statement a (assignment x)) h = filled_last (unended (statement a (assignment x))) (codes ";") tt
-filled (statement a (increment x)) h = filled_last (unended (statement a (increment x))) (codes ";") tt
-filled (statement a (decrement x)) h = filled_last (unended (statement a (decrement x))) (codes ";") tt
-filled (statement a break_statement) h = filled_last (unended (statement a break_statement)) (codes ";") tt
-filled (statement a continue_statement) h = filled_last (unended (statement a continue_statement)) (codes ";") tt
-filled (statement a discard_statement) h = filled_last (unended (statement a discard_statement)) (codes ";") tt
-filled (statement a (return_statement x)) h = filled_last (unended (statement a (return_statement x))) (codes ";") tt
-filled (statement a (function_call_statement x)) h = filled_last (unended (statement a (function_call_statement x))) (codes ";") tt
-filled (statement a (const_assert x)) h = filled_last (unended (statement a (const_assert x))) (codes ";") tt
-filled (statement a (declaration x)) h = filled_last (unended (statement a (declaration x))) (codes ";") tt
+filled s h = filled_last (unended s) (codes ";") tt
 
 -- ---- what holds no statements
 
 end_prints : {n : ℕ} (s : Statement) → Prints n (end_of s) (end_pieces s) (end_token s)
-end_prints (statement attributes void) = word_prints
 end_prints (statement attributes (compound b)) = none_prints
-end_prints (statement attributes (assignment a)) = word_prints
-end_prints (statement attributes (increment i)) = word_prints
-end_prints (statement attributes (decrement d)) = word_prints
 end_prints (statement attributes (if_statement s)) = none_prints
 end_prints (statement attributes (switch_statement s)) = none_prints
 end_prints (statement attributes (loop_statement s)) = none_prints
 end_prints (statement attributes (for_statement s)) = none_prints
 end_prints (statement attributes (while_statement s)) = none_prints
-end_prints (statement attributes break_statement) = word_prints
-end_prints (statement attributes continue_statement) = word_prints
-end_prints (statement attributes discard_statement) = word_prints
-end_prints (statement attributes (return_statement r)) = word_prints
-end_prints (statement attributes (function_call_statement c)) = word_prints
-end_prints (statement attributes (const_assert c)) = word_prints
-end_prints (statement attributes (declaration d)) = word_prints
+end_prints s = word_prints
 
 returned_prints : {n : ℕ} (o : Option ExpressionNode) → Prints n (print_returned o) (optional_pieces returned_pieces o) (optional_tokens expression_node_tokens o)
 returned_prints None = none_prints
@@ -121,13 +102,11 @@ mutual
   unattributed_prints (loop_statement s) = loop_prints s
   unattributed_prints (for_statement s) = for_prints s
   unattributed_prints (while_statement s) = while_prints s
-  unattributed_prints break_statement = word_prints
-  unattributed_prints continue_statement = word_prints
-  unattributed_prints discard_statement = word_prints
   unattributed_prints (return_statement r) = word_prints before returned_prints r.expression
   unattributed_prints (function_call_statement c) = call_prints c.call
   unattributed_prints (const_assert c) = assert_prints c
   unattributed_prints (declaration d) = declaration_prints d
+  unattributed_prints s = word_prints
 
   first_prints : {n : ℕ} (ss : StatementNodes) → Prints n (indented (joined (codes "\n") (statement_texts ss))) (statements_pieces (suc n) four ss) (statements_tokens ss)
   first_prints no_statements = none_prints

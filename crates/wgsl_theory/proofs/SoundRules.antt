@@ -6,7 +6,7 @@ use Rattle.wgsl_model.specs.Expressions.{ExpressionNode}
 use Rattle.wgsl_model.specs.Statements.{StatementNode, statement_node}
 use Rattle.wgsl_model.specs.Checks.{attribute_node}
 use Rattle.wgsl_model.specs.TokenValues.{text_of}
-use Rattle.wgsl_model.specs.Symbols.{Symbol, Rule, ident, type_specifier, template_list, expressions, call, arguments, literal, primary_expression, singular_expression, component, unary_expression, multiplicative_expression, negated_expression, additive_expression, shift_expression, relational_expression, expression, lhs_expression, attribute, compound_statement, statement, return_statement, if_statement, switch_statement, loop_statement, for_statement, while_statement, call_statement, var_statement, value_statement, break_statement, continue_statement, discard_statement, assignment, phony_assignment, increment, decrement, const_assert, switch_clause, case_selector, continuing_statement, for_init, for_update, var_template, typed_ident, struct_member, formal_parameter, global_declaration, var_declaration, const_declaration, override_declaration, alias_declaration, struct_declaration, function_declaration, diagnostic_severity, global_directive, enable_directive, requires_directive, diagnostic_directive, unit, Value}
+use Rattle.wgsl_model.specs.Symbols.{Symbol, Rule, ident, type_specifier, template_list, expressions, call, arguments, literal, primary_expression, singular_expression, component, unary_expression, multiplicative_expression, negated_expression, additive_expression, shift_expression, relational_expression, expression, lhs_expression, attribute, compound_statement, statement, const_assert, switch_clause, case_selector, continuing_statement, for_init, for_update, var_template, typed_ident, struct_member, formal_parameter, global_declaration, var_declaration, const_declaration, override_declaration, alias_declaration, struct_declaration, function_declaration, diagnostic_severity, global_directive, enable_directive, requires_directive, diagnostic_directive, unit, Value}
 use Rattle.wgsl_canonical_theory.specs.CanonicalUnits.{without_place}
 use Rattle.wgsl_canonical_theory.proofs.Gives.{GivesBy, none_sound, or_sound, gives_sound, chain_sound, sign_before, sign_behind}
 use Rattle.wgsl_theory.proofs.Ends.{IsNameText}
@@ -40,22 +40,6 @@ Sound lhs_expression v = IsOperandNode v × EndsWithNameNode v × IsSoundNode v
 Sound attribute v = IsSoundAttribute (attribute_node v).node
 Sound compound_statement v = IsSoundCompound v
 Sound statement v = IsSoundStatementNode v
-Sound return_statement v = IsSoundStatement v
-Sound if_statement v = IsSoundStatement v
-Sound switch_statement v = IsSoundStatement v
-Sound loop_statement v = IsSoundStatement v
-Sound for_statement v = IsSoundStatement v
-Sound while_statement v = IsSoundStatement v
-Sound call_statement v = IsSoundStatement v
-Sound var_statement v = IsSoundStatement v
-Sound value_statement v = IsSoundStatement v
-Sound break_statement v = IsSoundStatement v
-Sound continue_statement v = IsSoundStatement v
-Sound discard_statement v = IsSoundStatement v
-Sound assignment v = IsSoundStatement v
-Sound phony_assignment v = IsSoundStatement v
-Sound increment v = IsSoundStatement v
-Sound decrement v = IsSoundStatement v
 Sound const_assert v = IsSoundNode v.expression
 Sound switch_clause v = IsSoundClause v
 Sound case_selector v = IsSoundSelector v
@@ -79,6 +63,7 @@ Sound enable_directive v = IsSoundDirective v
 Sound requires_directive v = IsSoundDirective v
 Sound diagnostic_directive v = IsSoundDirective v
 Sound unit v = IsSoundUnit v
+Sound n v = IsSoundStatement v
 
 -- what a right side derives from tokens of a text, and what a symbol does
 abbrev pub IsFromText : Token → Type 0

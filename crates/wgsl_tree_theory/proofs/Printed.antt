@@ -12,22 +12,7 @@ use Rattle.wgsl_tree_theory.proofs.Twice.{void_kept}
 
 end_kept : (s : tree.Statement) → printed.end_of (items.full_statement s) ≡ printed.end_of s
 end_kept (tree.statement attributes tree.void) = refl
-end_kept (tree.statement attributes (tree.assignment a)) = refl
-end_kept (tree.statement attributes (tree.increment i)) = refl
-end_kept (tree.statement attributes (tree.decrement d)) = refl
-end_kept (tree.statement attributes tree.break_statement) = refl
-end_kept (tree.statement attributes tree.continue_statement) = refl
-end_kept (tree.statement attributes tree.discard_statement) = refl
-end_kept (tree.statement attributes (tree.return_statement r)) = refl
-end_kept (tree.statement attributes (tree.function_call_statement c)) = refl
-end_kept (tree.statement attributes (tree.const_assert c)) = refl
-end_kept (tree.statement attributes (tree.declaration d)) = refl
-end_kept (tree.statement attributes (tree.compound s)) = refl
-end_kept (tree.statement attributes (tree.if_statement s)) = refl
-end_kept (tree.statement attributes (tree.switch_statement s)) = refl
-end_kept (tree.statement attributes (tree.loop_statement s)) = refl
-end_kept (tree.statement attributes (tree.for_statement s)) = refl
-end_kept (tree.statement attributes (tree.while_statement s)) = refl
+end_kept s = refl
 
 one_text : (s : tree.Statement) (span : Span) (rest : tree.StatementNodes) (texts : List (List ℕ)) (b : Bool) → printed.is_void (items.full_statement s) ≡ b → printed.print_statement (items.full_statement s) ≡ printed.print_statement s → printed.statement_texts rest ≡ texts
     → printed.statement_texts (if b then rest else tree.statement_before (tree.statement_node (items.full_statement s) span) rest) ≡ (if b then texts else printed.print_statement s ∷ texts)
@@ -47,17 +32,7 @@ mutual
   unattributed_kept (tree.loop_statement s) = loop_printed s
   unattributed_kept (tree.for_statement s) = for_printed s
   unattributed_kept (tree.while_statement s) = while_printed s
-  unattributed_kept tree.void = refl
-  unattributed_kept (tree.assignment a) = refl
-  unattributed_kept (tree.increment i) = refl
-  unattributed_kept (tree.decrement d) = refl
-  unattributed_kept tree.break_statement = refl
-  unattributed_kept tree.continue_statement = refl
-  unattributed_kept tree.discard_statement = refl
-  unattributed_kept (tree.return_statement r) = refl
-  unattributed_kept (tree.function_call_statement c) = refl
-  unattributed_kept (tree.const_assert c) = refl
-  unattributed_kept (tree.declaration d) = refl
+  unattributed_kept s = refl
 
   texts_kept : (ss : tree.StatementNodes) → printed.statement_texts (items.full_statements ss) ≡ printed.statement_texts ss
   texts_kept tree.no_statements = refl

@@ -43,48 +43,17 @@ declaration_bare d = λ i. print_kind d.kind ++ codes " " ++ d.ident ++ typed_ba
 -- ---- statements
 end_bare : (s : tree.Statement) → printed.end_of (bare.bare_statement s) ≡ printed.end_of s
 end_bare (tree.statement attributes tree.void) = refl
-end_bare (tree.statement attributes (tree.compound b)) = refl
-end_bare (tree.statement attributes (tree.assignment a)) = refl
-end_bare (tree.statement attributes (tree.increment j)) = refl
-end_bare (tree.statement attributes (tree.decrement d)) = refl
-end_bare (tree.statement attributes (tree.if_statement s)) = refl
-end_bare (tree.statement attributes (tree.switch_statement s)) = refl
-end_bare (tree.statement attributes (tree.loop_statement s)) = refl
-end_bare (tree.statement attributes (tree.for_statement s)) = refl
-end_bare (tree.statement attributes (tree.while_statement s)) = refl
-end_bare (tree.statement attributes tree.break_statement) = refl
-end_bare (tree.statement attributes tree.continue_statement) = refl
-end_bare (tree.statement attributes tree.discard_statement) = refl
-end_bare (tree.statement attributes (tree.return_statement r)) = refl
-end_bare (tree.statement attributes (tree.function_call_statement c)) = refl
-end_bare (tree.statement attributes (tree.const_assert c)) = refl
-end_bare (tree.statement attributes (tree.declaration d)) = refl
+end_bare s = refl
 
 void_bare : (s : tree.Statement) → printed.is_void (bare.bare_statement s) ≡ printed.is_void s
 void_bare (tree.statement attributes tree.void) = refl
-void_bare (tree.statement attributes (tree.compound b)) = refl
-void_bare (tree.statement attributes (tree.assignment a)) = refl
-void_bare (tree.statement attributes (tree.increment j)) = refl
-void_bare (tree.statement attributes (tree.decrement d)) = refl
-void_bare (tree.statement attributes (tree.if_statement s)) = refl
-void_bare (tree.statement attributes (tree.switch_statement s)) = refl
-void_bare (tree.statement attributes (tree.loop_statement s)) = refl
-void_bare (tree.statement attributes (tree.for_statement s)) = refl
-void_bare (tree.statement attributes (tree.while_statement s)) = refl
-void_bare (tree.statement attributes tree.break_statement) = refl
-void_bare (tree.statement attributes tree.continue_statement) = refl
-void_bare (tree.statement attributes tree.discard_statement) = refl
-void_bare (tree.statement attributes (tree.return_statement r)) = refl
-void_bare (tree.statement attributes (tree.function_call_statement c)) = refl
-void_bare (tree.statement attributes (tree.const_assert c)) = refl
-void_bare (tree.statement attributes (tree.declaration d)) = refl
+void_bare s = refl
 
 mutual
   unended_bare : (s : tree.Statement) → printed.unended (bare.bare_statement s) ≡ printed.unended s
   unended_bare (tree.statement attributes s) = λ i. attribute_line_bare attributes i ++ unattributed_bare s i
 
   unattributed_bare : (s : tree.UnattributedStatement) → printed.unended_unattributed (bare.bare_unattributed s) ≡ printed.unended_unattributed s
-  unattributed_bare tree.void = refl
   unattributed_bare (tree.compound ss) = ap (λ texts. printed.braced texts) (texts_bare ss)
   unattributed_bare (tree.assignment a) = λ i. node_bare a.lhs i ++ codes " " ++ assignment_operator_text a.operator ++ codes " " ++ node_bare a.rhs i
   unattributed_bare (tree.increment j) = λ i. node_bare j.expression i ++ codes "++"
@@ -94,13 +63,11 @@ mutual
   unattributed_bare (tree.loop_statement s) = loop_bare s
   unattributed_bare (tree.for_statement s) = for_bare s
   unattributed_bare (tree.while_statement s) = while_bare s
-  unattributed_bare tree.break_statement = refl
-  unattributed_bare tree.continue_statement = refl
-  unattributed_bare tree.discard_statement = refl
   unattributed_bare (tree.return_statement r) = λ i. codes "return" ++ returned_bare r.expression i
   unattributed_bare (tree.function_call_statement c) = call_bare c.call
   unattributed_bare (tree.const_assert c) = λ i. codes "const_assert " ++ node_bare c.expression i
   unattributed_bare (tree.declaration d) = declaration_bare d
+  unattributed_bare s = refl
 
   texts_bare : (ss : tree.StatementNodes) → printed.statement_texts (bare.bare_statements ss) ≡ printed.statement_texts ss
   texts_bare tree.no_statements = refl

@@ -8,22 +8,7 @@ use Rattle.wgsl_model.specs.EmptyItems as items
 -- a statement that is not empty does not become so
 pub void_kept : (s : tree.Statement) → is_void (items.full_statement s) ≡ is_void s
 void_kept (tree.statement attributes tree.void) = refl
-void_kept (tree.statement attributes (tree.assignment a)) = refl
-void_kept (tree.statement attributes (tree.increment i)) = refl
-void_kept (tree.statement attributes (tree.decrement d)) = refl
-void_kept (tree.statement attributes tree.break_statement) = refl
-void_kept (tree.statement attributes tree.continue_statement) = refl
-void_kept (tree.statement attributes tree.discard_statement) = refl
-void_kept (tree.statement attributes (tree.return_statement r)) = refl
-void_kept (tree.statement attributes (tree.function_call_statement c)) = refl
-void_kept (tree.statement attributes (tree.const_assert c)) = refl
-void_kept (tree.statement attributes (tree.declaration d)) = refl
-void_kept (tree.statement attributes (tree.compound s)) = refl
-void_kept (tree.statement attributes (tree.if_statement s)) = refl
-void_kept (tree.statement attributes (tree.switch_statement s)) = refl
-void_kept (tree.statement attributes (tree.loop_statement s)) = refl
-void_kept (tree.statement attributes (tree.for_statement s)) = refl
-void_kept (tree.statement attributes (tree.while_statement s)) = refl
+void_kept s = refl
 
 -- one statement more before the rest
 one_twice : (s : tree.Statement) (span : Span) (rest : tree.StatementNodes) (b : Bool) → is_void (items.full_statement s) ≡ b → items.full_statement (items.full_statement s) ≡ items.full_statement s → items.full_statements rest ≡ rest
@@ -44,17 +29,7 @@ mutual
   unattributed_twice (tree.loop_statement s) = ap (λ s. tree.loop_statement s) (loop_twice s)
   unattributed_twice (tree.for_statement s) = ap (λ s. tree.for_statement s) (for_twice s)
   unattributed_twice (tree.while_statement s) = ap (λ s. tree.while_statement s) (while_twice s)
-  unattributed_twice tree.void = refl
-  unattributed_twice (tree.assignment a) = refl
-  unattributed_twice (tree.increment i) = refl
-  unattributed_twice (tree.decrement d) = refl
-  unattributed_twice tree.break_statement = refl
-  unattributed_twice tree.continue_statement = refl
-  unattributed_twice tree.discard_statement = refl
-  unattributed_twice (tree.return_statement r) = refl
-  unattributed_twice (tree.function_call_statement c) = refl
-  unattributed_twice (tree.const_assert c) = refl
-  unattributed_twice (tree.declaration d) = refl
+  unattributed_twice s = refl
 
   statements_twice : (ss : tree.StatementNodes) → items.full_statements (items.full_statements ss) ≡ items.full_statements ss
   statements_twice tree.no_statements = refl
