@@ -91,10 +91,11 @@ def capitals(n):
 LAST = {"expressions": "lhs_expression", "statements": "for_update"}
 FURTHER = {
     "expressions": ["template_", "argument_", "components", "factors", "summands", "sum_rest", "relation_rest", "and_rest",
-                    "or_rest", "bitwise_", "expression_rest", "other_left_side"],
-    "statements": ["selectors", "statement_rest", "loop_", "continuing_rest", "clause_rest", "else_rest", "init_part",
+                    "or_rest", "bitwise_", "expression_rest", "left_side_in_parentheses", "prefixed_left_side"],
+    "statements": ["selectors", "statement_rest", "loop_", "continuing_", "clause_", "else_rest", "init_part",
                    "condition_part", "update_part", "if_part", "switch_part", "for_part", "while_part", "block_part",
-                   "left_side_rest", "name_rest_statement", "simple_statement", "other_statement"],
+                   "braced_part", "returning_part", "local_part", "value_part", "phony_part", "simple_part", "ended_part",
+                   "assert_part", "left_side_rest", "name_rest_statement", "parenthesized_statement", "plain_statement"],
 }
 SAYS = {"expressions": "The rules of names, expressions and templates.", "statements": "The rules of statements.",
         "units": "The rules of attributes, declarations, directives and units."}
@@ -121,9 +122,10 @@ def in_parts(order, needed):
 class Writer:
     """Writes the rules; sets of more than two classes that stand in several places get a name."""
 
-    def __init__(self, found, parts):
+    def __init__(self, found, parts, empty):
         self.found = found
         self.parts = parts
+        self.empty = empty
         users = {}
         for n, steps in found.items():
             for classes in self.sets(steps):
@@ -132,12 +134,24 @@ class Writer:
         self.names = {classes: self.name(classes, users) for classes in shared}
 
     def name(self, classes, users):
-        """The name of a set: by the first symbol before which it is asked for, else by the rule that goes on with it."""
+        """The name of a set: by the first symbols before which it is asked for, else by the rule that goes on with it."""
         for steps in self.found.values():
             for step in self.choices(steps):
-                if tuple(step[1]) == classes and step[2] and step[2][0][0] == "Symbol":
-                    return f"BEGINS_{capitals(step[2][0][1])}"
+                symbols = self.first_symbols(step[2])
+                if tuple(step[1]) == classes and symbols:
+                    return f"BEGINS_{'_'.join(map(capitals, symbols))}"
         return f"CONTINUES_{capitals(users[classes][0])}"
+
+    def first_symbols(self, steps):
+        """The symbols at the front of some steps, up to the first that cannot be empty."""
+        symbols = []
+        for step in steps:
+            if step[0] != "Symbol":
+                break
+            symbols.append(step[1])
+            if not self.empty[step[1]]:
+                break
+        return symbols
 
     def choices(self, steps):
         for step in steps:
@@ -239,7 +253,7 @@ def main(crate):
     needed = reached(every, ("of", "unit"))
     found = {n: s for n, s in every.items() if n in needed}
     parts = in_parts(every, needed)
-    writer = Writer(found, parts)
+    writer = Writer(found, parts, tables.empty)
     for part in parts:
         (crate / f"src/{part}.rt").write_text(writer.rules(part))
     (crate / "src/begins.rt").write_text(writer.begins())

@@ -22,7 +22,8 @@ EXPRESSION_PARTS = """
 """.split()
 UNIT_PARTS = """
     member_items member_rest member_more parameter_rest parameter_more name_items name_rest name_more
-    var_part override_part function_part directive_list declaration_list
+    var_part override_part function_part const_part alias_part struct_part enable_part requires_part diagnostic_part
+    attributed_part led_part directive_part declaration_list front
 """.split()
 
 

@@ -5,3 +5,4 @@ pub mod Makes
 pub mod Settles
 pub mod Rules
 pub mod Initializers
+pub mod Behind

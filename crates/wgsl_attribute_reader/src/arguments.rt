@@ -1,4 +1,5 @@
 //! Arguments by their number, and why they make no value.
+#![tactic(auto, unfolding(crate::proofs::Hints::definitions), using(crate::proofs::Hints::lemmas))]
 
 ghost use Rattle.std.specs.Prelude.{◌≡◌, option_map};
 ghost use Rattle.wgsl_expression.specs.View.{expression_node_view};
@@ -47,7 +48,6 @@ pub(crate) fn one_to_three<T: Drop>(items: Vec<T>) -> Option<(T, Option<T>, Opti
 }
 
 /// One argument to three.
-#[tactic(auto, using(crate::proofs::Counts::seen))]
 pub(crate) fn up_to_three(
     arguments: Option<Vec<ExpressionNode>>,
 ) -> Option<

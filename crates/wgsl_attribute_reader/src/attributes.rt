@@ -1,4 +1,5 @@
 //! Attributes (WGSL, "Attributes").
+#![tactic(auto, unfolding(crate::proofs::Hints::definitions), using(crate::proofs::Hints::lemmas))]
 
 ghost use Rattle.std.specs.Prelude.{◌≡◌, ◌<◌, length, IfOk, OnOk, option_map};
 ghost use Rattle.grammar.specs.States.{first_of, after};
@@ -26,7 +27,6 @@ use wgsl_span::{Span, Spanned};
 use wgsl_token::kind::TokenKind;
 
 /// Attributes, none too.
-#[tactic(auto, unfolding(crate::specs::Rules::attributes_turn), using(crate::proofs::Equations::attribute_list_is, crate::proofs::Equations::attributes_are, std::proofs::lemmas::List::map_push))]
 pub fn parse_attributes(alloc: Global, tokens: &mut Cursor) -> Result<Attributes, Fault>
     ensures { ParsesNullable (λ attributes. attributes_view attributes.items) result tokens.old tokens.new (reader (further attribute_list)) }
 {
@@ -37,7 +37,6 @@ pub fn parse_attributes(alloc: Global, tokens: &mut Cursor) -> Result<Attributes
     Ok(attributes)
 }
 
-#[tactic(auto, using(crate::proofs::Equations::attribute_node_is))]
 fn parse_attribute(alloc: Global, tokens: &mut Cursor) -> Result<AttributeNode, Fault>
     ensures { Parses (spanned_view attribute_view) result tokens.old tokens.new attribute_node_at }
 {
@@ -49,7 +48,6 @@ fn parse_attribute(alloc: Global, tokens: &mut Cursor) -> Result<AttributeNode, 
 }
 
 /// The name of an attribute and its arguments, before they are checked.
-#[tactic(auto, using(crate::proofs::Equations::attribute_parts_is, crate::proofs::Equations::taken_is))]
 fn parse_parts(
     alloc: Global,
     tokens: &mut Cursor,
@@ -64,7 +62,6 @@ fn parse_parts(
 }
 
 /// Arguments in parentheses, if the next token is a parenthesis.
-#[tactic(auto, unfolding(crate::specs::Rules::optional_arguments_at))]
 fn parse_optional_arguments(
     alloc: Global,
     tokens: &mut Cursor,

@@ -1,4 +1,5 @@
 //! Bare names: identifiers without a template, and the values that they name.
+#![tactic(auto, unfolding(crate::proofs::Hints::definitions), using(crate::proofs::Hints::lemmas))]
 
 ghost use Rattle.std.specs.Prelude.{◌≡◌, IfOk, option_map, string_bytes};
 ghost use Rattle.wgsl_model.specs.NamedValues.{severities, access_modes, address_spaces, interpolation_types, interpolation_samplings, builtin_values};

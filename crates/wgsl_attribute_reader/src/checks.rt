@@ -1,4 +1,5 @@
 //! What attributes make of their arguments (WGSL, "Attributes").
+#![tactic(auto, unfolding(crate::proofs::Hints::definitions), using(crate::proofs::Hints::lemmas))]
 
 ghost use Rattle.std.specs.Prelude.{◌≡◌, IfOk, option_map, map};
 ghost use Rattle.wgsl_model.specs.Checks.{builtin_attribute, diagnostic_attribute, interpolate_attribute, workgroup_size_attribute, type_attribute, variants, variants_in};
@@ -24,7 +25,7 @@ use wgsl_expression::{BinaryExpression, Expression, ExpressionNode, TypeExpressi
 use wgsl_named_values::BinaryOperator;
 
 /// The attribute that a name makes of its arguments. One that is not known keeps them as they are.
-#[tactic(auto, unfolding(crate::specs::Known::checked_attribute), using(crate::proofs::Counts::with_one_is))]
+#[tactic(auto, unfolding(crate::proofs::Hints::making), using(crate::proofs::Hints::lemmas))]
 pub(crate) fn make_attribute(
     alloc: Global,
     name: Word,
@@ -61,7 +62,6 @@ pub(crate) fn make_attribute(
     }
 }
 
-#[tactic(auto, using(crate::proofs::Counts::builtin_is))]
 fn builtin(name: &'static str, arguments: Option<Vec<ExpressionNode>>) -> Result<Attribute, Refusal>
     ensures { Makes name.now attribute_view result (builtin_attribute (option_map expressions_view arguments)) }
 {
@@ -71,7 +71,6 @@ fn builtin(name: &'static str, arguments: Option<Vec<ExpressionNode>>) -> Result
     }
 }
 
-#[tactic(auto, using(crate::proofs::Counts::diagnostic_is))]
 fn diagnostic(
     alloc: Global,
     name: &'static str,
@@ -89,7 +88,6 @@ fn diagnostic(
     }
 }
 
-#[tactic(auto, using(crate::proofs::Counts::interpolate_is))]
 fn interpolate(
     name: &'static str,
     arguments: Option<Vec<ExpressionNode>>,
@@ -117,7 +115,6 @@ fn interpolation(arguments: Option<Vec<ExpressionNode>>) -> Option<InterpolateAt
     Some(InterpolateAttribute { ty, sampling })
 }
 
-#[tactic(auto, using(crate::proofs::Counts::workgroup_size_is))]
 fn workgroup_size(
     name: &'static str,
     arguments: Option<Vec<ExpressionNode>>,
@@ -130,7 +127,6 @@ fn workgroup_size(
     }
 }
 
-#[tactic(auto, using(crate::proofs::Counts::type_is))]
 fn type_constraint(
     alloc: Global,
     name: &'static str,

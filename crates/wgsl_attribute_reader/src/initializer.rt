@@ -1,4 +1,5 @@
 //! The value that a declaration begins with.
+#![tactic(auto, unfolding(crate::proofs::Hints::definitions), using(crate::proofs::Hints::lemmas))]
 
 ghost use Rattle.std.specs.Prelude.{option_map};
 ghost use Rattle.wgsl_expression.specs.View.{expression_node_view};
@@ -12,7 +13,6 @@ use wgsl_expression_reader::parse_expression;
 use wgsl_token::kind::TokenKind;
 
 /// `=` and a value.
-#[tactic(auto, unfolding(crate::specs::Initializers::initializer_at))]
 pub fn parse_initializer(alloc: Global, tokens: &mut Cursor) -> Result<ExpressionNode, Fault>
     ensures { Parses expression_node_view result tokens.old tokens.new initializer_at }
 {
@@ -21,7 +21,6 @@ pub fn parse_initializer(alloc: Global, tokens: &mut Cursor) -> Result<Expressio
 }
 
 /// `=` and a value, or nothing.
-#[tactic(auto, unfolding(crate::specs::Initializers::initializer_at, crate::specs::Initializers::maybe_initializer_at))]
 pub fn parse_maybe_initializer(
     alloc: Global,
     tokens: &mut Cursor,

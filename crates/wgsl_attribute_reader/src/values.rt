@@ -1,4 +1,5 @@
 //! The kinds of variables, and the names and types of values (WGSL, "Variable and Value Declarations").
+#![tactic(auto, unfolding(crate::proofs::Hints::definitions), using(crate::proofs::Hints::lemmas))]
 
 ghost use Rattle.std.specs.Prelude.{◌≡◌, map, MatchResult, Some, option_map};
 ghost use Rattle.wgsl_model.specs.Checks.{right, wrong, bare_word, space_and_mode, space_in_template};
@@ -25,7 +26,6 @@ use wgsl_simple_statement::DeclarationKind;
 use wgsl_token::kind::TokenKind;
 
 /// `var` and its template.
-#[tactic(auto, unfolding(crate::specs::VarKinds::var_kind_at, wgsl_grammar_theory::specs::StatementRules::var_template_at, grammar::specs::States::take), using(wgsl_grammar_theory::proofs::StatementEquations::var_template_is))]
 pub fn parse_var_kind(alloc: Global, tokens: &mut Cursor) -> Result<DeclarationKind, Fault>
     ensures { Parses declaration_kind_view result tokens.old tokens.new var_kind_at }
 {
@@ -45,7 +45,6 @@ pub fn parse_var_kind(alloc: Global, tokens: &mut Cursor) -> Result<DeclarationK
 }
 
 /// The address space and the access mode that the template of a `var` names, or what is wrong with it.
-#[tactic(auto, using(crate::proofs::Counts::space_is, crate::proofs::Counts::seen))]
 fn address_space(
     template: Vec<TemplateArg>,
 ) -> Result<(AddressSpace, Option<AccessMode>), &'static str>
@@ -72,7 +71,6 @@ fn space_with_mode(
 }
 
 /// The access mode of a variable in an address space.
-#[tactic(auto, using(crate::proofs::Counts::other_space))]
 fn mode_in_space(space: AddressSpace, mode: ExpressionNode) -> Result<AccessMode, &'static str>
     ensures { MatchResult result (λ known. space_and_mode (Some (address_space_view space)) (expression_node_view mode) ≡ right (address_space_view space, Some (access_mode_view known))) (λ text. space_and_mode (Some (address_space_view space)) (expression_node_view mode) ≡ wrong text.now) }
 {
@@ -83,7 +81,6 @@ fn mode_in_space(space: AddressSpace, mode: ExpressionNode) -> Result<AccessMode
 }
 
 /// A name, and its type if there is one.
-#[tactic(auto, unfolding(wgsl_grammar_theory::specs::StatementRules::typed_ident_at, grammar::specs::States::take), using(wgsl_grammar_theory::proofs::StatementEquations::typed_ident_is))]
 pub fn parse_typed_ident(
     alloc: Global,
     tokens: &mut Cursor,

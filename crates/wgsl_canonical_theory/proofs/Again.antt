@@ -14,12 +14,12 @@ use Rattle.wgsl_model.specs.Statements.{StatementNode, statement_node, Statement
 use Rattle.wgsl_model.specs.Checks.{Checked.right, attribute_of, var_kind_of}
 use Rattle.wgsl_model.specs.TokenValues.{text_of}
 use Rattle.wgsl_model.specs.WithoutSpans.{bare_spanned, bare_expression, bare_expression_node, bare_call, bare_type}
-use Rattle.wgsl_model.specs.StatementsWithoutSpans.{bare_assert, bare_selector, bare_statement, bare_statement_node, bare_compound, bare_switch_clause, bare_continuing, bare_member, bare_parameter, bare_directive, bare_global_declaration, bare_unit}
+use Rattle.wgsl_model.specs.StatementsWithoutSpans.{bare_attributed, bare_assert, bare_selector, bare_statement, bare_statement_node, bare_compound, bare_switch_clause, bare_continuing, bare_member, bare_parameter, bare_directive, bare_global_declaration, bare_unit}
 use Rattle.wgsl_model.specs.EmptyItems.{full_statement, full_compound, full_switch_clause, full_continuing, full_declaration, full_unit}
 use Rattle.wgsl_model.specs.Symbols.{Symbol, ident, type_specifier, template_list, expressions, call, arguments, literal, primary_expression, singular_expression, component, unary_expression, multiplicative_expression, negated_expression, additive_expression, shift_expression, relational_expression, expression, lhs_expression, attribute, compound_statement, statement, return_statement, if_statement, switch_statement, loop_statement, for_statement, while_statement, call_statement, var_statement, value_statement, break_statement, continue_statement, discard_statement, assignment, phony_assignment, increment, decrement, const_assert, switch_clause, case_selector, continuing_statement, for_init, for_update, var_template, typed_ident, struct_member, formal_parameter, global_declaration, var_declaration, const_declaration, override_declaration, alias_declaration, struct_declaration, function_declaration, diagnostic_severity, global_directive, enable_directive, requires_directive, diagnostic_directive, unit, Value}
 use Rattle.wgsl_model.specs.Written.{written}
 use Rattle.wgsl_canonical_theory.specs.CanonicalExpressions.{Writes, optional_tokens, list_tokens, literal_token, expression_tokens, expression_node_tokens, call_tokens, type_tokens}
-use Rattle.wgsl_canonical_theory.specs.CanonicalAttributes.{arguments_tokens, named_attribute_tokens}
+use Rattle.wgsl_canonical_theory.specs.CanonicalAttributes.{arguments_tokens, named_attribute_tokens, attributes_tokens}
 use Rattle.wgsl_canonical_theory.specs.CanonicalStatements.{kind_tokens, typed_tokens, assert_tokens, selector_tokens, end_token, unended_tokens, statement_tokens, compound_tokens, switch_clause_tokens, continuing_tokens}
 use Rattle.wgsl_canonical_theory.specs.CanonicalUnits.{directive_tokens, member_tokens, parameter_tokens, global_declaration_tokens, unit_tokens, without_place}
 use Rattle.wgsl_canonical_theory.proofs.Words.{NoPeriod, AllWords}
@@ -79,7 +79,7 @@ write assignment v rest = unended_tokens v rest
 write phony_assignment v rest = unended_tokens v rest
 write increment v rest = unended_tokens v rest
 write decrement v rest = unended_tokens v rest
-write const_assert v rest = assert_tokens v rest
+write const_assert v rest = attributes_tokens v.attributes (assert_tokens v.node rest)
 write switch_clause v rest = switch_clause_tokens v rest
 write case_selector v rest = selector_tokens v rest
 write continuing_statement v rest = continuing_tokens v rest
@@ -146,7 +146,7 @@ Same assignment w v = bare_statement w ≡ bare_statement (full_statement v)
 Same phony_assignment w v = bare_statement w ≡ bare_statement (full_statement v)
 Same increment w v = bare_statement w ≡ bare_statement (full_statement v)
 Same decrement w v = bare_statement w ≡ bare_statement (full_statement v)
-Same const_assert w v = bare_assert w ≡ bare_assert v
+Same const_assert w v = bare_attributed bare_assert w ≡ bare_attributed bare_assert v
 Same switch_clause w v = bare_switch_clause w ≡ bare_switch_clause (full_switch_clause v)
 Same case_selector w v = bare_selector w ≡ bare_selector v
 Same continuing_statement w v = bare_continuing w ≡ bare_continuing (full_continuing v)

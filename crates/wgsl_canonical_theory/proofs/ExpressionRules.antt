@@ -14,6 +14,7 @@ use Rattle.wgsl_model.specs.TokenValues.{text_of, literal_of}
 use Rattle.wgsl_model.specs.Faults.{reserved_word}
 use Rattle.wgsl_model.specs.WithoutSpans.{no_span, bare_expression, bare_expression_node, bare_expressions, bare_template}
 use Rattle.wgsl_model.specs.ExpressionParts.{placed_expression, variable, operation_of, with_component, negation_of, negated_product_of, unary_of, binary_of, index_of, component_of, unary_operator, multiplicative_operator, additive_operator, relational_operator, two_or_more}
+use Rattle.wgsl_model.specs.StatementParts.{open_left_side, parenthesized_left_side}
 use Rattle.wgsl_model.specs.Symbols.{ident, type_specifier, template_list, expressions, call, arguments, literal, primary_expression, singular_expression, component, unary_expression, multiplicative_expression, negated_expression, additive_expression, shift_expression, relational_expression, expression, lhs_expression, Value, Rule}
 use Rattle.wgsl_model.specs.Written.{written, keyword_classes}
 use Rattle.wgsl_canonical_theory.specs.CanonicalExpressions.{Writes, optional_tokens, further_tokens, list_tokens, unary_operator_class, binary_operator_class, literal_token, expression_tokens, expression_node_tokens, type_tokens, template_tokens, expressions_tokens, further_expressions_tokens}
@@ -367,7 +368,13 @@ expression_right = or_reads (symbol_reads relational_expression)
     (or_reads (two_or_more_reads bitwise_and refl (symbol_reads unary_expression)) (or_reads (two_or_more_reads bitwise_or refl (symbol_reads unary_expression)) (two_or_more_reads bitwise_xor refl (symbol_reads unary_expression))))))
 
 -- ---- left sides
+pub open_left_side_reads : Reads open_left_side expression_node_tokens same_node
+open_left_side_reads = or_reads (components_reads (makes_reads (symbol_reads ident) (λ a span rest. refl) (λ w a s r h. λ i. expression_node (variable (h i)) no_span)))
+    (or_reads (operation_reads (unary_sign_reads indirection refl) (symbol_reads lhs_expression)) (operation_reads (unary_sign_reads address_of refl) (symbol_reads lhs_expression)))
+
+pub parenthesized_left_side_reads : Reads parenthesized_left_side expression_node_tokens same_node
+parenthesized_left_side_reads =
+    components_reads (makes_reads (before_reads SymParenLeft refl (behind_reads SymParenRight refl (symbol_reads lhs_expression))) (λ a span rest. refl) (λ w a s r h. λ i. expression_node (Expression.parenthesized (h i)) no_span))
+
 pub lhs_expression_right : Reads (written lhs_expression) (write lhs_expression) (Same lhs_expression)
-lhs_expression_right = or_reads (components_reads (makes_reads (symbol_reads ident) (λ a span rest. refl) (λ w a s r h. λ i. expression_node (variable (h i)) no_span)))
-    (or_reads (components_reads (makes_reads (before_reads SymParenLeft refl (behind_reads SymParenRight refl (symbol_reads lhs_expression))) (λ a span rest. refl) (λ w a s r h. λ i. expression_node (Expression.parenthesized (h i)) no_span)))
-    (or_reads (operation_reads (unary_sign_reads indirection refl) (symbol_reads lhs_expression)) (operation_reads (unary_sign_reads address_of refl) (symbol_reads lhs_expression))))
+lhs_expression_right = or_reads open_left_side_reads parenthesized_left_side_reads

@@ -3,34 +3,42 @@ use Rattle.std.proofs.Common.{◌≡◌, ℕ, Bool, true, false, List, [], ◌�
 use Rattle.std.specs.Prelude.{if◌then◌else◌}
 use Rattle.grammar.specs.Tokens.{Token, Span}
 use Rattle.grammar.specs.Grammar.{Grammar.empty, Grammar.symbol, Mode.full, Chain.base, Chain.more, Means, is_among}
-use Rattle.grammar.specs.Notation.{◌means◌, optional, many, several}
+use Rattle.grammar.specs.Notation.{◌gives◌, ◌▹◌, ◌◃◌, ◌means◌, optional, many, several}
 use Rattle.wgsl_model.specs.Classes.{SymAndEqual, SymDivisionEqual, SymEqual, SymMinusEqual, SymModuloEqual, SymOrEqual, SymPlusEqual, SymSemicolon, SymShiftLeftAssign, SymShiftRightAssign, SymTimesEqual, SymXorEqual, KwBreak, KwElse, KwIf}
 use Rattle.wgsl_model.specs.Kind.{Kind, plain}
 use Rattle.wgsl_model.specs.Operators.{AssignmentOperator}
+use Rattle.wgsl_model.specs.Attributed.{with_attributes}
 use Rattle.wgsl_model.specs.Statements as tree
-use Rattle.wgsl_model.specs.Statements.{ElseIfClause, StatementNode, StatementNode.statement_node, Statement, SwitchClause, StatementNodes, StatementNodes.no_statements, StatementNodes.statement_before, ElseIfClauses.else_if_before, SwitchClauses.clause_before, statements_of, else_ifs_of, else_of, clauses_of, continuing_of, maybe_statement}
+use Rattle.wgsl_model.specs.Statements.{BreakIfStatement, ElseIfClause, StatementNode, StatementNode.statement_node, Statement, SwitchClause, StatementNodes, StatementNodes.no_statements, StatementNodes.statement_before, ElseIfClauses.else_if_before, SwitchClauses.clause_before, statements_of, else_ifs_of, else_of, clauses_of, continuing_of, maybe_statement}
 use Rattle.wgsl_model.specs.PrintedStatements.{is_void}
-use Rattle.wgsl_model.specs.StatementParts.{statements, assignment_operator, else_if, else_block, break_if}
-use Rattle.wgsl_model.specs.StatementsWithoutSpans.{bare_break_if, bare_statement_node, bare_statements, bare_else_if_clause, bare_else_ifs, bare_else_clause, bare_else, bare_switch_clause, bare_clauses, bare_maybe_continuing, bare_part}
+use Rattle.wgsl_model.specs.StatementParts.{statements, assignment_operator, else_if, else_block, break_if_of, break_if}
+use Rattle.wgsl_model.specs.StatementsWithoutSpans.{bare_attributed, bare_break_if, bare_statement_node, bare_statements, bare_else_if_clause, bare_else_ifs, bare_else_clause, bare_else, bare_switch_clause, bare_clauses, bare_maybe_continuing, bare_part}
 use Rattle.wgsl_model.specs.EmptyItems.{full_statement, full_statements, full_else_if_clause, full_else_ifs, full_else_clause, full_else, full_switch_clause, full_clauses, full_maybe_continuing, full_part}
-use Rattle.wgsl_model.specs.Symbols.{Symbol.statement, Symbol.switch_clause, Symbol.continuing_statement, Rule, compound_statement, expression}
-use Rattle.wgsl_canonical_theory.specs.CanonicalExpressions.{Writes, all_tokens}
+use Rattle.wgsl_model.specs.Symbols.{Dialect.whole, Symbol.statement, Symbol.switch_clause, Symbol.continuing_statement, Rule, compound_statement, expression}
+use Rattle.wgsl_canonical_theory.specs.CanonicalExpressions.{Writes, all_tokens, expression_node_tokens}
 use Rattle.wgsl_canonical_theory.specs.CanonicalStatements.{assignment_operator_class, break_if_tokens, end_token, unended_tokens, statements_tokens, else_ifs_tokens, else_if_clause_tokens, else_tokens, else_clause_tokens, clauses_tokens, switch_clause_tokens, maybe_continuing_tokens, part_tokens}
 use Rattle.wgsl_canonical_theory.specs.CanonicalUnits.{without_place}
 use Rattle.wgsl_canonical_theory.proofs.Words.{AllWords}
 use Rattle.wgsl_canonical_theory.proofs.Again.{D, header_tokens, seen_statement, write, Same, Found, Again}
 use Rattle.wgsl_canonical_theory.proofs.Ways.{Outcome, Reads, found_in, then_reads, or_reads, gives_reads, equal_reads, before_reads, behind_reads, means_reads, none_reads, many_reads, several_reads}
-use Rattle.wgsl_canonical_theory.proofs.Rules.{symbol_reads}
+use Rattle.wgsl_canonical_theory.proofs.Rules.{AttributeReads, attributes_read, symbol_reads}
 
 -- ---- parts of one rule
-pub break_if_reads : Reads break_if break_if_tokens (λ w v. bare_break_if w ≡ bare_break_if v)
-break_if_reads = gives_reads (before_reads KwBreak refl (before_reads KwIf refl (behind_reads SymSemicolon refl (symbol_reads expression)))) (λ a rest. refl) (λ w a h. λ i. record { expression = h i })
+-- `break if` without its attributes
+abbrev pub bare_break_if_tokens : Writes BreakIfStatement
+bare_break_if_tokens b rest = plain KwBreak ∷ (plain KwIf ∷ expression_node_tokens b.expression (plain SymSemicolon ∷ rest))
+
+condition_reads : Reads (KwBreak ▹ KwIf ▹ symbol expression ◃ SymSemicolon gives break_if_of) bare_break_if_tokens (λ w v. bare_break_if w ≡ bare_break_if v)
+condition_reads = gives_reads (before_reads KwBreak refl (before_reads KwIf refl (behind_reads SymSemicolon refl (symbol_reads expression)))) (λ a rest. refl) (λ w a h. λ i. record { expression = h i })
+
+pub break_if_reads : AttributeReads → Reads (break_if whole) break_if_tokens (λ w v. bare_attributed bare_break_if w ≡ bare_attributed bare_break_if v)
+break_if_reads one = gives_reads (then_reads (attributes_read one) condition_reads) (λ a rest. refl) (λ w a h. λ i. with_attributes (h.0 i) (h.1 i))
 
 else_if_reads : Reads else_if else_if_clause_tokens (λ w v. bare_else_if_clause w ≡ bare_else_if_clause (full_else_if_clause v))
-else_if_reads = gives_reads (before_reads KwElse refl (before_reads KwIf refl (then_reads (symbol_reads expression) (symbol_reads compound_statement)))) (λ a rest. refl) (λ w a h. λ i. tree.else_if_clause (h.0 i) (h.1 i))
+else_if_reads = gives_reads (before_reads KwElse refl (before_reads KwIf refl (then_reads (symbol_reads expression) (symbol_reads compound_statement)))) (λ a rest. refl) (λ w a h. λ i. tree.else_if_clause [] (h.0 i) (h.1 i))
 
 else_block_reads : Reads else_block else_clause_tokens (λ w v. bare_else_clause w ≡ bare_else_clause (full_else_clause v))
-else_block_reads = gives_reads (before_reads KwElse refl (symbol_reads compound_statement)) (λ a rest. refl) (λ w a h. λ i. tree.else_clause (h i))
+else_block_reads = gives_reads (before_reads KwElse refl (symbol_reads compound_statement)) (λ a rest. refl) (λ w a h. λ i. tree.else_clause [] (h i))
 
 -- the operators of assignments
 operator_reads : (c : ℕ) {operator : AssignmentOperator} → assignment_operator_class operator ≡ c → is_among c (c ∷ []) ≡ true

@@ -1,5 +1,6 @@
 -- What the rules of statements derive is read again. The rules with attributes take what is proved of one attribute.
-use Rattle.std.proofs.Common.{◌≡◌, true, List, [], ◌∷◌, Option, Some, refl, ap, subst, ◌∙◌, inl, inr, sym}
+use Rattle.std.proofs.Common.{◌≡◌, true, List, [], ◌∷◌, Option, Some, refl, ap, subst, ◌∙◌, inl, inr, sym, ℕ, map}
+use Rattle.std.specs.Option.{option_map}
 use Rattle.grammar.specs.Tokens.{Token}
 use Rattle.grammar.specs.Grammar.{Grammar.symbol, Mode.full, Chain.base, Means, is_among}
 use Rattle.grammar.specs.Notation.{one_token, ◌then◌, ◌or◌, ◌gives◌, ◌makes◌, ◌▹◌, ◌◃◌, ◌means◌, optional, list}
@@ -7,29 +8,47 @@ use Rattle.grammar.proofs.Depth.{roll}
 use Rattle.wgsl_model.specs.Classes.{SymBraceLeft, SymBraceRight, SymColon, SymComma, SymMinusMinus, SymParenLeft, SymParenRight, SymPlusPlus, SymSemicolon, SymUnderscore, KwCase, KwConst, KwConstAssert, KwContinuing, KwDefault, KwFor, KwIf, KwLet, KwLoop, KwReturn, KwSwitch, KwWhile}
 use Rattle.wgsl_model.specs.Kind.{plain, Kind}
 use Rattle.wgsl_model.specs.Operators.{AssignmentOperator.equal}
+use Rattle.wgsl_model.specs.Attributed.{Attributed, with_attributes}
 use Rattle.wgsl_model.specs.Statements as tree
-use Rattle.wgsl_model.specs.Statements.{DeclarationKind.let_kind, DeclarationKind.const_kind, CompoundStatement, Statement, UnattributedStatement, StatementNode.statement_node, SwitchClause, CaseSelector.default_selector, CaseSelector.expression_selector}
-use Rattle.wgsl_model.specs.StatementParts.{attributed, underscore_at, clause_of}
-use Rattle.wgsl_model.specs.WithoutSpans.{no_span, bare_expression_node}
-use Rattle.wgsl_model.specs.StatementsWithoutSpans.{bare_statement, bare_compound, bare_switch_clause, bare_unattributed}
-use Rattle.wgsl_model.specs.EmptyItems.{full_statement, full_compound, full_switch_clause, full_unattributed}
-use Rattle.wgsl_model.specs.Symbols.{Symbol.compound_statement, Symbol.statement, Symbol.return_statement, Symbol.if_statement, Symbol.switch_statement, Symbol.loop_statement, Symbol.for_statement, Symbol.while_statement, Symbol.call_statement, Symbol.var_statement, Symbol.value_statement, Symbol.break_statement, Symbol.continue_statement, Symbol.discard_statement, Symbol.assignment, Symbol.phony_assignment, Symbol.increment, Symbol.decrement, Symbol.const_assert, Symbol.switch_clause, Symbol.case_selector, Symbol.continuing_statement, Symbol.for_init, Symbol.for_update, Symbol.typed_ident, Rule, call, expression, ident, lhs_expression, type_specifier}
+use Rattle.wgsl_model.specs.Statements.{DeclarationKind.let_kind, DeclarationKind.const_kind, CompoundStatement, Statement, UnattributedStatement, StatementNode.statement_node, CaseSelector.default_selector, CaseSelector.expression_selector, BreakIfStatement, CaseSelector}
+use Rattle.wgsl_model.specs.StatementParts as parts
+use Rattle.wgsl_model.specs.StatementParts.{attributed, underscore_at, statements, compound_of, left_side, assert_of, break_if}
+use Rattle.wgsl_model.specs.WithoutSpans.{no_span, bare_expression_node, bare_attributes}
+use Rattle.wgsl_model.specs.StatementsWithoutSpans.{bare_statement, bare_compound, bare_unattributed, bare_attributed, bare_assert, bare_break_if, bare_selector}
+use Rattle.wgsl_model.specs.EmptyItems.{full_statement, full_compound, full_unattributed}
+use Rattle.wgsl_model.specs.Symbols.{Symbol.compound_statement, Symbol.statement, Symbol.return_statement, Symbol.if_statement, Symbol.switch_statement, Symbol.loop_statement, Symbol.for_statement, Symbol.while_statement, Symbol.call_statement, Symbol.var_statement, Symbol.value_statement, Symbol.break_statement, Symbol.continue_statement, Symbol.discard_statement, Symbol.assignment, Symbol.phony_assignment, Symbol.increment, Symbol.decrement, Symbol.const_assert, Symbol.switch_clause, Symbol.case_selector, Symbol.continuing_statement, Symbol.for_init, Symbol.for_update, Symbol.typed_ident, Rule, call, expression, ident, type_specifier, Dialect.whole}
 use Rattle.wgsl_model.specs.Written.{written}
-use Rattle.wgsl_canonical_theory.specs.CanonicalExpressions.{Writes, expression_node_tokens}
-use Rattle.wgsl_canonical_theory.specs.CanonicalStatements.{kind_tokens, end_token, unended_tokens, unattributed_tokens, compound_tokens, switch_clause_tokens}
+use Rattle.wgsl_canonical_theory.specs.CanonicalExpressions.{Writes, expression_node_tokens, optional_tokens, list_tokens}
+use Rattle.wgsl_canonical_theory.specs.CanonicalAttributes.{attributes_tokens}
+use Rattle.wgsl_canonical_theory.specs.CanonicalStatements.{kind_tokens, end_token, unended_tokens, unattributed_tokens, compound_tokens, assert_tokens, selector_tokens, break_if_tokens, opened_tokens}
 use Rattle.wgsl_canonical_theory.proofs.Words.{AllWords}
 use Rattle.wgsl_canonical_theory.proofs.Again.{D, write, Same, Ended, Unended, Finds, Again}
 use Rattle.wgsl_canonical_theory.proofs.Ways.{Outcome, Reads, found_in, first_of, class_of, then_reads, or_reads, gives_reads, makes_reads, sign_reads, before_reads, behind_reads, means_reads, optional_reads, no_sign_reads, list_reads}
 use Rattle.wgsl_canonical_theory.proofs.Rules.{AttributeReads, attributes_read, initializer_reads, var_kind_reads, without_known, symbol_reads}
+use Rattle.wgsl_canonical_theory.proofs.ExpressionRules.{open_left_side_reads, parenthesized_left_side_reads}
 use Rattle.wgsl_canonical_theory.proofs.StatementParts.{break_if_reads, assignment_operator_reads, else_reads, maybe_continuing_reads, part_reads, else_ifs_read, clauses_read, statements_read}
 
 -- ---- blocks and their parts
 pub written_compound_statement_reads : AttributeReads → Reads (written compound_statement) (write compound_statement) (Same compound_statement)
 written_compound_statement_reads one = gives_reads (then_reads (attributes_read one) (before_reads SymBraceLeft refl (behind_reads SymBraceRight refl statements_read))) (λ a rest. refl) (λ w a h. λ i. tree.compound_statement (h.0 i) (h.1 i))
 
+-- `continuing` from its word on: its body, and its `break if`
+abbrev pub ContinuingParts : Type 0
+ContinuingParts = CompoundStatement × Option (Attributed BreakIfStatement)
+
+abbrev pub continuing_part : Rule ContinuingParts
+continuing_part = KwContinuing ▹ parts.attributes then SymBraceLeft ▹ (statements then optional (break_if whole)) ◃ SymBraceRight gives λ p. (compound_of p.0 p.1.0, p.1.1)
+
+abbrev pub continuing_part_tokens : Writes ContinuingParts
+continuing_part_tokens p rest = plain KwContinuing ∷ opened_tokens p.0 (optional_tokens break_if_tokens p.1 (plain SymBraceRight ∷ rest))
+
+continuing_part_reads : AttributeReads → Reads continuing_part continuing_part_tokens (λ w v. (bare_compound w.0 ≡ bare_compound (full_compound v.0)) × (option_map (bare_attributed bare_break_if) w.1 ≡ option_map (bare_attributed bare_break_if) v.1))
+continuing_part_reads one =
+    gives_reads (before_reads KwContinuing refl (then_reads (attributes_read one) (before_reads SymBraceLeft refl (behind_reads SymBraceRight refl (then_reads statements_read (optional_reads (break_if_reads one)))))))
+    (λ a rest. refl) (λ w a h. (λ i. tree.compound_statement (h.0 i) (h.1.0 i), h.1.1))
+
 pub written_continuing_statement_reads : AttributeReads → Reads (written continuing_statement) (write continuing_statement) (Same continuing_statement)
-written_continuing_statement_reads one = gives_reads (before_reads KwContinuing refl (then_reads (attributes_read one) (before_reads SymBraceLeft refl (behind_reads SymBraceRight refl (then_reads statements_read (optional_reads break_if_reads))))))
-    (λ a rest. refl) (λ w a h. λ i. tree.continuing (tree.compound_statement (h.0 i) (h.1.0 i)) (h.1.1 i))
+written_continuing_statement_reads one = gives_reads (then_reads (attributes_read one) (continuing_part_reads one)) (λ a rest. refl) (λ w a h. λ i. tree.continuing (h.0 i) (h.1.0 i) (h.1.1 i))
 
 -- ---- statements behind attributes
 -- statements that are the same, spans and empty items aside
@@ -65,34 +84,47 @@ pub written_while_statement_reads : AttributeReads → Reads (written while_stat
 written_while_statement_reads one = attributed_reads one (gives_reads (before_reads KwWhile refl (then_reads (symbol_reads expression) (symbol_reads compound_statement))) (λ a rest. refl) (λ w a h. λ i. tree.while_statement (tree.repeat_while (h.0 i) (h.1 i))))
 
 -- ---- statements that a `;` ends
-pub written_return_statement_reads : Reads (written return_statement) (write return_statement) (Same return_statement)
-written_return_statement_reads = gives_reads (before_reads KwReturn refl (optional_reads (symbol_reads expression))) (λ a rest. refl) (λ w a h. λ i. tree.unattributed (tree.return_statement (record { expression = h i })))
+pub written_return_statement_reads : AttributeReads → Reads (written return_statement) (write return_statement) (Same return_statement)
+written_return_statement_reads one = attributed_reads one (gives_reads (before_reads KwReturn refl (optional_reads (symbol_reads expression))) (λ a rest. refl) (λ w a h. λ i. tree.return_statement (record { expression = h i })))
 
-pub written_call_statement_reads : Reads (written call_statement) (write call_statement) (Same call_statement)
-written_call_statement_reads = gives_reads (symbol_reads call) (λ a rest. refl) (λ w a h. λ i. tree.unattributed (tree.function_call_statement (record { call = h i })))
+pub written_call_statement_reads : AttributeReads → Reads (written call_statement) (write call_statement) (Same call_statement)
+written_call_statement_reads one = attributed_reads one (gives_reads (symbol_reads call) (λ a rest. refl) (λ w a h. λ i. tree.function_call_statement (record { call = h i })))
 
-pub written_var_statement_reads : Reads (written var_statement) (write var_statement) (Same var_statement)
-written_var_statement_reads = gives_reads (then_reads var_kind_reads (then_reads (symbol_reads typed_ident) (optional_reads initializer_reads))) (λ a rest. refl)
-    (λ w a h. λ i. tree.unattributed (tree.declaration (record { kind = h.0 i; ident = h.1.0.0 i; ty = h.1.0.1 i; initializer = h.1.1 i })))
+pub written_var_statement_reads : AttributeReads → Reads (written var_statement) (write var_statement) (Same var_statement)
+written_var_statement_reads one = attributed_reads one (gives_reads (then_reads var_kind_reads (then_reads (symbol_reads typed_ident) (optional_reads initializer_reads))) (λ a rest. refl)
+    (λ w a h. λ i. tree.declaration (record { kind = h.0 i; ident = h.1.0.0 i; ty = h.1.0.1 i; initializer = h.1.1 i })))
 
 value_kind_reads : Reads (KwLet means let_kind or KwConst means const_kind) kind_tokens (λ w v. w ≡ v)
 value_kind_reads = or_reads (means_reads KwLet refl (λ rest. refl) refl) (means_reads KwConst refl (λ rest. refl) refl)
 
-pub written_value_statement_reads : Reads (written value_statement) (write value_statement) (Same value_statement)
-written_value_statement_reads = gives_reads (then_reads value_kind_reads (then_reads (symbol_reads typed_ident) initializer_reads)) (λ a rest. refl)
-    (λ w a h. λ i. tree.unattributed (tree.declaration (record { kind = h.0 i; ident = h.1.0.0 i; ty = h.1.0.1 i; initializer = Some (h.1.1 i) })))
+pub written_value_statement_reads : AttributeReads → Reads (written value_statement) (write value_statement) (Same value_statement)
+written_value_statement_reads one = attributed_reads one (gives_reads (then_reads value_kind_reads (then_reads (symbol_reads typed_ident) initializer_reads)) (λ a rest. refl)
+    (λ w a h. λ i. tree.declaration (record { kind = h.0 i; ident = h.1.0.0 i; ty = h.1.0.1 i; initializer = Some (h.1.1 i) })))
 
-pub written_assignment_reads : Reads (written assignment) (write assignment) (Same assignment)
-written_assignment_reads = gives_reads (then_reads (symbol_reads lhs_expression) (then_reads assignment_operator_reads (symbol_reads expression))) (λ a rest. refl) (λ w a h. λ i. tree.unattributed (tree.assignment (record { operator = h.1.0 i; lhs = h.0 i; rhs = h.1.1 i })))
+-- a statement of one word
+pub word_statement_reads : AttributeReads → (c : ℕ) {s : UnattributedStatement} → is_among c (c ∷ []) ≡ true → ((rest : List Kind) → unattributed_tokens s rest ≡ plain c ∷ rest) → bare_unattributed s ≡ bare_unattributed (full_unattributed s)
+    → Reads (attributed tree.statement (c means s)) unended_tokens Like
+word_statement_reads one c known s t = attributed_reads one (means_reads c known s t)
 
-pub written_increment_reads : Reads (written increment) (write increment) (Same increment)
-written_increment_reads = gives_reads (behind_reads SymPlusPlus refl (symbol_reads lhs_expression)) (λ a rest. refl) (λ w a h. λ i. tree.unattributed (tree.increment (record { expression = h i })))
+-- a left side behind attributes
+left_side_reads : AttributeReads → Reads (left_side whole) (λ p rest. attributes_tokens p.0 (expression_node_tokens p.1 rest)) (λ w v. (bare_attributes w.0 ≡ bare_attributes v.0) × (bare_expression_node w.1 ≡ bare_expression_node v.1))
+left_side_reads one = or_reads (then_reads (attributes_read one) open_left_side_reads) (gives_reads parenthesized_left_side_reads (λ a rest. refl) (λ w a h. (refl, h)))
 
-pub written_decrement_reads : Reads (written decrement) (write decrement) (Same decrement)
-written_decrement_reads = gives_reads (behind_reads SymMinusMinus refl (symbol_reads lhs_expression)) (λ a rest. refl) (λ w a h. λ i. tree.unattributed (tree.decrement (record { expression = h i })))
+pub written_assignment_reads : AttributeReads → Reads (written assignment) (write assignment) (Same assignment)
+written_assignment_reads one = gives_reads (then_reads (left_side_reads one) (then_reads assignment_operator_reads (symbol_reads expression))) (λ a rest. refl)
+    (λ w a h. λ i. tree.statement (h.0.0 i) (tree.assignment (record { operator = h.1.0 i; lhs = h.0.1 i; rhs = h.1.1 i })))
 
-pub written_const_assert_reads : Reads (written const_assert) (write const_assert) (Same const_assert)
-written_const_assert_reads = gives_reads (before_reads KwConstAssert refl (symbol_reads expression)) (λ a rest. refl) (λ w a h. λ i. record { expression = h i })
+pub written_increment_reads : AttributeReads → Reads (written increment) (write increment) (Same increment)
+written_increment_reads one = gives_reads (behind_reads SymPlusPlus refl (left_side_reads one)) (λ a rest. refl) (λ w a h. λ i. tree.statement (h.0 i) (tree.increment (record { expression = h.1 i })))
+
+pub written_decrement_reads : AttributeReads → Reads (written decrement) (write decrement) (Same decrement)
+written_decrement_reads one = gives_reads (behind_reads SymMinusMinus refl (left_side_reads one)) (λ a rest. refl) (λ w a h. λ i. tree.statement (h.0 i) (tree.decrement (record { expression = h.1 i })))
+
+assert_reads : Reads (KwConstAssert ▹ symbol expression gives assert_of) assert_tokens (λ w v. bare_assert w ≡ bare_assert v)
+assert_reads = gives_reads (before_reads KwConstAssert refl (symbol_reads expression)) (λ a rest. refl) (λ w a h. λ i. record { expression = h i })
+
+pub written_const_assert_reads : AttributeReads → Reads (written const_assert) (write const_assert) (Same const_assert)
+written_const_assert_reads one = gives_reads (then_reads (attributes_read one) assert_reads) (λ a rest. refl) (λ w a h. λ i. with_attributes (h.0 i) (h.1 i))
 
 -- ---- a name with its type, and what a clause selects
 pub written_typed_ident_reads : Reads (written typed_ident) (write typed_ident) (Same typed_ident)
@@ -105,61 +137,72 @@ written_case_selector_reads = or_reads (means_reads KwDefault refl (λ rest. ref
 underscore_reads : Reads (one_token SymUnderscore makes underscore_at) expression_node_tokens (λ w v. bare_expression_node w ≡ bare_expression_node v)
 underscore_reads = makes_reads (sign_reads SymUnderscore refl) (λ a span rest. refl) (λ w a s r h. refl)
 
-pub written_phony_assignment_reads : Reads (written phony_assignment) (write phony_assignment) (Same phony_assignment)
-written_phony_assignment_reads = gives_reads (then_reads underscore_reads initializer_reads) (λ a rest. refl) (λ w a h. λ i. tree.unattributed (tree.assignment (record { operator = equal; lhs = h.0 i; rhs = h.1 i })))
+pub written_phony_assignment_reads : AttributeReads → Reads (written phony_assignment) (write phony_assignment) (Same phony_assignment)
+written_phony_assignment_reads one =
+    attributed_reads one (gives_reads (then_reads underscore_reads initializer_reads) (λ a rest. refl) (λ w a h. λ i. tree.assignment (record { operator = equal; lhs = h.0 i; rhs = h.1 i })))
 
 -- ---- clauses: the optional colon is left out, and `default` alone is written `case default`
 -- a block behind the optional colon
 abbrev pub clause_body : Rule (Option Token × CompoundStatement)
 clause_body = optional (one_token SymColon) then symbol compound_statement
 
-abbrev case_clause : Rule SwitchClause
-case_clause = KwCase ▹ list SymComma (symbol case_selector) then clause_body gives λ p. clause_of p.0 p.1.1
+-- what a clause selects, and its block
+abbrev pub ClauseParts : Type 0
+ClauseParts = List CaseSelector × CompoundStatement
 
-abbrev default_clause : Rule SwitchClause
-default_clause = KwDefault ▹ clause_body gives λ p. clause_of (default_selector ∷ []) p.1
+abbrev pub case_clause : Rule ClauseParts
+case_clause = KwCase ▹ list SymComma (symbol case_selector) then clause_body gives λ p. (p.0, p.1.1)
 
-abbrev LikeClause : SwitchClause → SwitchClause → Type 0
-LikeClause w v = bare_switch_clause w ≡ bare_switch_clause (full_switch_clause v)
+abbrev pub default_clause : Rule ClauseParts
+default_clause = KwDefault ▹ clause_body gives λ p. (default_selector ∷ [], p.1)
+
+abbrev pub clause_tokens : Writes ClauseParts
+clause_tokens p rest = plain KwCase ∷ list_tokens selector_tokens p.0 (compound_tokens p.1 rest)
+
+abbrev LikeClause : ClauseParts → ClauseParts → Type 0
+LikeClause w v = (map bare_selector w.0 ≡ map bare_selector v.0) × (bare_compound w.1 ≡ bare_compound (full_compound v.1))
 
 clause_body_reads : Reads clause_body (λ p rest. compound_tokens p.1 rest) (λ w v. Unit {0} × (bare_compound w.1 ≡ bare_compound (full_compound v.1)))
 clause_body_reads = then_reads no_sign_reads (symbol_reads compound_statement)
 
-case_clause_reads : Reads case_clause switch_clause_tokens LikeClause
-case_clause_reads = gives_reads (before_reads KwCase refl (then_reads (list_reads (symbol_reads case_selector)) clause_body_reads)) (λ a rest. refl) (λ w a h. λ i. tree.switch_clause [] (h.0 i) (h.1.1 i))
+case_clause_reads : Reads case_clause clause_tokens LikeClause
+case_clause_reads = gives_reads (before_reads KwCase refl (then_reads (list_reads (symbol_reads case_selector)) clause_body_reads)) (λ a rest. refl) (λ w a h. (h.0, h.1.1))
 
 -- `case` before `default` and its block
-case_default : (p : Option Token × CompoundStatement) (t : Token) (xs zs ys : List Token) → is_among t.class (KwCase ∷ []) ≡ true → xs ≡ t ∷ zs → Means full D (KwDefault ▹ clause_body) p zs ys → Means full D case_clause (clause_of (default_selector ∷ []) p.1) xs ys
-case_default p t xs zs ys known whole d =
+case_default : (p : Option Token × CompoundStatement) (t : Token) (xs zs ys : List Token) → is_among t.class (KwCase ∷ []) ≡ true → xs ≡ t ∷ zs → Means full D (KwDefault ▹ clause_body) p zs ys → Means full D case_clause (default_selector ∷ [], p.1) xs ys
+case_default p t xs zs ys known e d =
     let selected : Means full D (list SymComma (symbol case_selector)) (default_selector ∷ []) zs d.2.0 = inl (base (default_selector ∷ []) d.2.0 (default_selector, refl, roll full written case_selector default_selector zs d.2.0 (inl (d.0.0, refl, d.2.1)))) in
     let body : Means full D clause_body p d.2.0 ys = subst (λ (z : Option Token × CompoundStatement). Means full D clause_body z d.2.0 ys) d.1 d.2.2 in
-    ((default_selector ∷ [], p), refl, ((t, (default_selector ∷ [], p)), refl, (zs, (known, whole), (d.2.0, selected, body))))
+    ((default_selector ∷ [], p), refl, ((t, (default_selector ∷ [], p)), refl, (zs, (known, e), (d.2.0, selected, body))))
 
-default_clause_reads : (v : SwitchClause) (xs ys : List Token) → Means full Again default_clause v xs ys → AllWords xs → Outcome case_clause switch_clause_tokens LikeClause v ys
-default_clause_reads v xs ys d words = subst (λ (z : SwitchClause). Outcome case_clause switch_clause_tokens LikeClause z ys) d.1 (
+default_clause_reads : (v : ClauseParts) (xs ys : List Token) → Means full Again default_clause v xs ys → AllWords xs → Outcome case_clause clause_tokens LikeClause v ys
+default_clause_reads v xs ys d words = subst (λ (z : ClauseParts). Outcome case_clause clause_tokens LikeClause z ys) d.1 (
     let found = (before_reads KwDefault refl clause_body_reads).again d.0 xs ys d.2 words in (
       found.0,
       λ us ks e.
           let first = first_of (plain KwCase) (plain KwDefault ∷ compound_tokens d.0.1 ks) us e in
           let a = found.1 first.rest ks first.kinds in
           record {
-            value = clause_of (default_selector ∷ []) a.value.1;
+            value = (default_selector ∷ [], a.value.1);
             rest = a.rest;
             kinds = a.kinds;
-            like = λ i. tree.switch_clause [] (default_selector ∷ []) (a.like.1 i);
+            like = (refl, a.like.1);
             derived = case_default a.value first.token us first.rest a.rest (class_of (plain KwCase) first.token (KwCase ∷ []) first.kind refl) first.whole a.derived;
           },
     )
     )
 
-pub written_switch_clause_reads : Reads (written switch_clause) (write switch_clause) (Same switch_clause)
-written_switch_clause_reads = record { again = go } where
-  as_case : (v : SwitchClause) (ys : List Token) → Outcome case_clause switch_clause_tokens LikeClause v ys → Outcome (written switch_clause) switch_clause_tokens LikeClause v ys
+clause_reads : Reads (case_clause or default_clause) clause_tokens LikeClause
+clause_reads = record { again = go } where
+  as_case : (v : ClauseParts) (ys : List Token) → Outcome case_clause clause_tokens LikeClause v ys → Outcome (case_clause or default_clause) clause_tokens LikeClause v ys
   as_case v ys found = (found.0, λ us ks e. found_in (λ a rest i. inl i) (found.1 us ks e))
 
-  go : (v : SwitchClause) (xs ys : List Token) → Means full Again (written switch_clause) v xs ys → AllWords xs → Outcome (written switch_clause) switch_clause_tokens LikeClause v ys
+  go : (v : ClauseParts) (xs ys : List Token) → Means full Again (case_clause or default_clause) v xs ys → AllWords xs → Outcome (case_clause or default_clause) clause_tokens LikeClause v ys
   go v xs ys (inl d) words = as_case v ys (case_clause_reads.again v xs ys d words)
   go v xs ys (inr d) words = as_case v ys (default_clause_reads v xs ys d words)
+
+pub written_switch_clause_reads : AttributeReads → Reads (written switch_clause) (write switch_clause) (Same switch_clause)
+written_switch_clause_reads one = gives_reads (then_reads (attributes_read one) clause_reads) (λ a rest. refl) (λ w a h. λ i. tree.switch_clause (h.0 i) (h.1.0 i) (h.1.1 i))
 
 -- ---- statements, with the `;` that ends them and without
 abbrev ended_tokens : Writes Statement
@@ -220,7 +263,7 @@ written_statement_reads = makes_reads {writes = ended_tokens} {like = Like} (
     (or_reads (ended_reads {g = symbol increment} (λ v xs ys h. h))
     (or_reads (ended_reads {g = symbol decrement} (λ v xs ys h. h))
     (or_reads block_reads
-    (gives_reads (behind_reads SymSemicolon refl (symbol_reads const_assert)) (λ a rest. refl) (λ w a h. λ i. tree.unattributed (tree.const_assert (h i)))))))))))))))))))))
+    (gives_reads (behind_reads SymSemicolon refl (symbol_reads const_assert)) (λ a rest. refl) (λ w a h. λ i. tree.as_statement tree.const_assert (h i))))))))))))))))))))
     ) (λ a span rest. refl) (λ w a s r h. λ i. statement_node (h i) no_span)
 
 -- ---- statements in the header of a `for`

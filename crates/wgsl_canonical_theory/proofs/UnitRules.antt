@@ -12,10 +12,10 @@ use Rattle.wgsl_model.specs.Raw.{word_of}
 use Rattle.wgsl_model.specs.Words.{look_up}
 use Rattle.wgsl_model.specs.NamedValues.{DiagnosticSeverity.error, severities, severity_text}
 use Rattle.wgsl_model.specs.Spanned.{Spanned}
-use Rattle.wgsl_model.specs.Attributed.{with_attributes, without_attributes}
+use Rattle.wgsl_model.specs.Attributed.{with_attributes}
 use Rattle.wgsl_model.specs.Statements.{DeclarationKind.const_kind, DeclarationKind.override_kind}
 use Rattle.wgsl_model.specs.Units as tree
-use Rattle.wgsl_model.specs.Units.{GlobalDeclaration, UnattributedDeclaration}
+use Rattle.wgsl_model.specs.Units.{GlobalDeclaration, UnattributedDeclaration, UnattributedDirective}
 use Rattle.wgsl_model.specs.PrintedUnits.{is_void}
 use Rattle.wgsl_model.specs.Checks.{given_or, severity_of}
 use Rattle.wgsl_model.specs.TokenValues.{text_of}
@@ -27,7 +27,7 @@ use Rattle.wgsl_model.specs.EmptyItems.{full_declaration, full_declarations, ful
 use Rattle.wgsl_model.specs.Symbols.{ident, struct_member, formal_parameter, global_declaration, var_declaration, const_declaration, override_declaration, alias_declaration, struct_declaration, function_declaration, diagnostic_severity, global_directive, enable_directive, requires_directive, diagnostic_directive, unit, Rule, compound_statement, const_assert, type_specifier, typed_ident}
 use Rattle.wgsl_model.specs.Written.{written}
 use Rattle.wgsl_canonical_theory.specs.CanonicalExpressions.{Writes, all_tokens, optional_tokens}
-use Rattle.wgsl_canonical_theory.specs.CanonicalUnits.{directive_tokens, unattributed_declaration_tokens, global_declaration_tokens, kept_declaration_tokens}
+use Rattle.wgsl_canonical_theory.specs.CanonicalUnits.{directive_tokens, unattributed_declaration_tokens, global_declaration_tokens, kept_declaration_tokens, unattributed_directive_tokens}
 use Rattle.wgsl_canonical_theory.proofs.Words.{NoPeriod, AllWords}
 use Rattle.wgsl_canonical_theory.proofs.Again.{D, Again, write, Same, Known, Found, Finds}
 use Rattle.wgsl_canonical_theory.proofs.Ways.{Outcome, Reads, found_in, known_reads, words_behind, then_reads, or_reads, gives_reads, makes_reads, before_reads, behind_reads, means_reads, none_reads, optional_reads, no_sign_reads, all_behind, map_behind, many_reads, list_reads, list_or_none_reads}
@@ -57,22 +57,22 @@ pub var_declaration_written : AttributeReads → Reads (written var_declaration)
 var_declaration_written one = attributed_reads one (gives_reads (then_reads var_kind_reads (then_reads (symbol_reads typed_ident) (behind_reads SymSemicolon refl (optional_reads initializer_reads)))) (λ a rest. refl)
     (λ w a h. λ i. tree.declaration (record { kind = h.0 i; ident = h.1.0.0 i; ty = h.1.0.1 i; initializer = h.1.1 i })))
 
-pub const_declaration_written : Reads (written const_declaration) (write const_declaration) (Same const_declaration)
-const_declaration_written = gives_reads (before_reads KwConst refl (then_reads (symbol_reads typed_ident) (behind_reads SymSemicolon refl initializer_reads))) (λ a rest. refl)
-    (λ w a h. λ i. without_attributes (tree.declaration (record { kind = const_kind; ident = h.0.0 i; ty = h.0.1 i; initializer = Some (h.1 i) })))
+pub const_declaration_written : AttributeReads → Reads (written const_declaration) (write const_declaration) (Same const_declaration)
+const_declaration_written one = attributed_reads one (gives_reads (before_reads KwConst refl (then_reads (symbol_reads typed_ident) (behind_reads SymSemicolon refl initializer_reads))) (λ a rest. refl)
+    (λ w a h. λ i. tree.declaration (record { kind = const_kind; ident = h.0.0 i; ty = h.0.1 i; initializer = Some (h.1 i) })))
 
 pub override_declaration_written : AttributeReads → Reads (written override_declaration) (write override_declaration) (Same override_declaration)
 override_declaration_written one = attributed_reads one (gives_reads (before_reads KwOverride refl (then_reads (symbol_reads typed_ident) (behind_reads SymSemicolon refl (optional_reads initializer_reads)))) (λ a rest. refl)
     (λ w a h. λ i. tree.declaration (record { kind = override_kind; ident = h.0.0 i; ty = h.0.1 i; initializer = h.1 i })))
 
 -- ---- declarations of types and functions
-pub alias_declaration_written : Reads (written alias_declaration) (write alias_declaration) (Same alias_declaration)
-alias_declaration_written = gives_reads (before_reads KwAlias refl (then_reads (symbol_reads ident) (before_reads SymEqual refl (behind_reads SymSemicolon refl (symbol_reads type_specifier))))) (λ a rest. refl)
-    (λ w a h. λ i. without_attributes (tree.type_alias (record { ident = h.0 i; ty = h.1 i })))
+pub alias_declaration_written : AttributeReads → Reads (written alias_declaration) (write alias_declaration) (Same alias_declaration)
+alias_declaration_written one = attributed_reads one (gives_reads (before_reads KwAlias refl (then_reads (symbol_reads ident) (before_reads SymEqual refl (behind_reads SymSemicolon refl (symbol_reads type_specifier))))) (λ a rest. refl)
+    (λ w a h. λ i. tree.type_alias (record { ident = h.0 i; ty = h.1 i })))
 
-pub struct_declaration_written : Reads (written struct_declaration) (write struct_declaration) (Same struct_declaration)
-struct_declaration_written = gives_reads (before_reads KwStruct refl (then_reads (symbol_reads ident) (before_reads SymBraceLeft refl (behind_reads SymBraceRight refl (list_reads {bare = bare_spanned bare_member} {kept = bare_spanned bare_member} (symbol_reads struct_member)))))) (λ a rest. refl)
-    (λ w a h. λ i. without_attributes (tree.structure (record { ident = h.0 i; members = h.1 i })))
+pub struct_declaration_written : AttributeReads → Reads (written struct_declaration) (write struct_declaration) (Same struct_declaration)
+struct_declaration_written one = attributed_reads one (gives_reads (before_reads KwStruct refl (then_reads (symbol_reads ident) (before_reads SymBraceLeft refl (behind_reads SymBraceRight refl (list_reads {bare = bare_spanned bare_member} {kept = bare_spanned bare_member} (symbol_reads struct_member)))))) (λ a rest. refl)
+    (λ w a h. λ i. tree.structure (record { ident = h.0 i; members = h.1 i })))
 
 pub function_declaration_written : AttributeReads → Reads (written function_declaration) (write function_declaration) (Same function_declaration)
 function_declaration_written one = attributed_reads one (gives_reads
@@ -85,15 +85,20 @@ function_declaration_written one = attributed_reads one (gives_reads
 pub global_declaration_written : Reads (written global_declaration) (write global_declaration) (Same global_declaration)
 global_declaration_written = makes_reads {writes = global_declaration_tokens} {like = SameDeclaration}
     (or_reads (means_reads SymSemicolon refl (λ rest. refl) refl) (or_reads (symbol_reads var_declaration) (or_reads (symbol_reads const_declaration) (or_reads (symbol_reads override_declaration) (or_reads (symbol_reads alias_declaration) (or_reads (symbol_reads struct_declaration)
-    (or_reads (symbol_reads function_declaration) (gives_reads (behind_reads SymSemicolon refl (symbol_reads const_assert)) (λ a rest. refl) (λ w a h. λ i. without_attributes (tree.const_assert (h i)))))))))))
+    (or_reads (symbol_reads function_declaration) (gives_reads (behind_reads SymSemicolon refl (symbol_reads const_assert)) (λ a rest. refl) (λ w a h. λ i. tree.as_declaration tree.const_assert (h i))))))))))
     (λ a span rest. refl) (λ w a s r h. h)
 
 -- ---- directives
-pub enable_directive_written : Reads (written enable_directive) (write enable_directive) (Same enable_directive)
-enable_directive_written = gives_reads (before_reads KwEnable refl (behind_reads SymSemicolon refl names_read)) (λ a rest. refl) (λ w a h. λ i. without_attributes (tree.enable (record { extensions = h i })))
+-- a directive behind its attributes
+attributed_directive_reads : AttributeReads → {g : Rule UnattributedDirective} → Reads g unattributed_directive_tokens (λ w v. w ≡ v) → Reads (attributed with_attributes g) directive_tokens (λ w v. bare_directive w ≡ bare_directive v)
+attributed_directive_reads one G = gives_reads (then_reads (attributes_read one) G) (λ a rest. refl) (λ w a h. λ i. with_attributes (h.0 i) (h.1 i))
 
-pub requires_directive_written : Reads (written requires_directive) (write requires_directive) (Same requires_directive)
-requires_directive_written = gives_reads (before_reads KwRequires refl (behind_reads SymSemicolon refl names_read)) (λ a rest. refl) (λ w a h. λ i. without_attributes (tree.requires (record { extensions = h i })))
+pub enable_directive_written : AttributeReads → Reads (written enable_directive) (write enable_directive) (Same enable_directive)
+enable_directive_written one = attributed_directive_reads one (gives_reads (before_reads KwEnable refl (behind_reads SymSemicolon refl names_read)) (λ a rest. refl) (λ w a h. λ i. tree.enable (record { extensions = h i })))
+
+pub requires_directive_written : AttributeReads → Reads (written requires_directive) (write requires_directive) (Same requires_directive)
+requires_directive_written one =
+    attributed_directive_reads one (gives_reads (before_reads KwRequires refl (behind_reads SymSemicolon refl names_read)) (λ a rest. refl) (λ w a h. λ i. tree.requires (record { extensions = h i })))
 
 pub global_directive_written : Reads (written global_directive) (write global_directive) (Same global_directive)
 global_directive_written = or_reads (symbol_reads enable_directive) (or_reads (symbol_reads requires_directive) (symbol_reads diagnostic_directive))
@@ -126,14 +131,14 @@ known_parts p xs ys d words =
 pub severity_written : (t : Token) → Known diagnostic_severity t → severity_text (severity_of t) ≡ text_of t
 severity_written t known = ap (λ z. severity_text (given_or error z)) known.1 ∙ severity_word (text_of t) known.0 known.1
 
-diagnostic_tokens : (p : DiagnosticParts) → KnownParts p → (rest : List Kind) → directive_tokens (diagnostic_of p.0 p.1.0 p.1.1.0) rest ≡ diagnostic_parts_tokens p rest
+diagnostic_tokens : (p : DiagnosticParts) → KnownParts p → (rest : List Kind) → unattributed_directive_tokens (diagnostic_of p.0 p.1.0 p.1.1.0) rest ≡ diagnostic_parts_tokens p rest
 diagnostic_tokens p known rest =
     ap₂ (λ (word : List ℕ) (rule : List Kind). plain KwDiagnostic ∷ (plain SymParenLeft ∷ (word_of word ∷ (plain SymComma ∷ rule)))) (severity_written p.0 known.0)
     (rule_written p.1.0 p.1.1.0 (plain SymParenRight ∷ (plain SymSemicolon ∷ rest)) known.1)
 
-pub diagnostic_directive_written : Reads (written diagnostic_directive) (write diagnostic_directive) (Same diagnostic_directive)
-diagnostic_directive_written = known_reads {Fact = KnownParts} diagnostic_parts_read known_parts diagnostic_tokens
-    (λ w a h. λ i. without_attributes (tree.diagnostic (record { severity = given_or error (look_up severities (h.0 i)); rule_name = same_rule w.1.0 a.1.0 w.1.1.0 a.1.1.0 h.1.0 h.1.1.0 i })))
+pub diagnostic_directive_written : AttributeReads → Reads (written diagnostic_directive) (write diagnostic_directive) (Same diagnostic_directive)
+diagnostic_directive_written one = attributed_directive_reads one (known_reads {Fact = KnownParts} diagnostic_parts_read known_parts diagnostic_tokens
+    (λ w a h. λ i. tree.diagnostic (record { severity = given_or error (look_up severities (h.0 i)); rule_name = same_rule w.1.0 a.1.0 w.1.1.0 a.1.1.0 h.1.0 h.1.1.0 i })))
 
 -- ---- modules, where empty declarations are left out
 abbrev bare_item : Spanned GlobalDeclaration → Spanned GlobalDeclaration

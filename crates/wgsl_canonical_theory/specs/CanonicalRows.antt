@@ -7,7 +7,7 @@ use Rattle.wgsl_model.specs.Operators.{UnaryOperator.negation, BinaryOperator.su
 use Rattle.wgsl_model.specs.NamedValues.{DiagnosticSeverity.off}
 use Rattle.wgsl_model.specs.Spanned.{spanned}
 use Rattle.wgsl_model.specs.Expressions.{LiteralExpression.boolean, LiteralExpression.abstract_int, ExpressionNode, expression_node, Expression, FunctionCall.call, TypeExpression, TypeExpression.type_expression, TemplateArguments.no_template, template_of, expressions_of}
-use Rattle.wgsl_model.specs.Attributes.{OneArgument.size, NoArgument.const_attribute, Attribute.with_argument, Attribute.without_argument, Attribute.type_constraint}
+use Rattle.wgsl_model.specs.Attributes.{Attributes, OneArgument.size, NoArgument.const_attribute, Attribute.with_argument, Attribute.without_argument, Attribute.type_constraint}
 use Rattle.wgsl_model.specs.Attributed.{with_attributes, without_attributes}
 use Rattle.wgsl_model.specs.Statements as tree
 use Rattle.wgsl_model.specs.Units as units
@@ -34,6 +34,10 @@ stands s = tree.statement_node (tree.unattributed s) no_span
 
 abbrev block_of : List tree.StatementNode → tree.CompoundStatement
 block_of ss = tree.compound_statement [] (tree.statements_of ss)
+
+-- `@const`
+abbrev const_attributes : Attributes
+const_attributes = spanned (without_argument const_attribute) no_span ∷ []
 
 -- the token of an identifier, and of a whole number
 abbrev word : List ℕ → Kind
@@ -75,13 +79,16 @@ switch_tokens =
     plain KwSwitch ∷ word (codes "a") ∷ plain SymBraceLeft ∷ plain KwCase ∷ whole 1 ∷ plain SymComma ∷ plain KwDefault ∷ plain SymBraceLeft ∷ plain SymBraceRight
     ∷ plain KwCase ∷ plain KwDefault ∷ plain SymBraceLeft ∷ plain SymBraceRight ∷ plain SymBraceRight ∷ []
 
--- loop { ; continuing { ; break if true; } }
+-- loop { ; @const continuing { ; @const break if true; } }
 abbrev pub loop_tree : tree.StatementNode
-loop_tree = stands (tree.loop_statement (tree.repeat (block_of (stands tree.void ∷ [])) (tree.one_continuing (tree.continuing (block_of (stands tree.void ∷ [])) (Some (record { expression = at (Expression.literal (boolean true)) }))))))
+loop_tree = stands (tree.loop_statement (tree.repeat (block_of (stands tree.void ∷ []))
+    (tree.one_continuing (tree.continuing const_attributes (block_of (stands tree.void ∷ [])) (Some (with_attributes const_attributes (record { expression = at (Expression.literal (boolean true)) })))))))
 
--- loop { continuing { break if true; } }
+-- loop { @const continuing { @const break if true; } }
 abbrev pub loop_tokens : List Kind
-loop_tokens = plain KwLoop ∷ plain SymBraceLeft ∷ plain KwContinuing ∷ plain SymBraceLeft ∷ plain KwBreak ∷ plain KwIf ∷ plain KwTrue ∷ plain SymSemicolon ∷ plain SymBraceRight ∷ plain SymBraceRight ∷ []
+loop_tokens =
+    plain KwLoop ∷ plain SymBraceLeft ∷ plain SymAttr ∷ plain KwConst ∷ plain KwContinuing ∷ plain SymBraceLeft
+    ∷ plain SymAttr ∷ plain KwConst ∷ plain KwBreak ∷ plain KwIf ∷ plain KwTrue ∷ plain SymSemicolon ∷ plain SymBraceRight ∷ plain SymBraceRight ∷ []
 
 -- for (; ; i++) { }
 abbrev pub for_tree : tree.StatementNode
@@ -92,7 +99,7 @@ for_tokens = plain KwFor ∷ plain SymParenLeft ∷ plain SymSemicolon ∷ plain
 
 -- if a {} else if b {} else {}
 abbrev pub if_tree : tree.StatementNode
-if_tree = stands (tree.if_statement (tree.if_else (tree.if_clause (name_at (codes "a")) (block_of [])) (tree.else_ifs_of (tree.else_if_clause (name_at (codes "b")) (block_of []) ∷ [])) (tree.one_else (tree.else_clause (block_of [])))))
+if_tree = stands (tree.if_statement (tree.if_else (tree.if_clause (name_at (codes "a")) (block_of [])) (tree.else_ifs_of (tree.else_if_clause [] (name_at (codes "b")) (block_of []) ∷ [])) (tree.one_else (tree.else_clause [] (block_of [])))))
 
 abbrev pub if_tokens : List Kind
 if_tokens =

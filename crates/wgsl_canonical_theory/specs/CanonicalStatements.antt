@@ -6,6 +6,7 @@ use Rattle.wgsl_model.specs.Raw.{word_of}
 use Rattle.wgsl_model.specs.Operators.{AssignmentOperator, equal, plus_equal, minus_equal, times_equal, division_equal, modulo_equal, and_equal, or_equal, xor_equal, shift_right_assign, shift_left_assign}
 use Rattle.wgsl_model.specs.NamedValues.{AddressSpace, AccessMode, address_space_text, access_mode_text}
 use Rattle.wgsl_model.specs.Expressions.{ExpressionNode, TypeExpression}
+use Rattle.wgsl_model.specs.Attributed.{Attributed}
 use Rattle.wgsl_model.specs.Statements.{DeclarationKind, const_kind, override_kind, let_kind, var_kind, Declaration, ConstAssert, BreakIfStatement, CaseSelector, default_selector, expression_selector, StatementNode, statement_node, Statement, statement, UnattributedStatement, void, compound, assignment, increment, decrement, if_statement, switch_statement, loop_statement, for_statement, while_statement, break_statement, continue_statement, discard_statement, return_statement, function_call_statement, const_assert, declaration, CompoundStatement, compound_statement, IfStatement, if_else, IfClause, if_clause, ElseIfClause, else_if_clause, ElseClause, else_clause, SwitchStatement, switch, SwitchClause, switch_clause, LoopStatement, repeat, ContinuingStatement, continuing, ForStatement, repeat_for, WhileStatement, repeat_while, StatementNodes, no_statements, statement_before, ElseIfClauses, no_else_ifs, else_if_before, MaybeElseClause, no_else, one_else, SwitchClauses, no_clauses, clause_before, MaybeContinuing, no_continuing, one_continuing, MaybeStatement, no_statement, one_statement}
 use Rattle.wgsl_model.specs.PrintedStatements.{is_void}
 use Rattle.wgsl_canonical_theory.specs.CanonicalExpressions.{Writes, optional_tokens, list_tokens, word_token, expression_node_tokens, call_tokens, type_tokens}
@@ -59,9 +60,9 @@ abbrev pub selector_tokens : Writes CaseSelector
 selector_tokens default_selector rest = plain KwDefault ∷ rest
 selector_tokens (expression_selector e) rest = expression_node_tokens e rest
 
--- `break if` and its condition
-abbrev pub break_if_tokens : Writes BreakIfStatement
-break_if_tokens b rest = plain KwBreak ∷ (plain KwIf ∷ expression_node_tokens b.expression (plain SymSemicolon ∷ rest))
+-- `break if` and its condition, behind its attributes
+abbrev pub break_if_tokens : Writes (Attributed BreakIfStatement)
+break_if_tokens b rest = attributes_tokens b.attributes (plain KwBreak ∷ (plain KwIf ∷ expression_node_tokens b.node.expression (plain SymSemicolon ∷ rest)))
 
 -- the `;` that ends a statement, if one does
 abbrev pub end_token : Writes Statement
@@ -125,14 +126,14 @@ abbrev mutual
   else_ifs_tokens (else_if_before c cs) rest = else_if_clause_tokens c (else_ifs_tokens cs rest)
 
   pub else_if_clause_tokens : ElseIfClause → List Kind → List Kind
-  else_if_clause_tokens (else_if_clause e block) rest = plain KwElse ∷ (plain KwIf ∷ expression_node_tokens e (compound_tokens block rest))
+  else_if_clause_tokens (else_if_clause attributes e block) rest = attributes_tokens attributes (plain KwElse ∷ (plain KwIf ∷ expression_node_tokens e (compound_tokens block rest)))
 
   pub else_tokens : MaybeElseClause → List Kind → List Kind
   else_tokens no_else rest = rest
   else_tokens (one_else c) rest = else_clause_tokens c rest
 
   pub else_clause_tokens : ElseClause → List Kind → List Kind
-  else_clause_tokens (else_clause block) rest = plain KwElse ∷ compound_tokens block rest
+  else_clause_tokens (else_clause attributes block) rest = attributes_tokens attributes (plain KwElse ∷ compound_tokens block rest)
 
   pub switch_tokens : SwitchStatement → List Kind → List Kind
   switch_tokens (switch e body_attributes cs) rest =
@@ -154,7 +155,8 @@ abbrev mutual
   maybe_continuing_tokens (one_continuing c) rest = continuing_tokens c rest
 
   pub continuing_tokens : ContinuingStatement → List Kind → List Kind
-  continuing_tokens (continuing body condition) rest = plain KwContinuing ∷ opened_tokens body (optional_tokens break_if_tokens condition (plain SymBraceRight ∷ rest))
+  continuing_tokens (continuing attributes body condition) rest =
+      attributes_tokens attributes (plain KwContinuing ∷ opened_tokens body (optional_tokens break_if_tokens condition (plain SymBraceRight ∷ rest)))
 
   pub for_tokens : ForStatement → List Kind → List Kind
   for_tokens (repeat_for init condition update block) rest =

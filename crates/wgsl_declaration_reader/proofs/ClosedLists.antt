@@ -1,7 +1,8 @@
 -- Lists of one item at least whose rule ends with the list itself, read with an accumulator of what was read so far.
-use Rattle.std.proofs.Common.{◌≡◌, ℕ, Bool, true, false, cond, List, [], ◌∷◌, ◌++◌, refl, sym, ap, ap₂, ◌∙◌, append_assoc, append-nil}
+use Rattle.std.proofs.Common.{◌≡◌, ℕ, cond, List, [], ◌∷◌, ◌++◌, refl, sym, ap, ap₂, ◌∙◌, append_assoc, append-nil}
 use Rattle.grammar.specs.Tokens.{Token}
 use Rattle.grammar.specs.States.{State, Read, Read.done, Read.stop, ◌>>=◌, is_at, take}
+use Rattle.grammar.proofs.Binding.{bind_alike, bind_cond}
 
 -- ---- what a rule makes of its parts
 -- nothing, of the token that closes
@@ -19,14 +20,6 @@ past_token {A} rest m = (m >>= λ t s. rest s >>= λ a s'. done (t, a) s') >>= �
 -- the items that were read so far, and those behind them
 abbrev pub put_behind : {A : Type 0} → List A → Read (List A) → Read (List A)
 put_behind l m = m >>= λ k s. done (l ++ k) s
-
-bind_cond : {A B : Type 0} (b : Bool) (x y : Read A) (f : A → State → Read B) → (cond b x y >>= f) ≡ cond b (x >>= f) (y >>= f)
-bind_cond true x y f = refl
-bind_cond false x y f = refl
-
-bind_alike : {A B : Type 0} (m : Read A) (f g : A → State → Read B) → ((a : A) (s : State) → f a s ≡ g a s) → (m >>= f) ≡ (m >>= g)
-bind_alike (done a s) f g h = h a s
-bind_alike (stop e) f g h = refl
 
 none_behind : {A : Type 0} (l : List A) (m : Read Token) → put_behind l (closing m) ≡ (m >>= λ t s. done l s)
 none_behind l (done t s) = ap (λ x. done x s) (append-nil l)
@@ -67,6 +60,6 @@ pub further_items : {A : Type 0} (rest more : State → Read (List A)) (one : St
     (take close s >>= λ t s'. done l s')
 further_items rest more one comma close h k l s =
     ap (put_behind l) (k s) ∙ bind_cond (is_at comma s) _ _ _ ∙ ap₂ (cond (is_at comma s))
-    (past_behind l rest (take comma s) ∙ bind_alike (take comma s) _ _ (λ t s'.
+    (past_behind l rest (take comma s) ∙ bind_alike (take comma s) _ _ (λ t s' is.
     ap (put_behind l) (h s') ∙ bind_cond (is_at close s') _ _ _ ∙ ap₂ (cond (is_at close s')) (none_behind l (take close s')) (item_behind l more (one s'))))
     (none_behind l (take close s))

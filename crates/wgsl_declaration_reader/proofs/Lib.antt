@@ -2,4 +2,5 @@ pub mod ClosedLists
 pub mod Turns
 pub mod Names
 pub mod Severities
+pub mod Directives
 pub mod Hints

@@ -6,11 +6,10 @@ use Rattle.grammar.specs.Tokens.{Token}
 use Rattle.grammar.specs.States.{State, Read, Read.done, Read.stop, ◌>>=◌, is_at, take}
 use Rattle.wgsl_model.specs.Classes.{SymComma, SymSemicolon, KwEnable, KwRequires}
 use Rattle.wgsl_model.specs.TokenValues.{text_of}
-use Rattle.wgsl_model.specs.Attributed.{without_attributes}
-use Rattle.wgsl_model.specs.Units.{GlobalDirective, UnattributedDirective.enable, UnattributedDirective.requires}
+use Rattle.wgsl_model.specs.Units.{UnattributedDirective, UnattributedDirective.enable, UnattributedDirective.requires}
 use Rattle.wgsl_model.specs.UnitParts.{rule_of, texts_of}
-use Rattle.wgsl_model.specs.Symbols.{Symbol.ident, Symbol.enable_directive, Symbol.requires_directive}
-use Rattle.wgsl_grammar_theory.specs.Factored.{FactoredSymbol.of, FactoredSymbol.further, Further.name_items, Further.name_rest, Further.name_more}
+use Rattle.wgsl_model.specs.Symbols.{Symbol.ident}
+use Rattle.wgsl_grammar_theory.specs.Factored.{FactoredSymbol.of, FactoredSymbol.further, Further.name_items, Further.name_rest, Further.name_more, Further.enable_part, Further.requires_part}
 use Rattle.wgsl_grammar_theory.specs.Reader.{reader}
 use Rattle.wgsl_grammar_theory.proofs.Reader.{step}
 use Rattle.wgsl_declaration_reader.specs.Parts.{names_at}
@@ -100,32 +99,32 @@ pub names_are : (names : List (List ℕ)) (s : State) → names_from names s ≡
 unfolding names_from names_turn
 names_are names s = further_items rest more name _ _ rest_is more_is names s
 
--- ---- the directives
+-- ---- the directives, without their attributes
 -- a keyword and names
-abbrev directive_at : ℕ → (List (List ℕ) → GlobalDirective) → State → Read GlobalDirective
+abbrev directive_at : ℕ → (List (List ℕ) → UnattributedDirective) → State → Read UnattributedDirective
 directive_at keyword directive s = take keyword s >>= λ t s'. names_at s' >>= λ names s''. done (directive names) s''
 
-unfoldable pub enable_directive_at : State → Read GlobalDirective
-enable_directive_at s = directive_at KwEnable (λ names. without_attributes (enable (record { extensions = names }))) s
+unfoldable pub enable_part_at : State → Read UnattributedDirective
+enable_part_at s = directive_at KwEnable (λ names. enable (record { extensions = names })) s
 
-unfoldable pub requires_directive_at : State → Read GlobalDirective
-requires_directive_at s = directive_at KwRequires (λ names. without_attributes (requires (record { extensions = names }))) s
+unfoldable pub requires_part_at : State → Read UnattributedDirective
+requires_part_at s = directive_at KwRequires (λ names. requires (record { extensions = names })) s
 
-of_names : (directive : List (List ℕ) → GlobalDirective) (t : Token) (m : Read (List Token)) → (((m >>= λ l s. done (t, l) s) >>= λ (p : Token × List Token) s. done p.1 s) >>= λ ts s. done (directive (texts_of ts)) s)
+of_names : (directive : List (List ℕ) → UnattributedDirective) (t : Token) (m : Read (List Token)) → (((m >>= λ l s. done (t, l) s) >>= λ (p : Token × List Token) s. done p.1 s) >>= λ ts s. done (directive (texts_of ts)) s)
     ≡ (as_texts m >>= λ names s. done (directive names) s)
 of_names directive t (done l s) = refl
 of_names directive t (stop e) = refl
 
-past_keyword : (directive : List (List ℕ) → GlobalDirective) (m : Read Token) → (past_token (reader (further name_items)) m >>= λ ts s. done (directive (texts_of ts)) s)
+past_keyword : (directive : List (List ℕ) → UnattributedDirective) (m : Read Token) → (past_token (reader (further name_items)) m >>= λ ts s. done (directive (texts_of ts)) s)
     ≡ (m >>= λ t s. names_at s >>= λ names s'. done (directive names) s')
 unfolding names_at
 past_keyword directive (done t s) = of_names directive t (reader (further name_items) s)
 past_keyword directive (stop e) = refl
 
-pub enable_directive_is : (s : State) → reader (of enable_directive) s ≡ enable_directive_at s
-unfolding enable_directive_at
-enable_directive_is s = step (of enable_directive) s ∙ past_keyword (λ names. without_attributes (enable (record { extensions = names }))) (take KwEnable s)
+pub enable_part_is : (s : State) → reader (further enable_part) s ≡ enable_part_at s
+unfolding enable_part_at
+enable_part_is s = step (further enable_part) s ∙ past_keyword (λ names. enable (record { extensions = names })) (take KwEnable s)
 
-pub requires_directive_is : (s : State) → reader (of requires_directive) s ≡ requires_directive_at s
-unfolding requires_directive_at
-requires_directive_is s = step (of requires_directive) s ∙ past_keyword (λ names. without_attributes (requires (record { extensions = names }))) (take KwRequires s)
+pub requires_part_is : (s : State) → reader (further requires_part) s ≡ requires_part_at s
+unfolding requires_part_at
+requires_part_is s = step (further requires_part) s ∙ past_keyword (λ names. requires (record { extensions = names })) (take KwRequires s)

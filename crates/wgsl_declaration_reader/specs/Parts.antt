@@ -1,21 +1,15 @@
 -- What is read by the parts of rules that are no symbols of the grammar.
 use Rattle.std.specs.Prelude.{ℕ, List, Option}
 use Rattle.grammar.specs.Tokens.{Token}
-use Rattle.grammar.specs.Grammar.{Grammar.empty, Grammar.symbol}
-use Rattle.grammar.specs.Notation.{◌then◌, ◌or◌, ◌gives◌, ◌▹◌, optional}
+use Rattle.grammar.specs.Grammar.{Grammar.symbol}
+use Rattle.grammar.specs.Notation.{◌▹◌, optional}
 use Rattle.grammar.specs.States.{State, Read, Read.done, ◌>>=◌, go}
 use Rattle.wgsl_model.specs.Classes.{SymPeriod}
-use Rattle.wgsl_model.specs.Attributes.{Attributes}
-use Rattle.wgsl_model.specs.Attributed.{Attributed, with_attributes}
 use Rattle.wgsl_model.specs.UnitParts.{texts_of}
 use Rattle.wgsl_model.specs.Symbols.{Symbol.ident}
-use Rattle.wgsl_grammar_theory.specs.Factored.{FactoredRule, FactoredSymbol.of, FactoredSymbol.further, Further.name_items}
+use Rattle.wgsl_grammar_theory.specs.Factored.{FactoredSymbol.of, FactoredSymbol.further, Further.name_items}
 use Rattle.wgsl_grammar_theory.specs.Tables.{tables}
 use Rattle.wgsl_grammar_theory.specs.Reader.{reader}
-
--- what stands behind attributes that were read
-abbrev pub behind_attributes : {A : Type 0} → Attributes → FactoredRule A → State → Read (Attributed A)
-behind_attributes attributes part s = go tables reader (empty attributes then part gives λ p. with_attributes p.0 p.1) s
 
 -- list(Name) ";", as texts
 unfoldable pub names_at : State → Read (List (List ℕ))

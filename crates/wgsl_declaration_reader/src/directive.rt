@@ -4,60 +4,94 @@
 ghost use Rattle.std.specs.Prelude.{◌≡◌, ◌<◌, ◌≤◌, length, map, OnOk, IfOk, option_map, string_bytes};
 ghost use Rattle.wgsl_model.specs.TokenValues.{text_of};
 ghost use Rattle.wgsl_model.specs.Checks.{severity_of};
-ghost use Rattle.wgsl_model.specs.Symbols.{Symbol.global_directive, Symbol.enable_directive, Symbol.requires_directive, Symbol.diagnostic_severity, Symbol.diagnostic_directive};
+ghost use Rattle.wgsl_model.specs.Attributed.{with_attributes};
+ghost use Rattle.wgsl_model.specs.Symbols.{Symbol.global_directive, Symbol.diagnostic_severity};
 ghost use Rattle.wgsl_named_values.specs.View.{severity_view};
+ghost use Rattle.wgsl_attribute.specs.View.{attributes_view};
 ghost use Rattle.wgsl_unit.specs.View.{global_directive_view};
-ghost use Rattle.wgsl_grammar_theory.specs.Factored.{FactoredSymbol.of};
+ghost use Rattle.wgsl_grammar_theory.specs.Factored.{FactoredSymbol.of, FactoredSymbol.further, Further.directive_part, Further.enable_part, Further.requires_part, Further.diagnostic_part};
 ghost use Rattle.wgsl_grammar_theory.specs.Reader.{reader};
 ghost use Rattle.wgsl_cursor.specs.Reading.{state, Gives, Parses};
+ghost use Rattle.wgsl_attribute_reader.specs.Behind.{behind_attributes};
 ghost use Rattle.wgsl_declaration_reader.specs.Parts.{names_at, second_name_at};
 ghost use Rattle.wgsl_declaration_reader.specs.Names.{third_of, second_name_of, joined};
 
 use std::alloc::{AllocError, Global};
+use wgsl_attribute::Attributes;
+use wgsl_attribute_reader::parse_attributes;
 use wgsl_cursor::{Cursor, Expected, Fault};
 use wgsl_error::{Error, ErrorKind};
 use wgsl_named_values::DiagnosticSeverity;
 use wgsl_token::kind::TokenKind;
 use wgsl_unit::{DiagnosticDirective, EnableDirective, GlobalDirective, RequiresDirective};
 
-/// What begins a directive.
+/// What begins a directive, or can stand behind its attributes.
 const DIRECTIVE: Expected = Expected::OneOf(&[
+    TokenKind::SymAttr,
     TokenKind::KwDiagnostic,
     TokenKind::KwEnable,
     TokenKind::KwRequires,
 ]);
 
-/// A directive with its `;` (WGSL, "Directives"). A name in the place of a severity that is none is a checked fault
-/// where that name stands.
+/// A directive with its attributes and its `;` (WGSL, "Directives"). A name in the place of a severity that is none is a
+/// checked fault where that name stands.
 pub fn parse_global_directive(alloc: Global, tokens: &mut Cursor) -> Result<GlobalDirective, Fault>
     ensures { Parses global_directive_view result tokens.old tokens.new (reader (of global_directive)) }
 {
+    let attributes = parse_attributes(alloc, tokens)?;
+    parse_directive_part(alloc, tokens, attributes)
+}
+
+/// A directive behind its attributes.
+pub fn parse_directive_part(
+    alloc: Global,
+    tokens: &mut Cursor,
+    attributes: Attributes,
+) -> Result<GlobalDirective, Fault>
+    ensures { Parses global_directive_view result tokens.old tokens.new (behind_attributes with_attributes (attributes_view attributes.items) (reader (further directive_part))) }
+{
     if tokens.is_at(TokenKind::KwEnable) {
-        return parse_enable_directive(alloc, tokens);
+        return parse_enable_part(alloc, tokens, attributes);
     }
     if tokens.is_at(TokenKind::KwRequires) {
-        return parse_requires_directive(alloc, tokens);
+        return parse_requires_part(alloc, tokens, attributes);
     }
     if tokens.is_at(TokenKind::KwDiagnostic) {
-        return parse_diagnostic_directive(tokens);
+        return parse_diagnostic_part(tokens, attributes);
     }
     Err(tokens.refuse(DIRECTIVE))
 }
 
-fn parse_enable_directive(alloc: Global, tokens: &mut Cursor) -> Result<GlobalDirective, Fault>
-    ensures { Parses global_directive_view result tokens.old tokens.new (reader (of enable_directive)) }
+/// An `enable` behind its attributes.
+fn parse_enable_part(
+    alloc: Global,
+    tokens: &mut Cursor,
+    attributes: Attributes,
+) -> Result<GlobalDirective, Fault>
+    ensures { Parses global_directive_view result tokens.old tokens.new (behind_attributes with_attributes (attributes_view attributes.items) (reader (further enable_part))) }
 {
     tokens.expect(TokenKind::KwEnable)?;
     let extensions = parse_names(alloc, tokens)?;
-    Ok(GlobalDirective::Enable(EnableDirective { extensions }))
+    Ok(GlobalDirective::Enable(EnableDirective {
+        attributes,
+        extensions,
+    }))
 }
 
-fn parse_requires_directive(alloc: Global, tokens: &mut Cursor) -> Result<GlobalDirective, Fault>
-    ensures { Parses global_directive_view result tokens.old tokens.new (reader (of requires_directive)) }
+/// A `requires` behind its attributes.
+fn parse_requires_part(
+    alloc: Global,
+    tokens: &mut Cursor,
+    attributes: Attributes,
+) -> Result<GlobalDirective, Fault>
+    ensures { Parses global_directive_view result tokens.old tokens.new (behind_attributes with_attributes (attributes_view attributes.items) (reader (further requires_part))) }
 {
     tokens.expect(TokenKind::KwRequires)?;
     let extensions = parse_names(alloc, tokens)?;
-    Ok(GlobalDirective::Requires(RequiresDirective { extensions }))
+    Ok(GlobalDirective::Requires(RequiresDirective {
+        attributes,
+        extensions,
+    }))
 }
 
 /// Names, one at least, with a comma after each, or after each but the last, and the `;` behind them.
@@ -76,9 +110,12 @@ fn parse_names(alloc: Global, tokens: &mut Cursor) -> Result<Vec<String>, Fault>
     Ok(names)
 }
 
-/// A `diagnostic` with its severity and the name of its rule (WGSL, "Diagnostics").
-fn parse_diagnostic_directive(tokens: &mut Cursor) -> Result<GlobalDirective, Fault>
-    ensures { Parses global_directive_view result tokens.old tokens.new (reader (of diagnostic_directive)) }
+/// A `diagnostic` behind its attributes, with its severity and the name of its rule (WGSL, "Diagnostics").
+fn parse_diagnostic_part(
+    tokens: &mut Cursor,
+    attributes: Attributes,
+) -> Result<GlobalDirective, Fault>
+    ensures { Parses global_directive_view result tokens.old tokens.new (behind_attributes with_attributes (attributes_view attributes.items) (reader (further diagnostic_part))) }
 {
     let severity = parse_severity(tokens)?;
     tokens.expect(TokenKind::SymComma)?;
@@ -88,6 +125,7 @@ fn parse_diagnostic_directive(tokens: &mut Cursor) -> Result<GlobalDirective, Fa
     tokens.expect(TokenKind::SymParenRight)?;
     tokens.expect(TokenKind::SymSemicolon)?;
     Ok(GlobalDirective::Diagnostic(DiagnosticDirective {
+        attributes,
         severity,
         rule_name: join(first, second)?,
     }))

@@ -5,6 +5,6 @@ mod directive;
 mod structure;
 mod value;
 
-pub use directive::parse_global_directive;
-pub use structure::parse_struct_declaration;
-pub use value::{parse_alias_declaration, parse_const_declaration, parse_override, parse_var};
+pub use directive::{parse_directive_part, parse_global_directive};
+pub use structure::parse_struct_part;
+pub use value::{parse_alias_part, parse_const_part, parse_override_part, parse_var_part};

@@ -2,14 +2,18 @@
 #![tactic(auto, unfolding(crate::proofs::Hints::definitions), using(crate::proofs::Hints::lemmas))]
 
 ghost use Rattle.std.specs.Prelude.{map};
-ghost use Rattle.wgsl_model.specs.Symbols.{Symbol.struct_declaration, Symbol.struct_member};
+ghost use Rattle.wgsl_model.specs.Attributed.{with_attributes};
+ghost use Rattle.wgsl_model.specs.Symbols.{Symbol.struct_member};
 ghost use Rattle.wgsl_span.specs.View.{spanned_view};
+ghost use Rattle.wgsl_attribute.specs.View.{attributes_view};
 ghost use Rattle.wgsl_unit.specs.View.{global_declaration_view, member_view};
-ghost use Rattle.wgsl_grammar_theory.specs.Factored.{FactoredSymbol.of, FactoredSymbol.further, Further.member_items};
+ghost use Rattle.wgsl_grammar_theory.specs.Factored.{FactoredSymbol.of, FactoredSymbol.further, Further.struct_part, Further.member_items};
 ghost use Rattle.wgsl_grammar_theory.specs.Reader.{reader};
 ghost use Rattle.wgsl_cursor.specs.Reading.{Parses};
+ghost use Rattle.wgsl_attribute_reader.specs.Behind.{behind_attributes};
 
 use std::alloc::Global;
+use wgsl_attribute::Attributes;
 use wgsl_attribute_reader::parse_attributes;
 use wgsl_cursor::{Cursor, Fault};
 use wgsl_expression_reader::parse_type_specifier;
@@ -17,17 +21,23 @@ use wgsl_span::Spanned;
 use wgsl_token::kind::TokenKind;
 use wgsl_unit::{GlobalDeclaration, Struct, StructMember, StructMemberNode};
 
-pub fn parse_struct_declaration(
+/// A `struct` behind its attributes.
+pub fn parse_struct_part(
     alloc: Global,
     tokens: &mut Cursor,
+    attributes: Attributes,
 ) -> Result<GlobalDeclaration, Fault>
-    ensures { Parses global_declaration_view result tokens.old tokens.new (reader (of struct_declaration)) }
+    ensures { Parses global_declaration_view result tokens.old tokens.new (behind_attributes with_attributes (attributes_view attributes.items) (reader (further struct_part))) }
 {
     tokens.expect(TokenKind::KwStruct)?;
     let ident = tokens.ident()?;
     tokens.expect(TokenKind::SymBraceLeft)?;
     let members = parse_members(alloc, tokens)?;
-    Ok(GlobalDeclaration::Struct(Struct { ident, members }))
+    Ok(GlobalDeclaration::Struct(Struct {
+        attributes,
+        ident,
+        members,
+    }))
 }
 
 /// Members, one at least, with a comma after each, or after each but the last, and the `}` behind them.

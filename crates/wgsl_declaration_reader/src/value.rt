@@ -1,14 +1,13 @@
 //! Reading the declarations of values, and further names for types.
 #![tactic(auto, unfolding(crate::proofs::Hints::definitions), using(crate::proofs::Hints::lemmas))]
 
-ghost use Rattle.grammar.specs.Grammar.{Grammar.symbol};
-ghost use Rattle.wgsl_model.specs.Symbols.{Symbol.const_declaration, Symbol.alias_declaration};
+ghost use Rattle.wgsl_model.specs.Attributed.{with_attributes};
 ghost use Rattle.wgsl_attribute.specs.View.{attributes_view};
 ghost use Rattle.wgsl_unit.specs.View.{global_declaration_view};
-ghost use Rattle.wgsl_grammar_theory.specs.Factored.{FactoredSymbol.of, FactoredSymbol.further, Further.var_part, Further.override_part};
+ghost use Rattle.wgsl_grammar_theory.specs.Factored.{FactoredSymbol.further, Further.var_part, Further.override_part, Further.const_part, Further.alias_part};
 ghost use Rattle.wgsl_grammar_theory.specs.Reader.{reader};
 ghost use Rattle.wgsl_cursor.specs.Reading.{Parses};
-ghost use Rattle.wgsl_declaration_reader.specs.Parts.{behind_attributes};
+ghost use Rattle.wgsl_attribute_reader.specs.Behind.{behind_attributes};
 
 use std::alloc::Global;
 use wgsl_attribute::Attributes;
@@ -20,12 +19,12 @@ use wgsl_token::kind::TokenKind;
 use wgsl_unit::{GlobalDeclaration, TypeAlias};
 
 /// A `var` behind its attributes.
-pub fn parse_var(
+pub fn parse_var_part(
     alloc: Global,
     tokens: &mut Cursor,
     attributes: Attributes,
 ) -> Result<GlobalDeclaration, Fault>
-    ensures { Parses global_declaration_view result tokens.old tokens.new (behind_attributes (attributes_view attributes.items) (symbol (further var_part))) }
+    ensures { Parses global_declaration_view result tokens.old tokens.new (behind_attributes with_attributes (attributes_view attributes.items) (reader (further var_part))) }
 {
     let kind = parse_var_kind(alloc, tokens)?;
     let (ident, ty) = parse_typed_ident(alloc, tokens)?;
@@ -41,12 +40,12 @@ pub fn parse_var(
 }
 
 /// An `override` behind its attributes.
-pub fn parse_override(
+pub fn parse_override_part(
     alloc: Global,
     tokens: &mut Cursor,
     attributes: Attributes,
 ) -> Result<GlobalDeclaration, Fault>
-    ensures { Parses global_declaration_view result tokens.old tokens.new (behind_attributes (attributes_view attributes.items) (symbol (further override_part))) }
+    ensures { Parses global_declaration_view result tokens.old tokens.new (behind_attributes with_attributes (attributes_view attributes.items) (reader (further override_part))) }
 {
     tokens.expect(TokenKind::KwOverride)?;
     let (ident, ty) = parse_typed_ident(alloc, tokens)?;
@@ -61,11 +60,13 @@ pub fn parse_override(
     }))
 }
 
-pub fn parse_const_declaration(
+/// A `const` behind its attributes.
+pub fn parse_const_part(
     alloc: Global,
     tokens: &mut Cursor,
+    attributes: Attributes,
 ) -> Result<GlobalDeclaration, Fault>
-    ensures { Parses global_declaration_view result tokens.old tokens.new (reader (of const_declaration)) }
+    ensures { Parses global_declaration_view result tokens.old tokens.new (behind_attributes with_attributes (attributes_view attributes.items) (reader (further const_part))) }
 {
     tokens.expect(TokenKind::KwConst)?;
     let (ident, ty) = parse_typed_ident(alloc, tokens)?;
@@ -73,7 +74,7 @@ pub fn parse_const_declaration(
     let initializer = parse_expression(alloc, tokens)?;
     tokens.expect(TokenKind::SymSemicolon)?;
     Ok(GlobalDeclaration::Declaration(Declaration {
-        attributes: Vec::new(alloc),
+        attributes,
         kind: DeclarationKind::Const,
         ident,
         ty,
@@ -81,16 +82,22 @@ pub fn parse_const_declaration(
     }))
 }
 
-pub fn parse_alias_declaration(
+/// An `alias` behind its attributes.
+pub fn parse_alias_part(
     alloc: Global,
     tokens: &mut Cursor,
+    attributes: Attributes,
 ) -> Result<GlobalDeclaration, Fault>
-    ensures { Parses global_declaration_view result tokens.old tokens.new (reader (of alias_declaration)) }
+    ensures { Parses global_declaration_view result tokens.old tokens.new (behind_attributes with_attributes (attributes_view attributes.items) (reader (further alias_part))) }
 {
     tokens.expect(TokenKind::KwAlias)?;
     let ident = tokens.ident()?;
     tokens.expect(TokenKind::SymEqual)?;
     let ty = parse_type_specifier(alloc, tokens)?;
     tokens.expect(TokenKind::SymSemicolon)?;
-    Ok(GlobalDeclaration::TypeAlias(TypeAlias { ident, ty }))
+    Ok(GlobalDeclaration::TypeAlias(TypeAlias {
+        attributes,
+        ident,
+        ty,
+    }))
 }

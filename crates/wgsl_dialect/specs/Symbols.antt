@@ -1,6 +1,6 @@
 -- The symbols of the code as those of the grammar, written by tools/dialect.py.
-use Rattle.wgsl_model.specs.Symbols.{Symbol.ident, Symbol.type_specifier, Symbol.template_list, Symbol.arguments, Symbol.literal, Symbol.primary_expression, Symbol.singular_expression, Symbol.component, Symbol.unary_expression, Symbol.multiplicative_expression, Symbol.shift_expression, Symbol.relational_expression, Symbol.expression, Symbol.lhs_expression, Symbol.attribute, Symbol.compound_statement, Symbol.statement, Symbol.return_statement, Symbol.var_statement, Symbol.value_statement, Symbol.break_statement, Symbol.continue_statement, Symbol.discard_statement, Symbol.phony_assignment, Symbol.const_assert, Symbol.switch_clause, Symbol.case_selector, Symbol.continuing_statement, Symbol.for_init, Symbol.for_update, Symbol.var_template, Symbol.typed_ident, Symbol.struct_member, Symbol.formal_parameter, Symbol.global_declaration, Symbol.const_declaration, Symbol.alias_declaration, Symbol.struct_declaration, Symbol.diagnostic_severity, Symbol.global_directive, Symbol.enable_directive, Symbol.requires_directive, Symbol.diagnostic_directive, Symbol.unit}
-use Rattle.wgsl_grammar_theory.specs.Factored.{FactoredSymbol, FactoredSymbol.of, FactoredSymbol.further, Further.template_items, Further.template_rest, Further.template_more, Further.argument_rest, Further.argument_more, Further.member_items, Further.member_rest, Further.member_more, Further.parameter_rest, Further.parameter_more, Further.name_items, Further.name_rest, Further.name_more, Further.selectors, Further.components, Further.factors, Further.summands, Further.sum_rest, Further.relation_rest, Further.and_rest, Further.or_rest, Further.bitwise_and_rest, Further.bitwise_or_rest, Further.bitwise_xor_rest, Further.expression_rest, Further.attribute_list, Further.statement_rest, Further.loop_rest, Further.continuing_rest, Further.clause_rest, Further.else_rest, Further.init_part, Further.condition_part, Further.update_part, Further.if_part, Further.switch_part, Further.loop_part, Further.for_part, Further.while_part, Further.block_part, Further.left_side_rest, Further.other_left_side, Further.name_rest_statement, Further.simple_statement, Further.other_statement, Further.var_part, Further.override_part, Further.function_part, Further.directive_list, Further.declaration_list}
+use Rattle.wgsl_model.specs.Symbols.{Symbol.ident, Symbol.type_specifier, Symbol.template_list, Symbol.arguments, Symbol.literal, Symbol.primary_expression, Symbol.singular_expression, Symbol.component, Symbol.unary_expression, Symbol.multiplicative_expression, Symbol.shift_expression, Symbol.relational_expression, Symbol.expression, Symbol.lhs_expression, Symbol.attribute, Symbol.compound_statement, Symbol.statement, Symbol.switch_clause, Symbol.case_selector, Symbol.for_init, Symbol.for_update, Symbol.var_template, Symbol.typed_ident, Symbol.struct_member, Symbol.formal_parameter, Symbol.global_declaration, Symbol.diagnostic_severity, Symbol.unit}
+use Rattle.wgsl_grammar_theory.specs.Factored.{FactoredSymbol, FactoredSymbol.of, FactoredSymbol.further, Further.template_items, Further.template_rest, Further.template_more, Further.argument_rest, Further.argument_more, Further.member_items, Further.member_rest, Further.member_more, Further.parameter_rest, Further.parameter_more, Further.name_items, Further.name_rest, Further.name_more, Further.selectors, Further.components, Further.factors, Further.summands, Further.sum_rest, Further.relation_rest, Further.and_rest, Further.or_rest, Further.bitwise_and_rest, Further.bitwise_or_rest, Further.bitwise_xor_rest, Further.expression_rest, Further.attribute_list, Further.statement_rest, Further.loop_rest, Further.continuing_rest, Further.clause_rest, Further.else_rest, Further.init_part, Further.condition_part, Further.update_part, Further.if_part, Further.switch_part, Further.loop_part, Further.for_part, Further.while_part, Further.block_part, Further.braced_part, Further.returning_part, Further.local_part, Further.value_part, Further.phony_part, Further.simple_part, Further.ended_part, Further.assert_part, Further.clause_part, Further.continuing_part, Further.left_side_rest, Further.left_side_in_parentheses, Further.prefixed_left_side, Further.name_rest_statement, Further.parenthesized_statement, Further.plain_statement, Further.var_part, Further.override_part, Further.function_part, Further.const_part, Further.alias_part, Further.struct_part, Further.enable_part, Further.requires_part, Further.diagnostic_part, Further.attributed_part, Further.led_part, Further.directive_part, Further.declaration_list, Further.front}
 use Rattle.wgsl_dialect.specs.declared.symbol.Symbol.{Symbol}
 use Rattle.wgsl_dialect.specs.declared.symbol.Symbol.TheVariants as variant
 
@@ -23,17 +23,8 @@ symbol_view variant.LhsExpression = of lhs_expression
 symbol_view variant.Attribute = of attribute
 symbol_view variant.CompoundStatement = of compound_statement
 symbol_view variant.Statement = of statement
-symbol_view variant.ReturnStatement = of return_statement
-symbol_view variant.VarStatement = of var_statement
-symbol_view variant.ValueStatement = of value_statement
-symbol_view variant.BreakStatement = of break_statement
-symbol_view variant.ContinueStatement = of continue_statement
-symbol_view variant.DiscardStatement = of discard_statement
-symbol_view variant.PhonyAssignment = of phony_assignment
-symbol_view variant.ConstAssert = of const_assert
 symbol_view variant.SwitchClause = of switch_clause
 symbol_view variant.CaseSelector = of case_selector
-symbol_view variant.ContinuingStatement = of continuing_statement
 symbol_view variant.ForInit = of for_init
 symbol_view variant.ForUpdate = of for_update
 symbol_view variant.VarTemplate = of var_template
@@ -41,14 +32,7 @@ symbol_view variant.TypedIdent = of typed_ident
 symbol_view variant.StructMember = of struct_member
 symbol_view variant.FormalParameter = of formal_parameter
 symbol_view variant.GlobalDeclaration = of global_declaration
-symbol_view variant.ConstDeclaration = of const_declaration
-symbol_view variant.AliasDeclaration = of alias_declaration
-symbol_view variant.StructDeclaration = of struct_declaration
 symbol_view variant.DiagnosticSeverity = of diagnostic_severity
-symbol_view variant.GlobalDirective = of global_directive
-symbol_view variant.EnableDirective = of enable_directive
-symbol_view variant.RequiresDirective = of requires_directive
-symbol_view variant.DiagnosticDirective = of diagnostic_directive
 symbol_view variant.Unit = of unit
 symbol_view variant.TemplateItems = further template_items
 symbol_view variant.TemplateRest = further template_rest
@@ -90,13 +74,33 @@ symbol_view variant.LoopPart = further loop_part
 symbol_view variant.ForPart = further for_part
 symbol_view variant.WhilePart = further while_part
 symbol_view variant.BlockPart = further block_part
+symbol_view variant.BracedPart = further braced_part
+symbol_view variant.ReturningPart = further returning_part
+symbol_view variant.LocalPart = further local_part
+symbol_view variant.ValuePart = further value_part
+symbol_view variant.PhonyPart = further phony_part
+symbol_view variant.SimplePart = further simple_part
+symbol_view variant.EndedPart = further ended_part
+symbol_view variant.AssertPart = further assert_part
+symbol_view variant.ClausePart = further clause_part
+symbol_view variant.ContinuingPart = further continuing_part
 symbol_view variant.LeftSideRest = further left_side_rest
-symbol_view variant.OtherLeftSide = further other_left_side
+symbol_view variant.LeftSideInParentheses = further left_side_in_parentheses
+symbol_view variant.PrefixedLeftSide = further prefixed_left_side
 symbol_view variant.NameRestStatement = further name_rest_statement
-symbol_view variant.SimpleStatement = further simple_statement
-symbol_view variant.OtherStatement = further other_statement
+symbol_view variant.ParenthesizedStatement = further parenthesized_statement
+symbol_view variant.PlainStatement = further plain_statement
 symbol_view variant.VarPart = further var_part
 symbol_view variant.OverridePart = further override_part
 symbol_view variant.FunctionPart = further function_part
-symbol_view variant.DirectiveList = further directive_list
+symbol_view variant.ConstPart = further const_part
+symbol_view variant.AliasPart = further alias_part
+symbol_view variant.StructPart = further struct_part
+symbol_view variant.EnablePart = further enable_part
+symbol_view variant.RequiresPart = further requires_part
+symbol_view variant.DiagnosticPart = further diagnostic_part
+symbol_view variant.AttributedPart = further attributed_part
+symbol_view variant.LedPart = further led_part
+symbol_view variant.DirectivePart = further directive_part
 symbol_view variant.DeclarationList = further declaration_list
+symbol_view variant.Front = further front

@@ -146,7 +146,11 @@ pub const EXPRESSION: &[Step] = &[Rule(Symbol::UnaryExpression), Rule(Symbol::Ex
 pub const LHS_EXPRESSION: &[Step] = &[Choice(
     &[TokenKind::Ident, TokenKind::ReservedWord],
     &[Rule(Symbol::Ident), Rule(Symbol::Components)],
-    &[Rule(Symbol::OtherLeftSide)],
+    &[Choice(
+        &[TokenKind::SymAnd, TokenKind::SymStar],
+        &[Rule(Symbol::PrefixedLeftSide)],
+        &[Rule(Symbol::LeftSideInParentheses)],
+    )],
 )];
 
 pub const TEMPLATE_ITEMS: &[Step] = &[Rule(Symbol::Expression), Rule(Symbol::TemplateMore)];
@@ -333,17 +337,15 @@ pub const EXPRESSION_REST: &[Step] = &[Choice(
     )],
 )];
 
-pub const OTHER_LEFT_SIDE: &[Step] = &[Choice(
-    &[TokenKind::SymParenLeft],
-    &[
-        Token(&[TokenKind::SymParenLeft]),
-        Rule(Symbol::LhsExpression),
-        Token(&[TokenKind::SymParenRight]),
-        Rule(Symbol::Components),
-    ],
-    &[Choice(
-        &[TokenKind::SymStar],
-        &[Token(&[TokenKind::SymStar]), Rule(Symbol::LhsExpression)],
-        &[Token(&[TokenKind::SymAnd]), Rule(Symbol::LhsExpression)],
-    )],
+pub const LEFT_SIDE_IN_PARENTHESES: &[Step] = &[
+    Token(&[TokenKind::SymParenLeft]),
+    Rule(Symbol::LhsExpression),
+    Token(&[TokenKind::SymParenRight]),
+    Rule(Symbol::Components),
+];
+
+pub const PREFIXED_LEFT_SIDE: &[Step] = &[Choice(
+    &[TokenKind::SymStar],
+    &[Token(&[TokenKind::SymStar]), Rule(Symbol::LhsExpression)],
+    &[Token(&[TokenKind::SymAnd]), Rule(Symbol::LhsExpression)],
 )];

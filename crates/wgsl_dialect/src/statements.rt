@@ -1,5 +1,6 @@
 //! The rules of statements.
 
+use crate::begins::{BEGINS_ATTRIBUTE_LIST_BRACED_PART, BEGINS_ENDED_PART};
 use crate::step::Step::{self, Choice, Rule, Token};
 use crate::symbol::Symbol;
 use wgsl_token::kind::TokenKind;
@@ -11,97 +12,23 @@ pub const COMPOUND_STATEMENT: &[Step] = &[
 ];
 
 pub const STATEMENT: &[Step] = &[Choice(
-    &[TokenKind::KwBreak],
-    &[
-        Rule(Symbol::BreakStatement),
-        Token(&[TokenKind::SymSemicolon]),
-    ],
-    &[Rule(Symbol::OtherStatement)],
+    &[TokenKind::SymParenLeft, TokenKind::SymSemicolon],
+    &[Rule(Symbol::PlainStatement)],
+    &[Choice(
+        BEGINS_ATTRIBUTE_LIST_BRACED_PART,
+        &[Rule(Symbol::AttributeList), Rule(Symbol::BracedPart)],
+        &[Choice(
+            BEGINS_ENDED_PART,
+            &[Rule(Symbol::EndedPart)],
+            &[
+                Token(&[TokenKind::KwBreak]),
+                Token(&[TokenKind::SymSemicolon]),
+            ],
+        )],
+    )],
 )];
 
-pub const RETURN_STATEMENT: &[Step] = &[
-    Token(&[TokenKind::KwReturn]),
-    Choice(
-        &[
-            TokenKind::SymAnd,
-            TokenKind::SymBang,
-            TokenKind::SymMinus,
-            TokenKind::SymParenLeft,
-            TokenKind::SymStar,
-            TokenKind::SymTilde,
-            TokenKind::KwFalse,
-            TokenKind::KwTrue,
-            TokenKind::Ident,
-            TokenKind::ReservedWord,
-            TokenKind::AbstractInt,
-            TokenKind::I32,
-            TokenKind::U32,
-            TokenKind::AbstractFloat,
-            TokenKind::F32,
-            TokenKind::F16,
-        ],
-        &[Rule(Symbol::Expression)],
-        &[],
-    ),
-];
-
-pub const VAR_STATEMENT: &[Step] = &[
-    Rule(Symbol::VarTemplate),
-    Rule(Symbol::TypedIdent),
-    Choice(
-        &[TokenKind::SymEqual],
-        &[Token(&[TokenKind::SymEqual]), Rule(Symbol::Expression)],
-        &[],
-    ),
-];
-
-pub const VALUE_STATEMENT: &[Step] = &[
-    Choice(
-        &[TokenKind::KwLet],
-        &[Token(&[TokenKind::KwLet])],
-        &[Token(&[TokenKind::KwConst])],
-    ),
-    Rule(Symbol::TypedIdent),
-    Token(&[TokenKind::SymEqual]),
-    Rule(Symbol::Expression),
-];
-
-pub const BREAK_STATEMENT: &[Step] = &[Token(&[TokenKind::KwBreak])];
-
-pub const CONTINUE_STATEMENT: &[Step] = &[Token(&[TokenKind::KwContinue])];
-
-pub const DISCARD_STATEMENT: &[Step] = &[Token(&[TokenKind::KwDiscard])];
-
-pub const PHONY_ASSIGNMENT: &[Step] = &[
-    Token(&[TokenKind::SymUnderscore]),
-    Token(&[TokenKind::SymEqual]),
-    Rule(Symbol::Expression),
-];
-
-pub const CONST_ASSERT: &[Step] = &[Token(&[TokenKind::KwConstAssert]), Rule(Symbol::Expression)];
-
-pub const SWITCH_CLAUSE: &[Step] = &[Choice(
-    &[TokenKind::KwCase],
-    &[
-        Token(&[TokenKind::KwCase]),
-        Rule(Symbol::Selectors),
-        Choice(
-            &[TokenKind::SymColon],
-            &[Token(&[TokenKind::SymColon])],
-            &[],
-        ),
-        Rule(Symbol::CompoundStatement),
-    ],
-    &[
-        Token(&[TokenKind::KwDefault]),
-        Choice(
-            &[TokenKind::SymColon],
-            &[Token(&[TokenKind::SymColon])],
-            &[],
-        ),
-        Rule(Symbol::CompoundStatement),
-    ],
-)];
+pub const SWITCH_CLAUSE: &[Step] = &[Rule(Symbol::ClausePart)];
 
 pub const CASE_SELECTOR: &[Step] = &[Choice(
     &[TokenKind::KwDefault],
@@ -109,24 +36,25 @@ pub const CASE_SELECTOR: &[Step] = &[Choice(
     &[Rule(Symbol::Expression)],
 )];
 
-pub const CONTINUING_STATEMENT: &[Step] = &[
-    Token(&[TokenKind::KwContinuing]),
-    Rule(Symbol::AttributeList),
-    Token(&[TokenKind::SymBraceLeft]),
-    Rule(Symbol::ContinuingRest),
-];
-
 pub const FOR_INIT: &[Step] = &[Choice(
-    &[TokenKind::KwVar],
-    &[Rule(Symbol::VarStatement)],
+    &[TokenKind::SymParenLeft],
+    &[Rule(Symbol::ParenthesizedStatement)],
     &[Choice(
-        &[TokenKind::KwConst, TokenKind::KwLet],
-        &[Rule(Symbol::ValueStatement)],
-        &[Rule(Symbol::SimpleStatement)],
+        &[TokenKind::KwVar],
+        &[Rule(Symbol::LocalPart)],
+        &[Choice(
+            &[TokenKind::KwConst, TokenKind::KwLet],
+            &[Rule(Symbol::ValuePart)],
+            &[Rule(Symbol::SimplePart)],
+        )],
     )],
 )];
 
-pub const FOR_UPDATE: &[Step] = &[Rule(Symbol::SimpleStatement)];
+pub const FOR_UPDATE: &[Step] = &[Choice(
+    &[TokenKind::SymParenLeft],
+    &[Rule(Symbol::ParenthesizedStatement)],
+    &[Rule(Symbol::SimplePart)],
+)];
 
 pub const SELECTORS: &[Step] = &[
     Rule(Symbol::CaseSelector),
@@ -172,12 +100,34 @@ pub const LOOP_REST: &[Step] = &[Choice(
     &[TokenKind::SymBraceRight],
     &[Token(&[TokenKind::SymBraceRight])],
     &[Choice(
-        &[TokenKind::KwContinuing],
-        &[
-            Rule(Symbol::ContinuingStatement),
-            Token(&[TokenKind::SymBraceRight]),
-        ],
-        &[Rule(Symbol::Statement), Rule(Symbol::LoopRest)],
+        &[TokenKind::SymParenLeft, TokenKind::SymSemicolon],
+        &[Rule(Symbol::PlainStatement), Rule(Symbol::LoopRest)],
+        &[Choice(
+            BEGINS_ATTRIBUTE_LIST_BRACED_PART,
+            &[
+                Rule(Symbol::AttributeList),
+                Rule(Symbol::BracedPart),
+                Rule(Symbol::LoopRest),
+            ],
+            &[Choice(
+                &[TokenKind::KwContinuing],
+                &[
+                    Rule(Symbol::ContinuingPart),
+                    Token(&[TokenKind::SymBraceRight]),
+                ],
+                &[
+                    Choice(
+                        BEGINS_ENDED_PART,
+                        &[Rule(Symbol::EndedPart)],
+                        &[
+                            Token(&[TokenKind::KwBreak]),
+                            Token(&[TokenKind::SymSemicolon]),
+                        ],
+                    ),
+                    Rule(Symbol::LoopRest),
+                ],
+            )],
+        )],
     )],
 )];
 
@@ -185,24 +135,36 @@ pub const CONTINUING_REST: &[Step] = &[Choice(
     &[TokenKind::SymBraceRight],
     &[Token(&[TokenKind::SymBraceRight])],
     &[Choice(
-        &[TokenKind::KwBreak],
-        &[
-            Token(&[TokenKind::KwBreak]),
-            Choice(
-                &[TokenKind::SymSemicolon],
+        &[TokenKind::SymParenLeft, TokenKind::SymSemicolon],
+        &[Rule(Symbol::PlainStatement), Rule(Symbol::ContinuingRest)],
+        &[Choice(
+            BEGINS_ATTRIBUTE_LIST_BRACED_PART,
+            &[
+                Rule(Symbol::AttributeList),
+                Rule(Symbol::BracedPart),
+                Rule(Symbol::ContinuingRest),
+            ],
+            &[Choice(
+                &[TokenKind::KwBreak],
                 &[
-                    Token(&[TokenKind::SymSemicolon]),
-                    Rule(Symbol::ContinuingRest),
+                    Token(&[TokenKind::KwBreak]),
+                    Choice(
+                        &[TokenKind::SymSemicolon],
+                        &[
+                            Token(&[TokenKind::SymSemicolon]),
+                            Rule(Symbol::ContinuingRest),
+                        ],
+                        &[
+                            Token(&[TokenKind::KwIf]),
+                            Rule(Symbol::Expression),
+                            Token(&[TokenKind::SymSemicolon]),
+                            Token(&[TokenKind::SymBraceRight]),
+                        ],
+                    ),
                 ],
-                &[
-                    Token(&[TokenKind::KwIf]),
-                    Rule(Symbol::Expression),
-                    Token(&[TokenKind::SymSemicolon]),
-                    Token(&[TokenKind::SymBraceRight]),
-                ],
-            ),
-        ],
-        &[Rule(Symbol::OtherStatement), Rule(Symbol::ContinuingRest)],
+                &[Rule(Symbol::EndedPart), Rule(Symbol::ContinuingRest)],
+            )],
+        )],
     )],
 )];
 
@@ -291,6 +253,158 @@ pub const BLOCK_PART: &[Step] = &[
     Rule(Symbol::StatementRest),
 ];
 
+pub const BRACED_PART: &[Step] = &[Choice(
+    &[TokenKind::KwIf],
+    &[Rule(Symbol::IfPart)],
+    &[Choice(
+        &[TokenKind::KwSwitch],
+        &[Rule(Symbol::SwitchPart)],
+        &[Choice(
+            &[TokenKind::KwLoop],
+            &[Rule(Symbol::LoopPart)],
+            &[Choice(
+                &[TokenKind::KwFor],
+                &[Rule(Symbol::ForPart)],
+                &[Choice(
+                    &[TokenKind::KwWhile],
+                    &[Rule(Symbol::WhilePart)],
+                    &[Rule(Symbol::BlockPart)],
+                )],
+            )],
+        )],
+    )],
+)];
+
+pub const RETURNING_PART: &[Step] = &[
+    Token(&[TokenKind::KwReturn]),
+    Choice(
+        &[
+            TokenKind::SymAnd,
+            TokenKind::SymBang,
+            TokenKind::SymMinus,
+            TokenKind::SymParenLeft,
+            TokenKind::SymStar,
+            TokenKind::SymTilde,
+            TokenKind::KwFalse,
+            TokenKind::KwTrue,
+            TokenKind::Ident,
+            TokenKind::ReservedWord,
+            TokenKind::AbstractInt,
+            TokenKind::I32,
+            TokenKind::U32,
+            TokenKind::AbstractFloat,
+            TokenKind::F32,
+            TokenKind::F16,
+        ],
+        &[Rule(Symbol::Expression)],
+        &[],
+    ),
+];
+
+pub const LOCAL_PART: &[Step] = &[
+    Rule(Symbol::VarTemplate),
+    Rule(Symbol::TypedIdent),
+    Choice(
+        &[TokenKind::SymEqual],
+        &[Token(&[TokenKind::SymEqual]), Rule(Symbol::Expression)],
+        &[],
+    ),
+];
+
+pub const VALUE_PART: &[Step] = &[
+    Choice(
+        &[TokenKind::KwLet],
+        &[Token(&[TokenKind::KwLet])],
+        &[Token(&[TokenKind::KwConst])],
+    ),
+    Rule(Symbol::TypedIdent),
+    Token(&[TokenKind::SymEqual]),
+    Rule(Symbol::Expression),
+];
+
+pub const PHONY_PART: &[Step] = &[
+    Token(&[TokenKind::SymUnderscore]),
+    Token(&[TokenKind::SymEqual]),
+    Rule(Symbol::Expression),
+];
+
+pub const SIMPLE_PART: &[Step] = &[Choice(
+    &[TokenKind::Ident, TokenKind::ReservedWord],
+    &[Rule(Symbol::Ident), Rule(Symbol::NameRestStatement)],
+    &[Choice(
+        &[TokenKind::SymAnd, TokenKind::SymStar],
+        &[Rule(Symbol::PrefixedLeftSide), Rule(Symbol::LeftSideRest)],
+        &[Rule(Symbol::PhonyPart)],
+    )],
+)];
+
+pub const ENDED_PART: &[Step] = &[
+    Choice(
+        &[TokenKind::KwReturn],
+        &[Rule(Symbol::ReturningPart)],
+        &[Choice(
+            &[TokenKind::KwVar],
+            &[Rule(Symbol::LocalPart)],
+            &[Choice(
+                &[TokenKind::KwConst, TokenKind::KwLet],
+                &[Rule(Symbol::ValuePart)],
+                &[Choice(
+                    &[TokenKind::KwContinue],
+                    &[Token(&[TokenKind::KwContinue])],
+                    &[Choice(
+                        &[TokenKind::KwDiscard],
+                        &[Token(&[TokenKind::KwDiscard])],
+                        &[Choice(
+                            &[
+                                TokenKind::SymAnd,
+                                TokenKind::SymStar,
+                                TokenKind::SymUnderscore,
+                                TokenKind::Ident,
+                                TokenKind::ReservedWord,
+                            ],
+                            &[Rule(Symbol::SimplePart)],
+                            &[Rule(Symbol::AssertPart)],
+                        )],
+                    )],
+                )],
+            )],
+        )],
+    ),
+    Token(&[TokenKind::SymSemicolon]),
+];
+
+pub const ASSERT_PART: &[Step] = &[Token(&[TokenKind::KwConstAssert]), Rule(Symbol::Expression)];
+
+pub const CLAUSE_PART: &[Step] = &[Choice(
+    &[TokenKind::KwCase],
+    &[
+        Token(&[TokenKind::KwCase]),
+        Rule(Symbol::Selectors),
+        Choice(
+            &[TokenKind::SymColon],
+            &[Token(&[TokenKind::SymColon])],
+            &[],
+        ),
+        Rule(Symbol::CompoundStatement),
+    ],
+    &[
+        Token(&[TokenKind::KwDefault]),
+        Choice(
+            &[TokenKind::SymColon],
+            &[Token(&[TokenKind::SymColon])],
+            &[],
+        ),
+        Rule(Symbol::CompoundStatement),
+    ],
+)];
+
+pub const CONTINUING_PART: &[Step] = &[
+    Token(&[TokenKind::KwContinuing]),
+    Rule(Symbol::AttributeList),
+    Token(&[TokenKind::SymBraceLeft]),
+    Rule(Symbol::ContinuingRest),
+];
+
 pub const LEFT_SIDE_REST: &[Step] = &[Choice(
     &[
         TokenKind::SymEqual,
@@ -369,106 +483,16 @@ pub const NAME_REST_STATEMENT: &[Step] = &[Choice(
     &[Rule(Symbol::Components), Rule(Symbol::LeftSideRest)],
 )];
 
-pub const SIMPLE_STATEMENT: &[Step] = &[Choice(
-    &[TokenKind::Ident, TokenKind::ReservedWord],
-    &[Rule(Symbol::Ident), Rule(Symbol::NameRestStatement)],
-    &[Choice(
-        &[
-            TokenKind::SymAnd,
-            TokenKind::SymParenLeft,
-            TokenKind::SymStar,
-        ],
-        &[Rule(Symbol::OtherLeftSide), Rule(Symbol::LeftSideRest)],
-        &[Rule(Symbol::PhonyAssignment)],
-    )],
-)];
+pub const PARENTHESIZED_STATEMENT: &[Step] = &[
+    Rule(Symbol::LeftSideInParentheses),
+    Rule(Symbol::LeftSideRest),
+];
 
-pub const OTHER_STATEMENT: &[Step] = &[Choice(
+pub const PLAIN_STATEMENT: &[Step] = &[Choice(
     &[TokenKind::SymSemicolon],
     &[Token(&[TokenKind::SymSemicolon])],
-    &[Choice(
-        &[TokenKind::KwReturn],
-        &[
-            Rule(Symbol::ReturnStatement),
-            Token(&[TokenKind::SymSemicolon]),
-        ],
-        &[Choice(
-            &[
-                TokenKind::SymAttr,
-                TokenKind::KwIf,
-                TokenKind::KwSwitch,
-                TokenKind::KwLoop,
-                TokenKind::KwFor,
-                TokenKind::KwWhile,
-                TokenKind::SymBraceLeft,
-            ],
-            &[
-                Rule(Symbol::AttributeList),
-                Choice(
-                    &[TokenKind::KwIf],
-                    &[Rule(Symbol::IfPart)],
-                    &[Choice(
-                        &[TokenKind::KwSwitch],
-                        &[Rule(Symbol::SwitchPart)],
-                        &[Choice(
-                            &[TokenKind::KwLoop],
-                            &[Rule(Symbol::LoopPart)],
-                            &[Choice(
-                                &[TokenKind::KwFor],
-                                &[Rule(Symbol::ForPart)],
-                                &[Choice(
-                                    &[TokenKind::KwWhile],
-                                    &[Rule(Symbol::WhilePart)],
-                                    &[Rule(Symbol::BlockPart)],
-                                )],
-                            )],
-                        )],
-                    )],
-                ),
-            ],
-            &[Choice(
-                &[TokenKind::KwVar],
-                &[
-                    Rule(Symbol::VarStatement),
-                    Token(&[TokenKind::SymSemicolon]),
-                ],
-                &[Choice(
-                    &[TokenKind::KwConst, TokenKind::KwLet],
-                    &[
-                        Rule(Symbol::ValueStatement),
-                        Token(&[TokenKind::SymSemicolon]),
-                    ],
-                    &[Choice(
-                        &[TokenKind::KwContinue],
-                        &[
-                            Rule(Symbol::ContinueStatement),
-                            Token(&[TokenKind::SymSemicolon]),
-                        ],
-                        &[Choice(
-                            &[TokenKind::KwDiscard],
-                            &[
-                                Rule(Symbol::DiscardStatement),
-                                Token(&[TokenKind::SymSemicolon]),
-                            ],
-                            &[Choice(
-                                &[
-                                    TokenKind::SymAnd,
-                                    TokenKind::SymParenLeft,
-                                    TokenKind::SymStar,
-                                    TokenKind::SymUnderscore,
-                                    TokenKind::Ident,
-                                    TokenKind::ReservedWord,
-                                ],
-                                &[
-                                    Rule(Symbol::SimpleStatement),
-                                    Token(&[TokenKind::SymSemicolon]),
-                                ],
-                                &[Rule(Symbol::ConstAssert), Token(&[TokenKind::SymSemicolon])],
-                            )],
-                        )],
-                    )],
-                )],
-            )],
-        )],
-    )],
+    &[
+        Rule(Symbol::ParenthesizedStatement),
+        Token(&[TokenKind::SymSemicolon]),
+    ],
 )];

@@ -1,5 +1,6 @@
 //! The rules of attributes, declarations, directives and units.
 
+use crate::begins::BEGINS_ATTRIBUTE_LIST_ATTRIBUTED_PART;
 use crate::step::Step::{self, Choice, Repeat, Rule, Token};
 use crate::symbol::Symbol;
 use wgsl_token::kind::TokenKind;
@@ -46,62 +47,11 @@ pub const GLOBAL_DECLARATION: &[Step] = &[Choice(
     &[TokenKind::SymSemicolon],
     &[Token(&[TokenKind::SymSemicolon])],
     &[Choice(
-        &[
-            TokenKind::SymAttr,
-            TokenKind::KwVar,
-            TokenKind::KwOverride,
-            TokenKind::KwFn,
-        ],
-        &[
-            Rule(Symbol::AttributeList),
-            Choice(
-                &[TokenKind::KwVar],
-                &[Rule(Symbol::VarPart)],
-                &[Choice(
-                    &[TokenKind::KwOverride],
-                    &[Rule(Symbol::OverridePart)],
-                    &[Rule(Symbol::FunctionPart)],
-                )],
-            ),
-        ],
-        &[Choice(
-            &[TokenKind::KwConst],
-            &[Rule(Symbol::ConstDeclaration)],
-            &[Choice(
-                &[TokenKind::KwAlias],
-                &[Rule(Symbol::AliasDeclaration)],
-                &[Choice(
-                    &[TokenKind::KwStruct],
-                    &[Rule(Symbol::StructDeclaration)],
-                    &[Rule(Symbol::ConstAssert), Token(&[TokenKind::SymSemicolon])],
-                )],
-            )],
-        )],
+        BEGINS_ATTRIBUTE_LIST_ATTRIBUTED_PART,
+        &[Rule(Symbol::AttributeList), Rule(Symbol::AttributedPart)],
+        &[Rule(Symbol::LedPart)],
     )],
 )];
-
-pub const CONST_DECLARATION: &[Step] = &[
-    Token(&[TokenKind::KwConst]),
-    Rule(Symbol::TypedIdent),
-    Token(&[TokenKind::SymEqual]),
-    Rule(Symbol::Expression),
-    Token(&[TokenKind::SymSemicolon]),
-];
-
-pub const ALIAS_DECLARATION: &[Step] = &[
-    Token(&[TokenKind::KwAlias]),
-    Rule(Symbol::Ident),
-    Token(&[TokenKind::SymEqual]),
-    Rule(Symbol::TypeSpecifier),
-    Token(&[TokenKind::SymSemicolon]),
-];
-
-pub const STRUCT_DECLARATION: &[Step] = &[
-    Token(&[TokenKind::KwStruct]),
-    Rule(Symbol::Ident),
-    Token(&[TokenKind::SymBraceLeft]),
-    Rule(Symbol::MemberItems),
-];
 
 pub const DIAGNOSTIC_SEVERITY: &[Step] = &[
     Token(&[TokenKind::KwDiagnostic]),
@@ -109,39 +59,7 @@ pub const DIAGNOSTIC_SEVERITY: &[Step] = &[
     Rule(Symbol::Ident),
 ];
 
-pub const GLOBAL_DIRECTIVE: &[Step] = &[Choice(
-    &[TokenKind::KwEnable],
-    &[Rule(Symbol::EnableDirective)],
-    &[Choice(
-        &[TokenKind::KwRequires],
-        &[Rule(Symbol::RequiresDirective)],
-        &[Rule(Symbol::DiagnosticDirective)],
-    )],
-)];
-
-pub const ENABLE_DIRECTIVE: &[Step] = &[Token(&[TokenKind::KwEnable]), Rule(Symbol::NameItems)];
-
-pub const REQUIRES_DIRECTIVE: &[Step] = &[Token(&[TokenKind::KwRequires]), Rule(Symbol::NameItems)];
-
-pub const DIAGNOSTIC_DIRECTIVE: &[Step] = &[
-    Rule(Symbol::DiagnosticSeverity),
-    Token(&[TokenKind::SymComma]),
-    Rule(Symbol::Ident),
-    Choice(
-        &[TokenKind::SymPeriod],
-        &[Token(&[TokenKind::SymPeriod]), Rule(Symbol::Ident)],
-        &[],
-    ),
-    Choice(
-        &[TokenKind::SymComma],
-        &[Token(&[TokenKind::SymComma])],
-        &[],
-    ),
-    Token(&[TokenKind::SymParenRight]),
-    Token(&[TokenKind::SymSemicolon]),
-];
-
-pub const UNIT: &[Step] = &[Rule(Symbol::DirectiveList), Rule(Symbol::DeclarationList)];
+pub const UNIT: &[Step] = &[Rule(Symbol::Front)];
 
 pub const MEMBER_ITEMS: &[Step] = &[Rule(Symbol::StructMember), Rule(Symbol::MemberMore)];
 
@@ -224,13 +142,83 @@ pub const FUNCTION_PART: &[Step] = &[
     Rule(Symbol::CompoundStatement),
 ];
 
-pub const DIRECTIVE_LIST: &[Step] = &[Repeat(
-    &[
-        TokenKind::KwDiagnostic,
-        TokenKind::KwEnable,
-        TokenKind::KwRequires,
-    ],
-    &[Rule(Symbol::GlobalDirective)],
+pub const CONST_PART: &[Step] = &[
+    Token(&[TokenKind::KwConst]),
+    Rule(Symbol::TypedIdent),
+    Token(&[TokenKind::SymEqual]),
+    Rule(Symbol::Expression),
+    Token(&[TokenKind::SymSemicolon]),
+];
+
+pub const ALIAS_PART: &[Step] = &[
+    Token(&[TokenKind::KwAlias]),
+    Rule(Symbol::Ident),
+    Token(&[TokenKind::SymEqual]),
+    Rule(Symbol::TypeSpecifier),
+    Token(&[TokenKind::SymSemicolon]),
+];
+
+pub const STRUCT_PART: &[Step] = &[
+    Token(&[TokenKind::KwStruct]),
+    Rule(Symbol::Ident),
+    Token(&[TokenKind::SymBraceLeft]),
+    Rule(Symbol::MemberItems),
+];
+
+pub const ENABLE_PART: &[Step] = &[Token(&[TokenKind::KwEnable]), Rule(Symbol::NameItems)];
+
+pub const REQUIRES_PART: &[Step] = &[Token(&[TokenKind::KwRequires]), Rule(Symbol::NameItems)];
+
+pub const DIAGNOSTIC_PART: &[Step] = &[
+    Rule(Symbol::DiagnosticSeverity),
+    Token(&[TokenKind::SymComma]),
+    Rule(Symbol::Ident),
+    Choice(
+        &[TokenKind::SymPeriod],
+        &[Token(&[TokenKind::SymPeriod]), Rule(Symbol::Ident)],
+        &[],
+    ),
+    Choice(
+        &[TokenKind::SymComma],
+        &[Token(&[TokenKind::SymComma])],
+        &[],
+    ),
+    Token(&[TokenKind::SymParenRight]),
+    Token(&[TokenKind::SymSemicolon]),
+];
+
+pub const ATTRIBUTED_PART: &[Step] = &[Choice(
+    &[TokenKind::KwVar],
+    &[Rule(Symbol::VarPart)],
+    &[Choice(
+        &[TokenKind::KwOverride],
+        &[Rule(Symbol::OverridePart)],
+        &[Rule(Symbol::FunctionPart)],
+    )],
+)];
+
+pub const LED_PART: &[Step] = &[Choice(
+    &[TokenKind::KwConst],
+    &[Rule(Symbol::ConstPart)],
+    &[Choice(
+        &[TokenKind::KwAlias],
+        &[Rule(Symbol::AliasPart)],
+        &[Choice(
+            &[TokenKind::KwStruct],
+            &[Rule(Symbol::StructPart)],
+            &[Rule(Symbol::AssertPart), Token(&[TokenKind::SymSemicolon])],
+        )],
+    )],
+)];
+
+pub const DIRECTIVE_PART: &[Step] = &[Choice(
+    &[TokenKind::KwEnable],
+    &[Rule(Symbol::EnablePart)],
+    &[Choice(
+        &[TokenKind::KwRequires],
+        &[Rule(Symbol::RequiresPart)],
+        &[Rule(Symbol::DiagnosticPart)],
+    )],
 )];
 
 pub const DECLARATION_LIST: &[Step] = &[Repeat(
@@ -246,4 +234,45 @@ pub const DECLARATION_LIST: &[Step] = &[Repeat(
         TokenKind::KwVar,
     ],
     &[Rule(Symbol::GlobalDeclaration)],
+)];
+
+pub const FRONT: &[Step] = &[Choice(
+    &[TokenKind::SymSemicolon],
+    &[
+        Token(&[TokenKind::SymSemicolon]),
+        Rule(Symbol::DeclarationList),
+    ],
+    &[Choice(
+        &[
+            TokenKind::SymAttr,
+            TokenKind::KwFn,
+            TokenKind::KwOverride,
+            TokenKind::KwVar,
+            TokenKind::KwDiagnostic,
+            TokenKind::KwEnable,
+            TokenKind::KwRequires,
+            TokenKind::KwAlias,
+            TokenKind::KwConst,
+            TokenKind::KwConstAssert,
+            TokenKind::KwStruct,
+        ],
+        &[Choice(
+            BEGINS_ATTRIBUTE_LIST_ATTRIBUTED_PART,
+            &[
+                Rule(Symbol::AttributeList),
+                Rule(Symbol::AttributedPart),
+                Rule(Symbol::DeclarationList),
+            ],
+            &[Choice(
+                &[
+                    TokenKind::KwDiagnostic,
+                    TokenKind::KwEnable,
+                    TokenKind::KwRequires,
+                ],
+                &[Rule(Symbol::DirectivePart), Rule(Symbol::Front)],
+                &[Rule(Symbol::LedPart), Rule(Symbol::DeclarationList)],
+            )],
+        )],
+        &[],
+    )],
 )];

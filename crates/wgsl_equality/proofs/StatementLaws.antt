@@ -1,21 +1,38 @@
 -- The code of a statement has all but its spans.
 use Rattle.std.specs.Prelude.{true, [], ◌∷◌, ◌≡◌, ◌↔◌}
 use Rattle.std.proofs.Common.{refl, ap}
-use Rattle.wgsl_model.specs.Statements.{StatementNode, statement_node, Statement, statement, UnattributedStatement, void, compound, assignment, increment, decrement, if_statement, switch_statement, loop_statement, for_statement, while_statement, break_statement, continue_statement, discard_statement, return_statement, function_call_statement, UnattributedStatement.const_assert, UnattributedStatement.declaration, CompoundStatement, compound_statement, IfStatement, if_else, IfClause, if_clause, ElseIfClause, else_if_clause, ElseClause, else_clause, SwitchStatement, switch, SwitchClause, switch_clause, LoopStatement, repeat, ContinuingStatement, continuing, ForStatement, repeat_for, WhileStatement, repeat_while, StatementNodes, no_statements, statement_before, ElseIfClauses, no_else_ifs, else_if_before, MaybeElseClause, no_else, one_else, SwitchClauses, no_clauses, clause_before, MaybeContinuing, no_continuing, one_continuing, MaybeStatement, no_statement, one_statement}
+use Rattle.wgsl_model.specs.Attributed.{Attributed, with_attributes}
+use Rattle.wgsl_model.specs.Statements.{BreakIfStatement, StatementNode, statement_node, Statement, statement, UnattributedStatement, void, compound, assignment, increment, decrement, if_statement, switch_statement, loop_statement, for_statement, while_statement, break_statement, continue_statement, discard_statement, return_statement, function_call_statement, UnattributedStatement.const_assert, UnattributedStatement.declaration, CompoundStatement, compound_statement, IfStatement, if_else, IfClause, if_clause, ElseIfClause, else_if_clause, ElseClause, else_clause, SwitchStatement, switch, SwitchClause, switch_clause, LoopStatement, repeat, ContinuingStatement, continuing, ForStatement, repeat_for, WhileStatement, repeat_while, StatementNodes, no_statements, statement_before, ElseIfClauses, no_else_ifs, else_if_before, MaybeElseClause, no_else, one_else, SwitchClauses, no_clauses, clause_before, MaybeContinuing, no_continuing, one_continuing, MaybeStatement, no_statement, one_statement}
 use Rattle.wgsl_model.specs.WithoutSpans.{no_span, bare_expression_node}
-use Rattle.wgsl_model.specs.StatementsWithoutSpans.{bare_break_if, bare_selector, bare_statement, bare_unattributed, bare_statement_node, bare_statements, bare_compound, bare_if, bare_if_clause, bare_else_if_clause, bare_else_ifs, bare_else_clause, bare_else, bare_switch, bare_clauses, bare_switch_clause, bare_loop, bare_maybe_continuing, bare_continuing, bare_for, bare_part, bare_while}
+use Rattle.wgsl_model.specs.StatementsWithoutSpans.{bare_attributed, bare_break_if, bare_selector, bare_statement, bare_unattributed, bare_statement_node, bare_statements, bare_compound, bare_if, bare_if_clause, bare_else_if_clause, bare_else_ifs, bare_else_clause, bare_else, bare_switch, bare_clauses, bare_switch_clause, bare_loop, bare_maybe_continuing, bare_continuing, bare_for, bare_part, bare_while}
 use Rattle.wgsl_equality.specs.Code.{Code, number, pair, same}
 use Rattle.wgsl_equality.specs.Laws.{same_is}
 use Rattle.wgsl_equality.specs.Expressions.{expression_node_code}
-use Rattle.wgsl_equality.specs.Declarations.{break_if_code, selector_code}
+use Rattle.wgsl_equality.specs.Declarations.{attributed_code, break_if_code, selector_code}
 use Rattle.wgsl_equality.specs.Statements.{statement_code, unattributed_code, statement_node_code, statements_code, compound_code, if_code, if_clause_code, else_if_clause_code, else_ifs_code, else_clause_code, else_code, switch_code, clauses_code, switch_clause_code, loop_code, maybe_continuing_code, continuing_code, for_code, part_code, while_code}
 use Rattle.wgsl_equality.proofs.Parts.{value_at, number_of, option_of, option_decoded, option_coded, list_of, list_decoded, list_coded}
 use Rattle.wgsl_equality.proofs.ExpressionLaws.{node_of, node_decoded, node_coded}
-use Rattle.wgsl_equality.proofs.AttributeLaws.{attributes_of, attributes_decoded, attributes_coded}
-use Rattle.wgsl_equality.proofs.DeclarationLaws.{declaration_of, declaration_decoded, declaration_coded, assignment_of, assignment_decoded, assignment_coded, increment_of, increment_decoded, increment_coded, decrement_of, decrement_decoded, decrement_coded, return_of, return_decoded, return_coded, call_statement_of, call_statement_decoded, call_statement_coded, assert_of, assert_decoded, assert_coded, break_if_of, break_if_decoded, break_if_coded, selector_of, selector_decoded, selector_coded}
+use Rattle.wgsl_equality.proofs.AttributeLaws.{first_of, second_of, attributes_of, attributes_decoded, attributes_coded}
+use Rattle.wgsl_equality.proofs.DeclarationLaws.{attributed_decoded, attributed_coded, declaration_of, declaration_decoded, declaration_coded, assignment_of, assignment_decoded, assignment_coded, increment_of, increment_decoded, increment_coded, decrement_of, decrement_decoded, decrement_coded, return_of, return_decoded, return_coded, call_statement_of, call_statement_decoded, call_statement_coded, assert_of, assert_decoded, assert_coded, break_if_of, break_if_decoded, break_if_coded, selector_of, selector_decoded, selector_coded}
 
 abbrev nowhere : Statement → StatementNode
 nowhere s = statement_node s no_span
+
+-- a `break if` behind its attributes
+abbrev break_if_at_code : Attributed BreakIfStatement → Code
+break_if_at_code = attributed_code break_if_code
+
+abbrev bare_break_if_at : Attributed BreakIfStatement → Attributed BreakIfStatement
+bare_break_if_at = bare_attributed bare_break_if
+
+abbrev break_if_at_of : Code → Attributed BreakIfStatement
+break_if_at_of c = with_attributes (attributes_of (second_of c)) (break_if_of (first_of c))
+
+break_if_at_decoded : (b : Attributed BreakIfStatement) → break_if_at_of (break_if_at_code b) ≡ bare_break_if_at b
+break_if_at_decoded = attributed_decoded break_if_code bare_break_if break_if_of break_if_decoded
+
+break_if_at_coded : (b : Attributed BreakIfStatement) → break_if_at_code (bare_break_if_at b) ≡ break_if_at_code b
+break_if_at_coded = attributed_coded break_if_code bare_break_if break_if_coded
 
 -- the tree of a code, its spans all set aside
 abbrev mutual
@@ -61,15 +78,19 @@ abbrev mutual
   if_clause_of c = if_clause (node_of c) (compound_statement [] no_statements)
 
   else_if_clause_of : Code → ElseIfClause
-  else_if_clause_of (pair e block) = else_if_clause (node_of e) (compound_of block)
-  else_if_clause_of c = else_if_clause (node_of c) (compound_statement [] no_statements)
+  else_if_clause_of (pair a (pair e block)) = else_if_clause (attributes_of a) (node_of e) (compound_of block)
+  else_if_clause_of c = else_if_clause [] (node_of c) (compound_statement [] no_statements)
 
   else_ifs_of : Code → ElseIfClauses
   else_ifs_of (pair c cs) = else_if_before (else_if_clause_of c) (else_ifs_of cs)
   else_ifs_of c = no_else_ifs
 
+  else_clause_of : Code → ElseClause
+  else_clause_of (pair a block) = else_clause (attributes_of a) (compound_of block)
+  else_clause_of c = else_clause [] (compound_statement [] no_statements)
+
   else_of : Code → MaybeElseClause
-  else_of (pair n c) = one_else (else_clause (compound_of c))
+  else_of (pair n c) = one_else (else_clause_of c)
   else_of c = no_else
 
   switch_of : Code → SwitchStatement
@@ -93,8 +114,8 @@ abbrev mutual
   maybe_continuing_of c = no_continuing
 
   continuing_of : Code → ContinuingStatement
-  continuing_of (pair body condition) = continuing (compound_of body) (option_of break_if_of condition)
-  continuing_of c = continuing (compound_statement [] no_statements) (option_of break_if_of c)
+  continuing_of (pair a (pair body condition)) = continuing (attributes_of a) (compound_of body) (option_of break_if_at_of condition)
+  continuing_of c = continuing [] (compound_statement [] no_statements) (option_of break_if_at_of c)
 
   for_of : Code → ForStatement
   for_of (pair init (pair condition (pair update block))) = repeat_for (part_of init) (option_of node_of condition) (part_of update) (compound_of block)
@@ -148,14 +169,14 @@ mutual
   if_clause_decoded (if_clause e block) = λ i. if_clause (node_decoded e i) (compound_decoded block i)
 
   else_if_clause_decoded : (c : ElseIfClause) → else_if_clause_of (else_if_clause_code c) ≡ bare_else_if_clause c
-  else_if_clause_decoded (else_if_clause e block) = λ i. else_if_clause (node_decoded e i) (compound_decoded block i)
+  else_if_clause_decoded (else_if_clause attributes e block) = λ i. else_if_clause (attributes_decoded attributes i) (node_decoded e i) (compound_decoded block i)
 
   else_ifs_decoded : (cs : ElseIfClauses) → else_ifs_of (else_ifs_code cs) ≡ bare_else_ifs cs
   else_ifs_decoded no_else_ifs = refl
   else_ifs_decoded (else_if_before c cs) = λ i. else_if_before (else_if_clause_decoded c i) (else_ifs_decoded cs i)
 
-  else_clause_decoded : (c : ElseClause) → else_clause (compound_of (else_clause_code c)) ≡ bare_else_clause c
-  else_clause_decoded (else_clause block) = λ i. else_clause (compound_decoded block i)
+  else_clause_decoded : (c : ElseClause) → else_clause_of (else_clause_code c) ≡ bare_else_clause c
+  else_clause_decoded (else_clause attributes block) = λ i. else_clause (attributes_decoded attributes i) (compound_decoded block i)
 
   else_decoded : (c : MaybeElseClause) → else_of (else_code c) ≡ bare_else c
   else_decoded no_else = refl
@@ -180,7 +201,8 @@ mutual
   maybe_continuing_decoded (one_continuing c) = λ i. one_continuing (continuing_decoded c i)
 
   continuing_decoded : (c : ContinuingStatement) → continuing_of (continuing_code c) ≡ bare_continuing c
-  continuing_decoded (continuing body condition) = λ i. continuing (compound_decoded body i) (option_decoded break_if_code break_if_of bare_break_if break_if_decoded condition i)
+  continuing_decoded (continuing attributes body condition) =
+      λ i. continuing (attributes_decoded attributes i) (compound_decoded body i) (option_decoded break_if_at_code break_if_at_of bare_break_if_at break_if_at_decoded condition i)
 
   for_decoded : (s : ForStatement) → for_of (for_code s) ≡ bare_for s
   for_decoded (repeat_for init condition update block) = λ i. repeat_for (part_decoded init i) (option_decoded expression_node_code node_of bare_expression_node node_decoded condition i) (part_decoded update i) (compound_decoded block i)
@@ -232,14 +254,14 @@ mutual
   if_clause_coded (if_clause e block) = λ i. pair (node_coded e i) (compound_coded block i)
 
   else_if_clause_coded : (c : ElseIfClause) → else_if_clause_code (bare_else_if_clause c) ≡ else_if_clause_code c
-  else_if_clause_coded (else_if_clause e block) = λ i. pair (node_coded e i) (compound_coded block i)
+  else_if_clause_coded (else_if_clause attributes e block) = λ i. pair (attributes_coded attributes i) (pair (node_coded e i) (compound_coded block i))
 
   else_ifs_coded : (cs : ElseIfClauses) → else_ifs_code (bare_else_ifs cs) ≡ else_ifs_code cs
   else_ifs_coded no_else_ifs = refl
   else_ifs_coded (else_if_before c cs) = λ i. pair (else_if_clause_coded c i) (else_ifs_coded cs i)
 
   else_clause_coded : (c : ElseClause) → else_clause_code (bare_else_clause c) ≡ else_clause_code c
-  else_clause_coded (else_clause block) = compound_coded block
+  else_clause_coded (else_clause attributes block) = λ i. pair (attributes_coded attributes i) (compound_coded block i)
 
   else_coded : (c : MaybeElseClause) → else_code (bare_else c) ≡ else_code c
   else_coded no_else = refl
@@ -264,7 +286,8 @@ mutual
   maybe_continuing_coded (one_continuing c) = λ i. pair (number 0) (continuing_coded c i)
 
   continuing_coded : (c : ContinuingStatement) → continuing_code (bare_continuing c) ≡ continuing_code c
-  continuing_coded (continuing body condition) = λ i. pair (compound_coded body i) (option_coded break_if_code bare_break_if break_if_coded condition i)
+  continuing_coded (continuing attributes body condition) =
+      λ i. pair (attributes_coded attributes i) (pair (compound_coded body i) (option_coded break_if_at_code bare_break_if_at break_if_at_coded condition i))
 
   for_coded : (s : ForStatement) → for_code (bare_for s) ≡ for_code s
   for_coded (repeat_for init condition update block) = λ i. pair (part_coded init i) (pair (option_coded expression_node_code bare_expression_node node_coded condition i) (pair (part_coded update i) (compound_coded block i)))
@@ -284,7 +307,7 @@ pub statement_nodes_equal : (a b : StatementNode) → (same (statement_node_code
 statement_nodes_equal = same_is statement_node_code (λ c. nowhere (statement_of c)) bare_statement_node statement_node_decoded statement_node_coded
 
 pub else_clauses_equal : (a b : ElseClause) → (same (else_clause_code a) (else_clause_code b) ≡ true) ↔ (bare_else_clause a ≡ bare_else_clause b)
-else_clauses_equal = same_is else_clause_code (λ c. else_clause (compound_of c)) bare_else_clause else_clause_decoded else_clause_coded
+else_clauses_equal = same_is else_clause_code else_clause_of bare_else_clause else_clause_decoded else_clause_coded
 
 pub compounds_equal : (a b : CompoundStatement) → (same (compound_code a) (compound_code b) ≡ true) ↔ (bare_compound a ≡ bare_compound b)
 compounds_equal = same_is compound_code compound_of bare_compound compound_decoded compound_coded

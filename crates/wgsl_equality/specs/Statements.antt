@@ -3,7 +3,7 @@ use Rattle.wgsl_model.specs.Statements.{StatementNode, statement_node, Statement
 use Rattle.wgsl_equality.specs.Code.{Code, number, pair, list_code, option_code}
 use Rattle.wgsl_equality.specs.Expressions.{expression_node_code}
 use Rattle.wgsl_equality.specs.Attributes.{attributes_code}
-use Rattle.wgsl_equality.specs.Declarations.{declaration_code, assignment_code, increment_code, decrement_code, return_code, call_statement_code, assert_code, break_if_code, selector_code}
+use Rattle.wgsl_equality.specs.Declarations.{attributed_code, declaration_code, assignment_code, increment_code, decrement_code, return_code, call_statement_code, assert_code, break_if_code, selector_code}
 
 abbrev mutual
   pub statement_code : Statement → Code
@@ -45,14 +45,14 @@ abbrev mutual
   if_clause_code (if_clause e block) = pair (expression_node_code e) (compound_code block)
 
   pub else_if_clause_code : ElseIfClause → Code
-  else_if_clause_code (else_if_clause e block) = pair (expression_node_code e) (compound_code block)
+  else_if_clause_code (else_if_clause attributes e block) = pair (attributes_code attributes) (pair (expression_node_code e) (compound_code block))
 
   pub else_ifs_code : ElseIfClauses → Code
   else_ifs_code no_else_ifs = number 0
   else_ifs_code (else_if_before c cs) = pair (else_if_clause_code c) (else_ifs_code cs)
 
   pub else_clause_code : ElseClause → Code
-  else_clause_code (else_clause block) = compound_code block
+  else_clause_code (else_clause attributes block) = pair (attributes_code attributes) (compound_code block)
 
   pub else_code : MaybeElseClause → Code
   else_code no_else = number 0
@@ -76,7 +76,7 @@ abbrev mutual
   maybe_continuing_code (one_continuing c) = pair (number 0) (continuing_code c)
 
   pub continuing_code : ContinuingStatement → Code
-  continuing_code (continuing body condition) = pair (compound_code body) (option_code break_if_code condition)
+  continuing_code (continuing attributes body condition) = pair (attributes_code attributes) (pair (compound_code body) (option_code (attributed_code break_if_code) condition))
 
   pub for_code : ForStatement → Code
   for_code (repeat_for init condition update block) = pair (part_code init) (pair (option_code expression_node_code condition) (pair (part_code update) (compound_code block)))

@@ -1,18 +1,7 @@
 -- What comes behind a reading.
 use Rattle.std.proofs.Common.{◌≡◌, Bool, true, false, cond, refl, ◌∙◌}
-use Rattle.grammar.specs.States.{State, Read, Read.done, Read.stop, ◌>>=◌}
-
-pub bind_associates : {A B C : Type 0} (m : Read A) (f : A → State → Read B) (g : B → State → Read C) → ((m >>= f) >>= g) ≡ (m >>= λ a s. f a s >>= g)
-bind_associates (done a s) f g = refl
-bind_associates (stop e) f g = refl
-
-pub bind_alike : {A B : Type 0} (m : Read A) (f f' : A → State → Read B) → ((a : A) (s : State) → f a s ≡ f' a s) → (m >>= f) ≡ (m >>= f')
-bind_alike (done a s) f f' h = h a s
-bind_alike (stop e) f f' h = refl
-
-pub bind_cond : {A B : Type 0} (b : Bool) (x y : Read A) (f : A → State → Read B) → (cond b x y >>= f) ≡ cond b (x >>= f) (y >>= f)
-bind_cond true x y f = refl
-bind_cond false x y f = refl
+use Rattle.grammar.specs.States.{State, Read, Read.done, ◌>>=◌}
+use Rattle.grammar.proofs.Binding.{bind_associates, bind_alike}
 
 pub cond_alike : {A : Type 0} (b : Bool) (x x' y y' : A) → (b ≡ true → x ≡ x') → (b ≡ false → y ≡ y') → cond b x y ≡ cond b x' y'
 cond_alike true x x' y y' h k = h refl
@@ -20,4 +9,4 @@ cond_alike false x x' y y' h k = k refl
 
 -- a pair, and what comes behind it
 pub pair_goes_on : {A B C : Type 0} (m : Read A) (r : State → Read B) (f : A × B → State → Read C) → ((m >>= λ a s. r s >>= λ b s'. done (a, b) s') >>= f) ≡ (m >>= λ a s. r s >>= λ b s'. f (a, b) s')
-pair_goes_on m r f = bind_associates m _ f ∙ bind_alike m _ _ (λ a s. bind_associates (r s) _ f)
+pair_goes_on m r f = bind_associates m _ f ∙ bind_alike m _ _ (λ a s is. bind_associates (r s) _ f)

@@ -7,6 +7,7 @@ use Rattle.grammar.specs.States.{State, Read, Read.done, Read.stop, ◌>>=◌, r
 use Rattle.grammar.proofs.Beginnings.{cond_no}
 use Rattle.grammar.proofs.States.{Shortens, turns_are, shortens}
 use Rattle.grammar.proofs.Lists.{separated, behind_none}
+use Rattle.grammar.proofs.Binding.{bind_associates, bind_alike, bind_cond}
 use Rattle.wgsl_model.specs.Classes.{SymAnd, SymAndAnd, SymBang, SymBracketLeft, SymComma, SymMinus, SymMinusMinus, SymOr, SymOrOr, SymParenLeft, SymParenRight, SymPeriod, SymShiftLeft, SymShiftRight, SymStar, SymTilde, SymXor, KwTrue, KwFalse, Ident, ReservedWord, AbstractInt, I32, U32, AbstractFloat, F32, F16, TemplateArgsEnd}
 use Rattle.wgsl_model.specs.Operators.{BinaryOperator, BinaryOperator.subtraction, BinaryOperator.short_circuit_or, BinaryOperator.short_circuit_and, BinaryOperator.bitwise_or, BinaryOperator.bitwise_and, BinaryOperator.bitwise_xor, BinaryOperator.shift_left, BinaryOperator.shift_right}
 use Rattle.wgsl_model.specs.Expressions as tree
@@ -21,7 +22,7 @@ use Rattle.wgsl_grammar_theory.proofs.Passes.{passes}
 use Rattle.wgsl_grammar_theory.proofs.Reader.{step}
 use Rattle.wgsl_expression_reader.specs.Rules.{unary_operators, multiplicative_operators, relational_operators, call_or_type_at, parenthesized_at, primary_at, component_behind, unary_operator_at, multiplicative_operator_at, additive_operator_at, relational_operator_at, factors_behind, products_from, summand_at, summands_behind, sum_behind, relation_behind, bitwise_behind, logical_behind, logical_at, expression_behind}
 use Rattle.wgsl_expression_reader.proofs.Turns.{template_items_from, template_items_turn, arguments_from, arguments_turn, placed_primary_at, components_behind, components_turn, singular_at, unary_at, factors_turn, products_turn, product_at, negated_product_at, summands_turn, sum_turn, shift_at, relation_turn, relational_at, bitwise_turn, logical_turn, expression_turn, whole_expression_at}
-use Rattle.wgsl_expression_reader.proofs.Binding.{bind_associates, bind_alike, bind_cond, cond_alike, pair_goes_on}
+use Rattle.wgsl_expression_reader.proofs.Binding.{cond_alike, pair_goes_on}
 use Rattle.wgsl_expression_reader.proofs.Lists.{one_and_more}
 use Rattle.wgsl_expression_reader.proofs.Choices.{none_at, tested_first, refuses, not_taken}
 use Rattle.wgsl_expression_reader.proofs.Growing.{applied, grows_by_turns, grown_pair, grown_twice, grown_once, grows_once_or_more, turns_alike}
@@ -37,7 +38,7 @@ unfolding template_items_from
 template_rest_is es s =
     ap (λ m. m >>= behind) (step (further template_rest) s) ∙ bind_cond (is_at TemplateArgsEnd s) _ _ behind
     ∙ ap₂ (cond (is_at TemplateArgsEnd s))
-    (bind_associates (take TemplateArgsEnd s) _ behind ∙ bind_alike (take TemplateArgsEnd s) _ _ (λ t s'. ap (λ x. done x s') (append-nil es)))
+    (bind_associates (take TemplateArgsEnd s) _ behind ∙ bind_alike (take TemplateArgsEnd s) _ _ (λ t s' is. ap (λ x. done x s') (append-nil es)))
     (ap (λ m. m >>= behind) (sym (step (further template_items) s)))
   where
     behind : List ExpressionNode → State → Read (List ExpressionNode)
@@ -48,9 +49,9 @@ unfolding template_items_from template_items_turn
 template_items_are es s =
     one_and_more (reader (further template_items)) (reader (further template_rest)) (reader (further template_more)) (reader (of expression)) SymComma TemplateArgsEnd
     (step (further template_items)) (step (further template_more)) es s
-    ∙ bind_alike (reader (of expression) s) _ _ (λ e s'.
+    ∙ bind_alike (reader (of expression) s) _ _ (λ e s' is.
     ap (λ (m : Read (List ExpressionNode)). cond (is_at SymComma s') m (take TemplateArgsEnd s' >>= λ t s''. done (es ++ e ∷ []) s''))
-    (bind_alike (take SymComma s') _ _ (λ t s''. template_rest_is (es ++ e ∷ []) s'')))
+    (bind_alike (take SymComma s') _ _ (λ t s'' is. template_rest_is (es ++ e ∷ []) s'')))
 
 pub argument_rest_is : (s : State) → reader (further argument_rest) s ≡ arguments_from [] s
 unfolding arguments_from
@@ -152,7 +153,7 @@ pub multiplicative_expression_is : (s : State) → reader (of multiplicative_exp
 unfolding product_at products_from
 multiplicative_expression_is s =
     step (of multiplicative_expression) s
-    ∙ bind_alike (reader (of unary_expression) s) _ _ (λ e s'. turns_alike _ _ _ _ (start_of s) 0 (λ a p s''. refl) e s')
+    ∙ bind_alike (reader (of unary_expression) s) _ _ (λ e s' is. turns_alike _ _ _ _ (start_of s) 0 (λ a p s''. refl) e s')
 
 -- the second minus of `--` and what is made of its operand
 negated : (start : ℕ) (m : Read Token) (f f' : ExpressionNode → State → Read ExpressionNode) → ((e : ExpressionNode) (s : State) → f (negation_of e (span_from start s)) s ≡ f' e s)
@@ -160,7 +161,7 @@ negated : (start : ℕ) (m : Read Token) (f f' : ExpressionNode → State → Re
 negated start m f f' h =
     bind_associates ((m >>= λ t s'. reader (of unary_expression) s' >>= λ e s''. done (t, e) s'') >>= λ (p : Token × ExpressionNode) s'. done p.1 s') _ f
     ∙ bind_associates (m >>= λ t s'. reader (of unary_expression) s' >>= λ e s''. done (t, e) s'') _ _
-    ∙ pair_goes_on m (reader (of unary_expression)) _ ∙ bind_alike m _ _ (λ t s'. bind_alike (reader (of unary_expression) s') _ f' h)
+    ∙ pair_goes_on m (reader (of unary_expression)) _ ∙ bind_alike m _ _ (λ t s' is. bind_alike (reader (of unary_expression) s') _ f' (λ e s'' is'. h e s''))
 
 pub negated_expression_is : (s : State) → reader (of negated_expression) s ≡ negated_product_at s
 unfolding negated_product_at products_from
@@ -260,9 +261,9 @@ unfolding sum_behind relation_behind
 relational_is e s =
     bind_associates (reader (further sum_rest) s >>= λ f s'. (reader (further relation_rest) s' >>= λ g s''. logical_growth s'' >>= λ h s'''. done (g, h) s''') >>= λ gh s'. done (f, gh) s') _ (applied e)
     ∙ pair_goes_on (reader (further sum_rest) s) (λ s'. reader (further relation_rest) s' >>= λ g s''. logical_growth s'' >>= λ h s'''. done (g, h) s''') _
-    ∙ bind_alike (reader (further sum_rest) s) _ _ (λ f s'.
+    ∙ bind_alike (reader (further sum_rest) s) _ _ (λ f s' is.
     pair_goes_on (reader (further relation_rest) s') logical_growth _
-    ∙ bind_alike (reader (further relation_rest) s') _ _ (λ g s''. logical_is (g (f e)) s'')
+    ∙ bind_alike (reader (further relation_rest) s') _ _ (λ g s'' is. logical_is (g (f e)) s'')
     ∙ sym (bind_associates (reader (further relation_rest) s') (applied (f e)) logical_at))
     ∙ sym (bind_associates (reader (further sum_rest) s) (applied e) _)
 

@@ -4,12 +4,13 @@ use Rattle.grammar.specs.Tokens.{Span}
 use Rattle.grammar.specs.States.{State, Stop.never, Read, Read.done, Read.stop, ◌>>=◌, is_at, is_any, start_of, span_from, turns_in, turns}
 use Rattle.grammar.proofs.Beginnings.{pick, cond_yes}
 use Rattle.grammar.proofs.States.{Shortens, turns_are}
+use Rattle.grammar.proofs.Binding.{bind_associates, bind_alike}
 use Rattle.wgsl_model.specs.Expressions.{ExpressionNode}
 use Rattle.wgsl_model.specs.Operators.{BinaryOperator}
 use Rattle.wgsl_grammar_theory.specs.Factored.{Growth, joined}
 use Rattle.wgsl_grammar_theory.specs.Factored.{grown as joined_behind}
 use Rattle.wgsl_expression_reader.specs.Growing.{grown}
-use Rattle.wgsl_expression_reader.proofs.Binding.{bind_associates, bind_alike, pair_goes_on}
+use Rattle.wgsl_expression_reader.proofs.Binding.{pair_goes_on}
 
 -- what is read grows an operand
 abbrev pub applied : ExpressionNode → Growth → State → Read ExpressionNode
@@ -28,7 +29,7 @@ grows_in : {B : Type 0} (f : Growth → B → Span → Growth) (step : Expressio
 grows_in f step h c r start other zero g e s = bind_pick (is_any c s) (stop never) (done g s) (applied e)
 grows_in f step h c r start other (suc k) g e s =
     bind_pick (is_any c s) (r s >>= λ b s'. turns_in k f c r start (f g b (span_from start s')) s') (done g s) (applied e)
-    ∙ ap (λ (x : Read ExpressionNode). pick (is_any c s) x (done (g e) s)) (bind_associates (r s) _ _ ∙ bind_alike (r s) _ _ (λ b s'.
+    ∙ ap (λ (x : Read ExpressionNode). pick (is_any c s) x (done (g e) s)) (bind_associates (r s) _ _ ∙ bind_alike (r s) _ _ (λ b s' is.
     grows_in f step h c r start other k (f g b (span_from start s')) e s' ∙ ap (λ (x : ExpressionNode). turns_in k (λ e b span. step e b) c r other x s') (h g b (span_from start s') e)))
 
 -- a chain of growths at an operand is a chain of operands
@@ -42,7 +43,7 @@ pub grows_by_turns : {B : Type 0} (f : Growth → B → Span → Growth) (step :
     → (e : ExpressionNode) (s : State) → grown e growth s ≡ cond (is_any c s) (r s >>= λ b s'. grown (step e b) growth s') (done e s)
 grows_by_turns f step h c r H growth k e s =
     whole e s ∙ turns_are (λ e b span. step e b) c r H 0 e s
-    ∙ ap (λ (x : Read ExpressionNode). cond (is_any c s) x (done e s)) (bind_alike (r s) _ _ (λ b s'. sym (whole (step e b) s')))
+    ∙ ap (λ (x : Read ExpressionNode). cond (is_any c s) x (done e s)) (bind_alike (r s) _ _ (λ b s' is. sym (whole (step e b) s')))
   where
     whole : (e : ExpressionNode) (s : State) → grown e growth s ≡ turns (λ e b span. step e b) c r 0 e s
     whole e s = ap (λ m. m >>= applied e) (k s) ∙ grows f step h c r (start_of s) 0 (λ e. e) e s
@@ -66,7 +67,7 @@ pub grows_once_or_more : (c : ℕ) (r : State → Read (BinaryOperator × Expres
     → (((r s >>= λ p s'. done (joined p) s') >>= λ g s'. turns joined_behind (c ∷ []) r (start_of s) g s') >>= applied e) ≡ turns (λ (left : ExpressionNode) (p : BinaryOperator × ExpressionNode) span. joined p left) (c ∷ []) r 0 e s
 grows_once_or_more c r H e s at =
     bind_associates (r s >>= λ p s'. done (joined p) s') _ (applied e) ∙ bind_associates (r s) _ _
-    ∙ bind_alike (r s) _ _ (λ p s'. grows joined_behind (λ left p. joined p left) (λ g p span e. refl) (c ∷ []) r (start_of s) 0 (joined p) e s')
+    ∙ bind_alike (r s) _ _ (λ p s' is. grows joined_behind (λ left p. joined p left) (λ g p span e. refl) (c ∷ []) r (start_of s) 0 (joined p) e s')
     ∙ sym (turns_are (λ (left : ExpressionNode) (p : BinaryOperator × ExpressionNode) span. joined p left) (c ∷ []) r H 0 e s ∙ cond_yes (is_at c s) _ _ at)
 
 -- items that make the same of each other from one place as from another
@@ -76,4 +77,4 @@ turns_alike {A} f f' c r start other h a s = go_on (length s.rest) a s
   where
     go_on : (k : ℕ) (a : A) (s : State) → turns_in k f c r start a s ≡ turns_in k f' c r other a s
     go_on zero a s = refl
-    go_on (suc k) a s = ap (λ (x : Read A). pick (is_any c s) x (done a s)) (bind_alike (r s) _ _ (λ b s'. go_on k (f a b (span_from start s')) s' ∙ ap (λ (x : A). turns_in k f' c r other x s') (h a b s')))
+    go_on (suc k) a s = ap (λ (x : Read A). pick (is_any c s) x (done a s)) (bind_alike (r s) _ _ (λ b s' is. go_on k (f a b (span_from start s')) s' ∙ ap (λ (x : A). turns_in k f' c r other x s') (h a b s')))

@@ -8,22 +8,22 @@ use Rattle.wgsl_model.specs.Spanned.{Spanned, spanned}
 use Rattle.wgsl_model.specs.Expressions.{Expression, TypeExpression.type_expression, TemplateArguments.no_template, template_of}
 use Rattle.wgsl_model.specs.Attributes.{OneArgument, NoArgument, Attribute}
 use Rattle.wgsl_model.specs.Attributed.{with_attributes, without_attributes}
-use Rattle.wgsl_model.specs.Statements.{DeclarationKind, StatementNode.statement_node}
+use Rattle.wgsl_model.specs.Statements.{DeclarationKind, StatementNode.statement_node, unattributed}
 use Rattle.wgsl_model.specs.Units.{GlobalDeclaration}
 use Rattle.wgsl_model.specs.StatementParts.{compound_of, return_of}
 use Rattle.wgsl_model.specs.UnitParts.{value_of, struct_of, function_of}
-use Rattle.wgsl_grammar_laws.specs.RowParts.{span, sign, word, reserved, number_of, at, name_at, number_at, call_at}
+use Rattle.wgsl_grammar_laws.specs.RowParts.{span, sign, word, reserved, number_of, at, name_at, number_at, call_at, custom_at}
 
 -- struct S { @size(16) x: f32, y: array<f32, 4>, }
 abbrev pub struct_with_a_last_comma_tokens : List Token
 struct_with_a_last_comma_tokens = (sign KwStruct 0 6) ∷ (word (codes "S") 7 8) ∷ (sign SymBraceLeft 9 10) ∷ (sign SymAttr 11 12) ∷ (word (codes "size") 12 16) ∷ (sign SymParenLeft 16 17) ∷ (number_of 16 17 19) ∷ (sign SymParenRight 19 20) ∷ (word (codes "x") 21 22) ∷ (sign SymColon 22 23) ∷ (word (codes "f32") 24 27) ∷ (sign SymComma 27 28) ∷ (word (codes "y") 29 30) ∷ (sign SymColon 30 31) ∷ (word (codes "array") 32 37) ∷ (sign TemplateArgsStart 37 38) ∷ (word (codes "f32") 38 41) ∷ (sign SymComma 41 42) ∷ (number_of 4 43 44) ∷ (sign TemplateArgsEnd 44 45) ∷ (sign SymComma 45 46) ∷ (sign SymBraceRight 47 48) ∷ []
 
 abbrev pub struct_with_a_last_comma_tree : Spanned GlobalDeclaration
-struct_with_a_last_comma_tree = spanned (struct_of (
+struct_with_a_last_comma_tree = spanned (without_attributes (struct_of (
   word (codes "S") 7 8,
   (spanned (record { attributes = spanned (Attribute.with_argument OneArgument.size (number_at 16 17 19)) (span 11 20) ∷ []; ident = codes "x"; ty = (type_expression (codes "f32") no_template) }) (span 11 27))
       ∷ (spanned (record { attributes = []; ident = codes "y"; ty = type_expression (codes "array") (template_of (Some ((name_at (codes "f32") 38 41) ∷ ((number_at 4 43 44) ∷ [])))) }) (span 29 45) ∷ []),
-)) (span 0 48)
+))) (span 0 48)
 
 -- @fragment fn frag_main() -> @location(0) vec4f { return vec4(1); }
 abbrev pub entry_point_tokens : List Token
@@ -31,7 +31,7 @@ entry_point_tokens = (sign SymAttr 0 1) ∷ (word (codes "fragment") 1 9) ∷ (s
 
 abbrev pub entry_point_tree : Spanned GlobalDeclaration
 entry_point_tree = spanned (with_attributes (spanned (Attribute.without_argument NoArgument.fragment) (span 0 9) ∷ []) (function_of (word (codes "frag_main") 13 22) [] (Some (spanned (Attribute.with_argument OneArgument.location (number_at 0 38 39)) (span 28 40) ∷ [], (type_expression (codes "vec4f") no_template)))
-    (compound_of [] (statement_node (return_of (Some (at (Expression.function_call (call_at (codes "vec4") None ((number_at 1 61 62) ∷ []))) 56 63))) (span 49 64) ∷ [])))) (span 0 66)
+    (compound_of [] (statement_node (unattributed (return_of (Some (at (Expression.function_call (call_at (codes "vec4") None ((number_at 1 61 62) ∷ []))) 56 63)))) (span 49 64) ∷ [])))) (span 0 66)
 
 -- @const fn f() {}
 abbrev pub keyword_as_an_attribute_tokens : List Token
@@ -65,8 +65,8 @@ struct_without_members_fault = record { kind = 3; texts = codes "}" ∷ []; span
 abbrev pub attribute_before_a_struct_tokens : List Token
 attribute_before_a_struct_tokens = (sign SymAttr 0 1) ∷ (word (codes "x") 1 2) ∷ (sign KwStruct 3 9) ∷ (word (codes "S") 10 11) ∷ (sign SymBraceLeft 12 13) ∷ (word (codes "a") 14 15) ∷ (sign SymColon 15 16) ∷ (word (codes "b") 17 18) ∷ (sign SymBraceRight 19 20) ∷ []
 
-abbrev pub attribute_before_a_struct_fault : Fault
-attribute_before_a_struct_fault = record { kind = 3; texts = codes "struct" ∷ []; span = span 3 9 }
+abbrev pub attribute_before_a_struct_tree : Spanned GlobalDeclaration
+attribute_before_a_struct_tree = spanned (with_attributes (custom_at (codes "x") 0 2 ∷ []) (struct_of (word (codes "S") 10 11, spanned (record { attributes = []; ident = codes "a"; ty = type_expression (codes "b") no_template }) (span 14 18) ∷ []))) (span 0 20)
 
 -- @builtin(foo) var x: i32;
 abbrev pub unknown_builtin_tokens : List Token

@@ -8,6 +8,7 @@ use Rattle.wgsl_model.specs.Attributed.{without_attributes}
 use Rattle.wgsl_model.specs.Statements.{DeclarationKind}
 use Rattle.wgsl_model.specs.Units.{GlobalDirective, GlobalDeclaration}
 use Rattle.wgsl_model.specs.UnitParts.{value_of, diagnostic_of}
+use Rattle.wgsl_grammar_laws.specs.DeclarationsRows.{attribute_before_a_struct_tokens}
 use Rattle.wgsl_grammar_laws.specs.RowParts.{span, sign, word, reserved, number_of}
 
 -- 5--7
@@ -29,7 +30,7 @@ abbrev pub severity_recognised_alone_tokens : List Token
 severity_recognised_alone_tokens = (sign KwDiagnostic 0 10) ∷ (sign SymParenLeft 10 11) ∷ (word (codes "bad") 11 14) ∷ (sign SymComma 14 15) ∷ (word (codes "x") 16 17) ∷ (sign SymParenRight 17 18) ∷ (sign SymSemicolon 18 19) ∷ []
 
 abbrev pub severity_recognised_alone_tree : GlobalDirective
-severity_recognised_alone_tree = diagnostic_of (word (codes "bad") 11 14) (word (codes "x") 16 17) None
+severity_recognised_alone_tree = without_attributes (diagnostic_of (word (codes "bad") 11 14) (word (codes "x") 16 17) None)
 
 -- var<private, read> p: i32;
 abbrev pub template_recognised_alone_tokens : List Token
@@ -44,3 +45,10 @@ keyword_recognised_alone_tokens = (sign SymAttr 0 1) ∷ (sign KwConst 1 6) ∷ 
 
 abbrev pub keyword_recognised_alone_fault : Fault
 keyword_recognised_alone_fault = record { kind = 3; texts = codes "const" ∷ []; span = span 1 6 }
+
+-- @x struct S { a: b }
+abbrev pub attribute_recognised_alone_tokens : List Token
+attribute_recognised_alone_tokens = attribute_before_a_struct_tokens
+
+abbrev pub attribute_recognised_alone_fault : Fault
+attribute_recognised_alone_fault = record { kind = 3; texts = codes "struct" ∷ []; span = span 3 9 }

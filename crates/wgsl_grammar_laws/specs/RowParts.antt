@@ -1,9 +1,11 @@
 -- Short ways to write the tokens and the trees of rows.
-use Rattle.std.specs.Prelude.{ℕ, pos, List, [], Option}
+use Rattle.std.specs.Prelude.{ℕ, pos, List, [], Option, None}
 use Rattle.grammar.specs.Tokens.{Payload.nothing, Payload.name, Payload.number, Token, Span, Fault}
 use Rattle.wgsl_model.specs.Classes.{Ident, ReservedWord, AbstractInt}
 use Rattle.wgsl_model.specs.Faults.{out_of_memory_kind}
+use Rattle.wgsl_model.specs.Spanned.{Spanned, spanned}
 use Rattle.wgsl_model.specs.Expressions.{LiteralExpression, ExpressionNode, ExpressionNode.expression_node, Expression, FunctionCall, FunctionCall.call, TypeExpression.type_expression, expressions_of, template_of}
+use Rattle.wgsl_model.specs.Attributes.{OneArgument, Attribute}
 use Rattle.wgsl_model.specs.ExpressionParts.{variable}
 
 -- from a place up to another
@@ -45,3 +47,11 @@ call_at text template arguments = call (type_expression text (template_of templa
 -- memory was refused
 abbrev pub want_of_memory : Fault
 want_of_memory = record { kind = out_of_memory_kind; texts = []; span = span 0 0 }
+
+-- an attribute of a name that the language does not know, without arguments
+abbrev pub custom_at : List ℕ → ℕ → ℕ → Spanned Attribute
+custom_at text start end = spanned (Attribute.custom (record { name = text; arguments = None })) (span start end)
+
+-- `@if` with a name
+abbrev pub if_at : ExpressionNode → ℕ → ℕ → Spanned Attribute
+if_at condition start end = spanned (Attribute.with_argument OneArgument.if_attribute condition) (span start end)

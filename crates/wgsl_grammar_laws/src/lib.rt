@@ -14,6 +14,7 @@ ghost use Rattle.wgsl_model.specs.CheckedFaults.{IsCheckedFault, wants_memory};
 ghost use Rattle.wgsl_grammar_theory.specs.Factored.{FactoredSymbol.of, body, small_body};
 ghost use Rattle.wgsl_grammar_theory.specs.Tables.{tables, rank_limit};
 ghost use Rattle.wgsl_grammar_theory.specs.Apart.{apart};
+ghost use Rattle.wgsl_grammar_theory.specs.FewerAttributes.{fewer_attributes};
 ghost use Rattle.wgsl_grammar_theory.specs.Answers.{opening, answer_of, IsAnswer, small_answer_of, IsSmallAnswer};
 
 pub mod rows;
@@ -64,4 +65,9 @@ pub fn one_name()
     ensures no_tree { (n : Symbol) (ts : List Token) (x : Fault) → IsNamed n ts finished x → (v : Value n) → Derives full written n v ts → ⊥ }
     ensures alone_once { (n : Symbol) (ts : List Token) (ending : Ending) (x y : Fault) → IsNamedSmall n ts ending x → IsNamedSmall n ts ending y → x ≡ y }
     ensures alone_no_tree { (n : Symbol) (ts : List Token) (x : Fault) → IsNamedSmall n ts finished x → (v : Value n) → Derives full small n v ts → ⊥ }
+{}
+
+/// What is derived with attributes in fewer places, the grammar derives: the same tree, whose lists of attributes are empty in the other places.
+pub fn no_less_derived()
+    ensures { (M : Mode) (n : Symbol) (v : Value n) (ts : List Token) → Derives M fewer_attributes n v ts → Derives M written n v ts }
 {}

@@ -9,7 +9,7 @@ use Rattle.grammar.proofs.Depth.{roll, unroll}
 use Rattle.wgsl_model.specs.Expressions.{ExpressionNode, ExpressionNode.expression_node, Expression}
 use Rattle.wgsl_model.specs.Symbols.{Dialect, Dialect.whole, Dialect.alone, Symbol, Symbol.primary_expression, Symbol.singular_expression, Symbol.component, Symbol.unary_expression, Symbol.multiplicative_expression, Symbol.negated_expression, Symbol.additive_expression, Symbol.shift_expression, Symbol.relational_expression, Symbol.expression, Symbol.unit}
 use Rattle.wgsl_model.specs.Written.{rules}
-use Rattle.wgsl_grammar_theory.specs.Factored.{Further.components, Further.factors, Further.summands, Further.sum_rest, Further.relation_rest, Further.and_rest, Further.or_rest, Further.bitwise_and_rest, Further.bitwise_or_rest, Further.bitwise_xor_rest, Further.expression_rest, Further.attribute_list, Further.else_rest, Further.directive_list, Further.declaration_list, FactoredSymbol, FactoredSymbol.of, FactoredSymbol.further, Growth, unchanged, some_more, factored}
+use Rattle.wgsl_grammar_theory.specs.Factored.{Further.components, Further.factors, Further.summands, Further.sum_rest, Further.relation_rest, Further.and_rest, Further.or_rest, Further.bitwise_and_rest, Further.bitwise_or_rest, Further.bitwise_xor_rest, Further.expression_rest, Further.attribute_list, Further.else_rest, Further.declaration_list, Further.front, FactoredSymbol, FactoredSymbol.of, FactoredSymbol.further, Growth, unchanged, some_more, factored}
 use Rattle.wgsl_grammar_theory.specs.Tables.{empties}
 use Rattle.wgsl_grammar_theory.specs.Meaning.{meaning}
 use Rattle.wgsl_grammar_theory.proofs.Taking.{surely_takes, takes_one}
@@ -39,8 +39,9 @@ full_symbol n = not (empties n)
 pub body_takes : (L : Dialect) (n : FactoredSymbol) → full_symbol n ≡ true → surely_takes full_symbol (factored L n) ≡ true
 body_takes whole (of unit) e = absurd cc
 body_takes alone (of unit) e = absurd cc
+body_takes whole (further components) e = absurd cc
+body_takes alone (further components) e = absurd cc
 body_takes L (of n) e = refl
-body_takes L (further components) e = absurd cc
 body_takes L (further factors) e = absurd cc
 body_takes L (further summands) e = absurd cc
 body_takes L (further sum_rest) e = absurd cc
@@ -48,7 +49,7 @@ body_takes L (further relation_rest) e = absurd cc
 body_takes L (further expression_rest) e = absurd cc
 body_takes L (further attribute_list) e = absurd cc
 body_takes L (further else_rest) e = absurd cc
-body_takes L (further directive_list) e = absurd cc
+body_takes L (further front) e = absurd cc
 body_takes L (further declaration_list) e = absurd cc
 body_takes L (further x) e = refl
 

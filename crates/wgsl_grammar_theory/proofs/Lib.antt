@@ -8,11 +8,14 @@ pub mod Taking
 pub mod Lifted
 pub mod Shifts
 pub mod LevelLinks
+pub mod AttributeLinks
 pub mod LeftSides
 pub mod StatementLinks
 pub mod BlockLinks
+pub mod UnitLinks
 pub mod Links
 pub mod WrittenTree
+pub mod FewerAttributes
 pub mod PlainFaults
 pub mod Avoids
 pub mod WrittenEnds

@@ -1,10 +1,10 @@
 -- Each symbol of attributes and statements that is cited reads what its right side reads; written by tools/rules.py.
 use Rattle.std.proofs.Common.{◌≡◌}
 use Rattle.grammar.specs.States.{State}
-use Rattle.wgsl_model.specs.Symbols.{Symbol.attribute, Symbol.compound_statement, Symbol.statement, Symbol.return_statement, Symbol.var_statement, Symbol.value_statement, Symbol.break_statement, Symbol.continue_statement, Symbol.discard_statement, Symbol.phony_assignment, Symbol.const_assert, Symbol.switch_clause, Symbol.case_selector, Symbol.continuing_statement, Symbol.for_init, Symbol.for_update, Symbol.var_template, Symbol.typed_ident}
-use Rattle.wgsl_grammar_theory.specs.Factored.{FactoredSymbol.of, FactoredSymbol.further, Further.selectors, Further.attribute_list, Further.statement_rest, Further.loop_rest, Further.continuing_rest, Further.clause_rest, Further.else_rest, Further.init_part, Further.condition_part, Further.update_part, Further.if_part, Further.switch_part, Further.loop_part, Further.for_part, Further.while_part, Further.block_part, Further.left_side_rest, Further.other_left_side, Further.name_rest_statement, Further.simple_statement, Further.other_statement}
+use Rattle.wgsl_model.specs.Symbols.{Symbol.attribute, Symbol.compound_statement, Symbol.statement, Symbol.switch_clause, Symbol.case_selector, Symbol.for_init, Symbol.for_update, Symbol.var_template, Symbol.typed_ident}
+use Rattle.wgsl_grammar_theory.specs.Factored.{FactoredSymbol.of, FactoredSymbol.further, Further.selectors, Further.attribute_list, Further.statement_rest, Further.loop_rest, Further.continuing_rest, Further.clause_rest, Further.else_rest, Further.init_part, Further.condition_part, Further.update_part, Further.if_part, Further.switch_part, Further.loop_part, Further.for_part, Further.while_part, Further.block_part, Further.braced_part, Further.returning_part, Further.local_part, Further.value_part, Further.phony_part, Further.simple_part, Further.ended_part, Further.assert_part, Further.clause_part, Further.continuing_part, Further.left_side_rest, Further.left_side_in_parentheses, Further.prefixed_left_side, Further.name_rest_statement, Further.parenthesized_statement, Further.plain_statement}
 use Rattle.wgsl_grammar_theory.specs.Reader.{reader}
-use Rattle.wgsl_grammar_theory.specs.StatementRules.{attribute_at, compound_statement_at, statement_at, return_statement_at, var_statement_at, value_statement_at, break_statement_at, continue_statement_at, discard_statement_at, phony_assignment_at, const_assert_at, switch_clause_at, case_selector_at, continuing_statement_at, for_init_at, for_update_at, var_template_at, typed_ident_at, selectors_at, attribute_list_at, statement_rest_at, loop_rest_at, continuing_rest_at, clause_rest_at, else_rest_at, init_part_at, condition_part_at, update_part_at, if_part_at, switch_part_at, loop_part_at, for_part_at, while_part_at, block_part_at, left_side_rest_at, other_left_side_at, name_rest_statement_at, simple_statement_at, other_statement_at}
+use Rattle.wgsl_grammar_theory.specs.StatementRules.{attribute_at, compound_statement_at, statement_at, switch_clause_at, case_selector_at, for_init_at, for_update_at, var_template_at, typed_ident_at, selectors_at, attribute_list_at, statement_rest_at, loop_rest_at, continuing_rest_at, clause_rest_at, else_rest_at, init_part_at, condition_part_at, update_part_at, if_part_at, switch_part_at, loop_part_at, for_part_at, while_part_at, block_part_at, braced_part_at, returning_part_at, local_part_at, value_part_at, phony_part_at, simple_part_at, ended_part_at, assert_part_at, clause_part_at, continuing_part_at, left_side_rest_at, left_side_in_parentheses_at, prefixed_left_side_at, name_rest_statement_at, parenthesized_statement_at, plain_statement_at}
 use Rattle.wgsl_grammar_theory.proofs.Reader.{step}
 
 pub attribute_is : (s : State) → reader (of attribute) s ≡ attribute_at s
@@ -19,38 +19,6 @@ pub statement_is : (s : State) → reader (of statement) s ≡ statement_at s
 unfolding statement_at
 statement_is s = step (of statement) s
 
-pub return_statement_is : (s : State) → reader (of return_statement) s ≡ return_statement_at s
-unfolding return_statement_at
-return_statement_is s = step (of return_statement) s
-
-pub var_statement_is : (s : State) → reader (of var_statement) s ≡ var_statement_at s
-unfolding var_statement_at
-var_statement_is s = step (of var_statement) s
-
-pub value_statement_is : (s : State) → reader (of value_statement) s ≡ value_statement_at s
-unfolding value_statement_at
-value_statement_is s = step (of value_statement) s
-
-pub break_statement_is : (s : State) → reader (of break_statement) s ≡ break_statement_at s
-unfolding break_statement_at
-break_statement_is s = step (of break_statement) s
-
-pub continue_statement_is : (s : State) → reader (of continue_statement) s ≡ continue_statement_at s
-unfolding continue_statement_at
-continue_statement_is s = step (of continue_statement) s
-
-pub discard_statement_is : (s : State) → reader (of discard_statement) s ≡ discard_statement_at s
-unfolding discard_statement_at
-discard_statement_is s = step (of discard_statement) s
-
-pub phony_assignment_is : (s : State) → reader (of phony_assignment) s ≡ phony_assignment_at s
-unfolding phony_assignment_at
-phony_assignment_is s = step (of phony_assignment) s
-
-pub const_assert_is : (s : State) → reader (of const_assert) s ≡ const_assert_at s
-unfolding const_assert_at
-const_assert_is s = step (of const_assert) s
-
 pub switch_clause_is : (s : State) → reader (of switch_clause) s ≡ switch_clause_at s
 unfolding switch_clause_at
 switch_clause_is s = step (of switch_clause) s
@@ -58,10 +26,6 @@ switch_clause_is s = step (of switch_clause) s
 pub case_selector_is : (s : State) → reader (of case_selector) s ≡ case_selector_at s
 unfolding case_selector_at
 case_selector_is s = step (of case_selector) s
-
-pub continuing_statement_is : (s : State) → reader (of continuing_statement) s ≡ continuing_statement_at s
-unfolding continuing_statement_at
-continuing_statement_is s = step (of continuing_statement) s
 
 pub for_init_is : (s : State) → reader (of for_init) s ≡ for_init_at s
 unfolding for_init_at
@@ -143,22 +107,66 @@ pub block_part_is : (s : State) → reader (further block_part) s ≡ block_part
 unfolding block_part_at
 block_part_is s = step (further block_part) s
 
+pub braced_part_is : (s : State) → reader (further braced_part) s ≡ braced_part_at s
+unfolding braced_part_at
+braced_part_is s = step (further braced_part) s
+
+pub returning_part_is : (s : State) → reader (further returning_part) s ≡ returning_part_at s
+unfolding returning_part_at
+returning_part_is s = step (further returning_part) s
+
+pub local_part_is : (s : State) → reader (further local_part) s ≡ local_part_at s
+unfolding local_part_at
+local_part_is s = step (further local_part) s
+
+pub value_part_is : (s : State) → reader (further value_part) s ≡ value_part_at s
+unfolding value_part_at
+value_part_is s = step (further value_part) s
+
+pub phony_part_is : (s : State) → reader (further phony_part) s ≡ phony_part_at s
+unfolding phony_part_at
+phony_part_is s = step (further phony_part) s
+
+pub simple_part_is : (s : State) → reader (further simple_part) s ≡ simple_part_at s
+unfolding simple_part_at
+simple_part_is s = step (further simple_part) s
+
+pub ended_part_is : (s : State) → reader (further ended_part) s ≡ ended_part_at s
+unfolding ended_part_at
+ended_part_is s = step (further ended_part) s
+
+pub assert_part_is : (s : State) → reader (further assert_part) s ≡ assert_part_at s
+unfolding assert_part_at
+assert_part_is s = step (further assert_part) s
+
+pub clause_part_is : (s : State) → reader (further clause_part) s ≡ clause_part_at s
+unfolding clause_part_at
+clause_part_is s = step (further clause_part) s
+
+pub continuing_part_is : (s : State) → reader (further continuing_part) s ≡ continuing_part_at s
+unfolding continuing_part_at
+continuing_part_is s = step (further continuing_part) s
+
 pub left_side_rest_is : (s : State) → reader (further left_side_rest) s ≡ left_side_rest_at s
 unfolding left_side_rest_at
 left_side_rest_is s = step (further left_side_rest) s
 
-pub other_left_side_is : (s : State) → reader (further other_left_side) s ≡ other_left_side_at s
-unfolding other_left_side_at
-other_left_side_is s = step (further other_left_side) s
+pub left_side_in_parentheses_is : (s : State) → reader (further left_side_in_parentheses) s ≡ left_side_in_parentheses_at s
+unfolding left_side_in_parentheses_at
+left_side_in_parentheses_is s = step (further left_side_in_parentheses) s
+
+pub prefixed_left_side_is : (s : State) → reader (further prefixed_left_side) s ≡ prefixed_left_side_at s
+unfolding prefixed_left_side_at
+prefixed_left_side_is s = step (further prefixed_left_side) s
 
 pub name_rest_statement_is : (s : State) → reader (further name_rest_statement) s ≡ name_rest_statement_at s
 unfolding name_rest_statement_at
 name_rest_statement_is s = step (further name_rest_statement) s
 
-pub simple_statement_is : (s : State) → reader (further simple_statement) s ≡ simple_statement_at s
-unfolding simple_statement_at
-simple_statement_is s = step (further simple_statement) s
+pub parenthesized_statement_is : (s : State) → reader (further parenthesized_statement) s ≡ parenthesized_statement_at s
+unfolding parenthesized_statement_at
+parenthesized_statement_is s = step (further parenthesized_statement) s
 
-pub other_statement_is : (s : State) → reader (further other_statement) s ≡ other_statement_at s
-unfolding other_statement_at
-other_statement_is s = step (further other_statement) s
+pub plain_statement_is : (s : State) → reader (further plain_statement) s ≡ plain_statement_at s
+unfolding plain_statement_at
+plain_statement_is s = step (further plain_statement) s

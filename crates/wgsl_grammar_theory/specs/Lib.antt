@@ -2,6 +2,7 @@
 pub mod Factored
 pub mod Tables
 pub mod Apart
+pub mod FewerAttributes
 pub mod Meaning
 pub mod Answers
 pub mod Reader

@@ -1,7 +1,7 @@
 -- What the symbols of attributes and statements that are cited read by their right sides, each as a word of its own, which no computation opens; written by tools/rules.py.
 use Rattle.grammar.specs.States.{State, Read, go}
-use Rattle.wgsl_model.specs.Symbols.{Value, Symbol.attribute, Symbol.compound_statement, Symbol.statement, Symbol.return_statement, Symbol.var_statement, Symbol.value_statement, Symbol.break_statement, Symbol.continue_statement, Symbol.discard_statement, Symbol.phony_assignment, Symbol.const_assert, Symbol.switch_clause, Symbol.case_selector, Symbol.continuing_statement, Symbol.for_init, Symbol.for_update, Symbol.var_template, Symbol.typed_ident}
-use Rattle.wgsl_grammar_theory.specs.Factored.{FactoredSymbol.of, FactoredSymbol.further, FurtherValue, Further.selectors, Further.attribute_list, Further.statement_rest, Further.loop_rest, Further.continuing_rest, Further.clause_rest, Further.else_rest, Further.init_part, Further.condition_part, Further.update_part, Further.if_part, Further.switch_part, Further.loop_part, Further.for_part, Further.while_part, Further.block_part, Further.left_side_rest, Further.other_left_side, Further.name_rest_statement, Further.simple_statement, Further.other_statement, body}
+use Rattle.wgsl_model.specs.Symbols.{Value, Symbol.attribute, Symbol.compound_statement, Symbol.statement, Symbol.switch_clause, Symbol.case_selector, Symbol.for_init, Symbol.for_update, Symbol.var_template, Symbol.typed_ident}
+use Rattle.wgsl_grammar_theory.specs.Factored.{FactoredSymbol.of, FactoredSymbol.further, FurtherValue, Further.selectors, Further.attribute_list, Further.statement_rest, Further.loop_rest, Further.continuing_rest, Further.clause_rest, Further.else_rest, Further.init_part, Further.condition_part, Further.update_part, Further.if_part, Further.switch_part, Further.loop_part, Further.for_part, Further.while_part, Further.block_part, Further.braced_part, Further.returning_part, Further.local_part, Further.value_part, Further.phony_part, Further.simple_part, Further.ended_part, Further.assert_part, Further.clause_part, Further.continuing_part, Further.left_side_rest, Further.left_side_in_parentheses, Further.prefixed_left_side, Further.name_rest_statement, Further.parenthesized_statement, Further.plain_statement, body}
 use Rattle.wgsl_grammar_theory.specs.Tables.{tables}
 use Rattle.wgsl_grammar_theory.specs.Reader.{reader}
 
@@ -14,38 +14,11 @@ compound_statement_at s = go tables reader (body (of compound_statement)) s
 unfoldable pub statement_at : State → Read (Value statement)
 statement_at s = go tables reader (body (of statement)) s
 
-unfoldable pub return_statement_at : State → Read (Value return_statement)
-return_statement_at s = go tables reader (body (of return_statement)) s
-
-unfoldable pub var_statement_at : State → Read (Value var_statement)
-var_statement_at s = go tables reader (body (of var_statement)) s
-
-unfoldable pub value_statement_at : State → Read (Value value_statement)
-value_statement_at s = go tables reader (body (of value_statement)) s
-
-unfoldable pub break_statement_at : State → Read (Value break_statement)
-break_statement_at s = go tables reader (body (of break_statement)) s
-
-unfoldable pub continue_statement_at : State → Read (Value continue_statement)
-continue_statement_at s = go tables reader (body (of continue_statement)) s
-
-unfoldable pub discard_statement_at : State → Read (Value discard_statement)
-discard_statement_at s = go tables reader (body (of discard_statement)) s
-
-unfoldable pub phony_assignment_at : State → Read (Value phony_assignment)
-phony_assignment_at s = go tables reader (body (of phony_assignment)) s
-
-unfoldable pub const_assert_at : State → Read (Value const_assert)
-const_assert_at s = go tables reader (body (of const_assert)) s
-
 unfoldable pub switch_clause_at : State → Read (Value switch_clause)
 switch_clause_at s = go tables reader (body (of switch_clause)) s
 
 unfoldable pub case_selector_at : State → Read (Value case_selector)
 case_selector_at s = go tables reader (body (of case_selector)) s
-
-unfoldable pub continuing_statement_at : State → Read (Value continuing_statement)
-continuing_statement_at s = go tables reader (body (of continuing_statement)) s
 
 unfoldable pub for_init_at : State → Read (Value for_init)
 for_init_at s = go tables reader (body (of for_init)) s
@@ -107,17 +80,50 @@ while_part_at s = go tables reader (body (further while_part)) s
 unfoldable pub block_part_at : State → Read (FurtherValue block_part)
 block_part_at s = go tables reader (body (further block_part)) s
 
+unfoldable pub braced_part_at : State → Read (FurtherValue braced_part)
+braced_part_at s = go tables reader (body (further braced_part)) s
+
+unfoldable pub returning_part_at : State → Read (FurtherValue returning_part)
+returning_part_at s = go tables reader (body (further returning_part)) s
+
+unfoldable pub local_part_at : State → Read (FurtherValue local_part)
+local_part_at s = go tables reader (body (further local_part)) s
+
+unfoldable pub value_part_at : State → Read (FurtherValue value_part)
+value_part_at s = go tables reader (body (further value_part)) s
+
+unfoldable pub phony_part_at : State → Read (FurtherValue phony_part)
+phony_part_at s = go tables reader (body (further phony_part)) s
+
+unfoldable pub simple_part_at : State → Read (FurtherValue simple_part)
+simple_part_at s = go tables reader (body (further simple_part)) s
+
+unfoldable pub ended_part_at : State → Read (FurtherValue ended_part)
+ended_part_at s = go tables reader (body (further ended_part)) s
+
+unfoldable pub assert_part_at : State → Read (FurtherValue assert_part)
+assert_part_at s = go tables reader (body (further assert_part)) s
+
+unfoldable pub clause_part_at : State → Read (FurtherValue clause_part)
+clause_part_at s = go tables reader (body (further clause_part)) s
+
+unfoldable pub continuing_part_at : State → Read (FurtherValue continuing_part)
+continuing_part_at s = go tables reader (body (further continuing_part)) s
+
 unfoldable pub left_side_rest_at : State → Read (FurtherValue left_side_rest)
 left_side_rest_at s = go tables reader (body (further left_side_rest)) s
 
-unfoldable pub other_left_side_at : State → Read (FurtherValue other_left_side)
-other_left_side_at s = go tables reader (body (further other_left_side)) s
+unfoldable pub left_side_in_parentheses_at : State → Read (FurtherValue left_side_in_parentheses)
+left_side_in_parentheses_at s = go tables reader (body (further left_side_in_parentheses)) s
+
+unfoldable pub prefixed_left_side_at : State → Read (FurtherValue prefixed_left_side)
+prefixed_left_side_at s = go tables reader (body (further prefixed_left_side)) s
 
 unfoldable pub name_rest_statement_at : State → Read (FurtherValue name_rest_statement)
 name_rest_statement_at s = go tables reader (body (further name_rest_statement)) s
 
-unfoldable pub simple_statement_at : State → Read (FurtherValue simple_statement)
-simple_statement_at s = go tables reader (body (further simple_statement)) s
+unfoldable pub parenthesized_statement_at : State → Read (FurtherValue parenthesized_statement)
+parenthesized_statement_at s = go tables reader (body (further parenthesized_statement)) s
 
-unfoldable pub other_statement_at : State → Read (FurtherValue other_statement)
-other_statement_at s = go tables reader (body (further other_statement)) s
+unfoldable pub plain_statement_at : State → Read (FurtherValue plain_statement)
+plain_statement_at s = go tables reader (body (further plain_statement)) s

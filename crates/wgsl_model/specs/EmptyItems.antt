@@ -40,14 +40,14 @@ abbrev mutual
   full_if_clause (if_clause e block) = if_clause e (full_compound block)
 
   pub full_else_if_clause : ElseIfClause → ElseIfClause
-  full_else_if_clause (else_if_clause e block) = else_if_clause e (full_compound block)
+  full_else_if_clause (else_if_clause attributes e block) = else_if_clause attributes e (full_compound block)
 
   pub full_else_ifs : ElseIfClauses → ElseIfClauses
   full_else_ifs no_else_ifs = no_else_ifs
   full_else_ifs (else_if_before c cs) = else_if_before (full_else_if_clause c) (full_else_ifs cs)
 
   pub full_else_clause : ElseClause → ElseClause
-  full_else_clause (else_clause block) = else_clause (full_compound block)
+  full_else_clause (else_clause attributes block) = else_clause attributes (full_compound block)
 
   pub full_else : MaybeElseClause → MaybeElseClause
   full_else no_else = no_else
@@ -71,7 +71,7 @@ abbrev mutual
   full_maybe_continuing (one_continuing c) = one_continuing (full_continuing c)
 
   pub full_continuing : ContinuingStatement → ContinuingStatement
-  full_continuing (continuing body condition) = continuing (full_compound body) condition
+  full_continuing (continuing attributes body condition) = continuing attributes (full_compound body) condition
 
   pub full_for : ForStatement → ForStatement
   full_for (repeat_for init condition update block) = repeat_for (full_part init) condition (full_part update) (full_compound block)

@@ -1,11 +1,12 @@
 -- The printed texts of statements.
 use Rattle.std.specs.Prelude.{Bool, true, false, ℕ, List, [], ◌∷◌, ◌++◌, map, Option, Some, None, codes, if◌then◌else◌}
+use Rattle.wgsl_model.specs.Attributed.{Attributed}
 use Rattle.wgsl_model.specs.Statements.{statement_node, Statement, statement, UnattributedStatement, void, compound, assignment, increment, decrement, if_statement, switch_statement, loop_statement, for_statement, while_statement, break_statement, continue_statement, discard_statement, return_statement, function_call_statement, const_assert, declaration, CompoundStatement, compound_statement, IfStatement, if_else, IfClause, if_clause, ElseIfClause, else_if_clause, ElseClause, else_clause, SwitchStatement, switch, SwitchClause, switch_clause, LoopStatement, repeat, ContinuingStatement, continuing, ForStatement, repeat_for, WhileStatement, repeat_while, StatementNodes, no_statements, statement_before, ElseIfClauses, no_else_ifs, else_if_before, MaybeElseClause, no_else, one_else, SwitchClauses, no_clauses, clause_before, MaybeContinuing, no_continuing, one_continuing, MaybeStatement, no_statement, one_statement, BreakIfStatement}
 use Rattle.wgsl_model.specs.Joining.{joined}
 use Rattle.wgsl_model.specs.Indentation.{indented}
 use Rattle.wgsl_model.specs.PrintedExpressions.{print_expression_node}
 use Rattle.wgsl_model.specs.PrintedAttributes.{print_attribute_line}
-use Rattle.wgsl_model.specs.PrintedDeclarations.{print_condition, unended_declaration, unended_assignment, unended_increment, unended_decrement, unended_return, unended_call, unended_assert, print_break_if, print_selector}
+use Rattle.wgsl_model.specs.PrintedDeclarations.{print_attributed, print_condition, unended_declaration, unended_assignment, unended_increment, unended_decrement, unended_return, unended_call, unended_assert, print_break_if, print_selector}
 
 -- an empty statement
 abbrev pub is_void : Statement → Bool
@@ -31,9 +32,9 @@ abbrev pub indented_line : List ℕ → List ℕ
 indented_line text = indented text ++ codes "\n"
 
 -- `break if`, if it is there, on a line four spaces in
-abbrev pub break_if_line : Option BreakIfStatement → List ℕ
+abbrev pub break_if_line : Option (Attributed BreakIfStatement) → List ℕ
 break_if_line None = []
-break_if_line (Some b) = indented_line (print_break_if b)
+break_if_line (Some b) = indented_line (print_attributed print_break_if b)
 
 abbrev mutual
   -- a statement without the `;` that ends it
@@ -76,7 +77,7 @@ abbrev mutual
   print_if_clause (if_clause e block) = codes "if " ++ print_expression_node e ++ codes " " ++ print_compound block
 
   pub print_else_if_clause : ElseIfClause → List ℕ
-  print_else_if_clause (else_if_clause e block) = codes "else if " ++ print_expression_node e ++ codes " " ++ print_compound block
+  print_else_if_clause (else_if_clause attributes e block) = print_attribute_line attributes ++ codes "else if " ++ print_expression_node e ++ codes " " ++ print_compound block
 
   -- each on a line of its own
   pub print_else_ifs : ElseIfClauses → List ℕ
@@ -84,7 +85,7 @@ abbrev mutual
   print_else_ifs (else_if_before c cs) = codes "\n" ++ print_else_if_clause c ++ print_else_ifs cs
 
   pub print_else_clause : ElseClause → List ℕ
-  print_else_clause (else_clause block) = codes "else " ++ print_compound block
+  print_else_clause (else_clause attributes block) = print_attribute_line attributes ++ codes "else " ++ print_compound block
 
   -- the last `else`, if there is one
   pub print_else : MaybeElseClause → List ℕ
@@ -117,7 +118,7 @@ abbrev mutual
   continuing_line (one_continuing c) = indented_line (print_continuing c)
 
   pub print_continuing : ContinuingStatement → List ℕ
-  print_continuing (continuing body condition) = codes "continuing " ++ print_opened body ++ break_if_line condition ++ codes "}"
+  print_continuing (continuing attributes body condition) = print_attribute_line attributes ++ codes "continuing " ++ print_opened body ++ break_if_line condition ++ codes "}"
 
   pub print_for : ForStatement → List ℕ
   print_for (repeat_for init condition update block) =

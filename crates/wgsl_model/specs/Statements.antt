@@ -93,13 +93,13 @@ mutual
   pub data IfClause : Type 0 where
     if_clause : ExpressionNode → CompoundStatement → IfClause
 
-  -- `else if` with its condition and block
+  -- `else if` with its attributes, its condition and its block
   pub data ElseIfClause : Type 0 where
-    else_if_clause : ExpressionNode → CompoundStatement → ElseIfClause
+    else_if_clause : Attributes → ExpressionNode → CompoundStatement → ElseIfClause
 
-  -- `else` with its block
+  -- `else` with its attributes and its block
   pub data ElseClause : Type 0 where
-    else_clause : CompoundStatement → ElseClause
+    else_clause : Attributes → CompoundStatement → ElseClause
 
   -- what is compared, the attributes of the body, and the clauses
   pub data SwitchStatement : Type 0 where
@@ -113,9 +113,9 @@ mutual
   pub data LoopStatement : Type 0 where
     repeat : CompoundStatement → MaybeContinuing → LoopStatement
 
-  -- the body, and its `break if`
+  -- its attributes, the body, and its `break if` with the attributes of that
   pub data ContinuingStatement : Type 0 where
-    continuing : CompoundStatement → Option BreakIfStatement → ContinuingStatement
+    continuing : Attributes → CompoundStatement → Option (Attributed BreakIfStatement) → ContinuingStatement
 
   -- what is done before, the condition, what is done after each turn, and the body
   pub data ForStatement : Type 0 where

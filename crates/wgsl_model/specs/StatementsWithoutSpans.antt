@@ -75,14 +75,14 @@ abbrev mutual
   bare_if_clause (if_clause e block) = if_clause (bare_expression_node e) (bare_compound block)
 
   pub bare_else_if_clause : ElseIfClause → ElseIfClause
-  bare_else_if_clause (else_if_clause e block) = else_if_clause (bare_expression_node e) (bare_compound block)
+  bare_else_if_clause (else_if_clause attributes e block) = else_if_clause (bare_attributes attributes) (bare_expression_node e) (bare_compound block)
 
   pub bare_else_ifs : ElseIfClauses → ElseIfClauses
   bare_else_ifs no_else_ifs = no_else_ifs
   bare_else_ifs (else_if_before c cs) = else_if_before (bare_else_if_clause c) (bare_else_ifs cs)
 
   pub bare_else_clause : ElseClause → ElseClause
-  bare_else_clause (else_clause block) = else_clause (bare_compound block)
+  bare_else_clause (else_clause attributes block) = else_clause (bare_attributes attributes) (bare_compound block)
 
   pub bare_else : MaybeElseClause → MaybeElseClause
   bare_else no_else = no_else
@@ -107,7 +107,8 @@ abbrev mutual
   bare_maybe_continuing (one_continuing c) = one_continuing (bare_continuing c)
 
   pub bare_continuing : ContinuingStatement → ContinuingStatement
-  bare_continuing (continuing body condition) = continuing (bare_compound body) (option_map bare_break_if condition)
+  bare_continuing (continuing attributes body condition) =
+      continuing (bare_attributes attributes) (bare_compound body) (option_map (bare_attributed bare_break_if) condition)
 
   pub bare_for : ForStatement → ForStatement
   bare_for (repeat_for init condition update block) =

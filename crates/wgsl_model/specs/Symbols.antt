@@ -4,6 +4,7 @@ use Rattle.grammar.specs.Tokens.{Token}
 use Rattle.grammar.specs.Grammar.{Grammar}
 use Rattle.wgsl_model.specs.Spanned.{Spanned}
 use Rattle.wgsl_model.specs.Expressions.{LiteralExpression, ExpressionNode, Expression, FunctionCall, TypeExpression}
+use Rattle.wgsl_model.specs.Attributed.{Attributed}
 use Rattle.wgsl_model.specs.Statements.{CompoundStatement, StatementNode, Statement, ConstAssert, SwitchClause, CaseSelector, ContinuingStatement}
 use Rattle.wgsl_model.specs.Units.{GlobalDirective, StructMember, FormalParameter, GlobalDeclaration, TranslationUnit}
 use Rattle.wgsl_model.specs.Checks.{AttributeParts}
@@ -63,7 +64,7 @@ Value assignment = Statement
 Value phony_assignment = Statement
 Value increment = Statement
 Value decrement = Statement
-Value const_assert = ConstAssert
+Value const_assert = Attributed ConstAssert
 Value switch_clause = SwitchClause
 Value case_selector = CaseSelector
 Value continuing_statement = ContinuingStatement

@@ -7,10 +7,10 @@ use Rattle.wgsl_model.specs.Classes.{SymArrow, SymColon}
 use Rattle.wgsl_model.specs.Spanned.{Spanned, spanned}
 use Rattle.wgsl_model.specs.Expressions.{ExpressionNode, TypeExpression}
 use Rattle.wgsl_model.specs.Attributes.{Attributes}
-use Rattle.wgsl_model.specs.Attributed.{without_attributes}
+use Rattle.wgsl_model.specs.Attributed.{Attributed}
 use Rattle.wgsl_model.specs.Statements.{DeclarationKind, CompoundStatement, ConstAssert}
 use Rattle.wgsl_model.specs.Units as tree
-use Rattle.wgsl_model.specs.Units.{GlobalDirective, StructMember, FormalParameter, Function, GlobalDeclaration, UnattributedDeclaration}
+use Rattle.wgsl_model.specs.Units.{UnattributedDirective, StructMember, FormalParameter, Function, GlobalDeclaration, UnattributedDeclaration, as_declaration}
 use Rattle.wgsl_model.specs.Checks.{severity_of}
 use Rattle.wgsl_model.specs.TokenValues.{text_of}
 use Rattle.wgsl_model.specs.StatementParts.{attributes, declaration_of}
@@ -32,17 +32,17 @@ parameter_of p = record { attributes = p.0; ident = text_of p.1.0; ty = p.1.1 }
 abbrev pub value_of : DeclarationKind → List ℕ × Option TypeExpression → Option ExpressionNode → UnattributedDeclaration
 value_of kind typed initializer = tree.declaration (declaration_of kind typed initializer)
 
--- `const_assert` as a declaration
-abbrev pub assert_declaration : ConstAssert → GlobalDeclaration
-assert_declaration c = without_attributes (tree.const_assert c)
+-- `const_assert` behind its attributes, as a declaration
+abbrev pub assert_declaration : Attributed ConstAssert → GlobalDeclaration
+assert_declaration = as_declaration tree.const_assert
 
 -- `alias` with a name and a type
-abbrev pub alias_of : Token × TypeExpression → GlobalDeclaration
-alias_of p = without_attributes (tree.type_alias (record { ident = text_of p.0; ty = p.1 }))
+abbrev pub alias_of : Token × TypeExpression → UnattributedDeclaration
+alias_of p = tree.type_alias (record { ident = text_of p.0; ty = p.1 })
 
 -- `struct` with a name and its members
-abbrev pub struct_of : Token × List (Spanned StructMember) → GlobalDeclaration
-struct_of p = without_attributes (tree.structure (record { ident = text_of p.0; members = p.1 }))
+abbrev pub struct_of : Token × List (Spanned StructMember) → UnattributedDeclaration
+struct_of p = tree.structure (record { ident = text_of p.0; members = p.1 })
 
 -- "->" A* TypeSpecifier
 abbrev pub return_part : Rule (Attributes × TypeExpression)
@@ -65,12 +65,12 @@ texts_of [] = []
 texts_of (t ∷ ts) = text_of t ∷ texts_of ts
 
 -- `enable` with its names
-abbrev pub enable_of : List Token → GlobalDirective
-enable_of names = without_attributes (tree.enable (record { extensions = texts_of names }))
+abbrev pub enable_of : List Token → UnattributedDirective
+enable_of names = tree.enable (record { extensions = texts_of names })
 
 -- `requires` with its names
-abbrev pub requires_of : List Token → GlobalDirective
-requires_of names = without_attributes (tree.requires (record { extensions = texts_of names }))
+abbrev pub requires_of : List Token → UnattributedDirective
+requires_of names = tree.requires (record { extensions = texts_of names })
 
 -- the name of a rule: a name, or two with `.` between
 abbrev pub rule_of : Token → Option Token → List ℕ
@@ -78,6 +78,5 @@ rule_of first None = text_of first
 rule_of first (Some second) = text_of first ++ (codes "." ++ text_of second)
 
 -- `diagnostic` with a severity and the name of a rule
-abbrev pub diagnostic_of : Token → Token → Option Token → GlobalDirective
-diagnostic_of severity first second =
-    without_attributes (tree.diagnostic (record { severity = severity_of severity; rule_name = rule_of first second }))
+abbrev pub diagnostic_of : Token → Token → Option Token → UnattributedDirective
+diagnostic_of severity first second = tree.diagnostic (record { severity = severity_of severity; rule_name = rule_of first second })

@@ -1,10 +1,10 @@
 -- The grammar as it is written: each rule under its line. A is an attribute; list(X) is X ("," X)* ","?; Block is a compound statement.
--- L is the dialect. Where a text is recognised alone, names are identifier tokens alone, `--` stands in no sum, and nothing is checked; all else is as in the whole language.
+-- L is the dialect. Where a text is recognised alone, names are identifier tokens alone, `--` stands in no sum, nothing is checked, and the A* of `led` and `left_side` are none; all else is as in the whole language.
 use Rattle.std.specs.Prelude.{ℕ, List, [], ◌∷◌, Some}
 use Rattle.grammar.specs.Grammar.{Grammar.token, Grammar.symbol, Grammar.left_chain}
 use Rattle.grammar.specs.Notation.{one_token, ◌then◌, ◌or◌, ◌gives◌, ◌makes◌, ◌with_check◌, ◌▹◌, ◌◃◌, ◌means◌, optional, many, several, list, list_or_none}
-use Rattle.wgsl_model.specs.Classes.{SymAnd, SymAndAnd, SymAttr, SymBracketLeft, SymBracketRight, SymBraceLeft, SymBraceRight, SymColon, SymComma, SymEqual, SymShiftRight, SymShiftLeft, SymMinusMinus, SymPeriod, SymPlusPlus, SymOr, SymOrOr, SymParenLeft, SymParenRight, SymSemicolon, SymStar, SymUnderscore, SymXor, KwAlias, KwBreak, KwCase, KwConst, KwConstAssert, KwContinue, KwContinuing, KwDefault, KwDiagnostic, KwDiscard, KwElse, KwEnable, KwFalse, KwFn, KwFor, KwIf, KwLet, KwLoop, KwOverride, KwRequires, KwReturn, KwStruct, KwSwitch, KwTrue, KwVar, KwWhile, Ident, ReservedWord, AbstractInt, I32, U32, AbstractFloat, F32, F16, TemplateArgsStart, TemplateArgsEnd}
-use Rattle.wgsl_model.specs.Operators.{UnaryOperator.address_of, UnaryOperator.indirection, BinaryOperator.short_circuit_or, BinaryOperator.short_circuit_and, BinaryOperator.bitwise_or, BinaryOperator.bitwise_and, BinaryOperator.bitwise_xor, BinaryOperator.shift_left, BinaryOperator.shift_right, AssignmentOperator.equal}
+use Rattle.wgsl_model.specs.Classes.{SymAnd, SymAndAnd, SymAttr, SymBracketLeft, SymBracketRight, SymBraceLeft, SymBraceRight, SymColon, SymComma, SymEqual, SymShiftRight, SymShiftLeft, SymMinusMinus, SymPeriod, SymPlusPlus, SymOr, SymOrOr, SymParenLeft, SymParenRight, SymSemicolon, SymUnderscore, SymXor, KwAlias, KwBreak, KwCase, KwConst, KwConstAssert, KwContinue, KwContinuing, KwDefault, KwDiagnostic, KwDiscard, KwElse, KwEnable, KwFalse, KwFn, KwFor, KwIf, KwLet, KwLoop, KwOverride, KwRequires, KwReturn, KwStruct, KwSwitch, KwTrue, KwVar, KwWhile, Ident, ReservedWord, AbstractInt, I32, U32, AbstractFloat, F32, F16, TemplateArgsStart, TemplateArgsEnd}
+use Rattle.wgsl_model.specs.Operators.{BinaryOperator.short_circuit_or, BinaryOperator.short_circuit_and, BinaryOperator.bitwise_or, BinaryOperator.bitwise_and, BinaryOperator.bitwise_xor, BinaryOperator.shift_left, BinaryOperator.shift_right, AssignmentOperator.equal}
 use Rattle.wgsl_model.specs.Spanned.{spanned}
 use Rattle.wgsl_model.specs.Expressions.{Expression}
 use Rattle.wgsl_model.specs.Attributed.{with_attributes, without_attributes}
@@ -13,7 +13,7 @@ use Rattle.wgsl_model.specs.Units.{UnattributedDeclaration}
 use Rattle.wgsl_model.specs.TokenValues.{text_of, literal_of}
 use Rattle.wgsl_model.specs.Checks.{unreserved, severity_fault, var_fault, attribute_parts, attribute_fault}
 use Rattle.wgsl_model.specs.ExpressionParts.{placed_expression, type_of, call_of, index_of, component_of, with_component, unary_of, binary_of, operation_of, negation_of, negated_product_of, unary_operator, multiplicative_operator, relational_operator, summand, two, two_or_more}
-use Rattle.wgsl_model.specs.StatementParts.{placed_statement, attributes, attributed, statements, initializer, var_kind, local_of, compound_of, assignment_operator, assignment_of, increment_of, decrement_of, underscore_at, variable_at, parenthesized_at, call_statement_of, return_of, if_of, else_if, else_block, assert_of, assert_statement, clause_of, switch_of, loop_of, break_if, continuing_part, for_of, while_of}
+use Rattle.wgsl_model.specs.StatementParts.{placed_statement, attributes, attributed, led, statements, initializer, var_kind, local_of, compound_of, assignment_operator, assignment_of, increment_of, decrement_of, underscore_at, open_left_side, parenthesized_left_side, left_side, call_statement_of, return_of, if_of, else_if, else_block, assert_of, assert_statement, clause_of, switch_of, loop_of, break_if, continuing_statement_of, for_of, while_of}
 use Rattle.wgsl_model.specs.UnitParts.{attributed_ident, member_of, parameter_of, value_of, assert_declaration, alias_of, struct_of, return_part, function_of, enable_of, requires_of, diagnostic_of}
 use Rattle.wgsl_model.specs.Symbols.{Dialect, Dialect.whole, Dialect.alone, Symbol, Symbol.ident, Symbol.type_specifier, Symbol.template_list, Symbol.expressions, Symbol.call, Symbol.arguments, Symbol.literal, Symbol.primary_expression, Symbol.singular_expression, Symbol.component, Symbol.unary_expression, Symbol.multiplicative_expression, Symbol.negated_expression, Symbol.additive_expression, Symbol.shift_expression, Symbol.relational_expression, Symbol.expression, Symbol.lhs_expression, Symbol.attribute, Symbol.compound_statement, Symbol.statement, Symbol.return_statement, Symbol.if_statement, Symbol.switch_statement, Symbol.loop_statement, Symbol.for_statement, Symbol.while_statement, Symbol.call_statement, Symbol.var_statement, Symbol.value_statement, Symbol.break_statement, Symbol.continue_statement, Symbol.discard_statement, Symbol.assignment, Symbol.phony_assignment, Symbol.increment, Symbol.decrement, Symbol.const_assert, Symbol.switch_clause, Symbol.case_selector, Symbol.continuing_statement, Symbol.for_init, Symbol.for_update, Symbol.var_template, Symbol.typed_ident, Symbol.struct_member, Symbol.formal_parameter, Symbol.global_declaration, Symbol.var_declaration, Symbol.const_declaration, Symbol.override_declaration, Symbol.alias_declaration, Symbol.struct_declaration, Symbol.function_declaration, Symbol.diagnostic_severity, Symbol.global_directive, Symbol.enable_directive, Symbol.requires_directive, Symbol.diagnostic_directive, Symbol.unit, Value, Rule}
 
@@ -66,11 +66,8 @@ rules L relational_expression = symbol shift_expression or symbol shift_expressi
 rules L expression = symbol relational_expression
     or two_or_more SymAndAnd short_circuit_and (symbol relational_expression) or two_or_more SymOrOr short_circuit_or (symbol relational_expression)
     or two_or_more SymAnd bitwise_and (symbol unary_expression) or two_or_more SymOr bitwise_or (symbol unary_expression) or two_or_more SymXor bitwise_xor (symbol unary_expression)
--- Lhs = Ident Component* / "(" Lhs ")" Component* / "*" Lhs / "&" Lhs
-rules L lhs_expression = left_chain with_component (symbol ident makes variable_at) (symbol component)
-    or left_chain with_component (SymParenLeft ▹ symbol lhs_expression ◃ SymParenRight makes parenthesized_at) (symbol component)
-    or SymStar means indirection then symbol lhs_expression makes unary_of
-    or SymAnd means address_of then symbol lhs_expression makes unary_of
+-- Lhs = OpenLhs / "(" Lhs ")" Component*; OpenLhs = Ident Component* / "*" Lhs / "&" Lhs
+rules L lhs_expression = open_left_side or parenthesized_left_side
 -- ---- attributes (WGSL, "Attributes")
 -- A = "@" name Args?, the name an identifier, a reserved word or a keyword
 rules whole attribute = SymAttr ▹ token (Ident ∷ ReservedWord ∷ keyword_classes) then optional (symbol arguments) makes attribute_parts with_check attribute_fault
@@ -99,8 +96,8 @@ rules L statement = (SymSemicolon means unattributed UnattributedStatement.void
     or symbol decrement ◃ SymSemicolon
     or symbol compound_statement gives block_statement
     or symbol const_assert ◃ SymSemicolon gives assert_statement) makes placed_statement
--- "return" Expression?
-rules L return_statement = KwReturn ▹ optional (symbol expression) gives return_of
+-- A* "return" Expression?
+rules L return_statement = led L statement (KwReturn ▹ optional (symbol expression) gives return_of)
 -- A* "if" Expression Block ("else" "if" Expression Block)* ("else" Block)?
 rules L if_statement = attributed statement (KwIf ▹ symbol expression then symbol compound_statement then (many else_if then optional else_block)
     gives λ p. if_of p.0 p.1.0 p.1.1)
@@ -115,36 +112,37 @@ rules L for_statement = attributed statement (KwFor ▹ SymParenLeft ▹ optiona
     then optional (symbol for_update) ◃ SymParenRight then symbol compound_statement gives λ p. for_of p.0 p.1.0 p.1.1.0 p.1.1.1)
 -- A* "while" Expression Block
 rules L while_statement = attributed statement (KwWhile ▹ symbol expression then symbol compound_statement gives λ p. while_of p.0 p.1)
--- Call
-rules L call_statement = symbol call gives call_statement_of
--- "var" TemplateList? Typed ("=" Expression)?
-rules L var_statement = var_kind then symbol typed_ident then optional initializer gives λ p. local_of p.0 p.1.0 p.1.1
--- ("let" or "const") Typed "=" Expression
-rules L value_statement = (KwLet means DeclarationKind.let_kind or KwConst means DeclarationKind.const_kind) then symbol typed_ident then initializer
-    gives λ p. local_of p.0 p.1.0 (Some p.1.1)
--- "break"
-rules L break_statement = KwBreak means unattributed UnattributedStatement.break_statement
--- "continue"
-rules L continue_statement = KwContinue means unattributed UnattributedStatement.continue_statement
--- "discard"
-rules L discard_statement = KwDiscard means unattributed UnattributedStatement.discard_statement
--- Lhs ("=" or a compound operator) Expression
-rules L assignment = symbol lhs_expression then assignment_operator then symbol expression gives λ p. assignment_of p.0 p.1.0 p.1.1
--- "_" "=" Expression; the left side is the identifier `_`
-rules L phony_assignment = (one_token SymUnderscore makes underscore_at) then initializer gives λ p. assignment_of p.0 equal p.1
--- Lhs "++"
-rules L increment = symbol lhs_expression ◃ SymPlusPlus gives increment_of
--- Lhs "--"
-rules L decrement = symbol lhs_expression ◃ SymMinusMinus gives decrement_of
--- "const_assert" Expression
-rules L const_assert = KwConstAssert ▹ symbol expression gives assert_of
--- Clause = "case" list(Selector) ":"? Block / "default" ":"? Block
-rules L switch_clause = KwCase ▹ list SymComma (symbol case_selector) then optional (one_token SymColon) then symbol compound_statement gives (λ p. clause_of p.0 p.1.1)
-    or KwDefault ▹ optional (one_token SymColon) then symbol compound_statement gives λ p. clause_of (CaseSelector.default_selector ∷ []) p.1
+-- A* Call
+rules L call_statement = led L statement (symbol call gives call_statement_of)
+-- A* "var" TemplateList? Typed ("=" Expression)?
+rules L var_statement = led L statement (var_kind then symbol typed_ident then optional initializer gives λ p. local_of p.0 p.1.0 p.1.1)
+-- A* ("let" or "const") Typed "=" Expression
+rules L value_statement = led L statement ((KwLet means DeclarationKind.let_kind or KwConst means DeclarationKind.const_kind) then symbol typed_ident then initializer
+    gives λ p. local_of p.0 p.1.0 (Some p.1.1))
+-- A* "break"
+rules L break_statement = led L statement (KwBreak means UnattributedStatement.break_statement)
+-- A* "continue"
+rules L continue_statement = led L statement (KwContinue means UnattributedStatement.continue_statement)
+-- A* "discard"
+rules L discard_statement = led L statement (KwDiscard means UnattributedStatement.discard_statement)
+-- Left ("=" or a compound operator) Expression; Left = A* OpenLhs / "(" Lhs ")" Component*
+rules L assignment = left_side L then assignment_operator then symbol expression gives λ p. statement p.0.0 (assignment_of p.0.1 p.1.0 p.1.1)
+-- A* "_" "=" Expression; the left side is the identifier `_`
+rules L phony_assignment = led L statement ((one_token SymUnderscore makes underscore_at) then initializer gives λ p. assignment_of p.0 equal p.1)
+-- Left "++"
+rules L increment = left_side L ◃ SymPlusPlus gives λ p. statement p.0 (increment_of p.1)
+-- Left "--"
+rules L decrement = left_side L ◃ SymMinusMinus gives λ p. statement p.0 (decrement_of p.1)
+-- A* "const_assert" Expression
+rules L const_assert = led L with_attributes (KwConstAssert ▹ symbol expression gives assert_of)
+-- Clause = A* ("case" list(Selector) ":"? Block / "default" ":"? Block)
+rules L switch_clause = led L clause_of (KwCase ▹ list SymComma (symbol case_selector) then optional (one_token SymColon) then symbol compound_statement gives (λ p. (p.0, p.1.1))
+    or KwDefault ▹ optional (one_token SymColon) then symbol compound_statement gives λ p. (CaseSelector.default_selector ∷ [], p.1))
 -- Selector = "default" / Expression
 rules L case_selector = KwDefault means CaseSelector.default_selector or symbol expression gives CaseSelector.expression_selector
--- Continuing = "continuing" A* "{" Statement* ("break" "if" Expression ";")? "}"
-rules L continuing_statement = KwContinuing ▹ attributes then SymBraceLeft ▹ (statements then optional break_if) ◃ SymBraceRight gives λ p. continuing_part p.0 p.1.0 p.1.1
+-- Continuing = A* "continuing" A* "{" Statement* (A* "break" "if" Expression ";")? "}"
+rules L continuing_statement = led L continuing_statement_of (KwContinuing ▹ attributes then SymBraceLeft ▹ (statements then optional (break_if L)) ◃ SymBraceRight
+    gives λ p. (compound_of p.0 p.1.0, p.1.1))
 -- Init = a `var`, `let`, `const`, assignment, increment, decrement or call, without its ";"
 rules L for_init = (symbol var_statement or symbol value_statement or symbol assignment or symbol phony_assignment or symbol increment or symbol decrement or symbol call_statement) makes placed_statement
 -- Update = the last of these
@@ -171,14 +169,14 @@ rules L global_declaration = (SymSemicolon means without_attributes Unattributed
     or symbol const_assert ◃ SymSemicolon gives assert_declaration) makes spanned
 -- A* "var" TemplateList? Typed ("=" Expression)? ";"
 rules L var_declaration = attributed with_attributes (var_kind then symbol typed_ident then optional initializer ◃ SymSemicolon gives λ p. value_of p.0 p.1.0 p.1.1)
--- "const" Typed "=" Expression ";"
-rules L const_declaration = KwConst ▹ symbol typed_ident then initializer ◃ SymSemicolon gives λ p. without_attributes (value_of DeclarationKind.const_kind p.0 (Some p.1))
+-- A* "const" Typed "=" Expression ";"
+rules L const_declaration = led L with_attributes (KwConst ▹ symbol typed_ident then initializer ◃ SymSemicolon gives λ p. value_of DeclarationKind.const_kind p.0 (Some p.1))
 -- A* "override" Typed ("=" Expression)? ";"
 rules L override_declaration = attributed with_attributes (KwOverride ▹ symbol typed_ident then optional initializer ◃ SymSemicolon gives λ p. value_of DeclarationKind.override_kind p.0 p.1)
--- "alias" Ident "=" TypeSpecifier ";"
-rules L alias_declaration = KwAlias ▹ symbol ident then SymEqual ▹ symbol type_specifier ◃ SymSemicolon gives alias_of
--- "struct" Ident "{" list(Member) "}"
-rules L struct_declaration = KwStruct ▹ symbol ident then SymBraceLeft ▹ list SymComma (symbol struct_member) ◃ SymBraceRight gives struct_of
+-- A* "alias" Ident "=" TypeSpecifier ";"
+rules L alias_declaration = led L with_attributes (KwAlias ▹ symbol ident then SymEqual ▹ symbol type_specifier ◃ SymSemicolon gives alias_of)
+-- A* "struct" Ident "{" list(Member) "}"
+rules L struct_declaration = led L with_attributes (KwStruct ▹ symbol ident then SymBraceLeft ▹ list SymComma (symbol struct_member) ◃ SymBraceRight gives struct_of)
 -- A* "fn" Ident "(" list(Param)? ")" ("->" A* TypeSpecifier)? Block
 rules L function_declaration = attributed with_attributes (KwFn ▹ symbol ident then SymParenLeft ▹ list_or_none SymComma (symbol formal_parameter) ◃ SymParenRight
     then optional return_part then symbol compound_statement gives λ p. function_of p.0 p.1.0 p.1.1.0 p.1.1.1)
@@ -189,13 +187,13 @@ rules whole diagnostic_severity = KwDiagnostic ▹ SymParenLeft ▹ symbol ident
 rules alone diagnostic_severity = KwDiagnostic ▹ SymParenLeft ▹ symbol ident
 -- Directive = one of three
 rules L global_directive = symbol enable_directive or symbol requires_directive or symbol diagnostic_directive
--- "enable" list(Name) ";"
-rules L enable_directive = KwEnable ▹ list SymComma (symbol ident) ◃ SymSemicolon gives enable_of
--- "requires" list(Name) ";"
-rules L requires_directive = KwRequires ▹ list SymComma (symbol ident) ◃ SymSemicolon gives requires_of
--- "diagnostic" "(" Severity "," Name ("." Name)? ","? ")" ";"
-rules L diagnostic_directive = symbol diagnostic_severity ◃ SymComma then symbol ident then optional (SymPeriod ▹ symbol ident) then optional (one_token SymComma) ◃ SymParenRight ◃ SymSemicolon
-    gives λ p. diagnostic_of p.0 p.1.0 p.1.1.0
+-- A* "enable" list(Name) ";"
+rules L enable_directive = led L with_attributes (KwEnable ▹ list SymComma (symbol ident) ◃ SymSemicolon gives enable_of)
+-- A* "requires" list(Name) ";"
+rules L requires_directive = led L with_attributes (KwRequires ▹ list SymComma (symbol ident) ◃ SymSemicolon gives requires_of)
+-- A* "diagnostic" "(" Severity "," Name ("." Name)? ","? ")" ";"
+rules L diagnostic_directive = led L with_attributes (symbol diagnostic_severity ◃ SymComma then symbol ident then optional (SymPeriod ▹ symbol ident) then optional (one_token SymComma) ◃ SymParenRight ◃ SymSemicolon
+    gives λ p. diagnostic_of p.0 p.1.0 p.1.1.0)
 -- Unit = Directive* Declaration*
 rules L unit = many (symbol global_directive) then many (symbol global_declaration) gives λ p. record { global_directives = p.0; global_declarations = p.1 }
 

@@ -12,7 +12,7 @@ use Rattle.wgsl_model.specs.PrintedAttributes.{print_attribute_line}
 use Rattle.wgsl_model.specs.PrintedDeclarations.{print_attributed, print_condition, print_break_if, print_selector}
 use Rattle.wgsl_model.specs.PrintedStatements.{end_of, unended, print_statement, statement_texts, clause_texts, indented_line, print_compound, print_opened, print_if, print_if_clause, print_else_if_clause, print_else_ifs, print_else_clause, print_else, print_switch, print_switch_clause, print_loop, continuing_line, print_continuing, break_if_line, print_for, unended_part, print_while}
 use Rattle.wgsl_writer.proofs.Indents.{after_append}
-use Rattle.wgsl_simple_statement.proofs.Blocks.{after_four, IsFilled}
+use Rattle.wgsl_simple_statement.proofs.Blocks.{after_four, IsFilled, left_filled, right_filled}
 
 -- an indented text begins with four spaces, and each of its further lines with a gap four spaces longer
 after_indented : (gap text : List ℕ) → IsFilled text → after_line_ends gap (indented text) ≡ codes "    " ++ after_line_ends (gap ++ codes "    ") text
@@ -62,11 +62,12 @@ module _ (gap : List ℕ) where
   pub compound_is : (b : CompoundStatement) → at (print_opened b) ++ codes "}" ≡ at (print_compound b)
   compound_is (compound_statement attributes ss) = simp (after_append, append_assoc)
 
-  pub break_if_is : (b : BreakIfStatement) → codes "    " ++ after_line_ends (gap ++ codes "    ") (print_break_if b) ++ (codes "\n" ++ gap) ≡ at (break_if_line (Some b))
-  break_if_is b = line_is (print_break_if b) tt
+  pub break_if_is : (b : Attributed BreakIfStatement) → codes "    " ++ after_line_ends (gap ++ codes "    ") (print_attributed print_break_if b) ++ (codes "\n" ++ gap) ≡ at (break_if_line (Some b))
+  break_if_is b = line_is (print_attributed print_break_if b) (right_filled (print_attribute_line b.attributes) (print_break_if b.node) tt)
 
   pub continuing_line_is : (s : ContinuingStatement) → codes "    " ++ after_line_ends (gap ++ codes "    ") (print_continuing s) ++ (codes "\n" ++ gap) ≡ at (indented_line (print_continuing s))
-  continuing_line_is (continuing body condition) = line_is (print_continuing (continuing body condition)) tt
+  continuing_line_is (continuing attributes body condition) =
+      line_is (print_continuing (continuing attributes body condition)) (left_filled _ _ (left_filled _ _ (left_filled _ _ (right_filled (print_attribute_line attributes) (codes "continuing ") tt))))
 
   -- the same by the parts of a tree
   pub opened_is : (b : CompoundStatement) (attributes : Attributes) (ss : StatementNodes) → b ≡ compound_statement attributes ss → at (print_attribute_line attributes) ++ codes "{\n" ++ gap ++ at (indented (joined (codes "\n") (statement_texts ss))) ++ (codes "\n" ++ gap) ≡ at (print_opened b)
@@ -84,14 +85,15 @@ module _ (gap : List ℕ) where
       let whole : codes "if " ++ at (print_expression_node e) ++ codes " " ++ at (print_compound block) ≡ at (print_if_clause (if_clause e block)) = ap (λ z. codes "if " ++ z) (before_block (print_expression_node e) (print_compound block)) in
       whole ∙ sym (ap (λ c. at (print_if_clause c)) same)
 
-  pub else_if_clause_is : (c : ElseIfClause) (e : ExpressionNode) (block : CompoundStatement) → c ≡ else_if_clause e block → codes "else if " ++ at (print_expression_node e) ++ codes " " ++ at (print_compound block) ≡ at (print_else_if_clause c)
-  else_if_clause_is c e block same =
-      let whole : codes "else if " ++ at (print_expression_node e) ++ codes " " ++ at (print_compound block) ≡ at (print_else_if_clause (else_if_clause e block)) = ap (λ z. codes "else if " ++ z) (before_block (print_expression_node e) (print_compound block)) in
+  pub else_if_clause_is : (c : ElseIfClause) (attributes : Attributes) (e : ExpressionNode) (block : CompoundStatement) → c ≡ else_if_clause attributes e block → at (print_attribute_line attributes) ++ (codes "else if " ++ at (print_expression_node e) ++ codes " ") ++ at (print_compound block) ≡ at (print_else_if_clause c)
+  else_if_clause_is c attributes e block same =
+      let whole : at (print_attribute_line attributes) ++ (codes "else if " ++ at (print_expression_node e) ++ codes " ") ++ at (print_compound block) ≡ at (print_else_if_clause (else_if_clause attributes e block)) = simp (after_append, append_assoc) in
       whole ∙ sym (ap (λ c. at (print_else_if_clause c)) same)
 
-  pub else_clause_is : (c : ElseClause) (block : CompoundStatement) → c ≡ else_clause block → codes "else " ++ at (print_compound block) ≡ at (print_else_clause c)
-  else_clause_is c block same =
-      sym (ap (λ c. at (print_else_clause c)) same)
+  pub else_clause_is : (c : ElseClause) (attributes : Attributes) (block : CompoundStatement) → c ≡ else_clause attributes block → (at (print_attribute_line attributes) ++ codes "else ") ++ at (print_compound block) ≡ at (print_else_clause c)
+  else_clause_is c attributes block same =
+      let whole : (at (print_attribute_line attributes) ++ codes "else ") ++ at (print_compound block) ≡ at (print_else_clause (else_clause attributes block)) = simp (after_append, append_assoc) in
+      whole ∙ sym (ap (λ c. at (print_else_clause c)) same)
 
   -- what stands before braces, and lines between them
   braced_is : (line word e body text : List ℕ) → at line ++ (at word ++ at e ++ codes " ") ++ (at body ++ codes "{\n" ++ gap) ++ at text ++ (codes "\n" ++ gap) ++ codes "}" ≡ at (line ++ (word ++ e ++ codes " " ++ body ++ (codes "{\n" ++ text ++ codes "\n}")))
@@ -102,9 +104,9 @@ module _ (gap : List ℕ) where
       braced_is (print_attribute_line attributes) (codes "switch ") (print_expression_node e) (print_attribute_line body_attributes) (indented (joined (codes "\n") (clause_texts cs)))
       ∙ sym (ap (λ s. at (print_attributed print_switch s)) same)
 
-  pub switch_clause_is : (c : SwitchClause) (selectors : List CaseSelector) (block : CompoundStatement) → c ≡ switch_clause [] selectors block → codes "case " ++ at (joined (codes ", ") (map print_selector selectors)) ++ codes " " ++ at (print_compound block) ≡ at (print_switch_clause c)
-  switch_clause_is c selectors block same =
-      let whole : codes "case " ++ at (joined (codes ", ") (map print_selector selectors)) ++ codes " " ++ at (print_compound block) ≡ at (print_switch_clause (switch_clause [] selectors block)) = ap (λ z. codes "case " ++ z) (before_block (joined (codes ", ") (map print_selector selectors)) (print_compound block)) in
+  pub switch_clause_is : (c : SwitchClause) (attributes : Attributes) (selectors : List CaseSelector) (block : CompoundStatement) → c ≡ switch_clause attributes selectors block → at (print_attribute_line attributes) ++ (codes "case " ++ at (joined (codes ", ") (map print_selector selectors)) ++ codes " ") ++ at (print_compound block) ≡ at (print_switch_clause c)
+  switch_clause_is c attributes selectors block same =
+      let whole : at (print_attribute_line attributes) ++ (codes "case " ++ at (joined (codes ", ") (map print_selector selectors)) ++ codes " ") ++ at (print_compound block) ≡ at (print_switch_clause (switch_clause attributes selectors block)) = simp (after_append, append_assoc) in
       whole ∙ sym (ap (λ c. at (print_switch_clause c)) same)
 
   pub loop_is : (s : Attributed LoopStatement) (attributes : Attributes) (body : CompoundStatement) (last : MaybeContinuing) → s ≡ with_attributes attributes (repeat body last) → (at (print_attribute_line attributes) ++ codes "loop ") ++ at (print_opened body) ++ at (continuing_line last) ++ codes "}" ≡ at (print_attributed print_loop s)
@@ -112,10 +114,9 @@ module _ (gap : List ℕ) where
       let whole : (at (print_attribute_line attributes) ++ codes "loop ") ++ at (print_opened body) ++ at (continuing_line last) ++ codes "}" ≡ at (print_attributed print_loop (with_attributes attributes (repeat body last))) = simp (after_append, append_assoc) in
       whole ∙ sym (ap (λ s. at (print_attributed print_loop s)) same)
 
-  pub continuing_is : (s : ContinuingStatement) (body : CompoundStatement) (condition : Option BreakIfStatement) → s ≡ continuing body condition → codes "continuing " ++ at (print_opened body) ++ at (break_if_line condition) ++ codes "}" ≡ at (print_continuing s)
-  continuing_is s body condition same =
-      let whole : codes "continuing " ++ at (print_opened body) ++ at (break_if_line condition) ++ codes "}" ≡ at (print_continuing (continuing body condition)) = let inside : at (print_opened body) ++ at (break_if_line condition) ++ codes "}" ≡ at (print_opened body ++ break_if_line condition ++ codes "}") = simp after_append in
-      ap (λ z. codes "continuing " ++ z) inside in
+  pub continuing_is : (s : ContinuingStatement) (attributes : Attributes) (body : CompoundStatement) (condition : Option (Attributed BreakIfStatement)) → s ≡ continuing attributes body condition → (at (print_attribute_line attributes) ++ codes "continuing ") ++ at (print_opened body) ++ at (break_if_line condition) ++ codes "}" ≡ at (print_continuing s)
+  continuing_is s attributes body condition same =
+      let whole : (at (print_attribute_line attributes) ++ codes "continuing ") ++ at (print_opened body) ++ at (break_if_line condition) ++ codes "}" ≡ at (print_continuing (continuing attributes body condition)) = simp (after_append, append_assoc) in
       whole ∙ sym (ap (λ s. at (print_continuing s)) same)
 
   pub for_is : (s : Attributed ForStatement) (attributes : Attributes) (init : MaybeStatement) (condition : Option ExpressionNode) (update : MaybeStatement) (block : CompoundStatement) → s ≡ with_attributes attributes (repeat_for init condition update block) → at (print_attribute_line attributes) ++ codes "for (" ++ at (unended_part init) ++ (codes "; " ++ at (print_condition condition) ++ codes "; ") ++ at (unended_part update) ++ codes ") " ++ at (print_compound block) ≡ at (print_attributed print_for s)

@@ -71,11 +71,11 @@ abbrev pub IsFilled : List ℕ → Type 0
 IsFilled [] = ⊥
 IsFilled (b ∷ bs) = Unit {0}
 
-left_filled : (xs ys : List ℕ) → IsFilled xs → IsFilled (xs ++ ys)
+pub left_filled : (xs ys : List ℕ) → IsFilled xs → IsFilled (xs ++ ys)
 left_filled [] ys h = absurd h
 left_filled (x ∷ xs) ys h = tt
 
-right_filled : (xs ys : List ℕ) → IsFilled ys → IsFilled (xs ++ ys)
+pub right_filled : (xs ys : List ℕ) → IsFilled ys → IsFilled (xs ++ ys)
 right_filled [] ys h = h
 right_filled (x ∷ xs) ys h = tt
 

@@ -5,6 +5,9 @@ use Rattle.wgsl_simple_statement.specs.declared.declaration.Declaration.{Declara
 use Rattle.wgsl_simple_statement.specs.declared.simple.AssignmentStatement.{AssignmentStatement}
 use Rattle.wgsl_simple_statement.specs.declared.simple.IncrementStatement.{IncrementStatement}
 use Rattle.wgsl_simple_statement.specs.declared.simple.DecrementStatement.{DecrementStatement}
+use Rattle.wgsl_simple_statement.specs.declared.simple.BreakStatement.{BreakStatement}
+use Rattle.wgsl_simple_statement.specs.declared.simple.ContinueStatement.{ContinueStatement}
+use Rattle.wgsl_simple_statement.specs.declared.simple.DiscardStatement.{DiscardStatement}
 use Rattle.wgsl_simple_statement.specs.declared.simple.ReturnStatement.{ReturnStatement}
 use Rattle.wgsl_simple_statement.specs.declared.simple.FunctionCallStatement.{FunctionCallStatement}
 use Rattle.wgsl_simple_statement.specs.declared.simple.ConstAssert.{ConstAssert}
@@ -15,6 +18,9 @@ use Rattle.wgsl_simple_statement.specs.contracts.declaration.DeclarationPartialE
 use Rattle.wgsl_simple_statement.specs.contracts.simple.AssignmentStatementPartialEq.TheImpl as assignment_eq
 use Rattle.wgsl_simple_statement.specs.contracts.simple.IncrementStatementPartialEq.TheImpl as increment_eq
 use Rattle.wgsl_simple_statement.specs.contracts.simple.DecrementStatementPartialEq.TheImpl as decrement_eq
+use Rattle.wgsl_simple_statement.specs.contracts.simple.BreakStatementPartialEq.TheImpl as break_eq
+use Rattle.wgsl_simple_statement.specs.contracts.simple.ContinueStatementPartialEq.TheImpl as continue_eq
+use Rattle.wgsl_simple_statement.specs.contracts.simple.DiscardStatementPartialEq.TheImpl as discard_eq
 use Rattle.wgsl_simple_statement.specs.contracts.simple.ReturnStatementPartialEq.TheImpl as return_eq
 use Rattle.wgsl_simple_statement.specs.contracts.simple.FunctionCallStatementPartialEq.TheImpl as call_statement_eq
 use Rattle.wgsl_simple_statement.specs.contracts.simple.ConstAssertPartialEq.TheImpl as assert_eq
@@ -35,6 +41,15 @@ equal_increments = (increment_eq.ghosts).eq
 
 abbrev pub equal_decrements : DecrementStatement → DecrementStatement → Bool
 equal_decrements = (decrement_eq.ghosts).eq
+
+abbrev pub equal_breaks : BreakStatement → BreakStatement → Bool
+equal_breaks = (break_eq.ghosts).eq
+
+abbrev pub equal_continues : ContinueStatement → ContinueStatement → Bool
+equal_continues = (continue_eq.ghosts).eq
+
+abbrev pub equal_discards : DiscardStatement → DiscardStatement → Bool
+equal_discards = (discard_eq.ghosts).eq
 
 abbrev pub equal_returns : ReturnStatement → ReturnStatement → Bool
 equal_returns = (return_eq.ghosts).eq

@@ -15,6 +15,9 @@ use Rattle.wgsl_simple_statement.specs.declared.declaration.DeclarationKind.TheV
 use Rattle.wgsl_simple_statement.specs.declared.simple.AssignmentStatement.{AssignmentStatement}
 use Rattle.wgsl_simple_statement.specs.declared.simple.IncrementStatement.{IncrementStatement}
 use Rattle.wgsl_simple_statement.specs.declared.simple.DecrementStatement.{DecrementStatement}
+use Rattle.wgsl_simple_statement.specs.declared.simple.BreakStatement.{BreakStatement}
+use Rattle.wgsl_simple_statement.specs.declared.simple.ContinueStatement.{ContinueStatement}
+use Rattle.wgsl_simple_statement.specs.declared.simple.DiscardStatement.{DiscardStatement}
 use Rattle.wgsl_simple_statement.specs.declared.simple.ReturnStatement.{ReturnStatement}
 use Rattle.wgsl_simple_statement.specs.declared.simple.FunctionCallStatement.{FunctionCallStatement}
 use Rattle.wgsl_simple_statement.specs.declared.simple.ConstAssert.{ConstAssert}
@@ -40,26 +43,36 @@ declaration_view d = with_attributes (attributes_view d.attributes.items) (recor
   initializer = option_map expression_node_view d.initializer;
 })
 
-abbrev pub assignment_view : AssignmentStatement → plain.AssignmentStatement
-assignment_view a = record { operator = assignment_operator_view a.operator; lhs = expression_node_view a.lhs; rhs = expression_node_view a.rhs }
+abbrev pub assignment_view : AssignmentStatement → Attributed plain.AssignmentStatement
+assignment_view a = with_attributes (attributes_view a.attributes.items) (record { operator = assignment_operator_view a.operator; lhs = expression_node_view a.lhs; rhs = expression_node_view a.rhs })
 
-abbrev pub increment_view : IncrementStatement → plain.IncrementStatement
-increment_view i = record { expression = expression_node_view i.expression }
+abbrev pub increment_view : IncrementStatement → Attributed plain.IncrementStatement
+increment_view i = with_attributes (attributes_view i.attributes.items) (record { expression = expression_node_view i.expression })
 
-abbrev pub decrement_view : DecrementStatement → plain.DecrementStatement
-decrement_view d = record { expression = expression_node_view d.expression }
+abbrev pub decrement_view : DecrementStatement → Attributed plain.DecrementStatement
+decrement_view d = with_attributes (attributes_view d.attributes.items) (record { expression = expression_node_view d.expression })
 
-abbrev pub return_view : ReturnStatement → plain.ReturnStatement
-return_view r = record { expression = option_map expression_node_view r.expression }
+-- a statement that is a word alone
+abbrev pub break_view : BreakStatement → plain.Statement
+break_view b = plain.statement (attributes_view b.attributes.items) plain.break_statement
 
-abbrev pub call_statement_view : FunctionCallStatement → plain.FunctionCallStatement
-call_statement_view c = record { call = function_call_view c.call }
+abbrev pub continue_view : ContinueStatement → plain.Statement
+continue_view c = plain.statement (attributes_view c.attributes.items) plain.continue_statement
 
-abbrev pub assert_view : ConstAssert → plain.ConstAssert
-assert_view c = record { expression = expression_node_view c.expression }
+abbrev pub discard_view : DiscardStatement → plain.Statement
+discard_view d = plain.statement (attributes_view d.attributes.items) plain.discard_statement
 
-abbrev pub break_if_view : BreakIfStatement → plain.BreakIfStatement
-break_if_view b = record { expression = expression_node_view b.expression }
+abbrev pub return_view : ReturnStatement → Attributed plain.ReturnStatement
+return_view r = with_attributes (attributes_view r.attributes.items) (record { expression = option_map expression_node_view r.expression })
+
+abbrev pub call_statement_view : FunctionCallStatement → Attributed plain.FunctionCallStatement
+call_statement_view c = with_attributes (attributes_view c.attributes.items) (record { call = function_call_view c.call })
+
+abbrev pub assert_view : ConstAssert → Attributed plain.ConstAssert
+assert_view c = with_attributes (attributes_view c.attributes.items) (record { expression = expression_node_view c.expression })
+
+abbrev pub break_if_view : BreakIfStatement → Attributed plain.BreakIfStatement
+break_if_view b = with_attributes (attributes_view b.attributes.items) (record { expression = expression_node_view b.expression })
 
 abbrev pub selector_view : CaseSelector → plain.CaseSelector
 selector_view selector.Default = plain.default_selector

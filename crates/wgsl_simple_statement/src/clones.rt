@@ -1,8 +1,9 @@
 //! Copies of the statements that hold no others, and of declarations.
 
 ghost use Rattle.std.specs.Prelude.{◌≡◌, IfOk};
-ghost use Rattle.wgsl_simple_statement.specs.View.{assignment_view, increment_view, decrement_view, return_view, call_statement_view, assert_view, break_if_view, selector_view, declaration_view};
+ghost use Rattle.wgsl_simple_statement.specs.View.{assignment_view, increment_view, decrement_view, break_view, continue_view, discard_view, return_view, call_statement_view, assert_view, break_if_view, selector_view, declaration_view};
 
+use crate::attributes::clone_attributes;
 use crate::declaration::Declaration;
 use crate::simple::{
     AssignmentStatement, BreakIfStatement, BreakStatement, CaseSelector, ConstAssert,
@@ -17,6 +18,7 @@ impl CloneWith for AssignmentStatement {
 
     fn clone_with(&self, alloc: Global) -> Result<Self, AllocError> {
         Ok(AssignmentStatement {
+            attributes: clone_attributes(&self.attributes, alloc)?,
             operator: self.operator,
             lhs: self.lhs.clone_with(alloc)?,
             rhs: self.rhs.clone_with(alloc)?,
@@ -29,6 +31,7 @@ impl CloneWith for IncrementStatement {
 
     fn clone_with(&self, alloc: Global) -> Result<Self, AllocError> {
         Ok(IncrementStatement {
+            attributes: clone_attributes(&self.attributes, alloc)?,
             expression: self.expression.clone_with(alloc)?,
         })
     }
@@ -39,6 +42,7 @@ impl CloneWith for DecrementStatement {
 
     fn clone_with(&self, alloc: Global) -> Result<Self, AllocError> {
         Ok(DecrementStatement {
+            attributes: clone_attributes(&self.attributes, alloc)?,
             expression: self.expression.clone_with(alloc)?,
         })
     }
@@ -49,6 +53,7 @@ impl CloneWith for ReturnStatement {
 
     fn clone_with(&self, alloc: Global) -> Result<Self, AllocError> {
         Ok(ReturnStatement {
+            attributes: clone_attributes(&self.attributes, alloc)?,
             expression: self.expression.clone_with(alloc)?,
         })
     }
@@ -59,6 +64,7 @@ impl CloneWith for FunctionCallStatement {
 
     fn clone_with(&self, alloc: Global) -> Result<Self, AllocError> {
         Ok(FunctionCallStatement {
+            attributes: clone_attributes(&self.attributes, alloc)?,
             call: self.call.clone_with(alloc)?,
         })
     }
@@ -69,6 +75,7 @@ impl CloneWith for ConstAssert {
 
     fn clone_with(&self, alloc: Global) -> Result<Self, AllocError> {
         Ok(ConstAssert {
+            attributes: clone_attributes(&self.attributes, alloc)?,
             expression: self.expression.clone_with(alloc)?,
         })
     }
@@ -79,6 +86,7 @@ impl CloneWith for BreakIfStatement {
 
     fn clone_with(&self, alloc: Global) -> Result<Self, AllocError> {
         Ok(BreakIfStatement {
+            attributes: clone_attributes(&self.attributes, alloc)?,
             expression: self.expression.clone_with(alloc)?,
         })
     }
@@ -102,7 +110,7 @@ impl CloneWith for Declaration {
 
     fn clone_with(&self, alloc: Global) -> Result<Self, AllocError> {
         Ok(Declaration {
-            attributes: self.attributes.clone_with(alloc)?,
+            attributes: clone_attributes(&self.attributes, alloc)?,
             kind: self.kind,
             ident: self.ident.clone_with(alloc)?,
             ty: self.ty.clone_with(alloc)?,
@@ -112,26 +120,32 @@ impl CloneWith for Declaration {
 }
 
 impl CloneWith for BreakStatement {
-    ghost copies = { λ original copy. copy ≡ original };
+    ghost copies = { λ original copy. break_view copy ≡ break_view original };
 
-    fn clone_with(&self, _alloc: Global) -> Result<Self, AllocError> {
-        Ok(BreakStatement {})
+    fn clone_with(&self, alloc: Global) -> Result<Self, AllocError> {
+        Ok(BreakStatement {
+            attributes: clone_attributes(&self.attributes, alloc)?,
+        })
     }
 }
 
 impl CloneWith for ContinueStatement {
-    ghost copies = { λ original copy. copy ≡ original };
+    ghost copies = { λ original copy. continue_view copy ≡ continue_view original };
 
-    fn clone_with(&self, _alloc: Global) -> Result<Self, AllocError> {
-        Ok(ContinueStatement {})
+    fn clone_with(&self, alloc: Global) -> Result<Self, AllocError> {
+        Ok(ContinueStatement {
+            attributes: clone_attributes(&self.attributes, alloc)?,
+        })
     }
 }
 
 impl CloneWith for DiscardStatement {
-    ghost copies = { λ original copy. copy ≡ original };
+    ghost copies = { λ original copy. discard_view copy ≡ discard_view original };
 
-    fn clone_with(&self, _alloc: Global) -> Result<Self, AllocError> {
-        Ok(DiscardStatement {})
+    fn clone_with(&self, alloc: Global) -> Result<Self, AllocError> {
+        Ok(DiscardStatement {
+            attributes: clone_attributes(&self.attributes, alloc)?,
+        })
     }
 }
 
@@ -209,7 +223,7 @@ impl Declaration {
 
 impl BreakStatement {
     pub fn clone(&self, alloc: Global) -> Result<Self, AllocError>
-        ensures { IfOk result (λ copy. copy ≡ self.now) }
+        ensures { IfOk result (λ copy. break_view copy ≡ break_view self.now) }
     {
         self.clone_with(alloc)
     }
@@ -217,7 +231,7 @@ impl BreakStatement {
 
 impl ContinueStatement {
     pub fn clone(&self, alloc: Global) -> Result<Self, AllocError>
-        ensures { IfOk result (λ copy. copy ≡ self.now) }
+        ensures { IfOk result (λ copy. continue_view copy ≡ continue_view self.now) }
     {
         self.clone_with(alloc)
     }
@@ -225,7 +239,7 @@ impl ContinueStatement {
 
 impl DiscardStatement {
     pub fn clone(&self, alloc: Global) -> Result<Self, AllocError>
-        ensures { IfOk result (λ copy. copy ≡ self.now) }
+        ensures { IfOk result (λ copy. discard_view copy ≡ discard_view self.now) }
     {
         self.clone_with(alloc)
     }

@@ -9,10 +9,11 @@ ghost use Rattle.wgsl_expression.specs.View.{expression_node_view, type_expressi
 ghost use Rattle.wgsl_simple_statement.specs.View.{declaration_kind_view, declaration_view};
 ghost use Rattle.wgsl_simple_statement.specs.Kinds.{IsKindWord};
 
+use crate::attributes::write_attributes;
 use crate::unended::Unended;
 use std::fmt;
 use std::fmt::Write;
-use wgsl_attribute::{Attributes, AttributesBefore};
+use wgsl_attribute::Attributes;
 use wgsl_expression::{ExpressionNode, Ident, TypeExpression};
 use wgsl_named_values::{AccessMode, AddressSpace};
 
@@ -70,6 +71,7 @@ pub type DeclarationStatement = Declaration;
 impl fmt::Display for Declaration {
     ghost output = { λ declaration. Some (print_attributed print_declaration (declaration_view declaration)) };
 
+    #[tactic(auto, using(std::proofs::lemmas::List::append_assoc))]
     fn fmt<W: fmt::Write>(&self, f: &mut fmt::Formatter<W>) -> fmt::Result {
         write!(f, "{};", Unended(self))
     }
@@ -79,13 +81,8 @@ impl fmt::Display for Unended<'_, Declaration> {
     ghost output = { λ statement. Some (print_attributed unended_declaration (declaration_view statement.0.now)) };
 
     fn fmt<W: fmt::Write>(&self, f: &mut fmt::Formatter<W>) -> fmt::Result {
-        let declaration = self.0;
-        let attributes = AttributesBefore {
-            attributes: &declaration.attributes,
-            end: "\n",
-        };
-        write!(f, "{attributes}")?;
-        write_value(declaration, f)
+        write_attributes(&self.0.attributes, f)?;
+        write_value(self.0, f)
     }
 }
 

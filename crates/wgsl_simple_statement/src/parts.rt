@@ -15,26 +15,13 @@ ghost use Rattle.wgsl_expression.specs.View.{expression_node_view};
 ghost use Rattle.wgsl_attribute.specs.View.{attributes_view};
 ghost use Rattle.wgsl_simple_statement.specs.View.{break_if_view, selector_view};
 
+use crate::attributes::write_attribute_line;
 use crate::simple::{BreakIfStatement, CaseSelector};
 use std::fmt;
 use std::fmt::Write;
-use wgsl_attribute::{Attributes, AttributesBefore};
+use wgsl_attribute::Attributes;
 use wgsl_expression::ExpressionNode;
 use wgsl_writer::{Depth, write_indented, write_joined, write_spaces};
-
-pub fn write_attribute_line<W: fmt::Write>(
-    attributes: &Attributes,
-    depth: &Depth<'_>,
-    f: &mut fmt::Formatter<W>,
-) -> fmt::Result
-    ensures { WritesAt W.write_str_gives depth.now f.old result (print_attribute_line (attributes_view attributes.now.items)) f.new }
-{
-    let line = AttributesBefore {
-        attributes: attributes.as_slice(),
-        end: "\n",
-    };
-    write_indented(&line, depth, f)
-}
 
 /// Writes the word that a statement begins with, on the line below its attributes.
 pub fn write_start<W: fmt::Write>(

@@ -3,26 +3,27 @@ use Rattle.std.proofs.Common.{◌≡◌, ◌∙◌, ℕ, sym, ap, ap₂, List, [
 use Rattle.std.specs.Prelude.{Option, Some, None}
 use Rattle.grammar.specs.Tokens.{Token, Fault, Span}
 use Rattle.grammar.specs.States.{State, Read, Read.done, Stop, Stop.unexpected, Read.stop, ◌>>=◌, is_at, is_any, take, start_of, first_of, after, judged, span_from}
+use Rattle.grammar.proofs.Binding.{bind_associates, bind_alike, bind_cond}
 use Rattle.wgsl_model.specs.Classes.{SymAnd, SymMinusMinus, SymParenLeft, SymPlusPlus, SymStar, Ident, ReservedWord, TemplateArgsStart}
 use Rattle.wgsl_model.specs.Expressions.{ExpressionNode}
-use Rattle.wgsl_model.specs.Statements.{Statement}
+use Rattle.wgsl_model.specs.Statements.{UnattributedStatement}
 use Rattle.wgsl_model.specs.StatementParts.{variable_at, assignment_of, increment_of, decrement_of}
 use Rattle.wgsl_model.specs.TokenValues.{text_of}
 use Rattle.wgsl_model.specs.Checks.{unreserved}
-use Rattle.wgsl_model.specs.Symbols.{Symbol.ident, Symbol.expression, Symbol.arguments, Symbol.phony_assignment}
-use Rattle.wgsl_grammar_theory.specs.Factored.{FactoredSymbol.of, FactoredSymbol.further, Further.components, Further.other_left_side, Further.left_side_rest, Further.name_rest_statement, Further.simple_statement}
+use Rattle.wgsl_model.specs.Symbols.{Symbol.ident, Symbol.expression, Symbol.arguments}
+use Rattle.wgsl_grammar_theory.specs.Factored.{FactoredSymbol.of, FactoredSymbol.further, Further.components, Further.left_side_in_parentheses, Further.prefixed_left_side, Further.left_side_rest, Further.name_rest_statement, Further.phony_part, Further.simple_part, Further.parenthesized_statement}
 use Rattle.wgsl_grammar_theory.specs.Reader.{reader}
 use Rattle.wgsl_grammar_theory.specs.ExpressionRules.{ident_at}
-use Rattle.wgsl_grammar_theory.specs.StatementRules.{left_side_rest_at, name_rest_statement_at, simple_statement_at}
+use Rattle.wgsl_grammar_theory.specs.StatementRules.{left_side_rest_at, name_rest_statement_at, simple_part_at, parenthesized_statement_at}
 use Rattle.wgsl_grammar_theory.proofs.ExpressionEquations.{ident_is}
-use Rattle.wgsl_grammar_theory.proofs.StatementEquations.{left_side_rest_is, name_rest_statement_is, simple_statement_is}
+use Rattle.wgsl_grammar_theory.proofs.StatementEquations.{left_side_rest_is, name_rest_statement_is, simple_part_is, parenthesized_statement_is}
 use Rattle.wgsl_simple_statement_reader.specs.Given.{given}
 use Rattle.wgsl_simple_statement_reader.specs.SimpleStatements.{named_statement_at, maybe_template_list_at, call_of_name, call_rest_at, assignment_classes, assignment_operator_at}
-use Rattle.wgsl_simple_statement_reader.proofs.Binding.{bind_associates, bind_alike, bind_cond, pair_given, given_is}
+use Rattle.wgsl_simple_statement_reader.proofs.Binding.{pair_given, given_is}
 
 -- ---- what follows a left side
 -- an assignment to it, or `++` or `--` behind it
-unfoldable pub left_side_rest_parts : ExpressionNode → State → Read Statement
+unfoldable pub left_side_rest_parts : ExpressionNode → State → Read UnattributedStatement
 left_side_rest_parts left s = cond (is_any assignment_classes s) (assignment_operator_at s >>= λ operator s'. reader (of expression) s' >>= λ rhs s''. done (assignment_of left operator rhs) s'')
     (cond (is_at SymPlusPlus s) (take SymPlusPlus s >>= λ t s'. done (increment_of left) s') (take SymMinusMinus s >>= λ t s'. done (decrement_of left) s'))
 
@@ -58,10 +59,10 @@ pub name_span : (s : State) (t : Token) (s' : State) → reader (of ident) s ≡
 name_span s t s' h = name_span_in s.end s.rest t s' (sym (ident_is s) ∙ h)
 
 -- a call of it, or components and what follows a left side
-abbrev pub named_rest : Token → Span → State → Read Statement
+abbrev pub named_rest : Token → Span → State → Read UnattributedStatement
 named_rest t span s = cond (is_any (TemplateArgsStart ∷ (SymParenLeft ∷ [])) s) (call_rest_at (text_of t) s) (given (variable_at t span) (reader (further components)) s >>= λ e s'. given e (reader (further left_side_rest)) s')
 
-unfoldable pub named_statement_parts : State → Read Statement
+unfoldable pub named_statement_parts : State → Read UnattributedStatement
 named_statement_parts s = reader (of ident) s >>= λ t s'. named_rest t (span_from (start_of s) s') s'
 
 name_rest_is : (t : Token) (s : State) → given t (reader (further name_rest_statement)) s ≡ named_rest t (record { start = t.start; end = t.end }) s
@@ -77,12 +78,20 @@ named_statement_by_parts s = given_is (reader (of ident) s) (reader (further nam
     ∙ bind_alike (reader (of ident) s) _ _ (λ t s' e. name_rest_is t s' ∙ ap (λ span. named_rest t span s') (name_span s t s' e))
 
 -- ---- all of them
-unfoldable pub simple_statement_parts : State → Read Statement
-simple_statement_parts s = cond (is_any (Ident ∷ (ReservedWord ∷ [])) s) (named_statement_at s)
-    (cond (is_any (SymAnd ∷ (SymParenLeft ∷ (SymStar ∷ []))) s) (reader (further other_left_side) s >>= λ e s'. given e (reader (further left_side_rest)) s') (reader (of phony_assignment) s))
+unfoldable pub simple_parts : State → Read UnattributedStatement
+simple_parts s = cond (is_any (Ident ∷ (ReservedWord ∷ [])) s) (named_statement_at s)
+    (cond (is_any (SymAnd ∷ (SymStar ∷ [])) s) (reader (further prefixed_left_side) s >>= λ e s'. given e (reader (further left_side_rest)) s') (reader (further phony_part) s))
 
-pub simple_statement_by_parts : (s : State) → reader (further simple_statement) s ≡ simple_statement_parts s
-unfolding simple_statement_at simple_statement_parts named_statement_at
-simple_statement_by_parts s = simple_statement_is s
-    ∙ ap (λ m. cond (is_any (Ident ∷ (ReservedWord ∷ [])) s) (named_statement_at s) (cond (is_any (SymAnd ∷ (SymParenLeft ∷ (SymStar ∷ []))) s) m (reader (of phony_assignment) s)))
-    (given_is (reader (further other_left_side) s) (reader (further left_side_rest)))
+pub simple_by_parts : (s : State) → reader (further simple_part) s ≡ simple_parts s
+unfolding simple_part_at simple_parts named_statement_at
+simple_by_parts s = simple_part_is s
+    ∙ ap (λ m. cond (is_any (Ident ∷ (ReservedWord ∷ [])) s) (named_statement_at s) (cond (is_any (SymAnd ∷ (SymStar ∷ [])) s) m (reader (further phony_part) s)))
+    (given_is (reader (further prefixed_left_side) s) (reader (further left_side_rest)))
+
+-- one that begins with `(`
+unfoldable pub parenthesized_parts : State → Read UnattributedStatement
+parenthesized_parts s = reader (further left_side_in_parentheses) s >>= λ e s'. given e (reader (further left_side_rest)) s'
+
+pub parenthesized_by_parts : (s : State) → reader (further parenthesized_statement) s ≡ parenthesized_parts s
+unfolding parenthesized_statement_at parenthesized_parts
+parenthesized_by_parts s = parenthesized_statement_is s ∙ given_is (reader (further left_side_in_parentheses) s) (reader (further left_side_rest))

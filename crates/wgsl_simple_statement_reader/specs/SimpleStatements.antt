@@ -7,7 +7,7 @@ use Rattle.wgsl_model.specs.Classes.{SymEqual, SymUnderscore, SymPlusEqual, SymM
 use Rattle.wgsl_model.specs.Operators.{AssignmentOperator}
 use Rattle.wgsl_model.specs.Expressions.{ExpressionNode, type_expression, template_of}
 use Rattle.wgsl_model.specs.ExpressionParts.{call_of}
-use Rattle.wgsl_model.specs.Statements.{Statement}
+use Rattle.wgsl_model.specs.Statements.{UnattributedStatement}
 use Rattle.wgsl_model.specs.StatementParts.{assignment_operator, underscore_at, call_statement_of}
 use Rattle.wgsl_model.specs.Symbols.{Symbol.ident, Symbol.template_list, Symbol.arguments}
 use Rattle.wgsl_grammar_theory.specs.Factored.{FactoredSymbol.of, FactoredSymbol.further, Further.name_rest_statement, lifted}
@@ -15,7 +15,7 @@ use Rattle.wgsl_grammar_theory.specs.Tables.{tables}
 use Rattle.wgsl_grammar_theory.specs.Reader.{reader}
 
 -- a name, and what follows it
-unfoldable pub named_statement_at : State → Read Statement
+unfoldable pub named_statement_at : State → Read UnattributedStatement
 named_statement_at s = go tables reader (symbol (of ident) then symbol (further name_rest_statement) gives λ p. p.1 p.0) s
 
 -- a template list, or nothing
@@ -23,11 +23,11 @@ unfoldable pub maybe_template_list_at : State → Read (Option (List ExpressionN
 maybe_template_list_at s = go tables reader (optional (symbol (of template_list))) s
 
 -- a call of a name
-abbrev pub call_of_name : List ℕ → Option (List ExpressionNode) → List ExpressionNode → Statement
+abbrev pub call_of_name : List ℕ → Option (List ExpressionNode) → List ExpressionNode → UnattributedStatement
 call_of_name name template es = call_statement_of (call_of (type_expression name (template_of template), es))
 
 -- the rest of it behind the name
-unfoldable pub call_rest_at : List ℕ → State → Read Statement
+unfoldable pub call_rest_at : List ℕ → State → Read UnattributedStatement
 call_rest_at name s = maybe_template_list_at s >>= λ template s'. reader (of arguments) s' >>= λ es s''. done (call_of_name name template es) s''
 
 -- the classes of `=` and the compound operators

@@ -1,11 +1,11 @@
 -- What the parts of declarations of values and of `return` read, each as a word of its own, which no computation opens.
-use Rattle.std.specs.Prelude.{Option}
+use Rattle.std.specs.Prelude.{ℕ, Option}
 use Rattle.grammar.specs.Grammar.{Grammar.symbol}
 use Rattle.grammar.specs.Notation.{◌or◌, ◌means◌, optional}
 use Rattle.grammar.specs.States.{State, Read, go}
 use Rattle.wgsl_model.specs.Classes.{KwConst, KwLet}
 use Rattle.wgsl_model.specs.Expressions.{ExpressionNode}
-use Rattle.wgsl_model.specs.Statements.{DeclarationKind, DeclarationKind.let_kind, DeclarationKind.const_kind}
+use Rattle.wgsl_model.specs.Statements.{DeclarationKind, DeclarationKind.let_kind, DeclarationKind.const_kind, UnattributedStatement}
 use Rattle.wgsl_model.specs.Symbols.{Symbol.expression}
 use Rattle.wgsl_grammar_theory.specs.Factored.{FactoredSymbol.of}
 use Rattle.wgsl_grammar_theory.specs.Tables.{tables}
@@ -18,3 +18,7 @@ maybe_expression_at s = go tables reader (optional (symbol (of expression))) s
 -- `let` or `const`
 unfoldable pub value_kind_at : State → Read DeclarationKind
 value_kind_at s = go tables reader (KwLet means let_kind or KwConst means const_kind) s
+
+-- a statement that is a word alone, by the class of the word
+unfoldable pub word_at : ℕ → UnattributedStatement → State → Read UnattributedStatement
+word_at class word s = go tables reader (class means word) s

@@ -11,7 +11,7 @@ ghost use Rattle.wgsl_span.specs.View.{span_view};
 ghost use Rattle.wgsl_token.specs.View.{class_of_kind};
 ghost use Rattle.wgsl_named_values.specs.View.{unary_operator_view};
 ghost use Rattle.wgsl_expression.specs.View.{ident_name, expression_node_view};
-ghost use Rattle.wgsl_grammar_theory.specs.Factored.{FactoredSymbol.of, FactoredSymbol.further, Further.other_left_side};
+ghost use Rattle.wgsl_grammar_theory.specs.Factored.{FactoredSymbol.of, FactoredSymbol.further, Further.left_side_in_parentheses, Further.prefixed_left_side};
 ghost use Rattle.wgsl_grammar_theory.specs.Reader.{reader};
 ghost use Rattle.wgsl_cursor.specs.Reading.{state, Parses};
 ghost use Rattle.wgsl_simple_statement_reader.specs.LeftSides.{left_name_at, parenthesized_left_side_at, unary_left_side_at};
@@ -41,7 +41,7 @@ pub fn begins_name(tokens: &Cursor) -> bool
     tokens.is_at(TokenKind::Ident) || tokens.is_at(TokenKind::ReservedWord)
 }
 
-/// A name with its components, or another left side.
+/// A left side: a name with its components, one behind `*` or `&`, or one in parentheses.
 #[cycle(left_side)]
 pub fn parse_lhs_expression(alloc: Global, tokens: &mut Cursor) -> Result<ExpressionNode, Fault>
     ensures { Parses expression_node_view result tokens.old tokens.new (reader (of lhs_expression)) }
@@ -50,7 +50,20 @@ pub fn parse_lhs_expression(alloc: Global, tokens: &mut Cursor) -> Result<Expres
         let name = parse_left_name(alloc, tokens)?;
         return parse_components(alloc, tokens, name);
     }
-    parse_other_left_side(alloc, tokens)
+    if begins_prefixed_left_side(tokens) {
+        return parse_prefixed_left_side(alloc, tokens);
+    }
+    if tokens.is_at(TokenKind::SymParenLeft) {
+        return parse_left_side_in_parentheses(alloc, tokens);
+    }
+    Err(tokens.refuse(LEFT_SIDE))
+}
+
+/// Whether the next token is `*` or `&`.
+pub fn begins_prefixed_left_side(tokens: &Cursor) -> bool
+    ensures { result ≡ is_any (class.SymAnd ∷ (class.SymStar ∷ [])) (state tokens.now) }
+{
+    tokens.is_at(TokenKind::SymAnd) || tokens.is_at(TokenKind::SymStar)
 }
 
 /// A name.
@@ -73,15 +86,23 @@ pub fn left_name(alloc: Global, ident: Ident, span: Span) -> Result<ExpressionNo
     Spanned::new(alloc, variable, span)
 }
 
-/// A left side that begins with no name.
+/// A left side in parentheses, with its components.
 #[cycle(left_side)]
-pub fn parse_other_left_side(alloc: Global, tokens: &mut Cursor) -> Result<ExpressionNode, Fault>
-    ensures { Parses expression_node_view result tokens.old tokens.new (reader (further other_left_side)) }
+pub fn parse_left_side_in_parentheses(
+    alloc: Global,
+    tokens: &mut Cursor,
+) -> Result<ExpressionNode, Fault>
+    ensures { Parses expression_node_view result tokens.old tokens.new (reader (further left_side_in_parentheses)) }
 {
-    if tokens.is_at(TokenKind::SymParenLeft) {
-        let base = parse_parenthesized_left_side(alloc, tokens)?;
-        return parse_components(alloc, tokens, base);
-    }
+    let base = parse_parenthesized_left_side(alloc, tokens)?;
+    parse_components(alloc, tokens, base)
+}
+
+/// A left side that begins with `*` or `&`.
+#[cycle(left_side)]
+pub fn parse_prefixed_left_side(alloc: Global, tokens: &mut Cursor) -> Result<ExpressionNode, Fault>
+    ensures { Parses expression_node_view result tokens.old tokens.new (reader (further prefixed_left_side)) }
+{
     if tokens.is_at(TokenKind::SymStar) {
         return parse_unary_left_side(
             alloc,
@@ -90,10 +111,7 @@ pub fn parse_other_left_side(alloc: Global, tokens: &mut Cursor) -> Result<Expre
             UnaryOperator::Indirection,
         );
     }
-    if tokens.is_at(TokenKind::SymAnd) {
-        return parse_unary_left_side(alloc, tokens, TokenKind::SymAnd, UnaryOperator::AddressOf);
-    }
-    Err(tokens.refuse(LEFT_SIDE))
+    parse_unary_left_side(alloc, tokens, TokenKind::SymAnd, UnaryOperator::AddressOf)
 }
 
 #[cycle(left_side)]

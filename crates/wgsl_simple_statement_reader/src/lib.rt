@@ -5,8 +5,8 @@ mod left_side;
 mod simple;
 mod value;
 
-pub use simple::parse_simple_statement;
+pub use simple::{parse_parenthesized_statement, parse_simple_part};
 pub use value::{
-    begins_value_statement, parse_break_statement, parse_const_assert, parse_continue_statement,
-    parse_discard_statement, parse_return_statement, parse_value_statement, parse_var_statement,
+    begins_value_part, parse_assert_part, parse_continue, parse_discard, parse_local_part,
+    parse_returning_part, parse_value_part,
 };

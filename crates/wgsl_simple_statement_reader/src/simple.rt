@@ -4,18 +4,24 @@
 ghost use Rattle.std.specs.Prelude.{◌≡◌, [], ◌∷◌, map, option_map};
 ghost use Rattle.grammar.specs.States.{is_any};
 ghost use Rattle.wgsl_model.specs.Classes as class;
-ghost use Rattle.wgsl_model.specs.Symbols.{Symbol.phony_assignment};
+ghost use Rattle.wgsl_model.specs.Statements.{statement};
 ghost use Rattle.wgsl_named_values.specs.View.{assignment_operator_view};
 ghost use Rattle.wgsl_expression.specs.View.{ident_name, expression_node_view, template_arg_view};
+ghost use Rattle.wgsl_attribute.specs.View.{attributes_view};
 ghost use Rattle.wgsl_statement.specs.View.{statement_view};
-ghost use Rattle.wgsl_grammar_theory.specs.Factored.{FactoredSymbol.of, FactoredSymbol.further, Further.left_side_rest, Further.simple_statement};
+ghost use Rattle.wgsl_grammar_theory.specs.Factored.{FactoredSymbol.further, Further.left_side_rest, Further.simple_part, Further.phony_part, Further.parenthesized_statement};
 ghost use Rattle.wgsl_grammar_theory.specs.Reader.{reader};
 ghost use Rattle.wgsl_cursor.specs.Reading.{state, Parses, ParsesNullable};
+ghost use Rattle.wgsl_attribute_reader.specs.Behind.{behind_attributes};
 ghost use Rattle.wgsl_simple_statement_reader.specs.Given.{given};
 ghost use Rattle.wgsl_simple_statement_reader.specs.SimpleStatements.{named_statement_at, maybe_template_list_at, call_rest_at, assignment_operator_at, underscore_left_side_at, assignment_classes};
 
-use crate::left_side::{begins_name, left_name, parse_other_left_side};
+use crate::left_side::{
+    begins_name, begins_prefixed_left_side, left_name, parse_left_side_in_parentheses,
+    parse_prefixed_left_side,
+};
 use std::alloc::Global;
+use wgsl_attribute::Attributes;
 use wgsl_attribute_reader::parse_initializer;
 use wgsl_cursor::{Cursor, Expected, Fault};
 use wgsl_expression::{ExpressionNode, FunctionCall, Ident, TemplateArg, TypeExpression};
@@ -29,10 +35,10 @@ use wgsl_simple_statement::{
 use wgsl_statement::Statement;
 use wgsl_token::kind::TokenKind;
 
-/// What begins a call, an assignment, an increment or a decrement.
-const SIMPLE_STATEMENT: Expected = Expected::OneOf(&[
+/// What begins a call, an assignment, an increment or a decrement behind attributes.
+const SIMPLE_PART: Expected = Expected::OneOf(&[
     TokenKind::SymAnd,
-    TokenKind::SymParenLeft,
+    TokenKind::SymAttr,
     TokenKind::SymStar,
     TokenKind::SymUnderscore,
     TokenKind::Ident,
@@ -57,44 +63,51 @@ const LEFT_SIDE_REST: Expected = Expected::OneOf(&[
     TokenKind::SymShiftLeftAssign,
 ]);
 
-/// A call, an assignment, an increment or a decrement.
-pub fn parse_simple_statement(alloc: Global, tokens: &mut Cursor) -> Result<Statement, Fault>
-    ensures { Parses statement_view result tokens.old tokens.new (reader (further simple_statement)) }
+/// A call, an assignment, an increment or a decrement, behind its attributes. Its left side begins with no `(`.
+pub fn parse_simple_part(
+    alloc: Global,
+    tokens: &mut Cursor,
+    attributes: Attributes,
+) -> Result<Statement, Fault>
+    ensures { Parses statement_view result tokens.old tokens.new (behind_attributes statement (attributes_view attributes.items) (reader (further simple_part))) }
 {
     if begins_name(tokens) {
-        return parse_named_statement(alloc, tokens);
+        return parse_named_statement(alloc, tokens, attributes);
     }
-    if begins_other_left_side(tokens) {
-        let left = parse_other_left_side(alloc, tokens)?;
-        return parse_left_side_rest(alloc, tokens, left);
+    if begins_prefixed_left_side(tokens) {
+        let left = parse_prefixed_left_side(alloc, tokens)?;
+        return parse_left_side_rest(alloc, tokens, left, attributes);
     }
     if tokens.is_at(TokenKind::SymUnderscore) {
-        return parse_phony_assignment(alloc, tokens);
+        return parse_phony_part(alloc, tokens, attributes);
     }
-    Err(tokens.refuse(SIMPLE_STATEMENT))
+    Err(tokens.refuse(SIMPLE_PART))
 }
 
-/// Whether the next token begins a left side, and is no name.
-fn begins_other_left_side(tokens: &Cursor) -> bool
-    ensures { result ≡ is_any (class.SymAnd ∷ (class.SymParenLeft ∷ (class.SymStar ∷ []))) (state tokens.now) }
+/// An assignment, an increment or a decrement whose left side begins with `(`. It has no attributes.
+pub fn parse_parenthesized_statement(alloc: Global, tokens: &mut Cursor) -> Result<Statement, Fault>
+    ensures { Parses statement_view result tokens.old tokens.new (behind_attributes statement [] (reader (further parenthesized_statement))) }
 {
-    tokens.is_at(TokenKind::SymAnd)
-        || tokens.is_at(TokenKind::SymParenLeft)
-        || tokens.is_at(TokenKind::SymStar)
+    let left = parse_left_side_in_parentheses(alloc, tokens)?;
+    parse_left_side_rest(alloc, tokens, left, Vec::new(alloc))
 }
 
-/// A statement that begins with a name.
-fn parse_named_statement(alloc: Global, tokens: &mut Cursor) -> Result<Statement, Fault>
-    ensures { Parses statement_view result tokens.old tokens.new named_statement_at }
+/// A statement that begins with a name, behind its attributes.
+fn parse_named_statement(
+    alloc: Global,
+    tokens: &mut Cursor,
+    attributes: Attributes,
+) -> Result<Statement, Fault>
+    ensures { Parses statement_view result tokens.old tokens.new (behind_attributes statement (attributes_view attributes.items) named_statement_at) }
 {
     let start = tokens.start();
     let ident = tokens.ident()?;
     if begins_call_rest(tokens) {
-        return parse_call_rest(alloc, tokens, ident);
+        return parse_call_rest(alloc, tokens, ident, attributes);
     }
     let name = left_name(alloc, ident, tokens.span_from(start))?;
     let left = parse_components(alloc, tokens, name)?;
-    parse_left_side_rest(alloc, tokens, left)
+    parse_left_side_rest(alloc, tokens, left, attributes)
 }
 
 /// Whether the next token makes the name before it that of a call.
@@ -105,12 +118,18 @@ fn begins_call_rest(tokens: &Cursor) -> bool
 }
 
 /// What follows the name in a call.
-fn parse_call_rest(alloc: Global, tokens: &mut Cursor, ident: Ident) -> Result<Statement, Fault>
-    ensures { Parses statement_view result tokens.old tokens.new (call_rest_at (ident_name ident)) }
+fn parse_call_rest(
+    alloc: Global,
+    tokens: &mut Cursor,
+    ident: Ident,
+    attributes: Attributes,
+) -> Result<Statement, Fault>
+    ensures { Parses statement_view result tokens.old tokens.new (behind_attributes statement (attributes_view attributes.items) (call_rest_at (ident_name ident))) }
 {
     let template_args = parse_maybe_template_list(alloc, tokens)?;
     let arguments = parse_arguments(alloc, tokens)?;
     Ok(Statement::FunctionCall(FunctionCallStatement {
+        attributes,
         call: FunctionCall {
             ty: TypeExpression {
                 ident,
@@ -139,23 +158,31 @@ fn parse_left_side_rest(
     alloc: Global,
     tokens: &mut Cursor,
     left: ExpressionNode,
+    attributes: Attributes,
 ) -> Result<Statement, Fault>
-    ensures { Parses statement_view result tokens.old tokens.new (given (expression_node_view left) (reader (further left_side_rest))) }
+    ensures { Parses statement_view result tokens.old tokens.new (behind_attributes statement (attributes_view attributes.items) (given (expression_node_view left) (reader (further left_side_rest)))) }
 {
     if begins_assignment(tokens) {
         let operator = parse_assignment_operator(tokens)?;
         let rhs = parse_expression(alloc, tokens)?;
         return Ok(Statement::Assignment(AssignmentStatement {
+            attributes,
             operator,
             lhs: left,
             rhs,
         }));
     }
     if tokens.eat(TokenKind::SymPlusPlus) {
-        return Ok(Statement::Increment(IncrementStatement { expression: left }));
+        return Ok(Statement::Increment(IncrementStatement {
+            attributes,
+            expression: left,
+        }));
     }
     if tokens.eat(TokenKind::SymMinusMinus) {
-        return Ok(Statement::Decrement(DecrementStatement { expression: left }));
+        return Ok(Statement::Decrement(DecrementStatement {
+            attributes,
+            expression: left,
+        }));
     }
     Err(tokens.refuse(LEFT_SIDE_REST))
 }
@@ -215,13 +242,18 @@ fn parse_assignment_operator(tokens: &mut Cursor) -> Result<AssignmentOperator, 
     Ok(AssignmentOperator::ShiftLeftAssign)
 }
 
-/// An assignment to `_`.
-fn parse_phony_assignment(alloc: Global, tokens: &mut Cursor) -> Result<Statement, Fault>
-    ensures { Parses statement_view result tokens.old tokens.new (reader (of phony_assignment)) }
+/// An assignment to `_`, behind its attributes.
+fn parse_phony_part(
+    alloc: Global,
+    tokens: &mut Cursor,
+    attributes: Attributes,
+) -> Result<Statement, Fault>
+    ensures { Parses statement_view result tokens.old tokens.new (behind_attributes statement (attributes_view attributes.items) (reader (further phony_part))) }
 {
     let lhs = parse_underscore(alloc, tokens)?;
     let rhs = parse_initializer(alloc, tokens)?;
     Ok(Statement::Assignment(AssignmentStatement {
+        attributes,
         operator: AssignmentOperator::Equal,
         lhs,
         rhs,

@@ -4,17 +4,22 @@
 ghost use Rattle.std.specs.Prelude.{◌≡◌, [], ◌∷◌, option_map};
 ghost use Rattle.grammar.specs.States.{is_any};
 ghost use Rattle.wgsl_model.specs.Classes as class;
-ghost use Rattle.wgsl_model.specs.Symbols.{Symbol.return_statement, Symbol.var_statement, Symbol.value_statement, Symbol.break_statement, Symbol.continue_statement, Symbol.discard_statement, Symbol.const_assert};
+ghost use Rattle.wgsl_model.specs.Statements as plain;
+ghost use Rattle.wgsl_model.specs.Statements.{statement};
+ghost use Rattle.wgsl_model.specs.StatementParts.{assert_of};
 ghost use Rattle.wgsl_expression.specs.View.{expression_node_view};
-ghost use Rattle.wgsl_simple_statement.specs.View.{assert_view, declaration_kind_view};
+ghost use Rattle.wgsl_attribute.specs.View.{attributes_view};
+ghost use Rattle.wgsl_simple_statement.specs.View.{declaration_kind_view};
 ghost use Rattle.wgsl_statement.specs.View.{statement_view};
-ghost use Rattle.wgsl_grammar_theory.specs.Factored.{FactoredSymbol.of};
+ghost use Rattle.wgsl_grammar_theory.specs.Factored.{FactoredSymbol.further, Further.returning_part, Further.local_part, Further.value_part, Further.assert_part};
 ghost use Rattle.wgsl_grammar_theory.specs.Tables.{begin_expressions};
 ghost use Rattle.wgsl_grammar_theory.specs.Reader.{reader};
 ghost use Rattle.wgsl_cursor.specs.Reading.{state, Parses, ParsesNullable};
-ghost use Rattle.wgsl_simple_statement_reader.specs.Values.{maybe_expression_at, value_kind_at};
+ghost use Rattle.wgsl_attribute_reader.specs.Behind.{behind_attributes};
+ghost use Rattle.wgsl_simple_statement_reader.specs.Values.{maybe_expression_at, value_kind_at, word_at};
 
 use std::alloc::Global;
+use wgsl_attribute::Attributes;
 use wgsl_attribute_reader::{
     parse_initializer, parse_maybe_initializer, parse_typed_ident, parse_var_kind,
 };
@@ -22,22 +27,28 @@ use wgsl_cursor::{Cursor, Expected, Fault};
 use wgsl_expression::ExpressionNode;
 use wgsl_expression_reader::parse_expression;
 use wgsl_simple_statement::{
-    BreakStatement, ConstAssert, ContinueStatement, Declaration, DeclarationKind, DiscardStatement,
-    ReturnStatement,
+    ContinueStatement, Declaration, DeclarationKind, DiscardStatement, ReturnStatement,
 };
 use wgsl_statement::Statement;
 use wgsl_token::kind::TokenKind;
 
 /// What begins the declaration of a value that does not vary.
-const VALUE_STATEMENT: Expected = Expected::OneOf(&[TokenKind::KwConst, TokenKind::KwLet]);
+const VALUE_PART: Expected = Expected::OneOf(&[TokenKind::KwConst, TokenKind::KwLet]);
 
-/// `return`, with a value if there is one.
-pub fn parse_return_statement(alloc: Global, tokens: &mut Cursor) -> Result<Statement, Fault>
-    ensures { Parses statement_view result tokens.old tokens.new (reader (of return_statement)) }
+/// `return` behind its attributes, with a value if there is one, without its `;`.
+pub fn parse_returning_part(
+    alloc: Global,
+    tokens: &mut Cursor,
+    attributes: Attributes,
+) -> Result<Statement, Fault>
+    ensures { Parses statement_view result tokens.old tokens.new (behind_attributes statement (attributes_view attributes.items) (reader (further returning_part))) }
 {
     tokens.expect(TokenKind::KwReturn)?;
     let expression = parse_maybe_expression(alloc, tokens)?;
-    Ok(Statement::Return(ReturnStatement { expression }))
+    Ok(Statement::Return(ReturnStatement {
+        attributes,
+        expression,
+    }))
 }
 
 /// An expression, or none.
@@ -75,15 +86,19 @@ fn begins_expression(tokens: &Cursor) -> bool
         || tokens.is_at(TokenKind::F16)
 }
 
-/// A `var`, without its `;`.
-pub fn parse_var_statement(alloc: Global, tokens: &mut Cursor) -> Result<Statement, Fault>
-    ensures { Parses statement_view result tokens.old tokens.new (reader (of var_statement)) }
+/// A `var` behind its attributes, without its `;`.
+pub fn parse_local_part(
+    alloc: Global,
+    tokens: &mut Cursor,
+    attributes: Attributes,
+) -> Result<Statement, Fault>
+    ensures { Parses statement_view result tokens.old tokens.new (behind_attributes statement (attributes_view attributes.items) (reader (further local_part))) }
 {
     let kind = parse_var_kind(alloc, tokens)?;
     let (ident, ty) = parse_typed_ident(alloc, tokens)?;
     let initializer = parse_maybe_initializer(alloc, tokens)?;
     Ok(Statement::Declaration(Declaration {
-        attributes: Vec::new(alloc),
+        attributes,
         kind,
         ident,
         ty,
@@ -91,15 +106,19 @@ pub fn parse_var_statement(alloc: Global, tokens: &mut Cursor) -> Result<Stateme
     }))
 }
 
-/// A `let` or `const`, without its `;`.
-pub fn parse_value_statement(alloc: Global, tokens: &mut Cursor) -> Result<Statement, Fault>
-    ensures { Parses statement_view result tokens.old tokens.new (reader (of value_statement)) }
+/// A `let` or `const` behind its attributes, without its `;`.
+pub fn parse_value_part(
+    alloc: Global,
+    tokens: &mut Cursor,
+    attributes: Attributes,
+) -> Result<Statement, Fault>
+    ensures { Parses statement_view result tokens.old tokens.new (behind_attributes statement (attributes_view attributes.items) (reader (further value_part))) }
 {
     let kind = parse_value_kind(tokens)?;
     let (ident, ty) = parse_typed_ident(alloc, tokens)?;
     let initializer = parse_initializer(alloc, tokens)?;
     Ok(Statement::Declaration(Declaration {
-        attributes: Vec::new(alloc),
+        attributes,
         kind,
         ident,
         ty,
@@ -108,7 +127,7 @@ pub fn parse_value_statement(alloc: Global, tokens: &mut Cursor) -> Result<State
 }
 
 /// Whether the next token is `let` or `const`.
-pub fn begins_value_statement(tokens: &Cursor) -> bool
+pub fn begins_value_part(tokens: &Cursor) -> bool
     ensures { result ≡ is_any (class.KwConst ∷ (class.KwLet ∷ [])) (state tokens.now) }
 {
     tokens.is_at(TokenKind::KwConst) || tokens.is_at(TokenKind::KwLet)
@@ -124,38 +143,29 @@ fn parse_value_kind(tokens: &mut Cursor) -> Result<DeclarationKind, Fault>
     if tokens.eat(TokenKind::KwConst) {
         return Ok(DeclarationKind::Const);
     }
-    Err(tokens.refuse(VALUE_STATEMENT))
+    Err(tokens.refuse(VALUE_PART))
 }
 
-/// `break`, without its `;`.
-pub fn parse_break_statement(tokens: &mut Cursor) -> Result<Statement, Fault>
-    ensures { Parses statement_view result tokens.old tokens.new (reader (of break_statement)) }
-{
-    tokens.expect(TokenKind::KwBreak)?;
-    Ok(Statement::Break(BreakStatement {}))
-}
-
-/// `continue`, without its `;`.
-pub fn parse_continue_statement(tokens: &mut Cursor) -> Result<Statement, Fault>
-    ensures { Parses statement_view result tokens.old tokens.new (reader (of continue_statement)) }
+/// `continue` behind its attributes, without its `;`.
+pub fn parse_continue(tokens: &mut Cursor, attributes: Attributes) -> Result<Statement, Fault>
+    ensures { Parses statement_view result tokens.old tokens.new (behind_attributes statement (attributes_view attributes.items) (word_at class.KwContinue plain.continue_statement)) }
 {
     tokens.expect(TokenKind::KwContinue)?;
-    Ok(Statement::Continue(ContinueStatement {}))
+    Ok(Statement::Continue(ContinueStatement { attributes }))
 }
 
-/// `discard`, without its `;`.
-pub fn parse_discard_statement(tokens: &mut Cursor) -> Result<Statement, Fault>
-    ensures { Parses statement_view result tokens.old tokens.new (reader (of discard_statement)) }
+/// `discard` behind its attributes, without its `;`.
+pub fn parse_discard(tokens: &mut Cursor, attributes: Attributes) -> Result<Statement, Fault>
+    ensures { Parses statement_view result tokens.old tokens.new (behind_attributes statement (attributes_view attributes.items) (word_at class.KwDiscard plain.discard_statement)) }
 {
     tokens.expect(TokenKind::KwDiscard)?;
-    Ok(Statement::Discard(DiscardStatement {}))
+    Ok(Statement::Discard(DiscardStatement { attributes }))
 }
 
-/// A `const_assert`, without its `;`.
-pub fn parse_const_assert(alloc: Global, tokens: &mut Cursor) -> Result<ConstAssert, Fault>
-    ensures { Parses assert_view result tokens.old tokens.new (reader (of const_assert)) }
+/// `const_assert` and its expression, without its `;`.
+pub fn parse_assert_part(alloc: Global, tokens: &mut Cursor) -> Result<ExpressionNode, Fault>
+    ensures { Parses (λ expression. assert_of (expression_node_view expression)) result tokens.old tokens.new (reader (further assert_part)) }
 {
     tokens.expect(TokenKind::KwConstAssert)?;
-    let expression = parse_expression(alloc, tokens)?;
-    Ok(ConstAssert { expression })
+    parse_expression(alloc, tokens)
 }

@@ -1,23 +1,25 @@
 -- `==` of statements, part by part.
 use Rattle.std.proofs.Common.{Bool, true, false, ◌&&◌, List, [], ◌∷◌, Option, map, ◌≡◌, refl, sym, ◌∙◌, ap}
 use Rattle.std.specs.Option.{option_map}
-use Rattle.std.proofs.Math.Bool.{and_comm, and-true}
+use Rattle.std.proofs.Math.Bool.{and_comm}
 use Rattle.wgsl_span.specs.declared.Spanned.{Spanned}
 use Rattle.wgsl_span.specs.Spanned.{spanned_node}
 use Rattle.wgsl_expression.specs.View.{expression_node_view}
 use Rattle.wgsl_equality.specs.Code.{Code, pair, same, option_code, list_code}
 use Rattle.wgsl_equality.specs.Expressions.{expression_node_code}
-use Rattle.wgsl_equality.specs.Declarations.{attributed_code, selector_code}
-use Rattle.wgsl_equality.specs.Statements.{statement_code, unattributed_code, statements_code, compound_code, if_code, if_clause_code, else_if_clause_code, else_ifs_code, else_code, switch_code, clauses_code, switch_clause_code, loop_code, maybe_continuing_code, for_code, part_code, while_code}
+use Rattle.wgsl_equality.specs.Declarations.{attributed_code, break_if_code, selector_code}
+use Rattle.wgsl_equality.specs.Statements.{statement_code, statements_code, compound_code, if_code, if_clause_code, else_if_clause_code, else_ifs_code, else_clause_code, else_code, switch_code, clauses_code, switch_clause_code, loop_code, maybe_continuing_code, continuing_code, for_code, part_code, while_code}
+use Rattle.wgsl_simple_statement.specs.declared.simple.BreakIfStatement.{BreakIfStatement}
 use Rattle.wgsl_simple_statement.specs.declared.simple.CaseSelector.{CaseSelector}
 use Rattle.wgsl_statement.specs.declared.statement.Statement.{Statement}
 use Rattle.wgsl_statement.specs.declared.statement.ElseIfClause.{ElseIfClause}
 use Rattle.wgsl_statement.specs.declared.statement.SwitchClause.{SwitchClause}
-use Rattle.wgsl_simple_statement.specs.View.{selector_view}
+use Rattle.wgsl_simple_statement.specs.View.{break_if_view, selector_view}
 use Rattle.wgsl_statement.specs.View.{statement_view, statement_node_view, statement_nodes_view, compound_statement_view, continuing_statement_view, else_clause_view, else_if_clause_view, for_statement_view, if_clause_view, if_statement_view, loop_statement_view, switch_clause_view, switch_statement_view, while_statement_view}
 use Rattle.std.specs.declared.vec.Vec.{Vec}
 use Rattle.std.specs.declared.alloc.Global.{Global}
-use Rattle.wgsl_model.specs.Statements.{UnattributedStatement, unattributed, else_ifs_of, else_of, clauses_of, continuing_of, maybe_statement}
+use Rattle.wgsl_model.specs.Statements as plain
+use Rattle.wgsl_model.specs.Statements.{else_ifs_of, else_of, clauses_of, continuing_of, maybe_statement}
 use Rattle.wgsl_expression.specs.declared.expression.Expression.{Expression}
 use Rattle.wgsl_attribute.specs.declared.attribute.Attribute.{Attribute}
 use Rattle.wgsl_attribute.specs.View.{attributes_view}
@@ -33,6 +35,7 @@ use Rattle.wgsl_statement.specs.declared.statement.LoopStatement.{LoopStatement}
 use Rattle.wgsl_statement.specs.declared.statement.SwitchStatement.{SwitchStatement}
 use Rattle.wgsl_statement.specs.declared.statement.WhileStatement.{WhileStatement}
 use Rattle.wgsl_statement.specs.declared.statement.Statement.TheViews as layers
+use Rattle.wgsl_statement.proofs.ClauseViews.{else_if_clause_out, else_clause_out, continuing_statement_out}
 use Rattle.wgsl_statement.proofs.Views.{compound_statement_out, if_statement_out, switch_statement_out, loop_statement_out, for_statement_out, switch_clause_out, while_statement_out}
 
 -- a conjunction, from what its first test answered
@@ -54,9 +57,10 @@ and_5 : (a b c d e : Bool) → a && (b && (c && (d && e))) ≡ (((a && b) && c) 
 and_5 true b c d e = and_4 b c d e
 and_5 false b c d e = refl
 
--- statements without attributes, by what stands behind these
-pub unattributed_same : (s t : UnattributedStatement) → same (statement_code (unattributed s)) (statement_code (unattributed t)) ≡ same (unattributed_code s) (unattributed_code t)
-unattributed_same s t = and-true (same (unattributed_code s) (unattributed_code t))
+-- two statements of one kind are compared by their payloads
+pub of_one_kind : (s t : Statement) (u v : plain.Statement) → statement_view s ≡ u → statement_view t ≡ v → (told answer : Bool) → told ≡ same (statement_code u) (statement_code v) → told ≡ answer
+    → answer ≡ same (statement_code (statement_view s)) (statement_code (statement_view t))
+of_one_kind s t u v first second told answer alike is = sym is ∙ alike ∙ (λ i. same (statement_code (sym first i)) (statement_code (sym second i)))
 
 -- the parts of statements, compared
 abbrev pub attributes_part : Vec (Spanned Attribute) Global → Vec (Spanned Attribute) Global → Bool
@@ -70,6 +74,9 @@ condition_part x y = same (option_code expression_node_code (option_map expressi
 
 abbrev pub selectors_part : Vec CaseSelector Global → Vec CaseSelector Global → Bool
 selectors_part x y = same (list_code selector_code (map selector_view x.items)) (list_code selector_code (map selector_view y.items))
+
+abbrev pub break_if_part : Option BreakIfStatement → Option BreakIfStatement → Bool
+break_if_part x y = same (option_code (attributed_code break_if_code) (option_map break_if_view x)) (option_code (attributed_code break_if_code) (option_map break_if_view y))
 
 abbrev pub block_part : CompoundStatement → CompoundStatement → Bool
 block_part x y = same (compound_code (compound_statement_view x)) (compound_code (compound_statement_view y))
@@ -109,13 +116,31 @@ pub switches_same : (a b : SwitchStatement) → same (attributed_code switch_cod
     ≡ ((attributes_part (layers.out-SwitchStatement a).attributes (layers.out-SwitchStatement b).attributes && expression_part (layers.out-SwitchStatement a).expression (layers.out-SwitchStatement b).expression) && attributes_part (layers.out-SwitchStatement a).body_attributes (layers.out-SwitchStatement b).body_attributes) && clauses_part (layers.out-SwitchStatement a).clauses.items (layers.out-SwitchStatement b).clauses.items
 switches_same a b = (λ i. same (attributed_code switch_code (switch_statement_out a i)) (attributed_code switch_code (switch_statement_out b i))) ∙ and_comm ((expression_part (layers.out-SwitchStatement a).expression (layers.out-SwitchStatement b).expression) && ((attributes_part (layers.out-SwitchStatement a).body_attributes (layers.out-SwitchStatement b).body_attributes) && (clauses_part (layers.out-SwitchStatement a).clauses.items (layers.out-SwitchStatement b).clauses.items))) (attributes_part (layers.out-SwitchStatement a).attributes (layers.out-SwitchStatement b).attributes) ∙ and_4 (attributes_part (layers.out-SwitchStatement a).attributes (layers.out-SwitchStatement b).attributes) (expression_part (layers.out-SwitchStatement a).expression (layers.out-SwitchStatement b).expression) (attributes_part (layers.out-SwitchStatement a).body_attributes (layers.out-SwitchStatement b).body_attributes) (clauses_part (layers.out-SwitchStatement a).clauses.items (layers.out-SwitchStatement b).clauses.items)
 
+pub else_if_clauses_same : (a b : ElseIfClause) → same (else_if_clause_code (else_if_clause_view a)) (else_if_clause_code (else_if_clause_view b))
+    ≡ (attributes_part (layers.out-ElseIfClause a).attributes (layers.out-ElseIfClause b).attributes && expression_part (layers.out-ElseIfClause a).expression (layers.out-ElseIfClause b).expression) && block_part (layers.out-ElseIfClause a).body (layers.out-ElseIfClause b).body
+else_if_clauses_same a b =
+    (λ i. same (else_if_clause_code (else_if_clause_out a i)) (else_if_clause_code (else_if_clause_out b i)))
+    ∙ and_3 (attributes_part (layers.out-ElseIfClause a).attributes (layers.out-ElseIfClause b).attributes) (expression_part (layers.out-ElseIfClause a).expression (layers.out-ElseIfClause b).expression) (block_part (layers.out-ElseIfClause a).body (layers.out-ElseIfClause b).body)
+
+pub else_clauses_same : (a b : ElseClause) → same (else_clause_code (else_clause_view a)) (else_clause_code (else_clause_view b))
+    ≡ attributes_part (layers.out-ElseClause a).attributes (layers.out-ElseClause b).attributes && block_part (layers.out-ElseClause a).body (layers.out-ElseClause b).body
+else_clauses_same a b = λ i. same (else_clause_code (else_clause_out a i)) (else_clause_code (else_clause_out b i))
+
 pub switch_clauses_same : (a b : SwitchClause) → same (switch_clause_code (switch_clause_view a)) (switch_clause_code (switch_clause_view b))
-    ≡ selectors_part (layers.out-SwitchClause a).case_selectors (layers.out-SwitchClause b).case_selectors && block_part (layers.out-SwitchClause a).body (layers.out-SwitchClause b).body
-switch_clauses_same a b = λ i. same (switch_clause_code (switch_clause_out a i)) (switch_clause_code (switch_clause_out b i))
+    ≡ (attributes_part (layers.out-SwitchClause a).attributes (layers.out-SwitchClause b).attributes && selectors_part (layers.out-SwitchClause a).case_selectors (layers.out-SwitchClause b).case_selectors) && block_part (layers.out-SwitchClause a).body (layers.out-SwitchClause b).body
+switch_clauses_same a b =
+    (λ i. same (switch_clause_code (switch_clause_out a i)) (switch_clause_code (switch_clause_out b i)))
+    ∙ and_3 (attributes_part (layers.out-SwitchClause a).attributes (layers.out-SwitchClause b).attributes) (selectors_part (layers.out-SwitchClause a).case_selectors (layers.out-SwitchClause b).case_selectors) (block_part (layers.out-SwitchClause a).body (layers.out-SwitchClause b).body)
 
 pub loops_same : (a b : LoopStatement) → same (attributed_code loop_code (loop_statement_view a)) (attributed_code loop_code (loop_statement_view b))
     ≡ (attributes_part (layers.out-LoopStatement a).attributes (layers.out-LoopStatement b).attributes && block_part (layers.out-LoopStatement a).body (layers.out-LoopStatement b).body) && continuing_part (layers.out-LoopStatement a).continuing (layers.out-LoopStatement b).continuing
 loops_same a b = (λ i. same (attributed_code loop_code (loop_statement_out a i)) (attributed_code loop_code (loop_statement_out b i))) ∙ and_comm ((block_part (layers.out-LoopStatement a).body (layers.out-LoopStatement b).body) && (continuing_part (layers.out-LoopStatement a).continuing (layers.out-LoopStatement b).continuing)) (attributes_part (layers.out-LoopStatement a).attributes (layers.out-LoopStatement b).attributes) ∙ and_3 (attributes_part (layers.out-LoopStatement a).attributes (layers.out-LoopStatement b).attributes) (block_part (layers.out-LoopStatement a).body (layers.out-LoopStatement b).body) (continuing_part (layers.out-LoopStatement a).continuing (layers.out-LoopStatement b).continuing)
+
+pub continuings_same : (a b : ContinuingStatement) → same (continuing_code (continuing_statement_view a)) (continuing_code (continuing_statement_view b))
+    ≡ (attributes_part (layers.out-ContinuingStatement a).attributes (layers.out-ContinuingStatement b).attributes && block_part (layers.out-ContinuingStatement a).body (layers.out-ContinuingStatement b).body) && break_if_part (layers.out-ContinuingStatement a).break_if (layers.out-ContinuingStatement b).break_if
+continuings_same a b =
+    (λ i. same (continuing_code (continuing_statement_out a i)) (continuing_code (continuing_statement_out b i)))
+    ∙ and_3 (attributes_part (layers.out-ContinuingStatement a).attributes (layers.out-ContinuingStatement b).attributes) (block_part (layers.out-ContinuingStatement a).body (layers.out-ContinuingStatement b).body) (break_if_part (layers.out-ContinuingStatement a).break_if (layers.out-ContinuingStatement b).break_if)
 
 pub fors_same : (a b : ForStatement) → same (attributed_code for_code (for_statement_view a)) (attributed_code for_code (for_statement_view b))
     ≡ (((attributes_part (layers.out-ForStatement a).attributes (layers.out-ForStatement b).attributes && header_part (layers.out-ForStatement a).initializer (layers.out-ForStatement b).initializer) && condition_part (layers.out-ForStatement a).condition (layers.out-ForStatement b).condition) && header_part (layers.out-ForStatement a).update (layers.out-ForStatement b).update) && block_part (layers.out-ForStatement a).body (layers.out-ForStatement b).body

@@ -3,6 +3,6 @@ pub mod Views
 pub mod BlockStatements
 mod Copies
 mod EmptyStatements
-mod ClauseViews
+pub mod ClauseViews
 mod Lines
 pub mod Equalities

@@ -30,15 +30,15 @@ pub is_compound : (x : CompoundStatement) → V.statement_view (variant.Compound
 unfolding roll-Statement Carrier.roll
 is_compound x = folds.fold-roll-Statement plain.Statement plain.CompoundStatement plain.ContinuingStatement plain.ElseClause plain.ElseIfClause (Attributed plain.ForStatement) plain.IfClause (Attributed plain.IfStatement) (Attributed plain.LoopStatement) plain.SwitchClause (Attributed plain.SwitchStatement) (Attributed plain.WhileStatement) V.statement_step V.compound_statement_step V.continuing_statement_step V.else_clause_step V.else_if_clause_step V.for_statement_step V.if_clause_step V.if_statement_step V.loop_statement_step V.switch_clause_step V.switch_statement_step V.while_statement_step (layer.Compound x)
 
-pub is_assignment : (x : AssignmentStatement) → V.statement_view (variant.Assignment x) ≡ plain.unattributed (plain.assignment (simple.assignment_view x))
+pub is_assignment : (x : AssignmentStatement) → V.statement_view (variant.Assignment x) ≡ plain.as_statement plain.assignment (simple.assignment_view x)
 unfolding roll-Statement Carrier.roll
 is_assignment x = folds.fold-roll-Statement plain.Statement plain.CompoundStatement plain.ContinuingStatement plain.ElseClause plain.ElseIfClause (Attributed plain.ForStatement) plain.IfClause (Attributed plain.IfStatement) (Attributed plain.LoopStatement) plain.SwitchClause (Attributed plain.SwitchStatement) (Attributed plain.WhileStatement) V.statement_step V.compound_statement_step V.continuing_statement_step V.else_clause_step V.else_if_clause_step V.for_statement_step V.if_clause_step V.if_statement_step V.loop_statement_step V.switch_clause_step V.switch_statement_step V.while_statement_step (layer.Assignment x)
 
-pub is_increment : (x : IncrementStatement) → V.statement_view (variant.Increment x) ≡ plain.unattributed (plain.increment (simple.increment_view x))
+pub is_increment : (x : IncrementStatement) → V.statement_view (variant.Increment x) ≡ plain.as_statement plain.increment (simple.increment_view x)
 unfolding roll-Statement Carrier.roll
 is_increment x = folds.fold-roll-Statement plain.Statement plain.CompoundStatement plain.ContinuingStatement plain.ElseClause plain.ElseIfClause (Attributed plain.ForStatement) plain.IfClause (Attributed plain.IfStatement) (Attributed plain.LoopStatement) plain.SwitchClause (Attributed plain.SwitchStatement) (Attributed plain.WhileStatement) V.statement_step V.compound_statement_step V.continuing_statement_step V.else_clause_step V.else_if_clause_step V.for_statement_step V.if_clause_step V.if_statement_step V.loop_statement_step V.switch_clause_step V.switch_statement_step V.while_statement_step (layer.Increment x)
 
-pub is_decrement : (x : DecrementStatement) → V.statement_view (variant.Decrement x) ≡ plain.unattributed (plain.decrement (simple.decrement_view x))
+pub is_decrement : (x : DecrementStatement) → V.statement_view (variant.Decrement x) ≡ plain.as_statement plain.decrement (simple.decrement_view x)
 unfolding roll-Statement Carrier.roll
 is_decrement x = folds.fold-roll-Statement plain.Statement plain.CompoundStatement plain.ContinuingStatement plain.ElseClause plain.ElseIfClause (Attributed plain.ForStatement) plain.IfClause (Attributed plain.IfStatement) (Attributed plain.LoopStatement) plain.SwitchClause (Attributed plain.SwitchStatement) (Attributed plain.WhileStatement) V.statement_step V.compound_statement_step V.continuing_statement_step V.else_clause_step V.else_if_clause_step V.for_statement_step V.if_clause_step V.if_statement_step V.loop_statement_step V.switch_clause_step V.switch_statement_step V.while_statement_step (layer.Decrement x)
 
@@ -62,27 +62,27 @@ pub is_while : (x : WhileStatement) → V.statement_view (variant.While x) ≡ p
 unfolding roll-Statement Carrier.roll
 is_while x = folds.fold-roll-Statement plain.Statement plain.CompoundStatement plain.ContinuingStatement plain.ElseClause plain.ElseIfClause (Attributed plain.ForStatement) plain.IfClause (Attributed plain.IfStatement) (Attributed plain.LoopStatement) plain.SwitchClause (Attributed plain.SwitchStatement) (Attributed plain.WhileStatement) V.statement_step V.compound_statement_step V.continuing_statement_step V.else_clause_step V.else_if_clause_step V.for_statement_step V.if_clause_step V.if_statement_step V.loop_statement_step V.switch_clause_step V.switch_statement_step V.while_statement_step (layer.While x)
 
-pub is_break : (x : BreakStatement) → V.statement_view (variant.Break x) ≡ plain.unattributed plain.break_statement
+pub is_break : (x : BreakStatement) → V.statement_view (variant.Break x) ≡ simple.break_view x
 unfolding roll-Statement Carrier.roll
 is_break x = folds.fold-roll-Statement plain.Statement plain.CompoundStatement plain.ContinuingStatement plain.ElseClause plain.ElseIfClause (Attributed plain.ForStatement) plain.IfClause (Attributed plain.IfStatement) (Attributed plain.LoopStatement) plain.SwitchClause (Attributed plain.SwitchStatement) (Attributed plain.WhileStatement) V.statement_step V.compound_statement_step V.continuing_statement_step V.else_clause_step V.else_if_clause_step V.for_statement_step V.if_clause_step V.if_statement_step V.loop_statement_step V.switch_clause_step V.switch_statement_step V.while_statement_step (layer.Break x)
 
-pub is_continue : (x : ContinueStatement) → V.statement_view (variant.Continue x) ≡ plain.unattributed plain.continue_statement
+pub is_continue : (x : ContinueStatement) → V.statement_view (variant.Continue x) ≡ simple.continue_view x
 unfolding roll-Statement Carrier.roll
 is_continue x = folds.fold-roll-Statement plain.Statement plain.CompoundStatement plain.ContinuingStatement plain.ElseClause plain.ElseIfClause (Attributed plain.ForStatement) plain.IfClause (Attributed plain.IfStatement) (Attributed plain.LoopStatement) plain.SwitchClause (Attributed plain.SwitchStatement) (Attributed plain.WhileStatement) V.statement_step V.compound_statement_step V.continuing_statement_step V.else_clause_step V.else_if_clause_step V.for_statement_step V.if_clause_step V.if_statement_step V.loop_statement_step V.switch_clause_step V.switch_statement_step V.while_statement_step (layer.Continue x)
 
-pub is_return : (x : ReturnStatement) → V.statement_view (variant.Return x) ≡ plain.unattributed (plain.return_statement (simple.return_view x))
+pub is_return : (x : ReturnStatement) → V.statement_view (variant.Return x) ≡ plain.as_statement plain.return_statement (simple.return_view x)
 unfolding roll-Statement Carrier.roll
 is_return x = folds.fold-roll-Statement plain.Statement plain.CompoundStatement plain.ContinuingStatement plain.ElseClause plain.ElseIfClause (Attributed plain.ForStatement) plain.IfClause (Attributed plain.IfStatement) (Attributed plain.LoopStatement) plain.SwitchClause (Attributed plain.SwitchStatement) (Attributed plain.WhileStatement) V.statement_step V.compound_statement_step V.continuing_statement_step V.else_clause_step V.else_if_clause_step V.for_statement_step V.if_clause_step V.if_statement_step V.loop_statement_step V.switch_clause_step V.switch_statement_step V.while_statement_step (layer.Return x)
 
-pub is_discard : (x : DiscardStatement) → V.statement_view (variant.Discard x) ≡ plain.unattributed plain.discard_statement
+pub is_discard : (x : DiscardStatement) → V.statement_view (variant.Discard x) ≡ simple.discard_view x
 unfolding roll-Statement Carrier.roll
 is_discard x = folds.fold-roll-Statement plain.Statement plain.CompoundStatement plain.ContinuingStatement plain.ElseClause plain.ElseIfClause (Attributed plain.ForStatement) plain.IfClause (Attributed plain.IfStatement) (Attributed plain.LoopStatement) plain.SwitchClause (Attributed plain.SwitchStatement) (Attributed plain.WhileStatement) V.statement_step V.compound_statement_step V.continuing_statement_step V.else_clause_step V.else_if_clause_step V.for_statement_step V.if_clause_step V.if_statement_step V.loop_statement_step V.switch_clause_step V.switch_statement_step V.while_statement_step (layer.Discard x)
 
-pub is_function_call : (x : FunctionCallStatement) → V.statement_view (variant.FunctionCall x) ≡ plain.unattributed (plain.function_call_statement (simple.call_statement_view x))
+pub is_function_call : (x : FunctionCallStatement) → V.statement_view (variant.FunctionCall x) ≡ plain.as_statement plain.function_call_statement (simple.call_statement_view x)
 unfolding roll-Statement Carrier.roll
 is_function_call x = folds.fold-roll-Statement plain.Statement plain.CompoundStatement plain.ContinuingStatement plain.ElseClause plain.ElseIfClause (Attributed plain.ForStatement) plain.IfClause (Attributed plain.IfStatement) (Attributed plain.LoopStatement) plain.SwitchClause (Attributed plain.SwitchStatement) (Attributed plain.WhileStatement) V.statement_step V.compound_statement_step V.continuing_statement_step V.else_clause_step V.else_if_clause_step V.for_statement_step V.if_clause_step V.if_statement_step V.loop_statement_step V.switch_clause_step V.switch_statement_step V.while_statement_step (layer.FunctionCall x)
 
-pub is_const_assert : (x : ConstAssert) → V.statement_view (variant.ConstAssert x) ≡ plain.unattributed (plain.const_assert (simple.assert_view x))
+pub is_const_assert : (x : ConstAssert) → V.statement_view (variant.ConstAssert x) ≡ plain.as_statement plain.const_assert (simple.assert_view x)
 unfolding roll-Statement Carrier.roll
 is_const_assert x = folds.fold-roll-Statement plain.Statement plain.CompoundStatement plain.ContinuingStatement plain.ElseClause plain.ElseIfClause (Attributed plain.ForStatement) plain.IfClause (Attributed plain.IfStatement) (Attributed plain.LoopStatement) plain.SwitchClause (Attributed plain.SwitchStatement) (Attributed plain.WhileStatement) V.statement_step V.compound_statement_step V.continuing_statement_step V.else_clause_step V.else_if_clause_step V.for_statement_step V.if_clause_step V.if_statement_step V.loop_statement_step V.switch_clause_step V.switch_statement_step V.while_statement_step (layer.ConstAssert x)
 

@@ -88,11 +88,11 @@ pub for_statement_out : (x : ForStatement) → V.for_statement_view x
 for_statement_out x = ap V.for_statement_view (sym (layers.roll-out-ForStatement x)) ∙ for_statement_roll (layers.out-ForStatement x).attributes (layers.out-ForStatement x).initializer (layers.out-ForStatement x).condition (layers.out-ForStatement x).update (layers.out-ForStatement x).body
 
 pub switch_clause_roll : (x : layer.SwitchClause-F Statement CompoundStatement ContinuingStatement ElseClause ElseIfClause ForStatement IfClause IfStatement LoopStatement SwitchClause SwitchStatement WhileStatement) → V.switch_clause_view (layers.roll-SwitchClause x)
-    ≡ plain.switch_clause [] (map simple.selector_view x.case_selectors.items) (V.compound_statement_view x.body)
+    ≡ plain.switch_clause (attributes_view x.attributes.items) (map simple.selector_view x.case_selectors.items) (V.compound_statement_view x.body)
 switch_clause_roll x = folds.fold-roll-SwitchClause plain.Statement plain.CompoundStatement plain.ContinuingStatement plain.ElseClause plain.ElseIfClause (Attributed plain.ForStatement) plain.IfClause (Attributed plain.IfStatement) (Attributed plain.LoopStatement) plain.SwitchClause (Attributed plain.SwitchStatement) (Attributed plain.WhileStatement) V.statement_step V.compound_statement_step V.continuing_statement_step V.else_clause_step V.else_if_clause_step V.for_statement_step V.if_clause_step V.if_statement_step V.loop_statement_step V.switch_clause_step V.switch_statement_step V.while_statement_step x
 
 pub switch_clause_out : (x : SwitchClause) → V.switch_clause_view x
-    ≡ plain.switch_clause [] (map simple.selector_view (layers.out-SwitchClause x).case_selectors.items) (V.compound_statement_view (layers.out-SwitchClause x).body)
+    ≡ plain.switch_clause (attributes_view (layers.out-SwitchClause x).attributes.items) (map simple.selector_view (layers.out-SwitchClause x).case_selectors.items) (V.compound_statement_view (layers.out-SwitchClause x).body)
 switch_clause_out x = ap V.switch_clause_view (sym (layers.roll-out-SwitchClause x)) ∙ switch_clause_roll (layers.out-SwitchClause x)
 
 pub while_statement_roll : (x : layer.WhileStatement-F Statement CompoundStatement ContinuingStatement ElseClause ElseIfClause ForStatement IfClause IfStatement LoopStatement SwitchClause SwitchStatement WhileStatement) → V.while_statement_view (layers.roll-WhileStatement x)

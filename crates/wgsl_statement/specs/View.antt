@@ -22,7 +22,7 @@ use Rattle.wgsl_statement.specs.declared.statement.SwitchStatement.{SwitchStatem
 use Rattle.wgsl_statement.specs.declared.statement.WhileStatement.{WhileStatement}
 use Rattle.wgsl_statement.specs.declared.statement.Statement.TheOpen as layer
 use Rattle.wgsl_statement.specs.declared.statement.Statement.TheFolds as folds
-use Rattle.wgsl_simple_statement.specs.View.{declaration_view, assignment_view, increment_view, decrement_view, return_view, call_statement_view, assert_view, break_if_view, selector_view}
+use Rattle.wgsl_simple_statement.specs.View.{declaration_view, assignment_view, increment_view, decrement_view, break_view, continue_view, discard_view, return_view, call_statement_view, assert_view, break_if_view, selector_view}
 
 -- parts whose own parts are plain data
 abbrev pub node_of : Spanned plain.Statement → plain.StatementNode
@@ -40,33 +40,33 @@ maybe_node_of (Some s) = plain.one_statement (node_of s)
 abbrev pub statement_step : layer.Statement-F plain.Statement plain.CompoundStatement plain.ContinuingStatement plain.ElseClause plain.ElseIfClause (Attributed plain.ForStatement) plain.IfClause (Attributed plain.IfStatement) (Attributed plain.LoopStatement) plain.SwitchClause (Attributed plain.SwitchStatement) (Attributed plain.WhileStatement) → plain.Statement
 statement_step layer.Void = plain.unattributed plain.void
 statement_step (layer.Compound s) = plain.block_statement s
-statement_step (layer.Assignment s) = plain.unattributed (plain.assignment (assignment_view s))
-statement_step (layer.Increment s) = plain.unattributed (plain.increment (increment_view s))
-statement_step (layer.Decrement s) = plain.unattributed (plain.decrement (decrement_view s))
+statement_step (layer.Assignment s) = plain.as_statement plain.assignment (assignment_view s)
+statement_step (layer.Increment s) = plain.as_statement plain.increment (increment_view s)
+statement_step (layer.Decrement s) = plain.as_statement plain.decrement (decrement_view s)
 statement_step (layer.If s) = plain.as_statement plain.if_statement s
 statement_step (layer.Switch s) = plain.as_statement plain.switch_statement s
 statement_step (layer.Loop s) = plain.as_statement plain.loop_statement s
 statement_step (layer.For s) = plain.as_statement plain.for_statement s
 statement_step (layer.While s) = plain.as_statement plain.while_statement s
-statement_step (layer.Break s) = plain.unattributed plain.break_statement
-statement_step (layer.Continue s) = plain.unattributed plain.continue_statement
-statement_step (layer.Return s) = plain.unattributed (plain.return_statement (return_view s))
-statement_step (layer.Discard s) = plain.unattributed plain.discard_statement
-statement_step (layer.FunctionCall s) = plain.unattributed (plain.function_call_statement (call_statement_view s))
-statement_step (layer.ConstAssert s) = plain.unattributed (plain.const_assert (assert_view s))
+statement_step (layer.Break s) = break_view s
+statement_step (layer.Continue s) = continue_view s
+statement_step (layer.Return s) = plain.as_statement plain.return_statement (return_view s)
+statement_step (layer.Discard s) = discard_view s
+statement_step (layer.FunctionCall s) = plain.as_statement plain.function_call_statement (call_statement_view s)
+statement_step (layer.ConstAssert s) = plain.as_statement plain.const_assert (assert_view s)
 statement_step (layer.Declaration s) = plain.as_statement plain.declaration (declaration_view s)
 
 abbrev pub compound_statement_step : layer.CompoundStatement-F plain.Statement plain.CompoundStatement plain.ContinuingStatement plain.ElseClause plain.ElseIfClause (Attributed plain.ForStatement) plain.IfClause (Attributed plain.IfStatement) (Attributed plain.LoopStatement) plain.SwitchClause (Attributed plain.SwitchStatement) (Attributed plain.WhileStatement) → plain.CompoundStatement
 compound_statement_step s = plain.compound_statement (attributes_view s.attributes.items) (nodes_of s.statements.items)
 
 abbrev pub continuing_statement_step : layer.ContinuingStatement-F plain.Statement plain.CompoundStatement plain.ContinuingStatement plain.ElseClause plain.ElseIfClause (Attributed plain.ForStatement) plain.IfClause (Attributed plain.IfStatement) (Attributed plain.LoopStatement) plain.SwitchClause (Attributed plain.SwitchStatement) (Attributed plain.WhileStatement) → plain.ContinuingStatement
-continuing_statement_step s = plain.continuing s.body (option_map break_if_view s.break_if)
+continuing_statement_step s = plain.continuing (attributes_view s.attributes.items) s.body (option_map break_if_view s.break_if)
 
 abbrev pub else_clause_step : layer.ElseClause-F plain.Statement plain.CompoundStatement plain.ContinuingStatement plain.ElseClause plain.ElseIfClause (Attributed plain.ForStatement) plain.IfClause (Attributed plain.IfStatement) (Attributed plain.LoopStatement) plain.SwitchClause (Attributed plain.SwitchStatement) (Attributed plain.WhileStatement) → plain.ElseClause
-else_clause_step s = plain.else_clause s.body
+else_clause_step s = plain.else_clause (attributes_view s.attributes.items) s.body
 
 abbrev pub else_if_clause_step : layer.ElseIfClause-F plain.Statement plain.CompoundStatement plain.ContinuingStatement plain.ElseClause plain.ElseIfClause (Attributed plain.ForStatement) plain.IfClause (Attributed plain.IfStatement) (Attributed plain.LoopStatement) plain.SwitchClause (Attributed plain.SwitchStatement) (Attributed plain.WhileStatement) → plain.ElseIfClause
-else_if_clause_step s = plain.else_if_clause (expression_node_view s.expression) s.body
+else_if_clause_step s = plain.else_if_clause (attributes_view s.attributes.items) (expression_node_view s.expression) s.body
 
 abbrev pub for_statement_step : layer.ForStatement-F plain.Statement plain.CompoundStatement plain.ContinuingStatement plain.ElseClause plain.ElseIfClause (Attributed plain.ForStatement) plain.IfClause (Attributed plain.IfStatement) (Attributed plain.LoopStatement) plain.SwitchClause (Attributed plain.SwitchStatement) (Attributed plain.WhileStatement) → Attributed plain.ForStatement
 for_statement_step s = with_attributes (attributes_view s.attributes.items) (plain.repeat_for (maybe_node_of s.initializer) (option_map expression_node_view s.condition) (maybe_node_of s.update) s.body)
@@ -81,7 +81,7 @@ abbrev pub loop_statement_step : layer.LoopStatement-F plain.Statement plain.Com
 loop_statement_step s = with_attributes (attributes_view s.attributes.items) (plain.repeat s.body (plain.continuing_of s.continuing))
 
 abbrev pub switch_clause_step : layer.SwitchClause-F plain.Statement plain.CompoundStatement plain.ContinuingStatement plain.ElseClause plain.ElseIfClause (Attributed plain.ForStatement) plain.IfClause (Attributed plain.IfStatement) (Attributed plain.LoopStatement) plain.SwitchClause (Attributed plain.SwitchStatement) (Attributed plain.WhileStatement) → plain.SwitchClause
-switch_clause_step s = plain.switch_clause [] (map selector_view s.case_selectors.items) s.body
+switch_clause_step s = plain.switch_clause (attributes_view s.attributes.items) (map selector_view s.case_selectors.items) s.body
 
 abbrev pub switch_statement_step : layer.SwitchStatement-F plain.Statement plain.CompoundStatement plain.ContinuingStatement plain.ElseClause plain.ElseIfClause (Attributed plain.ForStatement) plain.IfClause (Attributed plain.IfStatement) (Attributed plain.LoopStatement) plain.SwitchClause (Attributed plain.SwitchStatement) (Attributed plain.WhileStatement) → Attributed plain.SwitchStatement
 switch_statement_step s = with_attributes (attributes_view s.attributes.items) (plain.switch (expression_node_view s.expression) (attributes_view s.body_attributes.items) (plain.clauses_of s.clauses.items))

@@ -134,6 +134,7 @@ impl CloneWith for ElseIfClause {
     #[cycle(clone)]
     fn clone_with(&self, alloc: Global) -> Result<Self, AllocError> {
         Ok(ElseIfClause {
+            attributes: self.attributes.clone_with(alloc)?,
             expression: self.expression.clone_with(alloc)?,
             body: self.body.clone_with(alloc)?,
         })
@@ -146,6 +147,7 @@ impl CloneWith for ElseClause {
     #[cycle(clone)]
     fn clone_with(&self, alloc: Global) -> Result<Self, AllocError> {
         Ok(ElseClause {
+            attributes: self.attributes.clone_with(alloc)?,
             body: self.body.clone_with(alloc)?,
         })
     }
@@ -178,6 +180,7 @@ impl CloneWith for SwitchClause {
     #[cycle(clone)]
     fn clone_with(&self, alloc: Global) -> Result<Self, AllocError> {
         Ok(SwitchClause {
+            attributes: self.attributes.clone_with(alloc)?,
             case_selectors: self.case_selectors.clone_with(alloc)?,
             body: self.body.clone_with(alloc)?,
         })
@@ -203,6 +206,7 @@ impl CloneWith for ContinuingStatement {
     #[cycle(clone)]
     fn clone_with(&self, alloc: Global) -> Result<Self, AllocError> {
         Ok(ContinuingStatement {
+            attributes: self.attributes.clone_with(alloc)?,
             body: self.body.clone_with(alloc)?,
             break_if: self.break_if.clone_with(alloc)?,
         })

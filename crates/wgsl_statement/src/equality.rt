@@ -25,9 +25,6 @@ impl PartialEq for Statement {
     fn eq(&self, other: &Statement) -> bool {
         match self {
             Statement::Void => matches!(other, Statement::Void),
-            Statement::Break(_) => matches!(other, Statement::Break(_)),
-            Statement::Continue(_) => matches!(other, Statement::Continue(_)),
-            Statement::Discard(_) => matches!(other, Statement::Discard(_)),
             Statement::Compound(a) => matches!(other, Statement::Compound(b) if *a == *b),
             Statement::Assignment(a) => matches!(other, Statement::Assignment(b) if *a == *b),
             Statement::Increment(a) => matches!(other, Statement::Increment(b) if *a == *b),
@@ -37,7 +34,10 @@ impl PartialEq for Statement {
             Statement::Loop(a) => matches!(other, Statement::Loop(b) if *a == *b),
             Statement::For(a) => matches!(other, Statement::For(b) if *a == *b),
             Statement::While(a) => matches!(other, Statement::While(b) if *a == *b),
+            Statement::Break(a) => matches!(other, Statement::Break(b) if *a == *b),
+            Statement::Continue(a) => matches!(other, Statement::Continue(b) if *a == *b),
             Statement::Return(a) => matches!(other, Statement::Return(b) if *a == *b),
+            Statement::Discard(a) => matches!(other, Statement::Discard(b) if *a == *b),
             Statement::FunctionCall(a) => matches!(other, Statement::FunctionCall(b) if *a == *b),
             Statement::ConstAssert(a) => matches!(other, Statement::ConstAssert(b) if *a == *b),
             Statement::Declaration(a) => matches!(other, Statement::Declaration(b) if *a == *b),
@@ -88,7 +88,9 @@ impl PartialEq for ElseIfClause {
 
     #[cycle(equal)]
     fn eq(&self, other: &ElseIfClause) -> bool {
-        self.expression == other.expression && self.body == other.body
+        self.attributes == other.attributes
+            && self.expression == other.expression
+            && self.body == other.body
     }
 }
 
@@ -99,7 +101,7 @@ impl PartialEq for ElseClause {
 
     #[cycle(equal)]
     fn eq(&self, other: &ElseClause) -> bool {
-        self.body == other.body
+        self.attributes == other.attributes && self.body == other.body
     }
 }
 
@@ -124,7 +126,9 @@ impl PartialEq for SwitchClause {
 
     #[cycle(equal)]
     fn eq(&self, other: &SwitchClause) -> bool {
-        self.case_selectors == other.case_selectors && self.body == other.body
+        self.attributes == other.attributes
+            && self.case_selectors == other.case_selectors
+            && self.body == other.body
     }
 }
 
@@ -148,7 +152,9 @@ impl PartialEq for ContinuingStatement {
 
     #[cycle(equal)]
     fn eq(&self, other: &ContinuingStatement) -> bool {
-        self.body == other.body && self.break_if == other.break_if
+        self.attributes == other.attributes
+            && self.body == other.body
+            && self.break_if == other.break_if
     }
 }
 

@@ -61,6 +61,7 @@ pub struct IfClause {
 #[cycle(statement)]
 #[derive(Debug, Drop)]
 pub struct ElseIfClause {
+    pub attributes: Attributes,
     pub expression: ExpressionNode,
     pub body: CompoundStatement,
 }
@@ -68,6 +69,7 @@ pub struct ElseIfClause {
 #[cycle(statement)]
 #[derive(Debug, Drop)]
 pub struct ElseClause {
+    pub attributes: Attributes,
     pub body: CompoundStatement,
 }
 
@@ -83,6 +85,7 @@ pub struct SwitchStatement {
 #[cycle(statement)]
 #[derive(Debug, Drop)]
 pub struct SwitchClause {
+    pub attributes: Attributes,
     pub case_selectors: Vec<CaseSelector>,
     pub body: CompoundStatement,
 }
@@ -99,6 +102,7 @@ pub struct LoopStatement {
 #[cycle(statement)]
 #[derive(Debug, Drop)]
 pub struct ContinuingStatement {
+    pub attributes: Attributes,
     pub body: CompoundStatement,
     pub break_if: Option<BreakIfStatement>,
 }

@@ -8,8 +8,7 @@ ghost use Rattle.wgsl_writer.specs.Writing.{WritesAt};
 use crate::statement::{ElseClause, ElseIfClause, IfClause, IfStatement};
 use crate::write::write_compound;
 use std::fmt;
-use std::fmt::Write;
-use wgsl_simple_statement::{write_attribute_line, write_head, write_line_end};
+use wgsl_simple_statement::{write_attribute_line, write_head, write_line_end, write_start};
 use wgsl_writer::Depth;
 
 #[cycle(printing)]
@@ -55,6 +54,7 @@ pub fn write_else_if_clause<W: fmt::Write>(
 ) -> fmt::Result
     ensures { WritesAt W.write_str_gives depth.now f.old result (print_else_if_clause (else_if_clause_view clause.now)) f.new }
 {
+    write_attribute_line(&clause.attributes, depth, f)?;
     write_head("else if ", &clause.expression, depth, f)?;
     write_compound(&clause.body, depth, f)
 }
@@ -67,6 +67,6 @@ pub fn write_else_clause<W: fmt::Write>(
 ) -> fmt::Result
     ensures { WritesAt W.write_str_gives depth.now f.old result (print_else_clause (else_clause_view clause.now)) f.new }
 {
-    f.write_str("else ")?;
+    write_start(&clause.attributes, "else ", depth, f)?;
     write_compound(&clause.body, depth, f)
 }

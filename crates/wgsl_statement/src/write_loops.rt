@@ -48,7 +48,7 @@ pub fn write_continuing<W: fmt::Write>(
 ) -> fmt::Result
     ensures { WritesAt W.write_str_gives depth.now f.old result (print_continuing (continuing_statement_view statement.now)) f.new }
 {
-    f.write_str("continuing ")?;
+    write_start(&statement.attributes, "continuing ", depth, f)?;
     write_opened(&statement.body, depth, f)?;
     write_break_if(&statement.break_if, depth, f)?;
     f.write_str("}")

@@ -44,6 +44,7 @@ pub fn write_switch_clause<W: fmt::Write>(
 ) -> fmt::Result
     ensures { WritesAt W.write_str_gives depth.now f.old result (print_switch_clause (switch_clause_view clause.now)) f.new }
 {
+    write_attribute_line(&clause.attributes, depth, f)?;
     write_case(&clause.case_selectors, depth, f)?;
     write_compound(&clause.body, depth, f)
 }

@@ -4,6 +4,7 @@ use Rattle.std.specs.Prelude.{Option}
 use Rattle.grammar.specs.Grammar.{Grammar.symbol}
 use Rattle.grammar.specs.Notation.{◌then◌, ◌▹◌}
 use Rattle.grammar.specs.States.{State, Read, ◌>>=◌, take, go}
+use Rattle.grammar.proofs.Binding.{bind_associates, bind_alike}
 use Rattle.wgsl_model.specs.Classes.{SymBraceLeft, SymParenLeft, KwFor, KwSwitch}
 use Rattle.wgsl_model.specs.Expressions.{ExpressionNode}
 use Rattle.wgsl_model.specs.Attributes.{Attributes}
@@ -12,7 +13,7 @@ use Rattle.wgsl_model.specs.Symbols.{Symbol.expression}
 use Rattle.wgsl_grammar_theory.specs.Factored.{FactoredSymbol.of, FactoredSymbol.further, Further.attribute_list, Further.init_part, Further.condition_part, Further.update_part, FactoredRule}
 use Rattle.wgsl_grammar_theory.specs.Tables.{tables}
 use Rattle.wgsl_grammar_theory.specs.Reader.{reader}
-use Rattle.wgsl_simple_statement_reader.proofs.Binding.{bind_associates, bind_alike, pair_goes_on, triple_goes_on, token_before}
+use Rattle.wgsl_simple_statement_reader.proofs.Binding.{pair_goes_on, triple_goes_on, token_before}
 use Rattle.wgsl_statement_part_reader.specs.Heads.{condition_at, block_start_at, block_start_after_at, switch_head_at, for_header_at}
 
 -- a keyword, a condition, and more

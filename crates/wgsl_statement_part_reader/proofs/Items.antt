@@ -2,7 +2,8 @@
 use Rattle.std.proofs.Common.{◌≡◌, ◌∙◌, ap, List, [], ◌∷◌, ◌++◌, append-nil}
 use Rattle.grammar.specs.Tokens.{Token}
 use Rattle.grammar.specs.States.{State, Read, Read.done, ◌>>=◌}
-use Rattle.wgsl_simple_statement_reader.proofs.Binding.{bind_associates, bind_alike, pair_goes_on, put_before, behind, behind_more}
+use Rattle.grammar.proofs.Binding.{bind_associates, bind_alike}
+use Rattle.wgsl_simple_statement_reader.proofs.Binding.{pair_goes_on, put_before, behind, behind_more}
 
 -- the token that closes
 pub closed_is : {A B : Type 0} (l : List A) (end : B) (m : Read Token) → behind l (m >>= λ t s. done ([], end) s) ≡ (m >>= λ t s. done (l, end) s)

@@ -4,6 +4,7 @@ use Rattle.grammar.specs.Grammar.{Grammar.empty, Grammar.symbol}
 use Rattle.grammar.specs.Notation.{◌then◌, ◌or◌, ◌▹◌}
 use Rattle.grammar.specs.States.{State, Read, Read.done, ◌>>=◌, is_at, is_any, take, go}
 use Rattle.grammar.proofs.Lists.{behind_none}
+use Rattle.grammar.proofs.Binding.{bind_associates, bind_alike, bind_cond}
 use Rattle.wgsl_model.specs.Classes.{SymComma}
 use Rattle.wgsl_model.specs.Statements.{CaseSelector}
 use Rattle.wgsl_model.specs.Symbols.{Symbol.case_selector}
@@ -12,7 +13,7 @@ use Rattle.wgsl_grammar_theory.specs.Tables.{tables, begin_case_selector}
 use Rattle.wgsl_grammar_theory.specs.Reader.{reader}
 use Rattle.wgsl_grammar_theory.specs.StatementRules.{selectors_at}
 use Rattle.wgsl_grammar_theory.proofs.StatementEquations.{selectors_is}
-use Rattle.wgsl_simple_statement_reader.proofs.Binding.{bind_associates, bind_alike, bind_cond, pair_goes_on, token_before}
+use Rattle.wgsl_simple_statement_reader.proofs.Binding.{pair_goes_on, token_before}
 
 -- a comma and more, or nothing, behind the selectors that were read so far
 unfoldable pub selectors_behind : List CaseSelector → State → Read (List CaseSelector)

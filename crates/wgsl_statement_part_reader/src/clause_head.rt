@@ -19,7 +19,11 @@ use wgsl_simple_statement::CaseSelector;
 use wgsl_token::kind::TokenKind;
 
 /// What begins a clause.
-const SWITCH_CLAUSE: Expected = Expected::OneOf(&[TokenKind::KwCase, TokenKind::KwDefault]);
+const SWITCH_CLAUSE: Expected = Expected::OneOf(&[
+    TokenKind::SymAttr,
+    TokenKind::KwCase,
+    TokenKind::KwDefault,
+]);
 
 /// `case` with its selectors, or `default`, and a `:` if there is one.
 pub fn parse_clause_head(alloc: Global, tokens: &mut Cursor) -> Result<Vec<CaseSelector>, Fault>

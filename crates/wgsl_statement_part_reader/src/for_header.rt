@@ -2,21 +2,27 @@
 #![tactic(auto, unfolding(crate::proofs::Hints::definitions), using(crate::proofs::Hints::lemmas))]
 
 ghost use Rattle.std.specs.Prelude.{option_map};
+ghost use Rattle.wgsl_model.specs.Statements.{statement};
 ghost use Rattle.wgsl_model.specs.Symbols.{Symbol.for_init, Symbol.for_update};
 ghost use Rattle.wgsl_expression.specs.View.{expression_node_view};
+ghost use Rattle.wgsl_attribute.specs.View.{attributes_view};
 ghost use Rattle.wgsl_statement.specs.View.{statement_view, statement_node_view};
 ghost use Rattle.wgsl_grammar_theory.specs.Factored.{FactoredSymbol.of, FactoredSymbol.further, Further.init_part, Further.condition_part, Further.update_part};
 ghost use Rattle.wgsl_grammar_theory.specs.Reader.{reader};
 ghost use Rattle.wgsl_cursor.specs.Reading.{Parses};
+ghost use Rattle.wgsl_attribute_reader.specs.Behind.{behind_attributes};
 ghost use Rattle.wgsl_statement_part_reader.specs.Heads.{for_header_at};
-ghost use Rattle.wgsl_statement_part_reader.specs.Plain.{init_statement_at};
+ghost use Rattle.wgsl_statement_part_reader.specs.Plain.{init_statement_at, init_kinds_at, update_statement_at};
 
 use std::alloc::Global;
+use wgsl_attribute::Attributes;
+use wgsl_attribute_reader::parse_attributes;
 use wgsl_cursor::{Cursor, Fault};
 use wgsl_expression::ExpressionNode;
 use wgsl_expression_reader::parse_expression;
 use wgsl_simple_statement_reader::{
-    begins_value_statement, parse_simple_statement, parse_value_statement, parse_var_statement,
+    begins_value_part, parse_local_part, parse_parenthesized_statement, parse_simple_part,
+    parse_value_part,
 };
 use wgsl_span::Spanned;
 use wgsl_statement::{Statement, StatementNode};
@@ -66,13 +72,28 @@ fn parse_for_init(alloc: Global, tokens: &mut Cursor) -> Result<StatementNode, F
 fn parse_init_statement(alloc: Global, tokens: &mut Cursor) -> Result<Statement, Fault>
     ensures { Parses statement_view result tokens.old tokens.new init_statement_at }
 {
+    if tokens.is_at(TokenKind::SymParenLeft) {
+        return parse_parenthesized_statement(alloc, tokens);
+    }
+    let attributes = parse_attributes(alloc, tokens)?;
+    parse_init_kind(alloc, tokens, attributes)
+}
+
+/// What is done before the first turn, behind its attributes.
+fn parse_init_kind(
+    alloc: Global,
+    tokens: &mut Cursor,
+    attributes: Attributes,
+) -> Result<Statement, Fault>
+    ensures { Parses statement_view result tokens.old tokens.new (behind_attributes statement (attributes_view attributes.items) init_kinds_at) }
+{
     if tokens.is_at(TokenKind::KwVar) {
-        return parse_var_statement(alloc, tokens);
+        return parse_local_part(alloc, tokens, attributes);
     }
-    if begins_value_statement(tokens) {
-        return parse_value_statement(alloc, tokens);
+    if begins_value_part(tokens) {
+        return parse_value_part(alloc, tokens, attributes);
     }
-    parse_simple_statement(alloc, tokens)
+    parse_simple_part(alloc, tokens, attributes)
 }
 
 /// The condition, if there is one, and its `;`.
@@ -104,6 +125,17 @@ fn parse_for_update(alloc: Global, tokens: &mut Cursor) -> Result<StatementNode,
     ensures { Parses statement_node_view result tokens.old tokens.new (reader (of for_update)) }
 {
     let start = tokens.start();
-    let update = parse_simple_statement(alloc, tokens)?;
+    let update = parse_update_statement(alloc, tokens)?;
     Ok(Spanned::new(alloc, update, tokens.span_from(start))?)
+}
+
+/// What is done after each turn, without its place.
+fn parse_update_statement(alloc: Global, tokens: &mut Cursor) -> Result<Statement, Fault>
+    ensures { Parses statement_view result tokens.old tokens.new update_statement_at }
+{
+    if tokens.is_at(TokenKind::SymParenLeft) {
+        return parse_parenthesized_statement(alloc, tokens);
+    }
+    let attributes = parse_attributes(alloc, tokens)?;
+    parse_simple_part(alloc, tokens, attributes)
 }

@@ -1,19 +1,25 @@
 //! The statements that a `;` ends.
 #![tactic(auto, unfolding(crate::proofs::Hints::definitions), using(crate::proofs::Hints::lemmas))]
 
-ghost use Rattle.std.specs.Prelude.{◌≡◌};
+ghost use Rattle.std.specs.Prelude.{◌≡◌, [], ◌∷◌};
 ghost use Rattle.grammar.specs.States.{is_any};
+ghost use Rattle.wgsl_model.specs.Classes as class;
+ghost use Rattle.wgsl_model.specs.Statements.{statement};
+ghost use Rattle.wgsl_attribute.specs.View.{attributes_view};
 ghost use Rattle.wgsl_statement.specs.View.{statement_view, statement_node_view};
-ghost use Rattle.wgsl_grammar_theory.specs.Tables.{begin_for_update};
+ghost use Rattle.wgsl_grammar_theory.specs.Factored.{FactoredSymbol.further, Further.plain_statement, Further.ended_part};
+ghost use Rattle.wgsl_grammar_theory.specs.Reader.{reader};
 ghost use Rattle.wgsl_cursor.specs.Reading.{state, Parses};
-ghost use Rattle.wgsl_statement_part_reader.specs.Plain.{attributed_classes, ended_break_at, plain_statement_at, assert_statement_at, unattributed_statement_at};
+ghost use Rattle.wgsl_attribute_reader.specs.Behind.{behind_attributes};
+ghost use Rattle.wgsl_statement_part_reader.specs.Plain.{break_part_at, unplaced_plain_at, ended_kinds_at, begin_simple_part, assert_statement_at};
 
 use std::alloc::Global;
+use wgsl_attribute::Attributes;
 use wgsl_cursor::{Cursor, Expected, Fault};
+use wgsl_simple_statement::{BreakStatement, ConstAssert};
 use wgsl_simple_statement_reader::{
-    begins_value_statement, parse_break_statement, parse_const_assert, parse_continue_statement,
-    parse_discard_statement, parse_return_statement, parse_simple_statement, parse_value_statement,
-    parse_var_statement,
+    begins_value_part, parse_assert_part, parse_continue, parse_discard, parse_local_part,
+    parse_parenthesized_statement, parse_returning_part, parse_simple_part, parse_value_part,
 };
 use wgsl_span::Spanned;
 use wgsl_statement::{Statement, StatementNode};
@@ -44,86 +50,142 @@ const STATEMENT: Expected = Expected::OneOf(&[
     TokenKind::Ident,
 ]);
 
-/// `break` with its `;`.
-pub fn parse_ended_break(alloc: Global, tokens: &mut Cursor) -> Result<StatementNode, Fault>
-    ensures { Parses statement_node_view result tokens.old tokens.new ended_break_at }
+/// What can stand behind attributes of a statement.
+const ATTRIBUTED_STATEMENT: Expected = Expected::OneOf(&[
+    TokenKind::SymAnd,
+    TokenKind::SymAttr,
+    TokenKind::SymBraceLeft,
+    TokenKind::SymStar,
+    TokenKind::SymUnderscore,
+    TokenKind::KwBreak,
+    TokenKind::KwConst,
+    TokenKind::KwConstAssert,
+    TokenKind::KwContinue,
+    TokenKind::KwDiscard,
+    TokenKind::KwFor,
+    TokenKind::KwIf,
+    TokenKind::KwLet,
+    TokenKind::KwLoop,
+    TokenKind::KwReturn,
+    TokenKind::KwSwitch,
+    TokenKind::KwVar,
+    TokenKind::KwWhile,
+    TokenKind::Ident,
+]);
+
+/// Whether the next token begins a statement that has no attributes: an empty one, or one whose left side begins with `(`.
+pub fn begins_plain_statement(tokens: &Cursor) -> bool
+    ensures { result ≡ is_any (class.SymParenLeft ∷ (class.SymSemicolon ∷ [])) (state tokens.now) }
+{
+    tokens.is_at(TokenKind::SymParenLeft) || tokens.is_at(TokenKind::SymSemicolon)
+}
+
+/// A statement that has no attributes, with its `;`.
+pub fn parse_plain_statement(alloc: Global, tokens: &mut Cursor) -> Result<StatementNode, Fault>
+    ensures { Parses statement_node_view result tokens.old tokens.new (reader (further plain_statement)) }
 {
     let start = tokens.start();
-    let break_statement = parse_break_statement(tokens)?;
-    tokens.expect(TokenKind::SymSemicolon)?;
-    Ok(Spanned::new(alloc, break_statement, tokens.span_from(start))?)
+    let statement = parse_unplaced_plain(alloc, tokens)?;
+    Ok(Spanned::new(alloc, statement, tokens.span_from(start))?)
 }
 
-/// Whether the next token begins a statement that may have attributes.
-pub fn begins_attributed_statement(tokens: &Cursor) -> bool
-    ensures { result ≡ is_any attributed_classes (state tokens.now) }
-{
-    tokens.is_at(TokenKind::SymAttr)
-        || tokens.is_at(TokenKind::KwIf)
-        || tokens.is_at(TokenKind::KwSwitch)
-        || tokens.is_at(TokenKind::KwLoop)
-        || tokens.is_at(TokenKind::KwFor)
-        || tokens.is_at(TokenKind::KwWhile)
-        || tokens.is_at(TokenKind::SymBraceLeft)
-}
-
-/// A statement that has no attributes, other than `break`, with its `;`, without its place.
-pub fn parse_unattributed_statement(alloc: Global, tokens: &mut Cursor) -> Result<Statement, Fault>
-    ensures { Parses statement_view result tokens.old tokens.new unattributed_statement_at }
+/// A statement that has no attributes, with its `;`, without its place.
+fn parse_unplaced_plain(alloc: Global, tokens: &mut Cursor) -> Result<Statement, Fault>
+    ensures { Parses statement_view result tokens.old tokens.new unplaced_plain_at }
 {
     if tokens.eat(TokenKind::SymSemicolon) {
         return Ok(Statement::Void);
     }
-    if tokens.is_at(TokenKind::KwReturn) {
-        let statement = parse_return_statement(alloc, tokens)?;
-        tokens.expect(TokenKind::SymSemicolon)?;
-        return Ok(statement);
-    }
-    let statement = parse_plain_statement(alloc, tokens)?;
+    let statement = parse_parenthesized_statement(alloc, tokens)?;
     tokens.expect(TokenKind::SymSemicolon)?;
     Ok(statement)
 }
 
-/// A statement that a `;` ends, without it, but for `break` and `return`.
-fn parse_plain_statement(alloc: Global, tokens: &mut Cursor) -> Result<Statement, Fault>
-    ensures { Parses statement_view result tokens.old tokens.new plain_statement_at }
+/// `break` behind its attributes, with its `;`.
+pub fn parse_break_part(tokens: &mut Cursor, attributes: Attributes) -> Result<Statement, Fault>
+    ensures { Parses statement_view result tokens.old tokens.new (behind_attributes statement (attributes_view attributes.items) break_part_at) }
 {
-    if tokens.is_at(TokenKind::KwVar) {
-        return parse_var_statement(alloc, tokens);
-    }
-    if begins_value_statement(tokens) {
-        return parse_value_statement(alloc, tokens);
-    }
-    if tokens.is_at(TokenKind::KwContinue) {
-        return parse_continue_statement(tokens);
-    }
-    if tokens.is_at(TokenKind::KwDiscard) {
-        return parse_discard_statement(tokens);
-    }
-    if begins_simple_statement(tokens) {
-        return parse_simple_statement(alloc, tokens);
-    }
-    if tokens.is_at(TokenKind::KwConstAssert) {
-        return parse_assert_statement(alloc, tokens);
-    }
-    Err(tokens.refuse(STATEMENT))
+    tokens.expect(TokenKind::KwBreak)?;
+    tokens.expect(TokenKind::SymSemicolon)?;
+    Ok(Statement::Break(BreakStatement { attributes }))
 }
 
-/// Whether the next token begins a call, an assignment, an increment or a decrement.
-fn begins_simple_statement(tokens: &Cursor) -> bool
-    ensures { result ≡ is_any begin_for_update (state tokens.now) }
+/// A statement other than `break` that a `;` ends, behind its attributes, with its `;`.
+pub fn parse_ended_part(
+    alloc: Global,
+    tokens: &mut Cursor,
+    attributes: Attributes,
+) -> Result<Statement, Fault>
+    ensures { Parses statement_view result tokens.old tokens.new (behind_attributes statement (attributes_view attributes.items) (reader (further ended_part))) }
+{
+    let statement = parse_ended_kind(alloc, tokens, attributes)?;
+    tokens.expect(TokenKind::SymSemicolon)?;
+    Ok(statement)
+}
+
+/// A statement other than `break` that a `;` ends, behind its attributes, without its `;`.
+fn parse_ended_kind(
+    alloc: Global,
+    tokens: &mut Cursor,
+    attributes: Attributes,
+) -> Result<Statement, Fault>
+    ensures { Parses statement_view result tokens.old tokens.new (behind_attributes statement (attributes_view attributes.items) ended_kinds_at) }
+{
+    if tokens.is_at(TokenKind::KwReturn) {
+        return parse_returning_part(alloc, tokens, attributes);
+    }
+    if tokens.is_at(TokenKind::KwVar) {
+        return parse_local_part(alloc, tokens, attributes);
+    }
+    if begins_value_part(tokens) {
+        return parse_value_part(alloc, tokens, attributes);
+    }
+    if tokens.is_at(TokenKind::KwContinue) {
+        return parse_continue(tokens, attributes);
+    }
+    if tokens.is_at(TokenKind::KwDiscard) {
+        return parse_discard(tokens, attributes);
+    }
+    if begins_simple_part(tokens) {
+        return parse_simple_part(alloc, tokens, attributes);
+    }
+    if tokens.is_at(TokenKind::KwConstAssert) {
+        return parse_assert_statement(alloc, tokens, attributes);
+    }
+    Err(tokens.refuse(expected_behind(&attributes)))
+}
+
+/// What could stand in the place of a token that begins no statement, behind attributes.
+fn expected_behind(attributes: &Attributes) -> Expected {
+    if attributes.is_empty() {
+        STATEMENT
+    } else {
+        ATTRIBUTED_STATEMENT
+    }
+}
+
+/// Whether the next token begins a call, an assignment, an increment or a decrement that may have attributes.
+fn begins_simple_part(tokens: &Cursor) -> bool
+    ensures { result ≡ is_any begin_simple_part (state tokens.now) }
 {
     tokens.is_at(TokenKind::SymAnd)
-        || tokens.is_at(TokenKind::SymParenLeft)
         || tokens.is_at(TokenKind::SymStar)
         || tokens.is_at(TokenKind::SymUnderscore)
         || tokens.is_at(TokenKind::Ident)
         || tokens.is_at(TokenKind::ReservedWord)
 }
 
-/// A `const_assert` as a statement.
-fn parse_assert_statement(alloc: Global, tokens: &mut Cursor) -> Result<Statement, Fault>
-    ensures { Parses statement_view result tokens.old tokens.new assert_statement_at }
+/// A `const_assert` as a statement, behind its attributes, without its `;`.
+fn parse_assert_statement(
+    alloc: Global,
+    tokens: &mut Cursor,
+    attributes: Attributes,
+) -> Result<Statement, Fault>
+    ensures { Parses statement_view result tokens.old tokens.new (behind_attributes statement (attributes_view attributes.items) assert_statement_at) }
 {
-    Ok(Statement::ConstAssert(parse_const_assert(alloc, tokens)?))
+    let expression = parse_assert_part(alloc, tokens)?;
+    Ok(Statement::ConstAssert(ConstAssert {
+        attributes,
+        expression,
+    }))
 }

@@ -4,6 +4,7 @@ use Rattle.std.specs.Prelude.{Option, Some, None}
 use Rattle.grammar.specs.Grammar.{Grammar.symbol}
 use Rattle.grammar.specs.Notation.{◌then◌, ◌or◌, ◌gives◌, ◌▹◌}
 use Rattle.grammar.specs.States.{State, Read, Read.done, ◌>>=◌, is_at, take, go}
+use Rattle.grammar.proofs.Binding.{bind_associates, bind_alike, bind_cond}
 use Rattle.wgsl_model.specs.Classes.{KwElse, KwIf}
 use Rattle.wgsl_model.specs.Expressions.{ExpressionNode}
 use Rattle.wgsl_model.specs.Statements.{CompoundStatement, ElseIfClause, ElseClause, UnattributedStatement, else_if_clause, else_clause}
@@ -14,7 +15,7 @@ use Rattle.wgsl_grammar_theory.specs.Tables.{tables}
 use Rattle.wgsl_grammar_theory.specs.Reader.{reader}
 use Rattle.wgsl_grammar_theory.specs.StatementRules.{else_rest_at, if_part_at}
 use Rattle.wgsl_grammar_theory.proofs.StatementEquations.{else_rest_is, if_part_is}
-use Rattle.wgsl_simple_statement_reader.proofs.Binding.{bind_associates, bind_alike, bind_cond, pair_goes_on, triple_goes_on, token_before, put_before, behind, behind_more, behind_none}
+use Rattle.wgsl_simple_statement_reader.proofs.Binding.{pair_goes_on, triple_goes_on, token_before, put_before, behind, behind_more, behind_none}
 use Rattle.wgsl_statement_part_reader.specs.Heads.{condition_at}
 use Rattle.wgsl_statement_part_reader.proofs.Heads.{with_condition, condition_first}
 
@@ -28,33 +29,33 @@ elses_from clauses s = behind clauses (reader (further else_rest) s)
 -- `else if` and what follows, the last `else`, or nothing
 unfoldable pub elses_turn : List ElseIfClause → State → Read Elses
 elses_turn clauses s = cond (is_at KwElse s) (take KwElse s >>= λ t s'. cond (is_at KwIf s')
-    (take KwIf s' >>= λ u s1. reader (of expression) s1 >>= λ e s2. reader (of compound_statement) s2 >>= λ b s3. elses_from (clauses ++ else_if_clause e b ∷ []) s3)
-    (reader (of compound_statement) s' >>= λ b s1. done (clauses, Some (else_clause b)) s1))
+    (take KwIf s' >>= λ u s1. reader (of expression) s1 >>= λ e s2. reader (of compound_statement) s2 >>= λ b s3. elses_from (clauses ++ else_if_clause [] e b ∷ []) s3)
+    (reader (of compound_statement) s' >>= λ b s1. done (clauses, Some (else_clause [] b)) s1))
     (done (clauses, None) s)
 
 -- ---- as the grammar writes them
 abbrev with_else_if : ExpressionNode × (CompoundStatement × Elses) → Elses
-with_else_if p = (else_if_clause p.0 p.1.0 ∷ p.1.1.0, p.1.1.1)
+with_else_if p = (else_if_clause [] p.0 p.1.0 ∷ p.1.1.0, p.1.1.1)
 
 abbrev else_if_rest : FactoredRule (ExpressionNode × (CompoundStatement × Elses))
 else_if_rest = symbol (of expression) then symbol (of compound_statement) then symbol (further else_rest)
 
 abbrev last_else : FactoredRule Elses
-last_else = symbol (of compound_statement) gives λ b. ([], Some (else_clause b))
+last_else = symbol (of compound_statement) gives λ b. ([], Some (else_clause [] b))
 
 else_if_is : (clauses : List ElseIfClause) (s : State) → behind clauses (go tables reader (KwIf ▹ else_if_rest gives with_else_if) s)
-    ≡ (take KwIf s >>= λ u s1. reader (of expression) s1 >>= λ e s2. reader (of compound_statement) s2 >>= λ b s3. elses_from (clauses ++ else_if_clause e b ∷ []) s3)
+    ≡ (take KwIf s >>= λ u s1. reader (of expression) s1 >>= λ e s2. reader (of compound_statement) s2 >>= λ b s3. elses_from (clauses ++ else_if_clause [] e b ∷ []) s3)
 unfolding elses_from
 else_if_is clauses s =
     bind_associates (go tables reader (KwIf ▹ else_if_rest) s) (λ p s'. done (with_else_if p) s') (λ p s'. done (put_before clauses p) s')
     ∙ token_before (take KwIf s) (go tables reader else_if_rest) (λ p s'. done (put_before clauses (with_else_if p)) s')
     ∙ bind_alike (take KwIf s) _ _ (λ u s1 h. triple_goes_on (reader (of expression) s1) (reader (of compound_statement)) (reader (further else_rest)) (λ p s'. done (put_before clauses (with_else_if p)) s')
-    ∙ bind_alike (reader (of expression) s1) _ _ (λ e s2 h2. bind_alike (reader (of compound_statement) s2) _ _ (λ b s3 h3. behind_more clauses (else_if_clause e b) (reader (further else_rest) s3))))
+    ∙ bind_alike (reader (of expression) s1) _ _ (λ e s2 h2. bind_alike (reader (of compound_statement) s2) _ _ (λ b s3 h3. behind_more clauses (else_if_clause [] e b) (reader (further else_rest) s3))))
 
-last_else_is : (clauses : List ElseIfClause) (s : State) → behind clauses (go tables reader last_else s) ≡ (reader (of compound_statement) s >>= λ b s'. done (clauses, Some (else_clause b)) s')
+last_else_is : (clauses : List ElseIfClause) (s : State) → behind clauses (go tables reader last_else s) ≡ (reader (of compound_statement) s >>= λ b s'. done (clauses, Some (else_clause [] b)) s')
 last_else_is clauses s =
-    bind_associates (reader (of compound_statement) s) (λ b s'. done ([], Some (else_clause b)) s') (λ p s'. done (put_before clauses p) s')
-    ∙ bind_alike (reader (of compound_statement) s) _ _ (λ b s' h. ap (λ cs. done (cs, Some (else_clause b)) s') (append-nil clauses))
+    bind_associates (reader (of compound_statement) s) (λ b s'. done ([], Some (else_clause [] b)) s') (λ p s'. done (put_before clauses p) s')
+    ∙ bind_alike (reader (of compound_statement) s) _ _ (λ b s' h. ap (λ cs. done (cs, Some (else_clause [] b)) s') (append-nil clauses))
 
 -- ---- the equations
 pub elses_are : (clauses : List ElseIfClause) (s : State) → elses_from clauses s ≡ elses_turn clauses s

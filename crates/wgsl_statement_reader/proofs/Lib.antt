@@ -1,4 +1,5 @@
 pub mod Statements
+pub mod StatementItems
 pub mod Blocks
 pub mod IfChains
 pub mod Switches

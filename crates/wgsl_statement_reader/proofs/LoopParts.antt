@@ -1,17 +1,19 @@
 -- Loops by what stands before their statements and the statements.
 use Rattle.std.proofs.Common.{◌≡◌, ◌∙◌}
+use Rattle.std.specs.Prelude.{Option}
 use Rattle.grammar.specs.Grammar.{Grammar.symbol}
 use Rattle.grammar.specs.Notation.{◌▹◌}
 use Rattle.grammar.specs.States.{State, Read, Read.done, ◌>>=◌}
 use Rattle.wgsl_model.specs.Classes.{KwContinuing, KwLoop, KwWhile}
-use Rattle.wgsl_model.specs.Statements.{ContinuingStatement, UnattributedStatement}
-use Rattle.wgsl_model.specs.StatementParts.{continuing_part, for_of, loop_of, while_of}
-use Rattle.wgsl_model.specs.Symbols.{Symbol.compound_statement, Symbol.continuing_statement}
-use Rattle.wgsl_grammar_theory.specs.Factored.{FactoredSymbol.of, FactoredSymbol.further, Further.loop_rest, Further.continuing_rest, Further.loop_part, Further.for_part, Further.while_part}
+use Rattle.wgsl_model.specs.Attributed.{Attributed}
+use Rattle.wgsl_model.specs.Statements.{BreakIfStatement, CompoundStatement, UnattributedStatement}
+use Rattle.wgsl_model.specs.StatementParts.{compound_of, for_of, loop_of, while_of}
+use Rattle.wgsl_model.specs.Symbols.{Symbol.compound_statement}
+use Rattle.wgsl_grammar_theory.specs.Factored.{FactoredSymbol.of, FactoredSymbol.further, Further.loop_rest, Further.continuing_rest, Further.continuing_part, Further.loop_part, Further.for_part, Further.while_part}
 use Rattle.wgsl_grammar_theory.specs.Tables.{tables}
 use Rattle.wgsl_grammar_theory.specs.Reader.{reader}
-use Rattle.wgsl_grammar_theory.specs.StatementRules.{continuing_statement_at, loop_part_at, for_part_at, while_part_at}
-use Rattle.wgsl_grammar_theory.proofs.StatementEquations.{continuing_statement_is, loop_part_is, for_part_is, while_part_is}
+use Rattle.wgsl_grammar_theory.specs.StatementRules.{continuing_part_at, loop_part_at, for_part_at, while_part_at}
+use Rattle.wgsl_grammar_theory.proofs.StatementEquations.{continuing_part_is, loop_part_is, for_part_is, while_part_is}
 use Rattle.wgsl_statement_part_reader.specs.Heads.{condition_at, block_start_after_at, for_header_at}
 use Rattle.wgsl_statement_part_reader.proofs.Heads.{with_condition, condition_first, with_block_start, block_start_after_first, with_for_header, for_header_first}
 
@@ -23,13 +25,13 @@ pub loop_by_parts : (s : State) → reader (further loop_part) s ≡ loop_parts 
 unfolding loop_part_at loop_parts
 loop_by_parts s = loop_part_is s ∙ block_start_after_first KwLoop (symbol (further loop_rest)) (λ p s'. done (loop_of p.0 p.1.0 p.1.1) s') s
 
--- `continuing`
-unfoldable pub continuing_parts : State → Read ContinuingStatement
-continuing_parts s = block_start_after_at KwContinuing s >>= λ a s1. reader (further continuing_rest) s1 >>= λ rest s2. done (continuing_part a rest.0 rest.1) s2
+-- `continuing`, likewise
+unfoldable pub continuing_parts : State → Read (CompoundStatement × Option (Attributed BreakIfStatement))
+continuing_parts s = block_start_after_at KwContinuing s >>= λ a s1. reader (further continuing_rest) s1 >>= λ rest s2. done (compound_of a rest.0, rest.1) s2
 
-pub continuing_by_parts : (s : State) → reader (of continuing_statement) s ≡ continuing_parts s
-unfolding continuing_statement_at continuing_parts
-continuing_by_parts s = continuing_statement_is s ∙ block_start_after_first KwContinuing (symbol (further continuing_rest)) (λ p s'. done (continuing_part p.0 p.1.0 p.1.1) s') s
+pub continuing_by_parts : (s : State) → reader (further continuing_part) s ≡ continuing_parts s
+unfolding continuing_part_at continuing_parts
+continuing_by_parts s = continuing_part_is s ∙ block_start_after_first KwContinuing (symbol (further continuing_rest)) (λ p s'. done (compound_of p.0 p.1.0, p.1.1) s') s
 
 -- `while`, likewise
 unfoldable pub while_parts : State → Read UnattributedStatement

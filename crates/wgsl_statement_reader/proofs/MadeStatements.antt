@@ -5,7 +5,7 @@ use Rattle.std.specs.declared.vec.Vec.{Vec}
 use Rattle.std.specs.declared.alloc.Global.{Global}
 use Rattle.wgsl_model.specs.Attributed.{Attributed}
 use Rattle.wgsl_model.specs.Statements as plain
-use Rattle.wgsl_model.specs.StatementParts.{compound_of, if_of, clause_of, switch_of, loop_of, continuing_part, for_of, while_of}
+use Rattle.wgsl_model.specs.StatementParts.{compound_of, if_of, clause_of, switch_of, loop_of, continuing_statement_of, for_of, while_of}
 use Rattle.wgsl_span.specs.declared.Spanned.{Spanned}
 use Rattle.wgsl_expression.specs.declared.expression.Expression.{Expression}
 use Rattle.wgsl_expression.specs.View.{expression_node_view}
@@ -45,12 +45,13 @@ if_clause_is : (expression : Spanned Expression) (body : CompoundStatement)
     → V.if_clause_view (layers.roll-IfClause (record { expression = expression; body = body })) ≡ plain.if_clause (expression_node_view expression) (V.compound_statement_view body)
 if_clause_is expression body = folds.fold-roll-IfClause plain.Statement plain.CompoundStatement plain.ContinuingStatement plain.ElseClause plain.ElseIfClause (Attributed plain.ForStatement) plain.IfClause (Attributed plain.IfStatement) (Attributed plain.LoopStatement) plain.SwitchClause (Attributed plain.SwitchStatement) (Attributed plain.WhileStatement) V.statement_step V.compound_statement_step V.continuing_statement_step V.else_clause_step V.else_if_clause_step V.for_statement_step V.if_clause_step V.if_statement_step V.loop_statement_step V.switch_clause_step V.switch_statement_step V.while_statement_step (record { expression = expression; body = body })
 
-pub else_if_clause_is : (expression : Spanned Expression) (body : CompoundStatement)
-    → V.else_if_clause_view (layers.roll-ElseIfClause (record { expression = expression; body = body })) ≡ plain.else_if_clause (expression_node_view expression) (V.compound_statement_view body)
-else_if_clause_is expression body = folds.fold-roll-ElseIfClause plain.Statement plain.CompoundStatement plain.ContinuingStatement plain.ElseClause plain.ElseIfClause (Attributed plain.ForStatement) plain.IfClause (Attributed plain.IfStatement) (Attributed plain.LoopStatement) plain.SwitchClause (Attributed plain.SwitchStatement) (Attributed plain.WhileStatement) V.statement_step V.compound_statement_step V.continuing_statement_step V.else_clause_step V.else_if_clause_step V.for_statement_step V.if_clause_step V.if_statement_step V.loop_statement_step V.switch_clause_step V.switch_statement_step V.while_statement_step (record { expression = expression; body = body })
+pub else_if_clause_is : (attributes : Vec (Spanned Attribute) Global) (expression : Spanned Expression) (body : CompoundStatement)
+    → V.else_if_clause_view (layers.roll-ElseIfClause (record { attributes = attributes; expression = expression; body = body })) ≡ plain.else_if_clause (attributes_view attributes.items) (expression_node_view expression) (V.compound_statement_view body)
+else_if_clause_is attributes expression body = folds.fold-roll-ElseIfClause plain.Statement plain.CompoundStatement plain.ContinuingStatement plain.ElseClause plain.ElseIfClause (Attributed plain.ForStatement) plain.IfClause (Attributed plain.IfStatement) (Attributed plain.LoopStatement) plain.SwitchClause (Attributed plain.SwitchStatement) (Attributed plain.WhileStatement) V.statement_step V.compound_statement_step V.continuing_statement_step V.else_clause_step V.else_if_clause_step V.for_statement_step V.if_clause_step V.if_statement_step V.loop_statement_step V.switch_clause_step V.switch_statement_step V.while_statement_step (record { attributes = attributes; expression = expression; body = body })
 
-pub else_clause_is : (body : CompoundStatement) → V.else_clause_view (layers.roll-ElseClause (record { body = body })) ≡ plain.else_clause (V.compound_statement_view body)
-else_clause_is body = folds.fold-roll-ElseClause plain.Statement plain.CompoundStatement plain.ContinuingStatement plain.ElseClause plain.ElseIfClause (Attributed plain.ForStatement) plain.IfClause (Attributed plain.IfStatement) (Attributed plain.LoopStatement) plain.SwitchClause (Attributed plain.SwitchStatement) (Attributed plain.WhileStatement) V.statement_step V.compound_statement_step V.continuing_statement_step V.else_clause_step V.else_if_clause_step V.for_statement_step V.if_clause_step V.if_statement_step V.loop_statement_step V.switch_clause_step V.switch_statement_step V.while_statement_step (record { body = body })
+pub else_clause_is : (attributes : Vec (Spanned Attribute) Global) (body : CompoundStatement)
+    → V.else_clause_view (layers.roll-ElseClause (record { attributes = attributes; body = body })) ≡ plain.else_clause (attributes_view attributes.items) (V.compound_statement_view body)
+else_clause_is attributes body = folds.fold-roll-ElseClause plain.Statement plain.CompoundStatement plain.ContinuingStatement plain.ElseClause plain.ElseIfClause (Attributed plain.ForStatement) plain.IfClause (Attributed plain.IfStatement) (Attributed plain.LoopStatement) plain.SwitchClause (Attributed plain.SwitchStatement) (Attributed plain.WhileStatement) V.statement_step V.compound_statement_step V.continuing_statement_step V.else_clause_step V.else_if_clause_step V.for_statement_step V.if_clause_step V.if_statement_step V.loop_statement_step V.switch_clause_step V.switch_statement_step V.while_statement_step (record { attributes = attributes; body = body })
 
 pub if_statement_is : (attributes : Vec (Spanned Attribute) Global) (expression : Spanned Expression) (body : CompoundStatement) (else_ifs : Vec ElseIfClause Global) (last : Option ElseClause)
     → V.statement_view (statement.If (layers.roll-IfStatement (record { attributes = attributes; if_clause = layers.roll-IfClause (record { expression = expression; body = body }); else_if_clauses = else_ifs; else_clause = last })))
@@ -65,9 +66,9 @@ pub switch_statement_is : (attributes : Vec (Spanned Attribute) Global) (express
 switch_statement_is attributes expression body_attributes clauses =
     is_switch _ ∙ ap (plain.as_statement plain.switch_statement) (switch_statement_roll (record { attributes = attributes; expression = expression; body_attributes = body_attributes; clauses = clauses }))
 
-pub switch_clause_is : (selectors : Vec CaseSelector Global) (body : CompoundStatement)
-    → V.switch_clause_view (layers.roll-SwitchClause (record { case_selectors = selectors; body = body })) ≡ clause_of (map selector_view selectors.items) (V.compound_statement_view body)
-switch_clause_is selectors body = switch_clause_roll (record { case_selectors = selectors; body = body })
+pub switch_clause_is : (attributes : Vec (Spanned Attribute) Global) (selectors : Vec CaseSelector Global) (body : CompoundStatement)
+    → V.switch_clause_view (layers.roll-SwitchClause (record { attributes = attributes; case_selectors = selectors; body = body })) ≡ clause_of (attributes_view attributes.items) (map selector_view selectors.items, V.compound_statement_view body)
+switch_clause_is attributes selectors body = switch_clause_roll (record { attributes = attributes; case_selectors = selectors; body = body })
 
 pub loop_statement_is : (attributes body_attributes : Vec (Spanned Attribute) Global) (statements : Vec (Spanned Statement) Global) (continuing : Option ContinuingStatement)
     → V.statement_view (statement.Loop (layers.roll-LoopStatement (record { attributes = attributes; body = layers.roll-CompoundStatement (record { attributes = body_attributes; statements = statements }); continuing = continuing })))
@@ -76,12 +77,12 @@ loop_statement_is attributes body_attributes statements continuing =
     is_loop _ ∙ ap (plain.as_statement plain.loop_statement) (loop_statement_roll attributes (layers.roll-CompoundStatement (record { attributes = body_attributes; statements = statements })) continuing)
     ∙ ap (λ body. plain.statement (attributes_view attributes.items) (plain.loop_statement (plain.repeat body (plain.continuing_of (option_map V.continuing_statement_view continuing))))) (compound_is body_attributes statements)
 
-pub continuing_statement_is : (attributes : Vec (Spanned Attribute) Global) (statements : Vec (Spanned Statement) Global) (break_if : Option BreakIfStatement)
-    → V.continuing_statement_view (layers.roll-ContinuingStatement (record { body = layers.roll-CompoundStatement (record { attributes = attributes; statements = statements }); break_if = break_if }))
-    ≡ continuing_part (attributes_view attributes.items) (map V.statement_node_view statements.items) (option_map break_if_view break_if)
-continuing_statement_is attributes statements break_if =
-    folds.fold-roll-ContinuingStatement plain.Statement plain.CompoundStatement plain.ContinuingStatement plain.ElseClause plain.ElseIfClause (Attributed plain.ForStatement) plain.IfClause (Attributed plain.IfStatement) (Attributed plain.LoopStatement) plain.SwitchClause (Attributed plain.SwitchStatement) (Attributed plain.WhileStatement) V.statement_step V.compound_statement_step V.continuing_statement_step V.else_clause_step V.else_if_clause_step V.for_statement_step V.if_clause_step V.if_statement_step V.loop_statement_step V.switch_clause_step V.switch_statement_step V.while_statement_step (record { body = layers.roll-CompoundStatement (record { attributes = attributes; statements = statements }); break_if = break_if })
-    ∙ ap (λ body. plain.continuing body (option_map break_if_view break_if)) (compound_is attributes statements)
+pub continuing_statement_is : (attributes body_attributes : Vec (Spanned Attribute) Global) (statements : Vec (Spanned Statement) Global) (break_if : Option BreakIfStatement)
+    → V.continuing_statement_view (layers.roll-ContinuingStatement (record { attributes = attributes; body = layers.roll-CompoundStatement (record { attributes = body_attributes; statements = statements }); break_if = break_if }))
+    ≡ continuing_statement_of (attributes_view attributes.items) (compound_of (attributes_view body_attributes.items) (map V.statement_node_view statements.items), option_map break_if_view break_if)
+continuing_statement_is attributes body_attributes statements break_if =
+    folds.fold-roll-ContinuingStatement plain.Statement plain.CompoundStatement plain.ContinuingStatement plain.ElseClause plain.ElseIfClause (Attributed plain.ForStatement) plain.IfClause (Attributed plain.IfStatement) (Attributed plain.LoopStatement) plain.SwitchClause (Attributed plain.SwitchStatement) (Attributed plain.WhileStatement) V.statement_step V.compound_statement_step V.continuing_statement_step V.else_clause_step V.else_if_clause_step V.for_statement_step V.if_clause_step V.if_statement_step V.loop_statement_step V.switch_clause_step V.switch_statement_step V.while_statement_step (record { attributes = attributes; body = layers.roll-CompoundStatement (record { attributes = body_attributes; statements = statements }); break_if = break_if })
+    ∙ ap (λ body. plain.continuing (attributes_view attributes.items) body (option_map break_if_view break_if)) (compound_is body_attributes statements)
 
 pub for_statement_is : (attributes : Vec (Spanned Attribute) Global) (initializer : Option (Spanned Statement)) (condition : Option (Spanned Expression)) (update : Option (Spanned Statement)) (body : CompoundStatement)
     → V.statement_view (statement.For (layers.roll-ForStatement (record { attributes = attributes; initializer = initializer; condition = condition; update = update; body = body })))

@@ -6,9 +6,10 @@ use Rattle.wgsl_model.specs.Classes.{SymBraceLeft, KwContinuing, KwIf, KwLoop, K
 use Rattle.wgsl_model.specs.Expressions.{ExpressionNode}
 use Rattle.wgsl_model.specs.Attributes.{Attributes}
 use Rattle.wgsl_model.specs.Statements.{BreakIfStatement, CaseSelector, CompoundStatement, ContinuingStatement, ElseIfClause, ElseClause, StatementNode, SwitchClause, UnattributedStatement, statement, statements_of}
-use Rattle.wgsl_model.specs.StatementParts.{clause_of, compound_of, continuing_part, for_of, if_of, loop_of, switch_of, while_of}
-use Rattle.wgsl_model.specs.Symbols.{Symbol.compound_statement, Symbol.continuing_statement, Symbol.switch_clause}
-use Rattle.wgsl_grammar_theory.specs.Factored.{FactoredSymbol.of, FactoredSymbol.further, Further.statement_rest, Further.loop_rest, Further.continuing_rest, Further.else_rest, Further.if_part, Further.switch_part, Further.loop_part, Further.for_part, Further.while_part, Further.block_part}
+use Rattle.wgsl_model.specs.StatementParts.{clause_of, compound_of, continuing_statement_of, for_of, if_of, loop_of, switch_of, while_of}
+use Rattle.wgsl_model.specs.Attributed.{Attributed}
+use Rattle.wgsl_model.specs.Symbols.{Symbol.compound_statement, Symbol.switch_clause}
+use Rattle.wgsl_grammar_theory.specs.Factored.{FactoredSymbol.of, FactoredSymbol.further, Further.attribute_list, Further.statement_rest, Further.loop_rest, Further.continuing_rest, Further.continuing_part, Further.else_rest, Further.if_part, Further.switch_part, Further.loop_part, Further.for_part, Further.while_part, Further.block_part}
 use Rattle.wgsl_grammar_theory.specs.Reader.{reader}
 use Rattle.wgsl_grammar_theory.specs.StatementRules.{block_part_at}
 use Rattle.wgsl_grammar_theory.proofs.StatementEquations.{block_part_is}
@@ -52,9 +53,11 @@ pub loop_reads : (s s1 s2 : State) (b : Attributes) (rest : List StatementNode �
 unfolding loop_parts
 loop_reads s s1 s2 b rest h k = loop_by_parts s ∙ both_read (reader (further loop_rest)) (λ b rest. loop_of b rest.0 rest.1) (block_start_after_at KwLoop s) b s1 rest s2 h k
 
-pub continuing_reads : (s s1 s2 : State) (a : Attributes) (rest : List StatementNode × Option BreakIfStatement) → block_start_after_at KwContinuing s ≡ done a s1 → reader (further continuing_rest) s1 ≡ done rest s2 → reader (of continuing_statement) s ≡ done (continuing_part a rest.0 rest.1) s2
+pub continuing_reads : (a : Attributes) (s s1 s2 : State) (b : Attributes) (rest : List StatementNode × Option (Attributed BreakIfStatement)) → block_start_after_at KwContinuing s ≡ done b s1 → reader (further continuing_rest) s1 ≡ done rest s2
+    → (reader (further continuing_part) s >>= λ p s'. done (continuing_statement_of a p) s') ≡ done (continuing_statement_of a (compound_of b rest.0, rest.1)) s2
 unfolding continuing_parts
-continuing_reads s s1 s2 a rest h k = continuing_by_parts s ∙ both_read (reader (further continuing_rest)) (λ a rest. continuing_part a rest.0 rest.1) (block_start_after_at KwContinuing s) a s1 rest s2 h k
+continuing_reads a s s1 s2 b rest h k =
+    ap (λ n. n >>= λ p s'. done (continuing_statement_of a p) s') (continuing_by_parts s ∙ both_read (reader (further continuing_rest)) (λ b rest. (compound_of b rest.0, rest.1)) (block_start_after_at KwContinuing s) b s1 rest s2 h k)
 
 pub while_reads : (s s1 s2 : State) (e : ExpressionNode) (b : CompoundStatement) → condition_at KwWhile s ≡ done e s1 → reader (of compound_statement) s1 ≡ done b s2 → reader (further while_part) s ≡ done (while_of e b) s2
 unfolding while_parts
@@ -68,6 +71,10 @@ pub switch_reads : (s s1 s2 : State) (head : ExpressionNode × Attributes) (clau
 unfolding switch_parts
 switch_reads s s1 s2 head clauses h k = switch_by_parts s ∙ both_read clauses_at (λ head clauses. switch_of head.0 head.1 clauses) (switch_head_at s) head s1 clauses s2 h k
 
-pub switch_clause_reads : (s s1 s2 : State) (selectors : List CaseSelector) (b : CompoundStatement) → clause_head_at s ≡ done selectors s1 → reader (of compound_statement) s1 ≡ done b s2 → reader (of switch_clause) s ≡ done (clause_of selectors b) s2
+pub switch_clause_reads : (s s1 s2 s3 : State) (a : Attributes) (selectors : List CaseSelector) (b : CompoundStatement) → reader (further attribute_list) s ≡ done a s1 → clause_head_at s1 ≡ done selectors s2 → reader (of compound_statement) s2 ≡ done b s3
+    → reader (of switch_clause) s ≡ done (clause_of a (selectors, b)) s3
 unfolding switch_clause_parts
-switch_clause_reads s s1 s2 selectors b h k = switch_clause_by_parts s ∙ both_read (reader (of compound_statement)) clause_of (clause_head_at s) selectors s1 b s2 h k
+switch_clause_reads s s1 s2 s3 a selectors b h k l =
+    switch_clause_by_parts s
+    ∙ ap (λ n. n >>= λ a s1. clause_head_at s1 >>= λ l s2. reader (of compound_statement) s2 >>= λ b s3. done (clause_of a (l, b)) s3) h
+    ∙ both_read (reader (of compound_statement)) (λ l b. clause_of a (l, b)) (clause_head_at s1) selectors s2 b s3 k l

@@ -6,29 +6,34 @@ use Rattle.grammar.specs.Grammar.{Grammar.symbol}
 use Rattle.grammar.specs.Notation.{one_token, ◌then◌, ◌▹◌, optional}
 use Rattle.grammar.specs.States.{State, Read, Read.done, ◌>>=◌, is_at, take, go}
 use Rattle.grammar.proofs.Lists.{until}
+use Rattle.grammar.proofs.Binding.{bind_associates, bind_alike, bind_cond}
 use Rattle.wgsl_model.specs.Classes.{SymBraceRight, SymColon, KwCase, KwDefault}
 use Rattle.wgsl_model.specs.Statements.{UnattributedStatement, CaseSelector, CompoundStatement, SwitchClause}
 use Rattle.wgsl_model.specs.StatementParts.{clause_of, switch_of}
 use Rattle.wgsl_model.specs.Symbols.{Symbol.compound_statement, Symbol.switch_clause}
-use Rattle.wgsl_grammar_theory.specs.Factored.{FactoredSymbol.of, FactoredSymbol.further, Further.selectors, Further.clause_rest, Further.switch_part, FactoredRule}
+use Rattle.wgsl_grammar_theory.specs.Factored.{FactoredSymbol.of, FactoredSymbol.further, Further.attribute_list, Further.selectors, Further.clause_rest, Further.clause_part, Further.switch_part, FactoredRule}
 use Rattle.wgsl_grammar_theory.specs.Tables.{tables}
 use Rattle.wgsl_grammar_theory.specs.Reader.{reader}
-use Rattle.wgsl_grammar_theory.specs.StatementRules.{switch_clause_at, clause_rest_at, switch_part_at}
-use Rattle.wgsl_grammar_theory.proofs.StatementEquations.{switch_clause_is, clause_rest_is, switch_part_is}
-use Rattle.wgsl_simple_statement_reader.proofs.Binding.{bind_associates, bind_alike, bind_cond, pair_goes_on, triple_goes_on, token_before}
+use Rattle.wgsl_grammar_theory.specs.StatementRules.{switch_clause_at, clause_rest_at, clause_part_at, switch_part_at}
+use Rattle.wgsl_grammar_theory.proofs.StatementEquations.{switch_clause_is, clause_rest_is, clause_part_is, switch_part_is}
+use Rattle.wgsl_simple_statement_reader.proofs.Binding.{pair_goes_on, triple_goes_on, token_before}
 use Rattle.wgsl_statement_part_reader.specs.Clauses.{maybe_colon_at, clause_head_at}
 use Rattle.wgsl_statement_part_reader.specs.Heads.{switch_head_at}
 use Rattle.wgsl_statement_part_reader.proofs.Heads.{with_switch_head, switch_head_first}
 use Rattle.wgsl_statement_reader.specs.Switches.{clauses_at}
 
 -- ---- a clause
--- what stands before the block, and the block
-unfoldable pub switch_clause_parts : State → Read SwitchClause
-switch_clause_parts s = clause_head_at s >>= λ l s1. reader (of compound_statement) s1 >>= λ b s2. done (clause_of l b) s2
+-- what a clause selects, and its block
+abbrev Clause : Type 0
+Clause = List CaseSelector × CompoundStatement
 
--- the block, and the clause that it ends
-abbrev block_behind : List CaseSelector → State → Read SwitchClause
-block_behind l s = reader (of compound_statement) s >>= λ b s'. done (clause_of l b) s'
+-- attributes, what stands before the block, and the block
+unfoldable pub switch_clause_parts : State → Read SwitchClause
+switch_clause_parts s = reader (further attribute_list) s >>= λ a s1. clause_head_at s1 >>= λ l s2. reader (of compound_statement) s2 >>= λ b s3. done (clause_of a (l, b)) s3
+
+-- the block behind what stands before it
+abbrev block_behind : List CaseSelector → State → Read Clause
+block_behind l s = reader (of compound_statement) s >>= λ b s'. done (l, b) s'
 
 abbrev default_only : List CaseSelector
 default_only = CaseSelector.default_selector ∷ []
@@ -43,11 +48,11 @@ default_head s = take KwDefault s >>= λ t s1. maybe_colon_at s1 >>= λ o s2. do
 abbrev behind_colon : FactoredRule (Option Token × CompoundStatement)
 behind_colon = optional (one_token SymColon) then symbol (of compound_statement)
 
-abbrev case_made : List CaseSelector × (Option Token × CompoundStatement) → State → Read SwitchClause
-case_made p s = done (clause_of p.0 p.1.1) s
+abbrev case_made : List CaseSelector × (Option Token × CompoundStatement) → State → Read Clause
+case_made p s = done (p.0, p.1.1) s
 
-abbrev default_made : Option Token × CompoundStatement → State → Read SwitchClause
-default_made p s = done (clause_of default_only p.1) s
+abbrev default_made : Option Token × CompoundStatement → State → Read Clause
+default_made p s = done (default_only, p.1) s
 
 case_is : (s : State) → (go tables reader (KwCase ▹ symbol (further selectors) then behind_colon) s >>= case_made) ≡ (case_head s >>= block_behind)
 unfolding maybe_colon_at
@@ -65,11 +70,20 @@ default_is s =
     ∙ bind_alike (take KwDefault s) _ _ (λ t s1 h. pair_goes_on (maybe_colon_at s1) (reader (of compound_statement)) default_made)
     ∙ sym (bind_associates (take KwDefault s) _ block_behind ∙ bind_alike (take KwDefault s) _ _ (λ t s1 h. bind_associates (maybe_colon_at s1) _ block_behind))
 
-pub switch_clause_by_parts : (s : State) → reader (of switch_clause) s ≡ switch_clause_parts s
-unfolding switch_clause_at switch_clause_parts clause_head_at
-switch_clause_by_parts s =
-    switch_clause_is s ∙ ap₂ (cond (is_at KwCase s)) (case_is s) (default_is s)
+clause_part_by_parts : (s : State) → reader (further clause_part) s ≡ (clause_head_at s >>= block_behind)
+unfolding clause_part_at clause_head_at
+clause_part_by_parts s =
+    clause_part_is s ∙ ap₂ (cond (is_at KwCase s)) (case_is s) (default_is s)
     ∙ sym (bind_cond (is_at KwCase s) (case_head s) (default_head s) block_behind)
+
+pub switch_clause_by_parts : (s : State) → reader (of switch_clause) s ≡ switch_clause_parts s
+unfolding switch_clause_at switch_clause_parts
+switch_clause_by_parts s =
+    switch_clause_is s
+    ∙ pair_goes_on (reader (further attribute_list) s) (reader (further clause_part)) (λ p s'. done (clause_of p.0 p.1) s')
+    ∙ bind_alike (reader (further attribute_list) s) _ _ (λ a s1 h. ap (λ m. m >>= λ p s'. done (clause_of a p) s') (clause_part_by_parts s1)
+    ∙ bind_associates (clause_head_at s1) block_behind (λ p s'. done (clause_of a p) s')
+    ∙ bind_alike (clause_head_at s1) _ _ (λ l s2 h2. bind_associates (reader (of compound_statement) s2) (λ b s'. done (l, b) s') (λ p s'. done (clause_of a p) s')))
 
 -- ---- clauses
 -- further clauses, behind those that were read so far

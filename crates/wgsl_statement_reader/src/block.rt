@@ -2,13 +2,14 @@
 #![tactic(auto, unfolding(crate::proofs::Hints::definitions), using(crate::proofs::Hints::lemmas))]
 
 ghost use Rattle.std.specs.Prelude.{map};
+ghost use Rattle.wgsl_model.specs.Statements.{statement};
 ghost use Rattle.wgsl_model.specs.Symbols.{Symbol.compound_statement};
 ghost use Rattle.wgsl_attribute.specs.View.{attributes_view};
 ghost use Rattle.wgsl_statement.specs.View.{statement_view, statement_node_view, compound_statement_view};
 ghost use Rattle.wgsl_grammar_theory.specs.Factored.{FactoredSymbol.of, FactoredSymbol.further, Further.block_part, Further.statement_rest};
 ghost use Rattle.wgsl_grammar_theory.specs.Reader.{reader};
 ghost use Rattle.wgsl_cursor.specs.Reading.{Parses};
-ghost use Rattle.wgsl_statement_reader.specs.Statements.{behind_attributes};
+ghost use Rattle.wgsl_attribute_reader.specs.Behind.{behind_attributes};
 
 use crate::statement::parse_statement;
 use std::alloc::Global;
@@ -41,7 +42,7 @@ pub fn parse_block_part(
     tokens: &mut Cursor,
     attributes: Attributes,
 ) -> Result<Statement, Fault>
-    ensures { Parses statement_view result tokens.old tokens.new (behind_attributes (attributes_view attributes.items) (reader (further block_part))) }
+    ensures { Parses statement_view result tokens.old tokens.new (behind_attributes statement (attributes_view attributes.items) (reader (further block_part))) }
 {
     tokens.expect(TokenKind::SymBraceLeft)?;
     let statements = parse_statement_rest(alloc, tokens)?;

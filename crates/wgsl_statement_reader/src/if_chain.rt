@@ -2,12 +2,13 @@
 #![tactic(auto, unfolding(crate::proofs::Hints::definitions), using(crate::proofs::Hints::lemmas))]
 
 ghost use Rattle.std.specs.Prelude.{map, option_map};
+ghost use Rattle.wgsl_model.specs.Statements.{statement};
 ghost use Rattle.wgsl_attribute.specs.View.{attributes_view};
 ghost use Rattle.wgsl_statement.specs.View.{statement_view, else_if_clause_view, else_clause_view};
 ghost use Rattle.wgsl_grammar_theory.specs.Factored.{FactoredSymbol.further, Further.if_part, Further.else_rest};
 ghost use Rattle.wgsl_grammar_theory.specs.Reader.{reader};
 ghost use Rattle.wgsl_cursor.specs.Reading.{Parses, ParsesNullable};
-ghost use Rattle.wgsl_statement_reader.specs.Statements.{behind_attributes};
+ghost use Rattle.wgsl_attribute_reader.specs.Behind.{behind_attributes};
 
 use crate::block::parse_compound_statement;
 use std::alloc::Global;
@@ -25,7 +26,7 @@ pub fn parse_if_part(
     tokens: &mut Cursor,
     attributes: Attributes,
 ) -> Result<Statement, Fault>
-    ensures { Parses statement_view result tokens.old tokens.new (behind_attributes (attributes_view attributes.items) (reader (further if_part))) }
+    ensures { Parses statement_view result tokens.old tokens.new (behind_attributes statement (attributes_view attributes.items) (reader (further if_part))) }
 {
     let expression = parse_condition(alloc, tokens, TokenKind::KwIf)?;
     let body = parse_compound_statement(alloc, tokens)?;
@@ -50,11 +51,19 @@ fn parse_else_rest(
     'clauses: while tokens.eat(TokenKind::KwElse) {
         if !tokens.eat(TokenKind::KwIf) {
             let body = parse_compound_statement(alloc, tokens)?;
-            return Ok((clauses, Some(ElseClause { body })));
+            let clause = ElseClause {
+                attributes: Vec::new(alloc),
+                body,
+            };
+            return Ok((clauses, Some(clause)));
         }
         let expression = parse_expression(alloc, tokens)?;
         let body = parse_compound_statement(alloc, tokens)?;
-        clauses.push(ElseIfClause { expression, body })?;
+        clauses.push(ElseIfClause {
+            attributes: Vec::new(alloc),
+            expression,
+            body,
+        })?;
     }
     Ok((clauses, None))
 }

@@ -9,4 +9,3 @@ mod switch;
 
 pub use block::parse_compound_statement;
 pub use statement::parse_statement;
-pub use wgsl_simple_statement_reader::parse_const_assert;

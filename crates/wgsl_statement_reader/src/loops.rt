@@ -2,19 +2,21 @@
 #![tactic(auto, unfolding(crate::proofs::Hints::definitions), using(crate::proofs::Hints::lemmas))]
 
 ghost use Rattle.std.specs.Prelude.{map, option_map};
-ghost use Rattle.wgsl_model.specs.Symbols.{Symbol.continuing_statement};
+ghost use Rattle.wgsl_model.specs.Statements.{statement};
+ghost use Rattle.wgsl_model.specs.StatementParts.{continuing_statement_of};
 ghost use Rattle.wgsl_attribute.specs.View.{attributes_view};
 ghost use Rattle.wgsl_simple_statement.specs.View.{break_if_view};
 ghost use Rattle.wgsl_statement.specs.View.{statement_view, statement_node_view, continuing_statement_view};
-ghost use Rattle.wgsl_grammar_theory.specs.Factored.{FactoredSymbol.of, FactoredSymbol.further, Further.loop_part, Further.loop_rest, Further.continuing_rest, Further.while_part, Further.for_part};
+ghost use Rattle.wgsl_grammar_theory.specs.Factored.{FactoredSymbol.further, Further.loop_part, Further.loop_rest, Further.continuing_part, Further.continuing_rest, Further.while_part, Further.for_part};
 ghost use Rattle.wgsl_grammar_theory.specs.Reader.{reader};
 ghost use Rattle.wgsl_cursor.specs.Reading.{Parses};
-ghost use Rattle.wgsl_statement_reader.specs.Statements.{behind_attributes};
+ghost use Rattle.wgsl_attribute_reader.specs.Behind.{behind_attributes};
 
 use crate::block::parse_compound_statement;
-use crate::statement::{parse_other_statement, parse_statement};
+use crate::statement::parse_statement_behind;
 use std::alloc::Global;
 use wgsl_attribute::Attributes;
+use wgsl_attribute_reader::parse_attributes;
 use wgsl_cursor::{Cursor, Fault};
 use wgsl_simple_statement::BreakIfStatement;
 use wgsl_statement::{
@@ -22,7 +24,8 @@ use wgsl_statement::{
     WhileStatement,
 };
 use wgsl_statement_part_reader::{
-    break_node, parse_block_start_after, parse_break_if_rest, parse_condition, parse_for_header,
+    begins_plain_statement, break_node, parse_block_start_after, parse_break_if_rest,
+    parse_condition, parse_for_header, parse_plain_statement,
 };
 use wgsl_token::kind::TokenKind;
 
@@ -33,7 +36,7 @@ pub fn parse_loop_part(
     tokens: &mut Cursor,
     attributes: Attributes,
 ) -> Result<Statement, Fault>
-    ensures { Parses statement_view result tokens.old tokens.new (behind_attributes (attributes_view attributes.items) (reader (further loop_part))) }
+    ensures { Parses statement_view result tokens.old tokens.new (behind_attributes statement (attributes_view attributes.items) (reader (further loop_part))) }
 {
     let body_attributes = parse_block_start_after(alloc, tokens, TokenKind::KwLoop)?;
     let (statements, continuing) = parse_loop_rest(alloc, tokens)?;
@@ -57,29 +60,37 @@ fn parse_loop_rest(
 {
     let mut statements = Vec::new(alloc);
     'statements: while !tokens.eat(TokenKind::SymBraceRight) {
+        if begins_plain_statement(tokens) {
+            statements.push(parse_plain_statement(alloc, tokens)?)?;
+            continue;
+        }
+        let start = tokens.start();
+        let attributes = parse_attributes(alloc, tokens)?;
         if tokens.is_at(TokenKind::KwContinuing) {
-            let continuing = parse_continuing_statement(alloc, tokens)?;
+            let continuing = parse_continuing_part(alloc, tokens, attributes)?;
             tokens.expect(TokenKind::SymBraceRight)?;
             return Ok((statements, Some(continuing)));
         }
-        statements.push(parse_statement(alloc, tokens)?)?;
+        statements.push(parse_statement_behind(alloc, tokens, attributes, start)?)?;
     }
     Ok((statements, None))
 }
 
-/// What a `loop` does after each turn.
+/// What a `loop` does after each turn, behind its attributes.
 #[cycle(statement)]
-fn parse_continuing_statement(
+fn parse_continuing_part(
     alloc: Global,
     tokens: &mut Cursor,
+    attributes: Attributes,
 ) -> Result<ContinuingStatement, Fault>
-    ensures { Parses continuing_statement_view result tokens.old tokens.new (reader (of continuing_statement)) }
+    ensures { Parses continuing_statement_view result tokens.old tokens.new (behind_attributes continuing_statement_of (attributes_view attributes.items) (reader (further continuing_part))) }
 {
-    let attributes = parse_block_start_after(alloc, tokens, TokenKind::KwContinuing)?;
+    let body_attributes = parse_block_start_after(alloc, tokens, TokenKind::KwContinuing)?;
     let (statements, break_if) = parse_continuing_rest(alloc, tokens)?;
     Ok(ContinuingStatement {
+        attributes,
         body: CompoundStatement {
-            attributes,
+            attributes: body_attributes,
             statements,
         },
         break_if,
@@ -96,16 +107,21 @@ fn parse_continuing_rest(
 {
     let mut statements = Vec::new(alloc);
     'statements: while !tokens.eat(TokenKind::SymBraceRight) {
+        if begins_plain_statement(tokens) {
+            statements.push(parse_plain_statement(alloc, tokens)?)?;
+            continue;
+        }
         let start = tokens.start();
+        let attributes = parse_attributes(alloc, tokens)?;
         if !tokens.eat(TokenKind::KwBreak) {
-            statements.push(parse_other_statement(alloc, tokens)?)?;
+            statements.push(parse_statement_behind(alloc, tokens, attributes, start)?)?;
             continue;
         }
         if !tokens.eat(TokenKind::SymSemicolon) {
-            let break_if = parse_break_if_rest(alloc, tokens)?;
+            let break_if = parse_break_if_rest(alloc, tokens, attributes)?;
             return Ok((statements, Some(break_if)));
         }
-        statements.push(break_node(alloc, tokens.span_from(start))?)?;
+        statements.push(break_node(alloc, attributes, tokens.span_from(start))?)?;
     }
     Ok((statements, None))
 }
@@ -117,7 +133,7 @@ pub fn parse_while_part(
     tokens: &mut Cursor,
     attributes: Attributes,
 ) -> Result<Statement, Fault>
-    ensures { Parses statement_view result tokens.old tokens.new (behind_attributes (attributes_view attributes.items) (reader (further while_part))) }
+    ensures { Parses statement_view result tokens.old tokens.new (behind_attributes statement (attributes_view attributes.items) (reader (further while_part))) }
 {
     let condition = parse_condition(alloc, tokens, TokenKind::KwWhile)?;
     let body = parse_compound_statement(alloc, tokens)?;
@@ -135,7 +151,7 @@ pub fn parse_for_part(
     tokens: &mut Cursor,
     attributes: Attributes,
 ) -> Result<Statement, Fault>
-    ensures { Parses statement_view result tokens.old tokens.new (behind_attributes (attributes_view attributes.items) (reader (further for_part))) }
+    ensures { Parses statement_view result tokens.old tokens.new (behind_attributes statement (attributes_view attributes.items) (reader (further for_part))) }
 {
     let (initializer, condition, update) = parse_for_header(alloc, tokens)?;
     let body = parse_compound_statement(alloc, tokens)?;

@@ -1,13 +1,17 @@
 //! Statements.
 #![tactic(auto, unfolding(crate::proofs::Hints::definitions), using(crate::proofs::Hints::lemmas))]
 
-ghost use Rattle.wgsl_model.specs.Symbols.{Symbol.statement};
+ghost use Rattle.std.specs.Prelude.{◌≡◌};
+ghost use Rattle.grammar.specs.States.{is_any};
+ghost use Rattle.wgsl_model.specs.Statements.{statement};
+ghost use Rattle.wgsl_model.specs.Symbols.{Symbol};
 ghost use Rattle.wgsl_attribute.specs.View.{attributes_view};
 ghost use Rattle.wgsl_statement.specs.View.{statement_view, statement_node_view};
-ghost use Rattle.wgsl_grammar_theory.specs.Factored.{FactoredSymbol.of, FactoredSymbol.further, Further.other_statement};
+ghost use Rattle.wgsl_grammar_theory.specs.Factored.{FactoredSymbol.of, FactoredSymbol.further, Further.braced_part};
 ghost use Rattle.wgsl_grammar_theory.specs.Reader.{reader};
-ghost use Rattle.wgsl_cursor.specs.Reading.{Parses};
-ghost use Rattle.wgsl_statement_reader.specs.Statements.{behind_attributes, statement_part_at, attributed_statement_at, unplaced_statement_at};
+ghost use Rattle.wgsl_cursor.specs.Reading.{state, Parses};
+ghost use Rattle.wgsl_attribute_reader.specs.Behind.{behind_attributes};
+ghost use Rattle.wgsl_statement_reader.specs.Statements.{begin_braced_part, statement_part_at, statement_behind_at};
 
 use crate::block::parse_block_part;
 use crate::if_chain::parse_if_part;
@@ -16,74 +20,79 @@ use crate::switch::parse_switch_part;
 use std::alloc::Global;
 use wgsl_attribute::Attributes;
 use wgsl_attribute_reader::parse_attributes;
-use wgsl_cursor::{Cursor, Expected, Fault};
+use wgsl_cursor::{Cursor, Fault};
 use wgsl_span::Spanned;
 use wgsl_statement::{Statement, StatementNode};
 use wgsl_statement_part_reader::{
-    begins_attributed_statement, parse_ended_break, parse_unattributed_statement,
+    begins_plain_statement, parse_break_part, parse_ended_part, parse_plain_statement,
 };
 use wgsl_token::kind::TokenKind;
 
-/// What can stand behind the attributes of a statement.
-const ATTRIBUTED_STATEMENT: Expected = Expected::OneOf(&[
-    TokenKind::SymAttr,
-    TokenKind::SymBraceLeft,
-    TokenKind::KwFor,
-    TokenKind::KwIf,
-    TokenKind::KwLoop,
-    TokenKind::KwSwitch,
-    TokenKind::KwWhile,
-]);
-
-/// A statement.
+/// A statement. What begins with `;` or `(` has no attributes.
 #[cycle(statement)]
 pub fn parse_statement(alloc: Global, tokens: &mut Cursor) -> Result<StatementNode, Fault>
-    ensures { Parses statement_node_view result tokens.old tokens.new (reader (of statement)) }
+    ensures { Parses statement_node_view result tokens.old tokens.new (reader (of Symbol.statement)) }
 {
-    if tokens.is_at(TokenKind::KwBreak) {
-        return parse_ended_break(alloc, tokens);
+    if begins_plain_statement(tokens) {
+        return parse_plain_statement(alloc, tokens);
     }
-    parse_other_statement(alloc, tokens)
+    let start = tokens.start();
+    let attributes = parse_attributes(alloc, tokens)?;
+    parse_statement_behind(alloc, tokens, attributes, start)
 }
 
-/// A statement other than `break`.
+/// A statement behind its attributes, and its place, which begins where they do.
 #[cycle(statement)]
-pub fn parse_other_statement(alloc: Global, tokens: &mut Cursor) -> Result<StatementNode, Fault>
-    ensures { Parses statement_node_view result tokens.old tokens.new (reader (further other_statement)) }
+pub fn parse_statement_behind(
+    alloc: Global,
+    tokens: &mut Cursor,
+    attributes: Attributes,
+    start: usize,
+) -> Result<StatementNode, Fault>
+    ensures { Parses statement_node_view result tokens.old tokens.new (statement_behind_at (attributes_view attributes.items) start) }
 {
-    let start = tokens.start();
-    let statement = parse_unplaced_statement(alloc, tokens)?;
+    let statement = parse_statement_part(alloc, tokens, attributes)?;
     Ok(Spanned::new(alloc, statement, tokens.span_from(start))?)
 }
 
-/// A statement other than `break`, without its place.
-#[cycle(statement)]
-fn parse_unplaced_statement(alloc: Global, tokens: &mut Cursor) -> Result<Statement, Fault>
-    ensures { Parses statement_view result tokens.old tokens.new unplaced_statement_at }
-{
-    if begins_attributed_statement(tokens) {
-        return parse_attributed_statement(alloc, tokens);
-    }
-    parse_unattributed_statement(alloc, tokens)
-}
-
-/// A statement with its attributes.
-#[cycle(statement)]
-fn parse_attributed_statement(alloc: Global, tokens: &mut Cursor) -> Result<Statement, Fault>
-    ensures { Parses statement_view result tokens.old tokens.new attributed_statement_at }
-{
-    let attributes = parse_attributes(alloc, tokens)?;
-    parse_statement_part(alloc, tokens, attributes)
-}
-
-/// A statement from its first word on.
+/// A statement from its first word on, behind its attributes.
 #[cycle(statement)]
 fn parse_statement_part(
     alloc: Global,
     tokens: &mut Cursor,
     attributes: Attributes,
 ) -> Result<Statement, Fault>
-    ensures { Parses statement_view result tokens.old tokens.new (behind_attributes (attributes_view attributes.items) statement_part_at) }
+    ensures { Parses statement_view result tokens.old tokens.new (behind_attributes statement (attributes_view attributes.items) statement_part_at) }
+{
+    if tokens.is_at(TokenKind::KwBreak) {
+        return parse_break_part(tokens, attributes);
+    }
+    if begins_braced_part(tokens) {
+        return parse_braced_part(alloc, tokens, attributes);
+    }
+    parse_ended_part(alloc, tokens, attributes)
+}
+
+/// Whether the next token begins a statement that ends with a block.
+fn begins_braced_part(tokens: &Cursor) -> bool
+    ensures { result ≡ is_any begin_braced_part (state tokens.now) }
+{
+    tokens.is_at(TokenKind::SymBraceLeft)
+        || tokens.is_at(TokenKind::KwFor)
+        || tokens.is_at(TokenKind::KwIf)
+        || tokens.is_at(TokenKind::KwLoop)
+        || tokens.is_at(TokenKind::KwSwitch)
+        || tokens.is_at(TokenKind::KwWhile)
+}
+
+/// A statement that ends with a block, behind its attributes.
+#[cycle(statement)]
+fn parse_braced_part(
+    alloc: Global,
+    tokens: &mut Cursor,
+    attributes: Attributes,
+) -> Result<Statement, Fault>
+    ensures { Parses statement_view result tokens.old tokens.new (behind_attributes statement (attributes_view attributes.items) (reader (further braced_part))) }
 {
     if tokens.is_at(TokenKind::KwIf) {
         return parse_if_part(alloc, tokens, attributes);
@@ -100,8 +109,5 @@ fn parse_statement_part(
     if tokens.is_at(TokenKind::KwWhile) {
         return parse_while_part(alloc, tokens, attributes);
     }
-    if tokens.is_at(TokenKind::SymBraceLeft) {
-        return parse_block_part(alloc, tokens, attributes);
-    }
-    Err(tokens.refuse(ATTRIBUTED_STATEMENT))
+    parse_block_part(alloc, tokens, attributes)
 }

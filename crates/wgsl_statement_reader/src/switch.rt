@@ -2,18 +2,20 @@
 #![tactic(auto, unfolding(crate::proofs::Hints::definitions), using(crate::proofs::Hints::lemmas))]
 
 ghost use Rattle.std.specs.Prelude.{map};
+ghost use Rattle.wgsl_model.specs.Statements.{statement};
 ghost use Rattle.wgsl_model.specs.Symbols.{Symbol.switch_clause};
 ghost use Rattle.wgsl_attribute.specs.View.{attributes_view};
 ghost use Rattle.wgsl_statement.specs.View.{statement_view, switch_clause_view};
 ghost use Rattle.wgsl_grammar_theory.specs.Factored.{FactoredSymbol.of, FactoredSymbol.further, Further.switch_part};
 ghost use Rattle.wgsl_grammar_theory.specs.Reader.{reader};
 ghost use Rattle.wgsl_cursor.specs.Reading.{Parses};
-ghost use Rattle.wgsl_statement_reader.specs.Statements.{behind_attributes};
+ghost use Rattle.wgsl_attribute_reader.specs.Behind.{behind_attributes};
 ghost use Rattle.wgsl_statement_reader.specs.Switches.{clauses_at};
 
 use crate::block::parse_compound_statement;
 use std::alloc::Global;
 use wgsl_attribute::Attributes;
+use wgsl_attribute_reader::parse_attributes;
 use wgsl_cursor::{Cursor, Fault};
 use wgsl_statement::{Statement, SwitchClause, SwitchStatement};
 use wgsl_statement_part_reader::{parse_clause_head, parse_switch_head};
@@ -26,7 +28,7 @@ pub fn parse_switch_part(
     tokens: &mut Cursor,
     attributes: Attributes,
 ) -> Result<Statement, Fault>
-    ensures { Parses statement_view result tokens.old tokens.new (behind_attributes (attributes_view attributes.items) (reader (further switch_part))) }
+    ensures { Parses statement_view result tokens.old tokens.new (behind_attributes statement (attributes_view attributes.items) (reader (further switch_part))) }
 {
     let (expression, body_attributes) = parse_switch_head(alloc, tokens)?;
     let clauses = parse_clauses(alloc, tokens)?;
@@ -52,14 +54,16 @@ fn parse_clauses(alloc: Global, tokens: &mut Cursor) -> Result<Vec<SwitchClause>
     Ok(clauses)
 }
 
-/// A clause: `case` with its selectors, or `default`, and a block.
+/// A clause: its attributes, `case` with its selectors, or `default`, and a block.
 #[cycle(statement)]
 fn parse_switch_clause(alloc: Global, tokens: &mut Cursor) -> Result<SwitchClause, Fault>
     ensures { Parses switch_clause_view result tokens.old tokens.new (reader (of switch_clause)) }
 {
+    let attributes = parse_attributes(alloc, tokens)?;
     let case_selectors = parse_clause_head(alloc, tokens)?;
     let body = parse_compound_statement(alloc, tokens)?;
     Ok(SwitchClause {
+        attributes,
         case_selectors,
         body,
     })

@@ -5,6 +5,7 @@ pub mod attribute_laws;
 mod attribute_list;
 mod bare;
 mod node_parts;
+mod simple_statements;
 mod statements;
 mod syntax_node;
 

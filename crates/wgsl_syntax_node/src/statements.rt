@@ -1,36 +1,65 @@
-//! The names and the lists of attributes of declarations of values and of the statements that have attributes.
+//! The lists of attributes of statements, of the statements that hold others, and of their clauses.
 
 ghost use Rattle.std.specs.Prelude.{Some};
-ghost use Rattle.wgsl_expression.specs.View.{ident_name};
-ghost use Rattle.wgsl_statement.specs.declared.statement.Statement.TheViews.{out-CompoundStatement, roll-CompoundStatement, out-IfStatement, roll-IfStatement, out-SwitchStatement, roll-SwitchStatement, out-LoopStatement, roll-LoopStatement, out-ForStatement, roll-ForStatement, out-WhileStatement, roll-WhileStatement};
+ghost use Rattle.wgsl_statement.specs.declared.statement.Statement.TheViews.{out-CompoundStatement, roll-CompoundStatement, out-IfStatement, roll-IfStatement, out-ElseIfClause, roll-ElseIfClause, out-ElseClause, roll-ElseClause, out-SwitchStatement, roll-SwitchStatement, out-SwitchClause, roll-SwitchClause, out-LoopStatement, roll-LoopStatement, out-ContinuingStatement, roll-ContinuingStatement, out-ForStatement, roll-ForStatement, out-WhileStatement, roll-WhileStatement};
+ghost use Rattle.wgsl_syntax_node.specs.StatementLists.{statement_list, statement_with_list};
 
-use crate::node_parts::{NodeAttributes, NodeName, UnnamedNode};
+use crate::node_parts::{NodeAttributes, UnnamedNode};
 use wgsl_attribute::Attributes;
-use wgsl_expression::Ident;
-use wgsl_simple_statement::Declaration;
 use wgsl_statement::{
-    CompoundStatement, ForStatement, IfStatement, LoopStatement, SwitchStatement, WhileStatement,
+    CompoundStatement, ContinuingStatement, ElseClause, ElseIfClause, ForStatement, IfStatement,
+    LoopStatement, Statement, SwitchClause, SwitchStatement, WhileStatement,
 };
 
-impl NodeName for Declaration {
-    ghost own_name = { λ node. Some (ident_name node.ident) };
+impl UnnamedNode for Statement {}
 
-    fn own_ident(&self) -> Option<&Ident> {
-        Some(&self.ident)
-    }
-}
+impl NodeAttributes for Statement {
+    ghost list_of = { statement_list };
 
-impl NodeAttributes for Declaration {
-    ghost list_of = { λ node. Some node.attributes };
-
-    ghost with_list = { λ node list. record node { attributes = list } };
+    ghost with_list = { statement_with_list };
 
     fn own_attributes(&self) -> Option<&Attributes> {
-        Some(&self.attributes)
+        match self {
+            Statement::Void => None,
+            Statement::Compound(node) => Some(&node.attributes),
+            Statement::Assignment(node) => Some(&node.attributes),
+            Statement::Increment(node) => Some(&node.attributes),
+            Statement::Decrement(node) => Some(&node.attributes),
+            Statement::If(node) => Some(&node.attributes),
+            Statement::Switch(node) => Some(&node.attributes),
+            Statement::Loop(node) => Some(&node.attributes),
+            Statement::For(node) => Some(&node.attributes),
+            Statement::While(node) => Some(&node.attributes),
+            Statement::Break(node) => Some(&node.attributes),
+            Statement::Continue(node) => Some(&node.attributes),
+            Statement::Return(node) => Some(&node.attributes),
+            Statement::Discard(node) => Some(&node.attributes),
+            Statement::FunctionCall(node) => Some(&node.attributes),
+            Statement::ConstAssert(node) => Some(&node.attributes),
+            Statement::Declaration(node) => Some(&node.attributes),
+        }
     }
 
     fn own_attributes_mut(&mut self) -> Option<&mut Attributes> {
-        Some(&mut self.attributes)
+        match self {
+            Statement::Void => None,
+            Statement::Compound(node) => Some(&mut node.attributes),
+            Statement::Assignment(node) => Some(&mut node.attributes),
+            Statement::Increment(node) => Some(&mut node.attributes),
+            Statement::Decrement(node) => Some(&mut node.attributes),
+            Statement::If(node) => Some(&mut node.attributes),
+            Statement::Switch(node) => Some(&mut node.attributes),
+            Statement::Loop(node) => Some(&mut node.attributes),
+            Statement::For(node) => Some(&mut node.attributes),
+            Statement::While(node) => Some(&mut node.attributes),
+            Statement::Break(node) => Some(&mut node.attributes),
+            Statement::Continue(node) => Some(&mut node.attributes),
+            Statement::Return(node) => Some(&mut node.attributes),
+            Statement::Discard(node) => Some(&mut node.attributes),
+            Statement::FunctionCall(node) => Some(&mut node.attributes),
+            Statement::ConstAssert(node) => Some(&mut node.attributes),
+            Statement::Declaration(node) => Some(&mut node.attributes),
+        }
     }
 }
 
@@ -66,6 +95,38 @@ impl NodeAttributes for IfStatement {
     }
 }
 
+impl UnnamedNode for ElseIfClause {}
+
+impl NodeAttributes for ElseIfClause {
+    ghost list_of = { λ node. Some (out-ElseIfClause node).attributes };
+
+    ghost with_list = { λ node list. roll-ElseIfClause (record (out-ElseIfClause node) { attributes = list }) };
+
+    fn own_attributes(&self) -> Option<&Attributes> {
+        Some(&self.attributes)
+    }
+
+    fn own_attributes_mut(&mut self) -> Option<&mut Attributes> {
+        Some(&mut self.attributes)
+    }
+}
+
+impl UnnamedNode for ElseClause {}
+
+impl NodeAttributes for ElseClause {
+    ghost list_of = { λ node. Some (out-ElseClause node).attributes };
+
+    ghost with_list = { λ node list. roll-ElseClause (record (out-ElseClause node) { attributes = list }) };
+
+    fn own_attributes(&self) -> Option<&Attributes> {
+        Some(&self.attributes)
+    }
+
+    fn own_attributes_mut(&mut self) -> Option<&mut Attributes> {
+        Some(&mut self.attributes)
+    }
+}
+
 impl UnnamedNode for SwitchStatement {}
 
 impl NodeAttributes for SwitchStatement {
@@ -82,12 +143,44 @@ impl NodeAttributes for SwitchStatement {
     }
 }
 
+impl UnnamedNode for SwitchClause {}
+
+impl NodeAttributes for SwitchClause {
+    ghost list_of = { λ node. Some (out-SwitchClause node).attributes };
+
+    ghost with_list = { λ node list. roll-SwitchClause (record (out-SwitchClause node) { attributes = list }) };
+
+    fn own_attributes(&self) -> Option<&Attributes> {
+        Some(&self.attributes)
+    }
+
+    fn own_attributes_mut(&mut self) -> Option<&mut Attributes> {
+        Some(&mut self.attributes)
+    }
+}
+
 impl UnnamedNode for LoopStatement {}
 
 impl NodeAttributes for LoopStatement {
     ghost list_of = { λ node. Some (out-LoopStatement node).attributes };
 
     ghost with_list = { λ node list. roll-LoopStatement (record (out-LoopStatement node) { attributes = list }) };
+
+    fn own_attributes(&self) -> Option<&Attributes> {
+        Some(&self.attributes)
+    }
+
+    fn own_attributes_mut(&mut self) -> Option<&mut Attributes> {
+        Some(&mut self.attributes)
+    }
+}
+
+impl UnnamedNode for ContinuingStatement {}
+
+impl NodeAttributes for ContinuingStatement {
+    ghost list_of = { λ node. Some (out-ContinuingStatement node).attributes };
+
+    ghost with_list = { λ node list. roll-ContinuingStatement (record (out-ContinuingStatement node) { attributes = list }) };
 
     fn own_attributes(&self) -> Option<&Attributes> {
         Some(&self.attributes)

@@ -10,6 +10,7 @@ use Rattle.wgsl_model.specs.Operators.{UnaryOperator, BinaryOperator, short_circ
 use Rattle.wgsl_model.specs.Expressions.{LiteralExpression, ExpressionNode, Expression}
 use Rattle.wgsl_model.specs.TokenValues.{text_of, literal_of}
 use Rattle.wgsl_model.specs.ExpressionParts.{placed_expression, operation_of, with_component, negation_of, unary_of, binary_of, unary_operator, multiplicative_operator, additive_operator, relational_operator, two_or_more}
+use Rattle.wgsl_model.specs.StatementParts.{open_left_side, parenthesized_left_side}
 use Rattle.wgsl_model.specs.Symbols.{ident, type_specifier, template_list, call, arguments, literal, primary_expression, singular_expression, component, unary_expression, multiplicative_expression, negated_expression, additive_expression, shift_expression, relational_expression, expression, lhs_expression, Value, Rule}
 use Rattle.wgsl_model.specs.Written.{written, keyword_classes}
 use Rattle.wgsl_canonical_theory.specs.CanonicalExpressions.{binary_operator_class, literal_token, expression_tokens, expression_node_tokens, type_tokens}
@@ -191,7 +192,12 @@ expression_right = or_edits (symbol_edits relational_expression tt)
     (two_or_more_edits SymXor bitwise_xor refl refl (symbol_edits unary_expression tt) (symbol_edits unary_expression tt))))))
 
 -- ---- left sides
+pub open_left_side_edits : {b : Bool} → Changes false b open_left_side expression_node_tokens
+open_left_side_edits = or_edits (components_edits (makes_edits (symbol_edits ident tt) (λ a span rest. refl)))
+    (or_edits (operation_edits (means_edits SymStar (λ rest. refl)) (symbol_edits lhs_expression tt)) (operation_edits (means_edits SymAnd (λ rest. refl)) (symbol_edits lhs_expression tt)))
+
+pub parenthesized_left_side_edits : {b : Bool} → Changes false b parenthesized_left_side expression_node_tokens
+parenthesized_left_side_edits = components_edits (makes_edits (before_edits SymParenLeft (behind_edits {m = false} SymParenRight (symbol_edits lhs_expression tt))) (λ a span rest. refl))
+
 pub lhs_expression_right : {b : Bool} → Changes false b (written lhs_expression) (write lhs_expression)
-lhs_expression_right = or_edits (components_edits (makes_edits (symbol_edits ident tt) (λ a span rest. refl)))
-    (or_edits (components_edits (makes_edits (before_edits SymParenLeft (behind_edits {m = false} SymParenRight (symbol_edits lhs_expression tt))) (λ a span rest. refl)))
-    (or_edits (operation_edits (means_edits SymStar (λ rest. refl)) (symbol_edits lhs_expression tt)) (operation_edits (means_edits SymAnd (λ rest. refl)) (symbol_edits lhs_expression tt))))
+lhs_expression_right = or_edits open_left_side_edits parenthesized_left_side_edits

@@ -3,27 +3,28 @@ use Rattle.std.proofs.Common.{◌≡◌, ℕ, Bool, true, false, List, [], ◌�
 use Rattle.std.specs.Prelude.{if◌then◌else◌, Option}
 use Rattle.grammar.specs.Tokens.{Token}
 use Rattle.grammar.specs.Grammar.{Grammar.symbol, Mode.full, Means}
-use Rattle.grammar.specs.Notation.{one_token, ◌then◌, ◌means◌, optional, many, several}
+use Rattle.grammar.specs.Notation.{one_token, ◌then◌, ◌means◌, optional, many, several, ◌gives◌, ◌▹◌, ◌◃◌}
 use Rattle.wgsl_model.specs.Classes.{SymAndEqual, SymColon, SymDivisionEqual, SymEqual, SymMinusEqual, SymModuloEqual, SymOrEqual, SymPlusEqual, SymSemicolon, SymShiftLeftAssign, SymShiftRightAssign, SymTimesEqual, SymXorEqual, KwBreak, KwElse, KwIf}
 use Rattle.wgsl_model.specs.Kind.{Kind, plain}
 use Rattle.wgsl_model.specs.Operators.{AssignmentOperator}
 use Rattle.wgsl_model.specs.Statements as tree
 use Rattle.wgsl_model.specs.Statements.{CompoundStatement, StatementNode, StatementNode.statement_node, statements_of, else_ifs_of, else_of, clauses_of, continuing_of, maybe_statement}
 use Rattle.wgsl_model.specs.PrintedStatements.{is_void}
-use Rattle.wgsl_model.specs.StatementParts.{statements, initializer, var_kind, assignment_operator, else_if, else_block, break_if}
-use Rattle.wgsl_model.specs.Symbols.{compound_statement, switch_clause, continuing_statement, Rule, expression, var_template}
+use Rattle.wgsl_model.specs.StatementParts.{statements, initializer, var_kind, assignment_operator, else_if, else_block, break_if, break_if_of}
+use Rattle.wgsl_model.specs.Symbols.{compound_statement, switch_clause, continuing_statement, Rule, expression, var_template, Dialect.whole}
 use Rattle.wgsl_canonical_theory.specs.CanonicalExpressions.{Writes}
 use Rattle.wgsl_canonical_theory.specs.CanonicalStatements.{kind_tokens, initializer_tokens, assignment_operator_class, break_if_tokens, end_token, unended_tokens, statements_tokens, compound_tokens, else_ifs_tokens, else_if_clause_tokens, else_tokens, else_clause_tokens, clauses_tokens, maybe_continuing_tokens, part_tokens}
 use Rattle.wgsl_canonical_theory.specs.CanonicalUnits.{without_place}
 use Rattle.wgsl_canonical_theory.proofs.Words.{AllWords}
 use Rattle.wgsl_canonical_theory.proofs.Again.{header_tokens}
 use Rattle.wgsl_canonical_theory.proofs.Ways.{words_behind}
-use Rattle.wgsl_canonical_theory.proofs.StatementParts.{part_written, else_ifs_written, clauses_written, list_written}
+use Rattle.wgsl_canonical_theory.proofs.StatementParts.{part_written, else_ifs_written, clauses_written, list_written, bare_break_if_tokens}
 use Rattle.wgsl_canonical_theory.proofs.StatementRules.{clause_body}
 use Rattle.wgsl_template_theory.proofs.Moves.{kinds, class_is}
 use Rattle.wgsl_template_theory.proofs.Edits.{ends_list, first_among, block_begins, Edits, no_colon, no_semicolon, widen}
 use Rattle.wgsl_template_theory.proofs.EditWays.{Edited, Changed, Changes, ListChanges, kept_statement_tokens, then_edits, or_edits, gives_edits, equal_edits, before_edits, behind_edits, means_edits, none_edits, chain_edits, many_edits, several_edits}
 use Rattle.wgsl_template_theory.proofs.EditSymbols.{symbol_edits, statement_edits}
+use Rattle.wgsl_template_theory.proofs.EditAttributeRules.{attributes_edits}
 
 -- ---- more ways to write a right side
 -- before what no stop may stand in front of
@@ -58,8 +59,11 @@ var_kind_edits = gives_edits (symbol_edits var_template tt) (λ a rest. refl)
 pub initializer_edits : {b : Bool} → Changes false b initializer initializer_tokens
 initializer_edits = before_edits SymEqual (symbol_edits expression tt)
 
-pub break_if_edits : {b : Bool} → Changes true b break_if break_if_tokens
-break_if_edits = gives_edits (before_edits KwBreak (before_edits KwIf (behind_edits {m = false} SymSemicolon (symbol_edits expression tt)))) (λ a rest. refl)
+condition_edits : {b : Bool} → Changes true b (KwBreak ▹ KwIf ▹ symbol expression ◃ SymSemicolon gives break_if_of) bare_break_if_tokens
+condition_edits = gives_edits (before_edits KwBreak (before_edits KwIf (behind_edits {m = false} SymSemicolon (symbol_edits expression tt)))) (λ a rest. refl)
+
+pub break_if_edits : {b : Bool} → Changes true b (break_if whole) break_if_tokens
+break_if_edits = gives_edits (then_edits attributes_edits condition_edits) (λ a rest. refl)
 
 else_if_edits : {b : Bool} → Changes true b else_if else_if_clause_tokens
 else_if_edits = gives_edits (before_edits KwElse (before_edits KwIf (then_edits (symbol_edits expression tt) (symbol_edits compound_statement tt)))) (λ a rest. refl)

@@ -3,26 +3,28 @@ use Rattle.std.proofs.Common.{◌≡◌, Bool, true, false, List, ◌∷◌, ref
 use Rattle.std.specs.Prelude.{if◌then◌else◌, Option}
 use Rattle.grammar.specs.Tokens.{Token}
 use Rattle.grammar.specs.Grammar.{Grammar.symbol, Mode.full, Means}
-use Rattle.grammar.specs.Notation.{one_token, ◌then◌, ◌or◌, ◌makes◌, ◌▹◌, ◌◃◌, ◌means◌}
+use Rattle.grammar.specs.Notation.{one_token, ◌then◌, ◌or◌, ◌makes◌, ◌▹◌, ◌◃◌, ◌means◌, ◌gives◌}
 use Rattle.wgsl_model.specs.Classes.{SymBraceLeft, SymBraceRight, SymColon, SymMinusMinus, SymParenLeft, SymParenRight, SymPlusPlus, SymSemicolon, SymUnderscore, KwBreak, KwCase, KwConst, KwConstAssert, KwContinue, KwContinuing, KwDefault, KwDiscard, KwFor, KwIf, KwLet, KwLoop, KwReturn, KwSwitch, KwWhile}
 use Rattle.wgsl_model.specs.Kind.{Kind, plain}
 use Rattle.wgsl_model.specs.Statements as tree
 use Rattle.wgsl_model.specs.Statements.{DeclarationKind.let_kind, DeclarationKind.const_kind, CompoundStatement, Statement, UnattributedStatement}
 use Rattle.wgsl_model.specs.PrintedStatements.{is_void}
-use Rattle.wgsl_model.specs.StatementParts.{underscore_at, attributed}
-use Rattle.wgsl_model.specs.Symbols.{compound_statement, statement, return_statement, if_statement, switch_statement, loop_statement, for_statement, while_statement, call_statement, var_statement, value_statement, break_statement, continue_statement, discard_statement, assignment, phony_assignment, increment, decrement, const_assert, switch_clause, case_selector, continuing_statement, for_init, for_update, typed_ident, Rule, call, expression, ident, lhs_expression, type_specifier}
+use Rattle.wgsl_model.specs.StatementParts.{underscore_at, attributed, left_side, assert_of}
+use Rattle.wgsl_model.specs.Symbols.{compound_statement, statement, return_statement, if_statement, switch_statement, loop_statement, for_statement, while_statement, call_statement, var_statement, value_statement, break_statement, continue_statement, discard_statement, assignment, phony_assignment, increment, decrement, const_assert, switch_clause, case_selector, continuing_statement, for_init, for_update, typed_ident, Rule, call, expression, ident, type_specifier, Dialect.whole}
 use Rattle.wgsl_model.specs.Written.{written}
 use Rattle.wgsl_canonical_theory.specs.CanonicalExpressions.{Writes, expression_node_tokens}
-use Rattle.wgsl_canonical_theory.specs.CanonicalStatements.{kind_tokens, end_token, unended_tokens, unattributed_tokens, compound_tokens}
+use Rattle.wgsl_canonical_theory.specs.CanonicalAttributes.{attributes_tokens}
+use Rattle.wgsl_canonical_theory.specs.CanonicalStatements.{kind_tokens, end_token, unended_tokens, unattributed_tokens, compound_tokens, assert_tokens}
 use Rattle.wgsl_canonical_theory.specs.CanonicalUnits.{without_place}
 use Rattle.wgsl_canonical_theory.proofs.Words.{AllWords}
 use Rattle.wgsl_canonical_theory.proofs.Again.{write, Ended, Unended}
 use Rattle.wgsl_canonical_theory.proofs.Ways.{words_behind}
-use Rattle.wgsl_canonical_theory.proofs.StatementRules.{clause_body}
+use Rattle.wgsl_canonical_theory.proofs.StatementRules.{clause_body, case_clause, default_clause, clause_tokens, continuing_part, continuing_part_tokens}
 use Rattle.wgsl_template_theory.proofs.Moves.{kinds, class_is}
 use Rattle.wgsl_template_theory.proofs.Edits.{Edits, with_case}
 use Rattle.wgsl_template_theory.proofs.EditWays.{sign_edits, Edited, Turns, Changed, Changes, kept_statement_tokens, token_turns, then_edits, or_edits, gives_edits, makes_edits, before_edits, behind_edits, means_edits, optional_edits, list_edits, wider_edits}
 use Rattle.wgsl_template_theory.proofs.EditSymbols.{symbol_edits}
+use Rattle.wgsl_template_theory.proofs.EditRules.{open_left_side_edits, parenthesized_left_side_edits}
 use Rattle.wgsl_template_theory.proofs.EditAttributeRules.{attributes_edits}
 use Rattle.wgsl_template_theory.proofs.EditStatementParts.{narrow_edits, empty_edits, list_then_edits, var_kind_edits, initializer_edits, break_if_edits, assignment_operator_edits, else_edits, maybe_continuing_edits, part_edits, else_ifs_edits, clauses_edits, statements_edits, block_ends_list, clause_body_edits}
 
@@ -30,8 +32,12 @@ use Rattle.wgsl_template_theory.proofs.EditStatementParts.{narrow_edits, empty_e
 pub compound_statement_right : {b : Bool} → Changes true b (written compound_statement) (write compound_statement)
 compound_statement_right = gives_edits (then_edits attributes_edits (before_edits SymBraceLeft (behind_edits {m = true} SymBraceRight statements_edits))) (λ a rest. refl)
 
+continuing_part_edits : {b : Bool} → Changes true b continuing_part continuing_part_tokens
+continuing_part_edits =
+    gives_edits (before_edits KwContinuing (then_edits attributes_edits (before_edits SymBraceLeft (behind_edits {m = true} SymBraceRight (then_edits statements_edits (optional_edits {e = true} {b = true} tt break_if_edits)))))) (λ a rest. refl)
+
 pub continuing_statement_right : {b : Bool} → Changes true b (written continuing_statement) (write continuing_statement)
-continuing_statement_right = gives_edits (before_edits KwContinuing (then_edits attributes_edits (before_edits SymBraceLeft (behind_edits {m = true} SymBraceRight (then_edits statements_edits (optional_edits {e = true} {b = true} tt break_if_edits)))))) (λ a rest. refl)
+continuing_statement_right = gives_edits (then_edits attributes_edits continuing_part_edits) (λ a rest. refl)
 
 -- ---- statements behind attributes
 attributed_edits : {e b : Bool} {g : Rule UnattributedStatement} → Changes e false g unattributed_tokens → Changes e b (attributed tree.statement g) unended_tokens
@@ -56,47 +62,54 @@ while_statement_right = attributed_edits (gives_edits (before_edits KwWhile (the
 
 -- ---- statements that a `;` ends
 pub return_statement_right : {b : Bool} → Changes false b (written return_statement) (write return_statement)
-return_statement_right = gives_edits (before_edits KwReturn (optional_edits {e = false} tt (symbol_edits expression tt))) (λ a rest. refl)
+return_statement_right = attributed_edits (gives_edits (before_edits KwReturn (optional_edits {e = false} tt (symbol_edits expression tt))) (λ a rest. refl))
 
 pub call_statement_right : {b : Bool} → Changes false b (written call_statement) (write call_statement)
-call_statement_right = gives_edits (symbol_edits call tt) (λ a rest. refl)
+call_statement_right = attributed_edits (gives_edits (symbol_edits call tt) (λ a rest. refl))
 
 pub var_statement_right : {b : Bool} → Changes false b (written var_statement) (write var_statement)
-var_statement_right = gives_edits (then_edits var_kind_edits (then_edits (symbol_edits typed_ident tt) (optional_edits {e = false} tt initializer_edits))) (λ a rest. refl)
+var_statement_right = attributed_edits (gives_edits (then_edits var_kind_edits (then_edits (symbol_edits typed_ident tt) (optional_edits {e = false} tt initializer_edits))) (λ a rest. refl))
 
 value_kind_edits : {b : Bool} → Changes false b (KwLet means let_kind or KwConst means const_kind) kind_tokens
 value_kind_edits = or_edits (means_edits KwLet (λ rest. refl)) (means_edits KwConst (λ rest. refl))
 
 pub value_statement_right : {b : Bool} → Changes false b (written value_statement) (write value_statement)
-value_statement_right = gives_edits (then_edits value_kind_edits (then_edits (symbol_edits typed_ident tt) initializer_edits)) (λ a rest. refl)
+value_statement_right = attributed_edits (gives_edits (then_edits value_kind_edits (then_edits (symbol_edits typed_ident tt) initializer_edits)) (λ a rest. refl))
 
 pub break_statement_right : {b : Bool} → Changes false b (written break_statement) (write break_statement)
-break_statement_right = means_edits KwBreak (λ rest. refl)
+break_statement_right = attributed_edits (means_edits KwBreak (λ rest. refl))
 
 pub continue_statement_right : {b : Bool} → Changes false b (written continue_statement) (write continue_statement)
-continue_statement_right = means_edits KwContinue (λ rest. refl)
+continue_statement_right = attributed_edits (means_edits KwContinue (λ rest. refl))
 
 pub discard_statement_right : {b : Bool} → Changes false b (written discard_statement) (write discard_statement)
-discard_statement_right = means_edits KwDiscard (λ rest. refl)
+discard_statement_right = attributed_edits (means_edits KwDiscard (λ rest. refl))
+
+-- a left side behind attributes
+left_side_edits : {b : Bool} → Changes false b (left_side whole) (λ p rest. attributes_tokens p.0 (expression_node_tokens p.1 rest))
+left_side_edits = or_edits (then_edits attributes_edits open_left_side_edits) (gives_edits parenthesized_left_side_edits (λ a rest. refl))
 
 pub assignment_right : {b : Bool} → Changes false b (written assignment) (write assignment)
-assignment_right = gives_edits (then_edits (symbol_edits lhs_expression tt) (then_edits assignment_operator_edits (symbol_edits expression tt))) (λ a rest. refl)
+assignment_right = gives_edits (then_edits left_side_edits (then_edits assignment_operator_edits (symbol_edits expression tt))) (λ a rest. refl)
 
 pub increment_right : {b : Bool} → Changes false b (written increment) (write increment)
-increment_right = narrow_edits {e = true} (gives_edits (behind_edits {m = false} SymPlusPlus (symbol_edits lhs_expression tt)) (λ a rest. refl))
+increment_right = narrow_edits {e = true} (gives_edits (behind_edits {m = false} SymPlusPlus left_side_edits) (λ a rest. refl))
 
 pub decrement_right : {b : Bool} → Changes false b (written decrement) (write decrement)
-decrement_right = gives_edits (behind_edits {m = false} SymMinusMinus (symbol_edits lhs_expression tt)) (λ a rest. refl)
+decrement_right = gives_edits (behind_edits {m = false} SymMinusMinus left_side_edits) (λ a rest. refl)
+
+assert_edits : {b : Bool} → Changes false b (KwConstAssert ▹ symbol expression gives assert_of) assert_tokens
+assert_edits = gives_edits (before_edits KwConstAssert (symbol_edits expression tt)) (λ a rest. refl)
 
 pub const_assert_right : {b : Bool} → Changes false b (written const_assert) (write const_assert)
-const_assert_right = gives_edits (before_edits KwConstAssert (symbol_edits expression tt)) (λ a rest. refl)
+const_assert_right = gives_edits (then_edits attributes_edits assert_edits) (λ a rest. refl)
 
 -- the phony assignment, whose left side is the identifier `_`
 underscore_edits : {b : Bool} → Changes true b (one_token SymUnderscore makes underscore_at) expression_node_tokens
 underscore_edits = makes_edits (sign_edits SymUnderscore) (λ a span rest. refl)
 
 pub phony_assignment_right : {b : Bool} → Changes false b (written phony_assignment) (write phony_assignment)
-phony_assignment_right = gives_edits (then_edits underscore_edits initializer_edits) (λ a rest. refl)
+phony_assignment_right = attributed_edits (gives_edits (then_edits underscore_edits initializer_edits) (λ a rest. refl))
 
 -- ---- a name with its type, and what a clause selects
 pub typed_ident_right : {b : Bool} → Changes false b (written typed_ident) (write typed_ident)
@@ -119,8 +132,11 @@ default_edits {b} = record {
       );
 }
 
+clause_edits : {b : Bool} → Changes true b (case_clause or default_clause) clause_tokens
+clause_edits = or_edits (gives_edits (before_edits KwCase (list_then_edits (λ v rest. block_ends_list v.1 rest) (list_edits (symbol_edits case_selector tt) (symbol_edits case_selector tt)) clause_body_edits)) (λ a rest. refl)) (gives_edits default_edits (λ a rest. refl))
+
 pub switch_clause_right : {b : Bool} → Changes true b (written switch_clause) (write switch_clause)
-switch_clause_right = or_edits (gives_edits (before_edits KwCase (list_then_edits (λ v rest. block_ends_list v.1 rest) (list_edits (symbol_edits case_selector tt) (symbol_edits case_selector tt)) clause_body_edits)) (λ a rest. refl)) (gives_edits default_edits (λ a rest. refl))
+switch_clause_right = gives_edits (then_edits attributes_edits clause_edits) (λ a rest. refl)
 
 -- ---- statements in a list, where an empty one has no tokens
 abbrev kept_plain : Writes Statement

@@ -3,12 +3,12 @@ use Rattle.std.proofs.Common.{◌≡◌, ℕ, Bool, true, false, List, ◌∷◌
 use Rattle.std.specs.Prelude.{if◌then◌else◌}
 use Rattle.grammar.specs.Tokens.{Token}
 use Rattle.grammar.specs.Grammar.{Grammar.symbol, Mode.full, Means}
-use Rattle.grammar.specs.Notation.{one_token, ◌then◌, optional, list}
+use Rattle.grammar.specs.Notation.{one_token, ◌then◌, optional, list, ◌gives◌}
 use Rattle.wgsl_model.specs.Classes.{SymArrow, SymBraceLeft, SymBraceRight, SymColon, SymComma, SymEqual, SymParenLeft, SymParenRight, SymPeriod, SymSemicolon, KwAlias, KwConst, KwDiagnostic, KwEnable, KwFn, KwOverride, KwRequires, KwStruct}
 use Rattle.wgsl_model.specs.Kind.{Kind, plain}
 use Rattle.wgsl_model.specs.Raw.{word_of}
 use Rattle.wgsl_model.specs.Attributed.{with_attributes}
-use Rattle.wgsl_model.specs.Units.{GlobalDeclaration, UnattributedDeclaration}
+use Rattle.wgsl_model.specs.Units.{GlobalDeclaration, UnattributedDeclaration, UnattributedDirective}
 use Rattle.wgsl_model.specs.PrintedUnits.{is_void}
 use Rattle.wgsl_model.specs.TokenValues.{text_of}
 use Rattle.wgsl_model.specs.StatementParts.{attributed}
@@ -16,7 +16,7 @@ use Rattle.wgsl_model.specs.UnitParts.{attributed_ident, return_part, texts_of, 
 use Rattle.wgsl_model.specs.Symbols.{ident, struct_member, formal_parameter, global_declaration, var_declaration, const_declaration, override_declaration, alias_declaration, struct_declaration, function_declaration, diagnostic_severity, global_directive, enable_directive, requires_directive, diagnostic_directive, unit, Rule, compound_statement, const_assert, type_specifier, typed_ident}
 use Rattle.wgsl_model.specs.Written.{written}
 use Rattle.wgsl_canonical_theory.specs.CanonicalExpressions.{Writes, optional_tokens, list_tokens, word_token}
-use Rattle.wgsl_canonical_theory.specs.CanonicalUnits.{directive_tokens, attributed_tokens, unattributed_declaration_tokens, global_declaration_tokens, kept_declaration_tokens, without_place}
+use Rattle.wgsl_canonical_theory.specs.CanonicalUnits.{directive_tokens, attributed_tokens, unattributed_declaration_tokens, global_declaration_tokens, kept_declaration_tokens, without_place, unattributed_directive_tokens}
 use Rattle.wgsl_canonical_theory.proofs.Words.{NoPeriod, AllWords}
 use Rattle.wgsl_canonical_theory.proofs.Again.{write, Known}
 use Rattle.wgsl_canonical_theory.proofs.Ways.{words_behind}
@@ -48,17 +48,17 @@ pub var_declaration_right : {b : Bool} → Changes true b (written var_declarati
 var_declaration_right = attributed_edits (gives_edits (then_edits var_kind_edits (then_edits (symbol_edits typed_ident tt) (behind_edits {m = false} SymSemicolon (optional_edits {e = false} tt initializer_edits)))) (λ a rest. refl))
 
 pub const_declaration_right : {b : Bool} → Changes true b (written const_declaration) (write const_declaration)
-const_declaration_right = gives_edits (before_edits KwConst (then_edits (symbol_edits typed_ident tt) (behind_edits {m = false} SymSemicolon initializer_edits))) (λ a rest. refl)
+const_declaration_right = attributed_edits (gives_edits (before_edits KwConst (then_edits (symbol_edits typed_ident tt) (behind_edits {m = false} SymSemicolon initializer_edits))) (λ a rest. refl))
 
 pub override_declaration_right : {b : Bool} → Changes true b (written override_declaration) (write override_declaration)
 override_declaration_right = attributed_edits (gives_edits (before_edits KwOverride (then_edits (symbol_edits typed_ident tt) (behind_edits {m = false} SymSemicolon (optional_edits {e = false} tt initializer_edits)))) (λ a rest. refl))
 
 -- ---- declarations of types and functions
 pub alias_declaration_right : {b : Bool} → Changes true b (written alias_declaration) (write alias_declaration)
-alias_declaration_right = gives_edits (before_edits KwAlias (then_edits (symbol_edits ident tt) (before_edits SymEqual (behind_edits {m = false} SymSemicolon (symbol_edits type_specifier tt))))) (λ a rest. refl)
+alias_declaration_right = attributed_edits (gives_edits (before_edits KwAlias (then_edits (symbol_edits ident tt) (before_edits SymEqual (behind_edits {m = false} SymSemicolon (symbol_edits type_specifier tt))))) (λ a rest. refl))
 
 pub struct_declaration_right : {b : Bool} → Changes true b (written struct_declaration) (write struct_declaration)
-struct_declaration_right = gives_edits (before_edits KwStruct (then_edits (symbol_edits ident tt) (before_edits SymBraceLeft (ended_list_edits SymBraceRight refl (list_edits (symbol_edits struct_member tt) (symbol_edits struct_member tt)))))) (λ a rest. refl)
+struct_declaration_right = attributed_edits (gives_edits (before_edits KwStruct (then_edits (symbol_edits ident tt) (before_edits SymBraceLeft (ended_list_edits SymBraceRight refl (list_edits (symbol_edits struct_member tt) (symbol_edits struct_member tt)))))) (λ a rest. refl))
 
 returned_edits : {b : Bool} → Changes false b (optional return_part) (optional_tokens returned_tokens)
 returned_edits = optional_edits {e = false} tt (before_edits SymArrow (then_edits attributes_edits (symbol_edits type_specifier tt)))
@@ -100,11 +100,15 @@ names_edits {b} = record {
       (found.0, λ ks f r. subst (λ (z : List Kind). Edits b (kinds xs) z) (sym (names_written v ks)) (found.1 ks f r));
 }
 
+-- a directive behind its attributes
+attributed_directive_edits : {b : Bool} {g : Rule UnattributedDirective} → Changes true false g unattributed_directive_tokens → Changes true b (attributed with_attributes g) directive_tokens
+attributed_directive_edits G = gives_edits (then_edits attributes_edits G) (λ a rest. refl)
+
 pub enable_directive_right : {b : Bool} → Changes true b (written enable_directive) (write enable_directive)
-enable_directive_right = gives_edits (before_edits KwEnable (ended_list_edits SymSemicolon refl names_edits)) (λ a rest. refl)
+enable_directive_right = attributed_directive_edits (gives_edits (before_edits KwEnable (ended_list_edits SymSemicolon refl names_edits)) (λ a rest. refl))
 
 pub requires_directive_right : {b : Bool} → Changes true b (written requires_directive) (write requires_directive)
-requires_directive_right = gives_edits (before_edits KwRequires (ended_list_edits SymSemicolon refl names_edits)) (λ a rest. refl)
+requires_directive_right = attributed_directive_edits (gives_edits (before_edits KwRequires (ended_list_edits SymSemicolon refl names_edits)) (λ a rest. refl))
 
 pub global_directive_right : {b : Bool} → Changes true b (written global_directive) (write global_directive)
 global_directive_right = or_edits (symbol_edits enable_directive tt) (or_edits (symbol_edits requires_directive tt) (symbol_edits diagnostic_directive tt))
@@ -122,13 +126,13 @@ diagnostic_parts_edits : {b : Bool} → Changes true b diagnostic_parts diagnost
 diagnostic_parts_edits = then_edits (behind_edits {m = false} SymComma (symbol_edits diagnostic_severity tt)) (then_edits (symbol_edits ident tt)
     (then_edits (optional_edits {e = false} tt (before_edits SymPeriod (symbol_edits ident tt))) (behind_edits {m = false} SymSemicolon (ended_list_edits SymParenRight refl comma_edits))))
 
-diagnostic_tokens : (p : DiagnosticParts) → Known diagnostic_severity p.0 → NoPeriod (text_of p.1.0) → (rest : List Kind) → directive_tokens (diagnostic_of p.0 p.1.0 p.1.1.0) rest ≡ diagnostic_parts_tokens p rest
+diagnostic_tokens : (p : DiagnosticParts) → Known diagnostic_severity p.0 → NoPeriod (text_of p.1.0) → (rest : List Kind) → unattributed_directive_tokens (diagnostic_of p.0 p.1.0 p.1.1.0) rest ≡ diagnostic_parts_tokens p rest
 diagnostic_tokens p severity name rest =
     ap₂ (λ (word : List ℕ) (rule : List Kind). plain KwDiagnostic ∷ (plain SymParenLeft ∷ (word_of word ∷ (plain SymComma ∷ rule)))) (severity_written p.0 severity)
     (rule_written p.1.0 p.1.1.0 (plain SymParenRight ∷ (plain SymSemicolon ∷ rest)) name)
 
-pub diagnostic_directive_right : {b : Bool} → Changes true b (written diagnostic_directive) (write diagnostic_directive)
-diagnostic_directive_right {b} = record {
+named_diagnostic_edits : {b : Bool} → Changes true b (diagnostic_parts gives λ p. diagnostic_of p.0 p.1.0 p.1.1.0) unattributed_directive_tokens
+named_diagnostic_edits {b} = record {
   edit = λ v xs ys d words.
       let parts = d.2 in
       let severity = parts.1.2.1 words in
@@ -136,9 +140,12 @@ diagnostic_directive_right {b} = record {
       let name = parts.2.1 (words_behind parts.1.0.1 parts.1.2.0 parts.0 parts.1.2.2.1 severity.0) in
       let found = (diagnostic_parts_edits {b = b}).edit d.0 xs ys d.2 words in (
         found.0,
-        λ ks r. subst (λ (z : List Kind). Edits b (kinds xs) z) (sym (ap (λ z. directive_tokens z ks) (sym d.1) ∙ diagnostic_tokens d.0 severity_known name.1 ks)) (found.1 ks r),
+        λ ks r. subst (λ (z : List Kind). Edits b (kinds xs) z) (sym (ap (λ z. unattributed_directive_tokens z ks) (sym d.1) ∙ diagnostic_tokens d.0 severity_known name.1 ks)) (found.1 ks r),
       );
 }
+
+pub diagnostic_directive_right : {b : Bool} → Changes true b (written diagnostic_directive) (write diagnostic_directive)
+diagnostic_directive_right = attributed_directive_edits named_diagnostic_edits
 
 -- ---- modules
 pub unit_right : Changes true true (written unit) (write unit)

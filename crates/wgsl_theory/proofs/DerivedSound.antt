@@ -13,9 +13,9 @@ use Rattle.wgsl_model.specs.Statements.{DeclarationKind, StatementNode, statemen
 use Rattle.wgsl_model.specs.TokenValues.{text_of, literal_of}
 use Rattle.wgsl_model.specs.Checks.{unreserved, attribute_parts, attribute_fault, attribute_node}
 use Rattle.wgsl_model.specs.ExpressionParts.{placed_expression, type_of, call_of, index_of, component_of, with_component, unary_of, binary_of, operation_of, negation_of, negated_product_of, two, two_or_more, unary_operator, multiplicative_operator, additive_operator, relational_operator}
-use Rattle.wgsl_model.specs.StatementParts.{placed_statement, variable_at, parenthesized_at, attributed, local_of, compound_of, assignment_of, call_statement_of, return_of, if_of, assert_statement, switch_of, loop_of, for_of, while_of, attributes, statements, initializer, var_kind, assignment_operator, else_if, else_block}
+use Rattle.wgsl_model.specs.StatementParts.{placed_statement, variable_at, parenthesized_at, attributed, local_of, compound_of, assignment_of, call_statement_of, return_of, if_of, assert_statement, switch_of, loop_of, for_of, while_of, attributes, statements, initializer, var_kind, assignment_operator, else_if, else_block, open_left_side, parenthesized_left_side, left_side}
 use Rattle.wgsl_model.specs.UnitParts.{rule_of, texts_of}
-use Rattle.wgsl_model.specs.Symbols.{Rule, ident, type_specifier, template_list, call, arguments, literal, primary_expression, singular_expression, component, unary_expression, multiplicative_expression, negated_expression, additive_expression, shift_expression, relational_expression, expression, lhs_expression, attribute, compound_statement, statement, return_statement, if_statement, switch_statement, loop_statement, for_statement, while_statement, call_statement, var_statement, value_statement, break_statement, continue_statement, discard_statement, assignment, phony_assignment, increment, decrement, const_assert, switch_clause, continuing_statement, for_init, for_update, typed_ident}
+use Rattle.wgsl_model.specs.Symbols.{Rule, ident, type_specifier, template_list, call, arguments, literal, primary_expression, singular_expression, component, unary_expression, multiplicative_expression, negated_expression, additive_expression, shift_expression, relational_expression, expression, lhs_expression, attribute, compound_statement, statement, return_statement, if_statement, switch_statement, loop_statement, for_statement, while_statement, call_statement, var_statement, value_statement, break_statement, continue_statement, discard_statement, assignment, phony_assignment, increment, decrement, const_assert, switch_clause, continuing_statement, for_init, for_update, typed_ident, Dialect.whole}
 use Rattle.wgsl_model.specs.Written.{written}
 use Rattle.wgsl_canonical_theory.proofs.ExpressionRules.{literal_classes}
 use Rattle.wgsl_theory.proofs.Ends.{IsNameText}
@@ -179,11 +179,16 @@ IsSoundLeft e = IsPrimaryNode e × EndsWithNameNode e × IsSoundNode e
 left_chain_gives : {g : Rule ExpressionNode} → Gives g IsSoundLeft → Gives (left_chain with_component g (symbol component)) (Sound lhs_expression)
 left_chain_gives G = weaker_sound (chain_sound G (symbol_sound component) with_component (λ a b s h k. k a h.0 h.2)) (Sound lhs_expression) (λ e h. (primary_operand_node e h.0, h.1, h.2))
 
-pub lhs_expression_gives : Gives (written lhs_expression) (Sound lhs_expression)
-lhs_expression_gives = or_sound (left_chain_gives (makes_sound (symbol_sound ident) variable_at IsSoundLeft (λ t s h. (tt, tt, (h, tt)))))
-    (or_sound (left_chain_gives (makes_sound (sign_before SymParenLeft (sign_behind SymParenRight (symbol_sound lhs_expression))) parenthesized_at IsSoundLeft (λ e s h. (tt, tt, h.2))))
+pub open_left_side_gives : Gives open_left_side (Sound lhs_expression)
+open_left_side_gives = or_sound (left_chain_gives (makes_sound (symbol_sound ident) variable_at IsSoundLeft (λ t s h. (tt, tt, (h, tt)))))
     (or_sound (makes_sound (then_sound (anything (SymStar means indirection)) (symbol_sound lhs_expression)) unary_of (Sound lhs_expression) (λ p s h. (tt, h.1.1, (h.1.0, h.1.2))))
-    (makes_sound (then_sound (anything (SymAnd means address_of)) (symbol_sound lhs_expression)) unary_of (Sound lhs_expression) (λ p s h. (tt, h.1.1, (h.1.0, h.1.2))))))
+    (makes_sound (then_sound (anything (SymAnd means address_of)) (symbol_sound lhs_expression)) unary_of (Sound lhs_expression) (λ p s h. (tt, h.1.1, (h.1.0, h.1.2)))))
+
+pub parenthesized_left_side_gives : Gives parenthesized_left_side (Sound lhs_expression)
+parenthesized_left_side_gives = left_chain_gives (makes_sound (sign_before SymParenLeft (sign_behind SymParenRight (symbol_sound lhs_expression))) parenthesized_at IsSoundLeft (λ e s h. (tt, tt, h.2)))
+
+pub lhs_expression_gives : Gives (written lhs_expression) (Sound lhs_expression)
+lhs_expression_gives = or_sound open_left_side_gives parenthesized_left_side_gives
 
 -- ---- attributes
 
@@ -228,21 +233,21 @@ statement_gives = makes_sound
     (or_sound (sign_behind SymSemicolon (symbol_sound increment))
     (or_sound (sign_behind SymSemicolon (symbol_sound decrement))
     (or_sound (gives_sound (symbol_sound compound_statement) tree.block_statement IsSoundStatement block_sound)
-    (gives_sound (sign_behind SymSemicolon (symbol_sound const_assert)) assert_statement IsSoundStatement (λ c h. (tt, h)))))))))))))))))))))
+    (gives_sound (sign_behind SymSemicolon (symbol_sound const_assert)) assert_statement IsSoundStatement (λ c h. h))))))))))))))))))))
     placed_statement IsSoundStatementNode (λ v s h. h)
 
+-- a statement behind attributes
+pub attributed_gives : {g : Rule UnattributedStatement} → Gives g IsSoundUnattributed → Gives (attributed tree.statement g) IsSoundStatement
+attributed_gives G = gives_sound (then_sound attributes_give G) (λ p. tree.statement p.0 p.1) IsSoundStatement (λ p h. h)
+
 pub return_statement_gives : Gives (written return_statement) (Sound return_statement)
-return_statement_gives = gives_sound (sign_before KwReturn (optional_sound (symbol_sound expression))) return_of IsSoundStatement (λ o h. (tt, h))
+return_statement_gives = attributed_gives (gives_sound (sign_before KwReturn (optional_sound (symbol_sound expression))) return_of IsSoundUnattributed (λ o h. h))
 
 else_if_gives : Gives else_if IsSoundElseIf
-else_if_gives = gives_sound (sign_before KwElse (sign_before KwIf (then_sound (symbol_sound expression) (symbol_sound compound_statement)))) (λ p. tree.else_if_clause p.0 p.1) IsSoundElseIf (λ p h. h)
+else_if_gives = gives_sound (sign_before KwElse (sign_before KwIf (then_sound (symbol_sound expression) (symbol_sound compound_statement)))) (λ p. tree.else_if_clause [] p.0 p.1) IsSoundElseIf (λ p h. (tt, h.0, h.1))
 
 else_block_gives : Gives else_block IsSoundElseClause
-else_block_gives = gives_sound (sign_before KwElse (symbol_sound compound_statement)) tree.else_clause IsSoundElseClause (λ b h. h)
-
--- a statement behind attributes
-attributed_gives : {g : Rule UnattributedStatement} → Gives g IsSoundUnattributed → Gives (attributed tree.statement g) IsSoundStatement
-attributed_gives G = gives_sound (then_sound attributes_give G) (λ p. tree.statement p.0 p.1) IsSoundStatement (λ p h. h)
+else_block_gives = gives_sound (sign_before KwElse (symbol_sound compound_statement)) (tree.else_clause []) IsSoundElseClause (λ b h. (tt, h))
 
 pub if_statement_gives : Gives (written if_statement) (Sound if_statement)
 if_statement_gives = attributed_gives (gives_sound
@@ -269,15 +274,20 @@ pub while_statement_gives : Gives (written while_statement) (Sound while_stateme
 while_statement_gives = attributed_gives (gives_sound (sign_before KwWhile (then_sound (symbol_sound expression) (symbol_sound compound_statement))) (λ p. while_of p.0 p.1) IsSoundUnattributed (λ p h. h))
 
 pub call_statement_gives : Gives (written call_statement) (Sound call_statement)
-call_statement_gives = gives_sound (symbol_sound call) call_statement_of IsSoundStatement (λ c h. (tt, h))
+call_statement_gives = attributed_gives (gives_sound (symbol_sound call) call_statement_of IsSoundUnattributed (λ c h. h))
 
 pub var_statement_gives : Gives (written var_statement) (Sound var_statement)
-var_statement_gives = gives_sound (then_sound (anything var_kind) (then_sound (symbol_sound typed_ident) (optional_sound initializer_gives)))
-    (λ p. local_of p.0 p.1.0 p.1.1) IsSoundStatement (λ p h. (tt, (h.1.0.0, h.1.0.1, h.1.1)))
+var_statement_gives = attributed_gives (gives_sound (then_sound (anything var_kind) (then_sound (symbol_sound typed_ident) (optional_sound initializer_gives)))
+    (λ p. local_of p.0 p.1.0 p.1.1) IsSoundUnattributed (λ p h. (h.1.0.0, h.1.0.1, h.1.1)))
 
 pub value_statement_gives : Gives (written value_statement) (Sound value_statement)
-value_statement_gives = gives_sound (then_sound (anything (KwLet means DeclarationKind.let_kind or KwConst means DeclarationKind.const_kind)) (then_sound (symbol_sound typed_ident) initializer_gives))
-    (λ p. local_of p.0 p.1.0 (Some p.1.1)) IsSoundStatement (λ p h. (tt, (h.1.0.0, h.1.0.1, h.1.1)))
+value_statement_gives = attributed_gives (gives_sound (then_sound (anything (KwLet means DeclarationKind.let_kind or KwConst means DeclarationKind.const_kind)) (then_sound (symbol_sound typed_ident) initializer_gives))
+    (λ p. local_of p.0 p.1.0 (Some p.1.1)) IsSoundUnattributed (λ p h. (h.1.0.0, h.1.0.1, h.1.1)))
+
+-- a left side behind attributes
+pub left_side_gives : Gives (left_side whole) (λ p. AreSoundAttributes p.0 × Sound lhs_expression p.1)
+left_side_gives = or_sound (then_sound attributes_give open_left_side_gives) (gives_sound parenthesized_left_side_gives (λ e. ([], e)) (λ p. AreSoundAttributes p.0 × Sound lhs_expression p.1) (λ e h. (tt, h)))
 
 pub assignment_gives : Gives (written assignment) (Sound assignment)
-assignment_gives = gives_sound (then_sound (symbol_sound lhs_expression) (then_sound (anything assignment_operator) (symbol_sound expression))) (λ p. assignment_of p.0 p.1.0 p.1.1) IsSoundStatement (λ p h. (tt, (h.0.2, h.1.1)))
+assignment_gives = gives_sound (then_sound left_side_gives (then_sound (anything assignment_operator) (symbol_sound expression)))
+    (λ p. tree.statement p.0.0 (assignment_of p.0.1 p.1.0 p.1.1)) IsSoundStatement (λ p h. (h.0.0, (h.0.1.2, h.1.1)))

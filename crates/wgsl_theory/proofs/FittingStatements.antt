@@ -8,6 +8,7 @@ use Rattle.wgsl_model.specs.OperatorTexts.{assignment_operator_text}
 use Rattle.wgsl_model.specs.NamedValues.{AddressSpace, AccessMode, address_space_text, access_mode_text}
 use Rattle.wgsl_model.specs.Expressions.{ExpressionNode, expression_node, Expression, literal, parenthesized, named_component, indexing, unary, binary, function_call, type_or_identifier, TypeExpression, type_expression, no_template, template}
 use Rattle.wgsl_model.specs.Attributes.{Attributes}
+use Rattle.wgsl_model.specs.Attributed.{Attributed}
 use Rattle.wgsl_model.specs.Statements.{DeclarationKind, const_kind, override_kind, let_kind, var_kind, Declaration, ConstAssert, BreakIfStatement, CaseSelector, default_selector, expression_selector, statement_node, Statement, statement, UnattributedStatement, void, compound, assignment, increment, decrement, if_statement, switch_statement, loop_statement, for_statement, while_statement, break_statement, continue_statement, discard_statement, return_statement, function_call_statement, const_assert, declaration, CompoundStatement, compound_statement, IfStatement, if_else, IfClause, if_clause, ElseIfClause, else_if_clause, ElseClause, else_clause, SwitchStatement, switch, SwitchClause, switch_clause, LoopStatement, repeat, ContinuingStatement, continuing, ForStatement, repeat_for, WhileStatement, repeat_while, StatementNodes, no_statements, statement_before, ElseIfClauses, no_else_ifs, else_if_before, MaybeElseClause, no_else, one_else, SwitchClauses, no_clauses, clause_before, MaybeContinuing, no_continuing, one_continuing, MaybeStatement, no_statement, one_statement}
 use Rattle.wgsl_model.specs.PrintedStatements.{is_void}
 use Rattle.wgsl_canonical_theory.specs.CanonicalStatements.{assignment_operator_class}
@@ -19,7 +20,7 @@ use Rattle.wgsl_theory.proofs.FittingWords.{sign_fits, slash_equal_fits, not_on}
 use Rattle.wgsl_theory.proofs.SoundExpressions.{IsSoundNode, IsSoundType, EndsExpression, EndsNode, Closed, closed_name}
 use Rattle.wgsl_theory.proofs.FittingSigns.{as_text, before_name, left_paren_fits, right_paren_fits}
 use Rattle.wgsl_theory.proofs.FittingExpressions.{closed_by_paren, opens_stands, expression_node_fits, call_fits}
-use Rattle.wgsl_theory.proofs.SoundUnits.{IfSome, AreSoundAttributes, IsSoundDeclaration, EndsWithName, EndsWithNameNode, IsSoundSelector, IsSoundStatement, IsSoundUnattributed, AreSoundStatements, IsSoundCompound, IsSoundIf, IsSoundIfClause, AreSoundElseIfs, IsSoundElseIf, IsSoundElse, IsSoundElseClause, IsSoundSwitch, AreSoundClauses, IsSoundClause, IsSoundLoop, IsSoundMaybeContinuing, IsSoundContinuing, IsSoundFor, IsSoundPart, IsSoundWhile}
+use Rattle.wgsl_theory.proofs.SoundUnits.{IfSome, AreSoundAttributes, IsSoundDeclaration, EndsWithName, EndsWithNameNode, IsSoundSelector, IsSoundStatement, IsSoundUnattributed, AreSoundStatements, IsSoundCompound, IsSoundIf, IsSoundIfClause, AreSoundElseIfs, IsSoundElseIf, IsSoundElse, IsSoundElseClause, IsSoundSwitch, AreSoundClauses, IsSoundClause, IsSoundLoop, IsSoundMaybeContinuing, IsSoundContinuing, IsSoundFor, IsSoundPart, IsSoundWhile, IsSoundBreakIf}
 use Rattle.wgsl_theory.proofs.WrittenWords.{access_mode_name, address_space_name, break_fits, case_fits, const_fits, const_assert_fits, continue_fits, continuing_fits, default_fits, discard_fits, else_fits, for_fits as for_word_fits, if_fits as if_word_fits, let_fits, loop_fits as loop_word_fits, override_fits, return_fits, switch_fits as switch_word_fits, var_fits, while_fits as while_word_fits}
 use Rattle.wgsl_theory.proofs.FittingAttributes.{list_fits, node_fits, closed_type_fits, plain_name_fits, optional_fits, attributes_fit}
 use Rattle.wgsl_theory.proofs.PiecesOfExpressions.{sign, name, expression_node_pieces, type_pieces}
@@ -164,10 +165,11 @@ selector_fits : (x : CaseSelector) (rest : List Piece) → IsSoundSelector x →
 selector_fits default_selector rest s c f = (default_fits (render rest) (closed_name (render rest) c), f)
 selector_fits (expression_selector e) rest s c f = node_fits e rest s c f
 
-break_if_fits : (n : ℕ) (o : Option BreakIfStatement) (rest : List Piece) → IfSome (λ (b : BreakIfStatement). IsSoundNode b.expression) o → Fits rest → Fits (optional_pieces (break_if_pieces n) o rest)
+break_if_fits : (n : ℕ) (o : Option (Attributed BreakIfStatement)) (rest : List Piece) → IfSome IsSoundBreakIf o → Fits rest → Fits (optional_pieces (break_if_pieces n) o rest)
 break_if_fits n None rest s f = f
 break_if_fits n (Some b) rest s f =
-    (break_fits _ refl, (if_word_fits _ refl, node_fits b.expression (sign (codes ";") SymSemicolon (line n rest)) s (closed_by_semicolon (line n rest)) (semicolon_fits (render (line n rest)), line_fits n rest f)))
+    let condition = node_fits b.node.expression (sign (codes ";") SymSemicolon (line n rest)) s.1 (closed_by_semicolon (line n rest)) (semicolon_fits (render (line n rest)), line_fits n rest f) in
+    attribute_lines_fit (suc n) b.attributes _ s.0 (break_fits _ refl, (if_word_fits _ refl, condition))
 
 -- what ends a statement, and what follows it
 end_fits : (s : Statement) (rest : List Piece) → Closed (render rest) → Fits rest → Fits (end_pieces s rest) × Closed (render (end_pieces s rest))
@@ -256,14 +258,14 @@ mutual
   else_ifs_fit n (else_if_before x cs) rest s f = line_fits n _ (else_if_fits n x _ s.0 (else_ifs_fit n cs rest s.1 f))
 
   else_if_fits : (n : ℕ) (x : ElseIfClause) (rest : List Piece) → IsSoundElseIf x → Fits rest → Fits (else_if_clause_pieces n x rest)
-  else_if_fits n (else_if_clause e block) rest s f = (else_fits _ refl, (if_word_fits _ refl, node_fits e _ s.0 refl (compound_fits n block rest s.1 f)))
+  else_if_fits n (else_if_clause a e block) rest s f = attribute_lines_fit n a _ s.0 (else_fits _ refl, (if_word_fits _ refl, node_fits e _ s.1 refl (compound_fits n block rest s.2 f)))
 
   last_else_fits : (n : ℕ) (x : MaybeElseClause) (rest : List Piece) → IsSoundElse x → Fits rest → Fits (else_pieces n x rest)
   last_else_fits n no_else rest s f = f
   last_else_fits n (one_else x) rest s f = line_fits n _ (else_clause_fits n x rest s f)
 
   else_clause_fits : (n : ℕ) (x : ElseClause) (rest : List Piece) → IsSoundElseClause x → Fits rest → Fits (else_clause_pieces n x rest)
-  else_clause_fits n (else_clause block) rest s f = (else_fits _ refl, compound_fits n block rest s f)
+  else_clause_fits n (else_clause a block) rest s f = attribute_lines_fit n a _ s.0 (else_fits _ refl, compound_fits n block rest s.1 f)
 
   switch_fits : (n : ℕ) (x : SwitchStatement) (rest : List Piece) → IsSoundSwitch x → Fits rest → Fits (switch_pieces n x rest)
   switch_fits n (switch e body_attributes cs) rest s f =
@@ -289,7 +291,8 @@ mutual
   maybe_continuing_fits n (one_continuing x) rest s f = continuing_part_fits (suc n) x (line n rest) s (line_fits n rest f)
 
   continuing_part_fits : (n : ℕ) (x : ContinuingStatement) (rest : List Piece) → IsSoundContinuing x → Fits rest → Fits (continuing_pieces n x rest)
-  continuing_part_fits n (continuing body condition) rest s f = (continuing_fits _ refl, opened_fits n body _ s.0 (break_if_fits n condition (sign (codes "}") SymBraceRight rest) s.1 (right_brace_fits _, f)))
+  continuing_part_fits n (continuing a body condition) rest s f =
+      attribute_lines_fit n a _ s.0 (continuing_fits _ refl, opened_fits n body _ s.1 (break_if_fits n condition (sign (codes "}") SymBraceRight rest) s.2 (right_brace_fits _, f)))
 
   for_fits : (n : ℕ) (x : ForStatement) (rest : List Piece) → IsSoundFor x → Fits rest → Fits (for_pieces n x rest)
   for_fits n (repeat_for init condition update block) rest s f =

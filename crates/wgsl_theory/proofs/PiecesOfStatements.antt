@@ -5,6 +5,7 @@ use Rattle.wgsl_model.specs.Classes.{SymBraceLeft, SymBraceRight, SymColon, SymE
 use Rattle.wgsl_model.specs.OperatorTexts.{assignment_operator_text}
 use Rattle.wgsl_model.specs.NamedValues.{AddressSpace, AccessMode, address_space_text, access_mode_text}
 use Rattle.wgsl_model.specs.Expressions.{ExpressionNode, TypeExpression}
+use Rattle.wgsl_model.specs.Attributed.{Attributed}
 use Rattle.wgsl_model.specs.Statements.{DeclarationKind, const_kind, override_kind, let_kind, var_kind, Declaration, ConstAssert, BreakIfStatement, CaseSelector, default_selector, expression_selector, statement_node, Statement, statement, UnattributedStatement, void, compound, assignment, increment, decrement, if_statement, switch_statement, loop_statement, for_statement, while_statement, break_statement, continue_statement, discard_statement, return_statement, function_call_statement, const_assert, declaration, CompoundStatement, compound_statement, IfStatement, if_else, IfClause, if_clause, ElseIfClause, else_if_clause, ElseClause, else_clause, SwitchStatement, switch, SwitchClause, switch_clause, LoopStatement, repeat, ContinuingStatement, continuing, ForStatement, repeat_for, WhileStatement, repeat_while, StatementNodes, no_statements, statement_before, ElseIfClauses, no_else_ifs, else_if_before, MaybeElseClause, no_else, one_else, SwitchClauses, no_clauses, clause_before, MaybeContinuing, no_continuing, one_continuing, MaybeStatement, no_statement, one_statement}
 use Rattle.wgsl_model.specs.PrintedDeclarations.{print_access_mode, print_var_template, print_kind, print_typed, print_initializer, unended_declaration, unended_assert}
 use Rattle.wgsl_model.specs.PrintedStatements.{is_void}
@@ -56,9 +57,10 @@ abbrev pub selector_pieces : CaseSelector → Puts
 selector_pieces default_selector rest = sign (codes "default") KwDefault rest
 selector_pieces (expression_selector e) rest = expression_node_pieces e rest
 
--- `break if` and its condition, on a line four spaces in
-abbrev pub break_if_pieces : ℕ → BreakIfStatement → Puts
-break_if_pieces n b rest = four (sign (codes "break") KwBreak (space ∷ sign (codes "if") KwIf (space ∷ expression_node_pieces b.expression (sign (codes ";") SymSemicolon (line n rest)))))
+-- attributes, and `break if` with its condition, on lines four spaces in
+abbrev pub break_if_pieces : ℕ → Attributed BreakIfStatement → Puts
+break_if_pieces n b rest =
+    four (attributes_pieces (line (suc n)) b.attributes (sign (codes "break") KwBreak (space ∷ sign (codes "if") KwIf (space ∷ expression_node_pieces b.node.expression (sign (codes ";") SymSemicolon (line n rest))))))
 
 -- the `;` that ends a statement, if one does
 abbrev pub end_pieces : Statement → Puts
@@ -120,14 +122,15 @@ abbrev mutual
   else_ifs_pieces n (else_if_before c cs) rest = line n (else_if_clause_pieces n c (else_ifs_pieces n cs rest))
 
   pub else_if_clause_pieces : ℕ → ElseIfClause → List Piece → List Piece
-  else_if_clause_pieces n (else_if_clause e block) rest = sign (codes "else") KwElse (space ∷ sign (codes "if") KwIf (space ∷ expression_node_pieces e (space ∷ compound_pieces n block rest)))
+  else_if_clause_pieces n (else_if_clause attributes e block) rest =
+      attributes_pieces (line n) attributes (sign (codes "else") KwElse (space ∷ sign (codes "if") KwIf (space ∷ expression_node_pieces e (space ∷ compound_pieces n block rest))))
 
   pub else_pieces : ℕ → MaybeElseClause → List Piece → List Piece
   else_pieces n no_else rest = rest
   else_pieces n (one_else c) rest = line n (else_clause_pieces n c rest)
 
   pub else_clause_pieces : ℕ → ElseClause → List Piece → List Piece
-  else_clause_pieces n (else_clause block) rest = sign (codes "else") KwElse (space ∷ compound_pieces n block rest)
+  else_clause_pieces n (else_clause attributes block) rest = attributes_pieces (line n) attributes (sign (codes "else") KwElse (space ∷ compound_pieces n block rest))
 
   pub switch_pieces : ℕ → SwitchStatement → List Piece → List Piece
   switch_pieces n (switch e body_attributes cs) rest =
@@ -152,7 +155,8 @@ abbrev mutual
   maybe_continuing_pieces n (one_continuing c) rest = four (continuing_pieces (suc n) c (line n rest))
 
   pub continuing_pieces : ℕ → ContinuingStatement → List Piece → List Piece
-  continuing_pieces n (continuing body condition) rest = sign (codes "continuing") KwContinuing (space ∷ opened_pieces n body (optional_pieces (break_if_pieces n) condition (sign (codes "}") SymBraceRight rest)))
+  continuing_pieces n (continuing attributes body condition) rest =
+      attributes_pieces (line n) attributes (sign (codes "continuing") KwContinuing (space ∷ opened_pieces n body (optional_pieces (break_if_pieces n) condition (sign (codes "}") SymBraceRight rest))))
 
   pub for_pieces : ℕ → ForStatement → List Piece → List Piece
   for_pieces n (repeat_for init condition update block) rest =

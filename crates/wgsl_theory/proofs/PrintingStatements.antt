@@ -4,6 +4,7 @@ use Rattle.std.specs.Prelude.{codes}
 use Rattle.std.specs.List.{flat_map}
 use Rattle.std.proofs.lemmas.Bool.{true≢false}
 use Rattle.wgsl_model.specs.Attributes.{Attributes}
+use Rattle.wgsl_model.specs.Attributed.{Attributed}
 use Rattle.wgsl_model.specs.Expressions.{ExpressionNode}
 use Rattle.wgsl_model.specs.Statements.{BreakIfStatement, CaseSelector, default_selector, expression_selector, statement_node, Statement, statement, UnattributedStatement, void, compound, assignment, increment, decrement, if_statement, switch_statement, loop_statement, for_statement, while_statement, return_statement, function_call_statement, const_assert, declaration, CompoundStatement, compound_statement, IfStatement, if_else, IfClause, if_clause, ElseIfClause, else_if_clause, ElseClause, else_clause, SwitchStatement, switch, SwitchClause, switch_clause, LoopStatement, repeat, ContinuingStatement, continuing, ForStatement, repeat_for, WhileStatement, repeat_while, StatementNodes, no_statements, statement_before, ElseIfClauses, no_else_ifs, else_if_before, MaybeElseClause, no_else, one_else, SwitchClauses, no_clauses, clause_before, MaybeContinuing, no_continuing, one_continuing, MaybeStatement, no_statement, one_statement}
 use Rattle.wgsl_model.specs.Joining.{joined}
@@ -55,12 +56,13 @@ selector_prints : {n : ℕ} (s : CaseSelector) → Prints n (print_selector s) (
 selector_prints default_selector = word_prints
 selector_prints (expression_selector e) = expression_node_prints e
 
-break_if_prints : {n : ℕ} (o : Option BreakIfStatement) → Prints n (break_if_line o) (optional_pieces (break_if_pieces n) o) (optional_tokens break_if_tokens o)
-break_if_prints None = none_prints
-break_if_prints {n} (Some b) = indented_prints tt ((word_prints before space_prints before word_prints before space_prints) before expression_node_prints b.expression before word_prints) before line_prints n
-
 line_of_attributes : {n : ℕ} (a : Attributes) → Prints n (print_attribute_line a) (attributes_pieces (line n) a) (attributes_tokens a)
 line_of_attributes {n} a = attributes_print (line_prints n) a
+
+break_if_prints : {n : ℕ} (o : Option (Attributed BreakIfStatement)) → Prints n (break_if_line o) (optional_pieces (break_if_pieces n) o) (optional_tokens break_if_tokens o)
+break_if_prints None = none_prints
+break_if_prints {n} (Some b) = indented_prints (filled_last (print_attribute_line b.attributes) _ tt)
+    (line_of_attributes b.attributes before ((word_prints before space_prints before word_prints before space_prints) before expression_node_prints b.node.expression before word_prints)) before line_prints n
 
 -- ---- statements one after another
 
@@ -82,7 +84,7 @@ one_first true s ss e one more first = first
 one_first {n} false s ss e one more first = indented_prints (filled_first (unended s ++ end_of s) _ (filled s e)) (one before more)
 
 continuing_filled : (c : ContinuingStatement) → IsFilled (print_continuing c)
-continuing_filled (continuing body condition) = tt
+continuing_filled (continuing a body condition) = filled_first _ _ (filled_first _ _ (filled_first _ _ (filled_last (print_attribute_line a) (codes "continuing ") tt)))
 
 clause_text_filled : (c : SwitchClause) → IsFilled (print_switch_clause c)
 clause_text_filled (switch_clause a selectors block) = filled_first _ _ (filled_first _ _ (filled_first _ _ (filled_last (print_attribute_line a) (codes "case ") tt)))
@@ -133,14 +135,14 @@ mutual
   else_ifs_prints {n} (else_if_before c cs) = line_prints n before else_if_clause_prints c before else_ifs_prints cs
 
   else_if_clause_prints : {n : ℕ} (c : ElseIfClause) → Prints n (print_else_if_clause c) (else_if_clause_pieces n c) (else_if_clause_tokens c)
-  else_if_clause_prints (else_if_clause e block) = (word_prints before space_prints before word_prints before space_prints) before expression_node_prints e before space_prints before compound_prints block
+  else_if_clause_prints (else_if_clause a e block) = line_of_attributes a before (word_prints before space_prints before word_prints before space_prints) before expression_node_prints e before space_prints before compound_prints block
 
   else_prints : {n : ℕ} (c : MaybeElseClause) → Prints n (print_else c) (else_pieces n c) (else_tokens c)
   else_prints no_else = none_prints
   else_prints {n} (one_else c) = line_prints n before else_clause_prints c
 
   else_clause_prints : {n : ℕ} (c : ElseClause) → Prints n (print_else_clause c) (else_clause_pieces n c) (else_clause_tokens c)
-  else_clause_prints (else_clause block) = (word_prints before space_prints) before compound_prints block
+  else_clause_prints (else_clause a block) = line_of_attributes a before (word_prints before space_prints) before compound_prints block
 
   switch_prints : {n : ℕ} (s : SwitchStatement) → Prints n (print_switch s) (switch_pieces n s) (switch_tokens s)
   switch_prints {n} (switch e body_attributes cs) =
@@ -166,7 +168,7 @@ mutual
   maybe_continuing_prints {n} (one_continuing c) = indented_prints (continuing_filled c) (continuing_prints c) before line_prints n
 
   continuing_prints : {n : ℕ} (c : ContinuingStatement) → Prints n (print_continuing c) (continuing_pieces n c) (continuing_tokens c)
-  continuing_prints (continuing body condition) = (word_prints before space_prints) before opened_prints body before break_if_prints condition before word_prints
+  continuing_prints (continuing a body condition) = line_of_attributes a before (word_prints before space_prints) before opened_prints body before break_if_prints condition before word_prints
 
   for_prints : {n : ℕ} (s : ForStatement) → Prints n (print_for s) (for_pieces n s) (for_tokens s)
   for_prints (repeat_for init condition update block) =

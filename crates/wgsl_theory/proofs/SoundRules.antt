@@ -11,7 +11,7 @@ use Rattle.wgsl_canonical_theory.specs.CanonicalUnits.{without_place}
 use Rattle.wgsl_canonical_theory.proofs.Gives.{GivesBy, none_sound, or_sound, gives_sound, chain_sound, sign_before, sign_behind}
 use Rattle.wgsl_theory.proofs.Ends.{IsNameText}
 use Rattle.wgsl_theory.proofs.SoundExpressions.{IsSoundLiteral, IsPrimary, IsPrimaryNode, IsOperandNode, IsSoundExpression, IsSoundNode, IsSoundCall, IsSoundType}
-use Rattle.wgsl_theory.proofs.SoundUnits.{IfSome, Every, IsSoundAttribute, EndsWithName, EndsWithNameNode, IsSoundSelector, IsSoundStatement, IsSoundCompound, IsSoundClause, IsSoundContinuing, IsSoundDirective, IsSoundMember, IsSoundParameter, IsSoundGlobal, IsSoundUnit, Every-behind}
+use Rattle.wgsl_theory.proofs.SoundUnits.{IfSome, Every, IsSoundAttribute, EndsWithName, EndsWithNameNode, IsSoundSelector, IsSoundStatement, IsSoundCompound, IsSoundClause, IsSoundContinuing, IsSoundDirective, IsSoundMember, IsSoundParameter, IsSoundGlobal, IsSoundUnit, Every-behind, AreSoundAttributes}
 use Rattle.wgsl_theory.proofs.Scanned.{IsScanned}
 
 abbrev pub IsSoundStatementNode : StatementNode → Type 0
@@ -40,7 +40,7 @@ Sound lhs_expression v = IsOperandNode v × EndsWithNameNode v × IsSoundNode v
 Sound attribute v = IsSoundAttribute (attribute_node v).node
 Sound compound_statement v = IsSoundCompound v
 Sound statement v = IsSoundStatementNode v
-Sound const_assert v = IsSoundNode v.expression
+Sound const_assert v = AreSoundAttributes v.attributes × IsSoundNode v.node.expression
 Sound switch_clause v = IsSoundClause v
 Sound case_selector v = IsSoundSelector v
 Sound continuing_statement v = IsSoundContinuing v

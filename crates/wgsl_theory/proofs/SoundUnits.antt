@@ -3,6 +3,7 @@ use Rattle.std.proofs.Common.{ℕ, ◌==◌, Bool, true, false, List, [], ◌∷
 use Rattle.wgsl_model.specs.Spanned.{Spanned}
 use Rattle.wgsl_model.specs.Expressions.{ExpressionNode, expression_node, Expression, literal, unary, binary}
 use Rattle.wgsl_model.specs.Attributes.{Attribute, with_argument, diagnostic, workgroup_size, type_constraint, custom, Attributes}
+use Rattle.wgsl_model.specs.Attributed.{Attributed}
 use Rattle.wgsl_model.specs.Statements.{Declaration, BreakIfStatement, CaseSelector, default_selector, expression_selector, statement_node, Statement, compound, assignment, increment, decrement, if_statement, switch_statement, loop_statement, for_statement, while_statement, return_statement, function_call_statement, const_assert, declaration, CompoundStatement, compound_statement, IfStatement, if_else, IfClause, if_clause, ElseIfClause, else_if_clause, ElseClause, else_clause, SwitchStatement, switch, SwitchClause, switch_clause, LoopStatement, repeat, ContinuingStatement, continuing, ForStatement, repeat_for, WhileStatement, repeat_while, StatementNodes, no_statements, statement_before, ElseIfClauses, no_else_ifs, else_if_before, MaybeElseClause, no_else, one_else, SwitchClauses, no_clauses, clause_before, MaybeContinuing, no_continuing, one_continuing, MaybeStatement, no_statement, one_statement, statement, UnattributedStatement}
 use Rattle.wgsl_model.specs.Units as units
 use Rattle.wgsl_model.specs.Units.{GlobalDirective, UnattributedDirective, StructMember, FormalParameter, Function, GlobalDeclaration, UnattributedDeclaration, TranslationUnit}
@@ -66,6 +67,9 @@ abbrev pub IsSoundSelector : CaseSelector → Type 0
 IsSoundSelector default_selector = Unit {0}
 IsSoundSelector (expression_selector e) = IsSoundNode e
 
+abbrev pub IsSoundBreakIf : Attributed BreakIfStatement → Type 0
+IsSoundBreakIf b = AreSoundAttributes b.attributes × IsSoundNode b.node.expression
+
 abbrev mutual
   pub IsSoundStatement : Statement → Type 0
   IsSoundStatement (statement attributes s) = AreSoundAttributes attributes × IsSoundUnattributed s
@@ -104,14 +108,14 @@ abbrev mutual
   AreSoundElseIfs (else_if_before c cs) = IsSoundElseIf c × AreSoundElseIfs cs
 
   pub IsSoundElseIf : ElseIfClause → Type 0
-  IsSoundElseIf (else_if_clause e block) = IsSoundNode e × IsSoundCompound block
+  IsSoundElseIf (else_if_clause attributes e block) = AreSoundAttributes attributes × IsSoundNode e × IsSoundCompound block
 
   pub IsSoundElse : MaybeElseClause → Type 0
   IsSoundElse no_else = Unit {0}
   IsSoundElse (one_else c) = IsSoundElseClause c
 
   pub IsSoundElseClause : ElseClause → Type 0
-  IsSoundElseClause (else_clause block) = IsSoundCompound block
+  IsSoundElseClause (else_clause attributes block) = AreSoundAttributes attributes × IsSoundCompound block
 
   pub IsSoundSwitch : SwitchStatement → Type 0
   IsSoundSwitch (switch e body_attributes cs) = IsSoundNode e × AreSoundAttributes body_attributes × AreSoundClauses cs
@@ -131,7 +135,7 @@ abbrev mutual
   IsSoundMaybeContinuing (one_continuing c) = IsSoundContinuing c
 
   pub IsSoundContinuing : ContinuingStatement → Type 0
-  IsSoundContinuing (continuing body condition) = IsSoundCompound body × IfSome (λ (b : BreakIfStatement). IsSoundNode b.expression) condition
+  IsSoundContinuing (continuing attributes body condition) = AreSoundAttributes attributes × IsSoundCompound body × IfSome IsSoundBreakIf condition
 
   pub IsSoundFor : ForStatement → Type 0
   IsSoundFor (repeat_for init condition update block) = IsSoundPart init × IfSome IsSoundNode condition × IsSoundPart update × IsSoundCompound block

@@ -51,14 +51,14 @@ mutual
   if_clause_printed (tree.if_clause e block) = λ i. codes "if " ++ print_expression_node e ++ codes " " ++ compound_printed block i
 
   else_if_clause_printed : (c : tree.ElseIfClause) → printed.print_else_if_clause (items.full_else_if_clause c) ≡ printed.print_else_if_clause c
-  else_if_clause_printed (tree.else_if_clause e block) = λ i. codes "else if " ++ print_expression_node e ++ codes " " ++ compound_printed block i
+  else_if_clause_printed (tree.else_if_clause attributes e block) = λ i. print_attribute_line attributes ++ codes "else if " ++ print_expression_node e ++ codes " " ++ compound_printed block i
 
   else_ifs_printed : (cs : tree.ElseIfClauses) → printed.print_else_ifs (items.full_else_ifs cs) ≡ printed.print_else_ifs cs
   else_ifs_printed tree.no_else_ifs = refl
   else_ifs_printed (tree.else_if_before c cs) = λ i. codes "\n" ++ else_if_clause_printed c i ++ else_ifs_printed cs i
 
   else_clause_printed : (c : tree.ElseClause) → printed.print_else_clause (items.full_else_clause c) ≡ printed.print_else_clause c
-  else_clause_printed (tree.else_clause block) = λ i. codes "else " ++ compound_printed block i
+  else_clause_printed (tree.else_clause attributes block) = λ i. print_attribute_line attributes ++ codes "else " ++ compound_printed block i
 
   else_printed : (c : tree.MaybeElseClause) → printed.print_else (items.full_else c) ≡ printed.print_else c
   else_printed tree.no_else = refl
@@ -83,7 +83,7 @@ mutual
   continuing_line_kept (tree.one_continuing c) = ap (λ text. printed.indented_line text) (continuing_printed c)
 
   continuing_printed : (c : tree.ContinuingStatement) → printed.print_continuing (items.full_continuing c) ≡ printed.print_continuing c
-  continuing_printed (tree.continuing body condition) = λ i. codes "continuing " ++ opened_printed body i ++ printed.break_if_line condition ++ codes "}"
+  continuing_printed (tree.continuing attributes body condition) = λ i. print_attribute_line attributes ++ codes "continuing " ++ opened_printed body i ++ printed.break_if_line condition ++ codes "}"
 
   for_printed : (s : tree.ForStatement) → printed.print_for (items.full_for s) ≡ printed.print_for s
   for_printed (tree.repeat_for init condition update block) = λ i. codes "for (" ++ part_printed init i ++ codes "; " ++ print_condition condition ++ codes "; " ++ part_printed update i ++ codes ") " ++ compound_printed block i

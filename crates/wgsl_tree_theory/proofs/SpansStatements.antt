@@ -1,6 +1,7 @@
 -- The printed texts of declarations of values and of statements are the same with the spans set aside.
 use Rattle.std.proofs.Common.{◌≡◌, List, [], ◌∷◌, ◌++◌, map, refl, ap, codes, if◌then◌else◌, Option, Some, None}
 use Rattle.std.specs.Option.{option_map}
+use Rattle.wgsl_model.specs.Attributed.{Attributed}
 use Rattle.wgsl_model.specs.OperatorTexts.{assignment_operator_text}
 use Rattle.wgsl_model.specs.Expressions.{ExpressionNode, TypeExpression}
 use Rattle.wgsl_model.specs.Statements as tree
@@ -28,9 +29,9 @@ returned_bare : (e : Option ExpressionNode) → print_returned (option_map bare_
 returned_bare None = refl
 returned_bare (Some e) = λ i. codes " " ++ node_bare e i
 
-break_if_bare : (b : Option tree.BreakIfStatement) → printed.break_if_line (option_map bare.bare_break_if b) ≡ printed.break_if_line b
+break_if_bare : (b : Option (Attributed tree.BreakIfStatement)) → printed.break_if_line (option_map (bare.bare_attributed bare.bare_break_if) b) ≡ printed.break_if_line b
 break_if_bare None = refl
-break_if_bare (Some b) = λ i. printed.indented_line (codes "break if " ++ node_bare b.expression i ++ codes ";")
+break_if_bare (Some b) = λ i. printed.indented_line (attribute_line_bare b.attributes i ++ (codes "break if " ++ node_bare b.node.expression i ++ codes ";"))
 
 selectors_bare : (ss : List tree.CaseSelector) → map print_selector (map bare.bare_selector ss) ≡ map print_selector ss
 selectors_bare [] = refl
@@ -87,14 +88,14 @@ mutual
   if_clause_bare (tree.if_clause e block) = λ i. codes "if " ++ node_bare e i ++ codes " " ++ compound_bare block i
 
   else_if_clause_bare : (c : tree.ElseIfClause) → printed.print_else_if_clause (bare.bare_else_if_clause c) ≡ printed.print_else_if_clause c
-  else_if_clause_bare (tree.else_if_clause e block) = λ i. codes "else if " ++ node_bare e i ++ codes " " ++ compound_bare block i
+  else_if_clause_bare (tree.else_if_clause attributes e block) = λ i. attribute_line_bare attributes i ++ codes "else if " ++ node_bare e i ++ codes " " ++ compound_bare block i
 
   else_ifs_bare : (cs : tree.ElseIfClauses) → printed.print_else_ifs (bare.bare_else_ifs cs) ≡ printed.print_else_ifs cs
   else_ifs_bare tree.no_else_ifs = refl
   else_ifs_bare (tree.else_if_before c cs) = λ i. codes "\n" ++ else_if_clause_bare c i ++ else_ifs_bare cs i
 
   else_clause_bare : (c : tree.ElseClause) → printed.print_else_clause (bare.bare_else_clause c) ≡ printed.print_else_clause c
-  else_clause_bare (tree.else_clause block) = λ i. codes "else " ++ compound_bare block i
+  else_clause_bare (tree.else_clause attributes block) = λ i. attribute_line_bare attributes i ++ codes "else " ++ compound_bare block i
 
   else_bare : (c : tree.MaybeElseClause) → printed.print_else (bare.bare_else c) ≡ printed.print_else c
   else_bare tree.no_else = refl
@@ -120,7 +121,7 @@ mutual
   continuing_line_bare (tree.one_continuing c) = ap (λ text. printed.indented_line text) (continuing_bare c)
 
   continuing_bare : (c : tree.ContinuingStatement) → printed.print_continuing (bare.bare_continuing c) ≡ printed.print_continuing c
-  continuing_bare (tree.continuing body condition) = λ i. codes "continuing " ++ opened_bare body i ++ break_if_bare condition i ++ codes "}"
+  continuing_bare (tree.continuing attributes body condition) = λ i. attribute_line_bare attributes i ++ codes "continuing " ++ opened_bare body i ++ break_if_bare condition i ++ codes "}"
 
   for_bare : (s : tree.ForStatement) → printed.print_for (bare.bare_for s) ≡ printed.print_for s
   for_bare (tree.repeat_for init condition update block) =

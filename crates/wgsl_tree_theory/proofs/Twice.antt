@@ -45,14 +45,14 @@ mutual
   if_clause_twice (tree.if_clause e block) = ap (tree.if_clause e) (compound_twice block)
 
   else_if_clause_twice : (c : tree.ElseIfClause) → items.full_else_if_clause (items.full_else_if_clause c) ≡ items.full_else_if_clause c
-  else_if_clause_twice (tree.else_if_clause e block) = ap (tree.else_if_clause e) (compound_twice block)
+  else_if_clause_twice (tree.else_if_clause attributes e block) = ap (tree.else_if_clause attributes e) (compound_twice block)
 
   else_ifs_twice : (cs : tree.ElseIfClauses) → items.full_else_ifs (items.full_else_ifs cs) ≡ items.full_else_ifs cs
   else_ifs_twice tree.no_else_ifs = refl
   else_ifs_twice (tree.else_if_before c cs) = λ i. tree.else_if_before (else_if_clause_twice c i) (else_ifs_twice cs i)
 
   else_clause_twice : (c : tree.ElseClause) → items.full_else_clause (items.full_else_clause c) ≡ items.full_else_clause c
-  else_clause_twice (tree.else_clause block) = ap (λ b. tree.else_clause b) (compound_twice block)
+  else_clause_twice (tree.else_clause attributes block) = ap (tree.else_clause attributes) (compound_twice block)
 
   else_twice : (c : tree.MaybeElseClause) → items.full_else (items.full_else c) ≡ items.full_else c
   else_twice tree.no_else = refl
@@ -76,7 +76,7 @@ mutual
   maybe_continuing_twice (tree.one_continuing c) = ap (λ c. tree.one_continuing c) (continuing_twice c)
 
   continuing_twice : (c : tree.ContinuingStatement) → items.full_continuing (items.full_continuing c) ≡ items.full_continuing c
-  continuing_twice (tree.continuing body condition) = ap (λ b. tree.continuing b condition) (compound_twice body)
+  continuing_twice (tree.continuing attributes body condition) = ap (λ b. tree.continuing attributes b condition) (compound_twice body)
 
   for_twice : (s : tree.ForStatement) → items.full_for (items.full_for s) ≡ items.full_for s
   for_twice (tree.repeat_for init condition update block) = λ i. tree.repeat_for (part_twice init i) condition (part_twice update i) (compound_twice block i)

@@ -8,6 +8,7 @@ use crate::unit::{
     GlobalDirective, RequiresDirective, Struct, StructMember, TranslationUnit, TypeAlias,
 };
 use std::alloc::{AllocError, Global};
+use wgsl_simple_statement::clone_attributes;
 use wgsl_span::CloneWith;
 
 impl CloneWith for TranslationUnit {
@@ -42,6 +43,7 @@ impl CloneWith for DiagnosticDirective {
 
     fn clone_with(&self, alloc: Global) -> Result<Self, AllocError> {
         Ok(DiagnosticDirective {
+            attributes: clone_attributes(&self.attributes, alloc)?,
             severity: self.severity,
             rule_name: String::from_str(alloc, self.rule_name.as_str())?,
         })
@@ -53,6 +55,7 @@ impl CloneWith for EnableDirective {
 
     fn clone_with(&self, alloc: Global) -> Result<Self, AllocError> {
         Ok(EnableDirective {
+            attributes: clone_attributes(&self.attributes, alloc)?,
             extensions: clone_names(&self.extensions, alloc)?,
         })
     }
@@ -63,6 +66,7 @@ impl CloneWith for RequiresDirective {
 
     fn clone_with(&self, alloc: Global) -> Result<Self, AllocError> {
         Ok(RequiresDirective {
+            attributes: clone_attributes(&self.attributes, alloc)?,
             extensions: clone_names(&self.extensions, alloc)?,
         })
     }
@@ -98,6 +102,7 @@ impl CloneWith for TypeAlias {
 
     fn clone_with(&self, alloc: Global) -> Result<Self, AllocError> {
         Ok(TypeAlias {
+            attributes: clone_attributes(&self.attributes, alloc)?,
             ident: self.ident.clone_with(alloc)?,
             ty: self.ty.clone_with(alloc)?,
         })
@@ -109,6 +114,7 @@ impl CloneWith for Struct {
 
     fn clone_with(&self, alloc: Global) -> Result<Self, AllocError> {
         Ok(Struct {
+            attributes: clone_attributes(&self.attributes, alloc)?,
             ident: self.ident.clone_with(alloc)?,
             members: self.members.clone_with(alloc)?,
         })
@@ -120,7 +126,7 @@ impl CloneWith for StructMember {
 
     fn clone_with(&self, alloc: Global) -> Result<Self, AllocError> {
         Ok(StructMember {
-            attributes: self.attributes.clone_with(alloc)?,
+            attributes: clone_attributes(&self.attributes, alloc)?,
             ident: self.ident.clone_with(alloc)?,
             ty: self.ty.clone_with(alloc)?,
         })
@@ -132,7 +138,7 @@ impl CloneWith for FormalParameter {
 
     fn clone_with(&self, alloc: Global) -> Result<Self, AllocError> {
         Ok(FormalParameter {
-            attributes: self.attributes.clone_with(alloc)?,
+            attributes: clone_attributes(&self.attributes, alloc)?,
             ident: self.ident.clone_with(alloc)?,
             ty: self.ty.clone_with(alloc)?,
         })
@@ -144,10 +150,10 @@ impl CloneWith for Function {
 
     fn clone_with(&self, alloc: Global) -> Result<Self, AllocError> {
         Ok(Function {
-            attributes: self.attributes.clone_with(alloc)?,
+            attributes: clone_attributes(&self.attributes, alloc)?,
             ident: self.ident.clone_with(alloc)?,
             parameters: self.parameters.clone_with(alloc)?,
-            return_attributes: self.return_attributes.clone_with(alloc)?,
+            return_attributes: clone_attributes(&self.return_attributes, alloc)?,
             return_type: self.return_type.clone_with(alloc)?,
             body: self.body.clone_with(alloc)?,
         })

@@ -93,19 +93,27 @@ impl TranslationUnit {
 }
 
 impl TypeAlias {
-    pub fn new(ident: Ident, ty: TypeExpression) -> Self
-        ensures { result ≡ record { ident = ident; ty = ty } }
+    /// The alias without attributes.
+    pub fn new(alloc: Global, ident: Ident, ty: TypeExpression) -> Self
+        ensures attributes { result.attributes.items ≡ [] }
+        ensures ident { result.ident ≡ ident }
+        ensures ty { result.ty ≡ ty }
     {
-        TypeAlias { ident, ty }
+        TypeAlias {
+            attributes: Vec::new(alloc),
+            ident,
+            ty,
+        }
     }
 }
 
 impl Struct {
-    /// The structure without members.
+    /// The structure without attributes and members.
     pub fn new(alloc: Global, ident: Ident) -> Self
-        ensures { struct_view result ≡ record { ident = ident_name ident; members = [] } }
+        ensures { struct_view result ≡ without_attributes (record { ident = ident_name ident; members = [] }) }
     {
         Struct {
+            attributes: Vec::new(alloc),
             ident,
             members: Vec::new(alloc),
         }

@@ -1,8 +1,9 @@
 //! The printed texts.
 
-ghost use Rattle.std.specs.Prelude.{Some, ◌++◌, codes, map};
+ghost use Rattle.std.specs.Prelude.{Some, ◌++◌, codes, map, string_bytes};
 ghost use Rattle.std.specs.Option.{option_map};
 ghost use Rattle.std.specs.Fmt.{WritesOnOk};
+ghost use Rattle.wgsl_model.specs.Joining.{joined};
 ghost use Rattle.wgsl_model.specs.Indentation.{indented};
 ghost use Rattle.wgsl_model.specs.PrintedAttributes.{print_attribute_line};
 ghost use Rattle.wgsl_model.specs.PrintedDeclarations.{print_attributed};
@@ -21,6 +22,7 @@ use std::fmt;
 use std::fmt::Write;
 use wgsl_attribute::{Attributes, AttributesBefore};
 use wgsl_expression::{Ident, TypeExpression};
+use wgsl_simple_statement::write_attributes;
 use wgsl_writer::{Depth, write_indented, write_joined};
 
 impl fmt::Display for TranslationUnit {
@@ -67,33 +69,55 @@ impl fmt::Display for GlobalDirective {
 }
 
 impl fmt::Display for DiagnosticDirective {
-    ghost output = { λ directive. Some (print_diagnostic (diagnostic_directive_view directive)) };
+    ghost output = { λ directive. Some (print_attributed print_diagnostic (diagnostic_directive_view directive)) };
 
     fn fmt<W: fmt::Write>(&self, f: &mut fmt::Formatter<W>) -> fmt::Result {
-        let severity = self.severity;
-        let rule_name = &self.rule_name;
-        write!(f, "diagnostic ({severity}, {rule_name});")
+        write_attributes(&self.attributes, f)?;
+        write_filter(self, f)
     }
 }
 
+/// Writes a filter of diagnostics without its attributes.
+fn write_filter<W: fmt::Write>(
+    directive: &DiagnosticDirective,
+    f: &mut fmt::Formatter<W>,
+) -> fmt::Result
+    ensures { WritesOnOk W.write_str_gives f.old result (print_diagnostic (diagnostic_directive_view directive.now).node) f.new }
+{
+    let severity = directive.severity;
+    let rule_name = &directive.rule_name;
+    write!(f, "diagnostic ({severity}, {rule_name});")
+}
+
 impl fmt::Display for EnableDirective {
-    ghost output = { λ directive. Some (print_enable (enable_directive_view directive)) };
+    ghost output = { λ directive. Some (print_attributed print_enable (enable_directive_view directive)) };
 
     fn fmt<W: fmt::Write>(&self, f: &mut fmt::Formatter<W>) -> fmt::Result {
-        f.write_str("enable ")?;
-        write_joined(&self.extensions, ", ", f)?;
-        f.write_str(";")
+        write_attributes(&self.attributes, f)?;
+        write_names("enable ", &self.extensions, f)
     }
 }
 
 impl fmt::Display for RequiresDirective {
-    ghost output = { λ directive. Some (print_requires (requires_directive_view directive)) };
+    ghost output = { λ directive. Some (print_attributed print_requires (requires_directive_view directive)) };
 
     fn fmt<W: fmt::Write>(&self, f: &mut fmt::Formatter<W>) -> fmt::Result {
-        f.write_str("requires ")?;
-        write_joined(&self.extensions, ", ", f)?;
-        f.write_str(";")
+        write_attributes(&self.attributes, f)?;
+        write_names("requires ", &self.extensions, f)
     }
+}
+
+/// Writes a directive without its attributes: a word, and names with `, ` between each two.
+fn write_names<W: fmt::Write>(
+    word: &str,
+    names: &[String],
+    f: &mut fmt::Formatter<W>,
+) -> fmt::Result
+    ensures { WritesOnOk W.write_str_gives f.old result (word.now ++ joined (codes ", ") (map string_bytes names.now) ++ codes ";") f.new }
+{
+    f.write_str(word)?;
+    write_joined(names, ", ", f)?;
+    f.write_str(";")
 }
 
 impl fmt::Display for GlobalDeclaration {
@@ -112,9 +136,10 @@ impl fmt::Display for GlobalDeclaration {
 }
 
 impl fmt::Display for TypeAlias {
-    ghost output = { λ alias. Some (print_type_alias (type_alias_view alias)) };
+    ghost output = { λ alias. Some (print_attributed print_type_alias (type_alias_view alias)) };
 
     fn fmt<W: fmt::Write>(&self, f: &mut fmt::Formatter<W>) -> fmt::Result {
+        write_attributes(&self.attributes, f)?;
         let ident = &self.ident;
         let ty = &self.ty;
         write!(f, "alias {ident} = {ty};")
@@ -122,14 +147,22 @@ impl fmt::Display for TypeAlias {
 }
 
 impl fmt::Display for Struct {
-    ghost output = { λ structure. Some (print_struct (struct_view structure)) };
+    ghost output = { λ structure. Some (print_attributed print_struct (struct_view structure)) };
 
     fn fmt<W: fmt::Write>(&self, f: &mut fmt::Formatter<W>) -> fmt::Result {
-        let ident = &self.ident;
-        write!(f, "struct {ident} {{\n")?;
-        write_members(&self.members, f)?;
-        f.write_str("\n}")
+        write_attributes(&self.attributes, f)?;
+        write_struct(self, f)
     }
+}
+
+/// Writes a structure without its attributes.
+fn write_struct<W: fmt::Write>(structure: &Struct, f: &mut fmt::Formatter<W>) -> fmt::Result
+    ensures { WritesOnOk W.write_str_gives f.old result (print_struct (struct_view structure.now).node) f.new }
+{
+    let ident = &structure.ident;
+    write!(f, "struct {ident} {{\n")?;
+    write_members(&structure.members, f)?;
+    f.write_str("\n}")
 }
 
 /// Writes members on lines of their own, four spaces in.

@@ -3,11 +3,12 @@
 ghost use Rattle.std.specs.Prelude.{Some};
 ghost use Rattle.wgsl_expression.specs.View.{ident_name};
 ghost use Rattle.wgsl_unit.specs.Named.{declared_name};
+ghost use Rattle.wgsl_unit.specs.AttributeLists.{declaration_list, declaration_with_list};
 
 use crate::unit::{FormalParameter, Function, GlobalDeclaration, Struct, StructMember, TypeAlias};
 use wgsl_attribute::Attributes;
 use wgsl_expression::Ident;
-use wgsl_syntax_node::{NodeAttributes, NodeName, UnattributedNode};
+use wgsl_syntax_node::{NodeAttributes, NodeName};
 
 impl NodeName for GlobalDeclaration {
     ghost own_name = { declared_name };
@@ -23,7 +24,33 @@ impl NodeName for GlobalDeclaration {
     }
 }
 
-impl UnattributedNode for GlobalDeclaration {}
+impl NodeAttributes for GlobalDeclaration {
+    ghost list_of = { declaration_list };
+
+    ghost with_list = { declaration_with_list };
+
+    fn own_attributes(&self) -> Option<&Attributes> {
+        match self {
+            GlobalDeclaration::Void => None,
+            GlobalDeclaration::Declaration(node) => Some(&node.attributes),
+            GlobalDeclaration::TypeAlias(node) => Some(&node.attributes),
+            GlobalDeclaration::Struct(node) => Some(&node.attributes),
+            GlobalDeclaration::Function(node) => Some(&node.attributes),
+            GlobalDeclaration::ConstAssert(node) => Some(&node.attributes),
+        }
+    }
+
+    fn own_attributes_mut(&mut self) -> Option<&mut Attributes> {
+        match self {
+            GlobalDeclaration::Void => None,
+            GlobalDeclaration::Declaration(node) => Some(&mut node.attributes),
+            GlobalDeclaration::TypeAlias(node) => Some(&mut node.attributes),
+            GlobalDeclaration::Struct(node) => Some(&mut node.attributes),
+            GlobalDeclaration::Function(node) => Some(&mut node.attributes),
+            GlobalDeclaration::ConstAssert(node) => Some(&mut node.attributes),
+        }
+    }
+}
 
 impl NodeName for TypeAlias {
     ghost own_name = { λ node. Some (ident_name node.ident) };
@@ -33,7 +60,19 @@ impl NodeName for TypeAlias {
     }
 }
 
-impl UnattributedNode for TypeAlias {}
+impl NodeAttributes for TypeAlias {
+    ghost list_of = { λ node. Some node.attributes };
+
+    ghost with_list = { λ node list. record node { attributes = list } };
+
+    fn own_attributes(&self) -> Option<&Attributes> {
+        Some(&self.attributes)
+    }
+
+    fn own_attributes_mut(&mut self) -> Option<&mut Attributes> {
+        Some(&mut self.attributes)
+    }
+}
 
 impl NodeName for Struct {
     ghost own_name = { λ node. Some (ident_name node.ident) };
@@ -43,7 +82,19 @@ impl NodeName for Struct {
     }
 }
 
-impl UnattributedNode for Struct {}
+impl NodeAttributes for Struct {
+    ghost list_of = { λ node. Some node.attributes };
+
+    ghost with_list = { λ node list. record node { attributes = list } };
+
+    fn own_attributes(&self) -> Option<&Attributes> {
+        Some(&self.attributes)
+    }
+
+    fn own_attributes_mut(&mut self) -> Option<&mut Attributes> {
+        Some(&mut self.attributes)
+    }
+}
 
 impl NodeName for StructMember {
     ghost own_name = { λ node. Some (ident_name node.ident) };

@@ -24,6 +24,7 @@ pub enum GlobalDirective {
 /// `diagnostic` with a severity and the name of a rule; the parts of a name in two are joined by a `.`.
 #[derive(PartialEq, Debug, Drop)]
 pub struct DiagnosticDirective {
+    pub attributes: Attributes,
     pub severity: DiagnosticSeverity,
     pub rule_name: String,
 }
@@ -31,12 +32,14 @@ pub struct DiagnosticDirective {
 /// `enable` with the names of extensions.
 #[derive(PartialEq, Debug, Drop)]
 pub struct EnableDirective {
+    pub attributes: Attributes,
     pub extensions: Vec<String>,
 }
 
 /// `requires` with the names of extensions.
 #[derive(PartialEq, Debug, Drop)]
 pub struct RequiresDirective {
+    pub attributes: Attributes,
     pub extensions: Vec<String>,
 }
 
@@ -58,12 +61,14 @@ pub type GlobalDeclarationNode = Spanned<GlobalDeclaration>;
 /// A further name for a type.
 #[derive(PartialEq, Debug, Drop)]
 pub struct TypeAlias {
+    pub attributes: Attributes,
     pub ident: Ident,
     pub ty: TypeExpression,
 }
 
 #[derive(PartialEq, Debug, Drop)]
 pub struct Struct {
+    pub attributes: Attributes,
     pub ident: Ident,
     pub members: Vec<StructMemberNode>,
 }

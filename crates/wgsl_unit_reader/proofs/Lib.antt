@@ -1,3 +1,5 @@
 pub mod Turns
+pub mod Declarations
+pub mod Front
 pub mod Results
 pub mod Hints

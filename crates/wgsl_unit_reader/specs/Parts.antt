@@ -1,43 +1,48 @@
 -- What is read by the parts of rules that are no symbols of the grammar.
-use Rattle.std.specs.Prelude.{ℕ, List, [], ◌∷◌, Option}
+use Rattle.std.specs.Prelude.{ℕ, List, [], ◌∷◌, ◌++◌, Option, cond}
 use Rattle.grammar.specs.Grammar.{Grammar.symbol}
-use Rattle.grammar.specs.Notation.{◌then◌, ◌or◌, ◌gives◌, ◌▹◌, ◌◃◌, ◌means◌, optional}
-use Rattle.grammar.specs.States.{State, Read, go}
-use Rattle.wgsl_model.specs.Classes.{SymAttr, SymArrow, SymSemicolon, KwFn, KwOverride, KwVar}
+use Rattle.grammar.specs.Notation.{◌then◌, ◌gives◌, ◌▹◌, ◌◃◌, optional}
+use Rattle.grammar.specs.States.{State, Read, Read.done, ◌>>=◌, is_any, span_from, go}
+use Rattle.wgsl_model.specs.Classes.{SymAttr, SymArrow, SymSemicolon, KwAlias, KwConst, KwConstAssert, KwDiagnostic, KwEnable, KwFn, KwOverride, KwRequires, KwStruct, KwVar}
+use Rattle.wgsl_model.specs.Spanned.{Spanned, spanned}
 use Rattle.wgsl_model.specs.Expressions.{TypeExpression}
 use Rattle.wgsl_model.specs.Attributes.{Attributes}
-use Rattle.wgsl_model.specs.Attributed.{with_attributes, without_attributes}
+use Rattle.wgsl_model.specs.Attributed.{with_attributes}
 use Rattle.wgsl_model.specs.Units.{GlobalDeclaration, UnattributedDeclaration}
-use Rattle.wgsl_model.specs.UnitParts.{assert_declaration}
-use Rattle.wgsl_model.specs.Symbols.{Symbol.type_specifier, Symbol.const_assert, Symbol.const_declaration, Symbol.alias_declaration, Symbol.struct_declaration}
-use Rattle.wgsl_grammar_theory.specs.Factored.{FactoredRule, FactoredSymbol.of, FactoredSymbol.further, Further.attribute_list, Further.var_part, Further.override_part, Further.function_part, attributes_before}
+use Rattle.wgsl_model.specs.Symbols.{Symbol.type_specifier}
+use Rattle.wgsl_grammar_theory.specs.Factored.{FactoredSymbol.of, FactoredSymbol.further, Further.attribute_list, Further.assert_part, Further.attributed_part, Further.led_part, Further.declaration_list}
 use Rattle.wgsl_grammar_theory.specs.Tables.{tables}
 use Rattle.wgsl_grammar_theory.specs.Reader.{reader}
+use Rattle.wgsl_attribute_reader.specs.Behind.{behind_attributes}
 
 -- "->" A* TypeSpecifier, or nothing
 unfoldable pub return_part_at : State → Read (Option (Attributes × TypeExpression))
 return_part_at s = go tables reader (optional (SymArrow ▹ symbol (further attribute_list) then symbol (of type_specifier))) s
 
--- "const_assert" Expression ";"
-unfoldable pub const_assert_declaration_at : State → Read GlobalDeclaration
-const_assert_declaration_at s = go tables reader (symbol (of const_assert) ◃ SymSemicolon gives assert_declaration) s
+-- "const_assert" Expression ";", without its attributes
+unfoldable pub assert_declaration_at : State → Read UnattributedDeclaration
+assert_declaration_at s = go tables reader (symbol (further assert_part) ◃ SymSemicolon gives UnattributedDeclaration.const_assert) s
 
--- the tokens that begin a declaration with attributes, or one that may have some
-abbrev pub begin_attributed_declaration : List ℕ
-begin_attributed_declaration = SymAttr ∷ KwVar ∷ KwOverride ∷ KwFn ∷ []
+-- the tokens that begin a function, an `override` or a `var` behind attributes
+abbrev pub begin_attributed_part : List ℕ
+begin_attributed_part = KwFn ∷ KwOverride ∷ KwVar ∷ []
 
--- A*, then a `var`, an `override` or a function
-abbrev pub attributed_declaration : FactoredRule GlobalDeclaration
-attributed_declaration = attributes_before with_attributes (symbol (further var_part) or symbol (further override_part) or symbol (further function_part))
+-- a declaration from its first word on, without its attributes
+unfoldable pub declaration_part_at : State → Read UnattributedDeclaration
+declaration_part_at s = cond (is_any begin_attributed_part s) (reader (further attributed_part) s) (reader (further led_part) s)
 
-unfoldable pub attributed_declaration_at : State → Read GlobalDeclaration
-attributed_declaration_at s = go tables reader attributed_declaration s
+-- a declaration behind its attributes, which begin at a place
+unfoldable pub declaration_behind_at : Attributes → ℕ → State → Read (Spanned GlobalDeclaration)
+declaration_behind_at a start s = behind_attributes with_attributes a declaration_part_at s >>= λ d s'. done (spanned d (span_from start s')) s'
 
--- a declaration, without where it stands
-unfoldable pub unplaced_declaration_at : State → Read GlobalDeclaration
-unplaced_declaration_at s = go tables reader (SymSemicolon means without_attributes UnattributedDeclaration.void
-    or attributed_declaration
-    or symbol (of const_declaration)
-    or symbol (of alias_declaration)
-    or symbol (of struct_declaration)
-    or symbol (of const_assert) ◃ SymSemicolon gives assert_declaration) s
+-- further declarations behind some
+unfoldable pub further_declarations_at : List (Spanned GlobalDeclaration) → State → Read (List (Spanned GlobalDeclaration))
+further_declarations_at declarations s = reader (further declaration_list) s >>= λ more s'. done (declarations ++ more) s'
+
+-- the tokens that begin a directive behind attributes
+abbrev pub begin_directive_part : List ℕ
+begin_directive_part = KwDiagnostic ∷ KwEnable ∷ KwRequires ∷ []
+
+-- the tokens that begin attributes, and a directive or a declaration behind them
+abbrev pub begin_attributed : List ℕ
+begin_attributed = SymAttr ∷ KwDiagnostic ∷ KwEnable ∷ KwRequires ∷ KwFn ∷ KwOverride ∷ KwVar ∷ KwAlias ∷ KwConst ∷ KwConstAssert ∷ KwStruct ∷ []

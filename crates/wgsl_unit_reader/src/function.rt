@@ -2,7 +2,7 @@
 #![tactic(auto, unfolding(crate::proofs::Hints::definitions), using(crate::proofs::Hints::lemmas))]
 
 ghost use Rattle.std.specs.Prelude.{◌≡◌, map, option_map};
-ghost use Rattle.grammar.specs.Grammar.{Grammar.symbol};
+ghost use Rattle.wgsl_model.specs.Attributed.{with_attributes};
 ghost use Rattle.wgsl_model.specs.Symbols.{Symbol.formal_parameter};
 ghost use Rattle.wgsl_expression.specs.View.{type_expression_view};
 ghost use Rattle.wgsl_attribute.specs.View.{attributes_view};
@@ -10,7 +10,7 @@ ghost use Rattle.wgsl_unit.specs.View.{global_declaration_view, parameter_view};
 ghost use Rattle.wgsl_grammar_theory.specs.Factored.{FactoredSymbol.of, FactoredSymbol.further, Further.function_part, Further.parameter_rest};
 ghost use Rattle.wgsl_grammar_theory.specs.Reader.{reader};
 ghost use Rattle.wgsl_cursor.specs.Reading.{Parses, ParsesNullable};
-ghost use Rattle.wgsl_declaration_reader.specs.Parts.{behind_attributes};
+ghost use Rattle.wgsl_attribute_reader.specs.Behind.{behind_attributes};
 ghost use Rattle.wgsl_unit_reader.specs.Parts.{return_part_at};
 ghost use Rattle.wgsl_unit_reader.specs.Results.{returned_view, return_attributes, return_type};
 
@@ -25,12 +25,12 @@ use wgsl_token::kind::TokenKind;
 use wgsl_unit::{FormalParameter, Function, GlobalDeclaration};
 
 /// A function behind its attributes.
-pub fn parse_function(
+pub fn parse_function_part(
     alloc: Global,
     tokens: &mut Cursor,
     attributes: Attributes,
 ) -> Result<GlobalDeclaration, Fault>
-    ensures { Parses global_declaration_view result tokens.old tokens.new (behind_attributes (attributes_view attributes.items) (symbol (further function_part))) }
+    ensures { Parses global_declaration_view result tokens.old tokens.new (behind_attributes with_attributes (attributes_view attributes.items) (reader (further function_part))) }
 {
     tokens.expect(TokenKind::KwFn)?;
     let ident = tokens.ident()?;

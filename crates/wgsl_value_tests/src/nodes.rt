@@ -17,15 +17,16 @@ fn marked_block(alloc: Global) -> Result<CompoundStatement, AllocError> {
     Ok(block)
 }
 
-/// A block as a statement keeps its attributes, and answers none.
+/// A block as a statement answers the attributes of the block.
 #[test]
 fn attributes_of_a_block(rt: HostRuntime) -> Result<(), Fail> {
     let block = marked_block(rt.alloc())?;
     assert!(rt; block.contains_attribute(&Attribute::Const));
     let mut statement = Statement::from(block);
+    assert!(rt; statement.contains_attribute(&Attribute::Const));
     statement.retain_attributes_mut(|_| false);
     assert!(rt; statement.attributes().is_empty());
-    let text = "@const\n{\n\n}";
+    let text = "{\n\n}";
     assert_text(&rt, rt.alloc(), statement, Statement::clone, text)
 }
 

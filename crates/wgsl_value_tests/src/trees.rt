@@ -10,15 +10,14 @@ use wgsl_statement::{
     CompoundStatement, ConstAssert, Declaration, DeclarationKind, ForStatement,
     FunctionCallStatement, ReturnStatement, Statement, StatementNode, WhileStatement,
 };
-use wgsl_unit::{Struct, StructMember};
+use wgsl_unit::{Struct, StructMember, TypeAlias};
 
 fn call(alloc: Global, text: &str) -> Result<Statement, AllocError> {
-    Ok(Statement::from(FunctionCallStatement {
-        call: FunctionCall {
-            ty: ty(alloc, text)?,
-            arguments: Vec::new(alloc),
-        },
-    }))
+    let call = FunctionCall {
+        ty: ty(alloc, text)?,
+        arguments: Vec::new(alloc),
+    };
+    Ok(Statement::from(FunctionCallStatement::from_call(alloc, call)))
 }
 
 fn block(alloc: Global, statement: Statement) -> Result<CompoundStatement, AllocError> {
@@ -128,6 +127,20 @@ fn an_assertion_takes_memory(rt: HostRuntime) -> Result<(), Fail> {
     let assertion = ConstAssert::new(rt.alloc(), Expression::from(true))?;
     let text = "const_assert true;";
     assert_text(&rt, rt.alloc(), assertion, ConstAssert::clone, text)
+}
+
+#[test]
+fn a_returned_node_takes_no_memory(rt: HostRuntime) -> Result<(), Fail> {
+    let result = ReturnStatement::from_node(rt.alloc(), name(rt.alloc(), "a")?);
+    assert!(rt; result.attributes.is_empty());
+    assert_text(&rt, rt.alloc(), result, ReturnStatement::clone, "return a;")
+}
+
+#[test]
+fn an_alias_has_no_attributes_at_first(rt: HostRuntime) -> Result<(), Fail> {
+    let alias = TypeAlias::new(rt.alloc(), ident(rt.alloc(), "A")?, ty(rt.alloc(), "B")?);
+    assert!(rt; alias.attributes.is_empty());
+    assert_text(&rt, rt.alloc(), alias, TypeAlias::clone, "alias A = B;")
 }
 
 #[test]

@@ -100,29 +100,31 @@ write_if::write_if_clause-returns g t c = λ plain ok.
 
 pub write_if::write_else_if_clause-returns : goal.write_if::write_else_if_clause-returns
 write_if::write_else_if_clause-returns g t c = λ plain ok.
-    has_written_of_eq _ _ _ _ _ (else_if_clause_is (spaces c.args.depth.now) _ _ _ (else_if_clause_out c.args.clause.now))
-    (c.in_ok-write_head.ensures plain refl
+    has_written_of_eq _ _ _ _ _ (else_if_clause_is (spaces c.args.depth.now) _ _ _ _ (else_if_clause_out c.args.clause.now))
+    (c.in_ok-write_attribute_line.ensures plain refl
+    ▸ (λ p. c.in_ok-write_head.ensures p refl)
     ▸ (λ p. c.write_compound.ensures p ok))
 
 pub write_if::write_else_clause-returns : goal.write_if::write_else_clause-returns
 write_if::write_else_clause-returns g t c = λ plain ok.
-    has_written_of_eq _ _ _ _ _ (else_clause_is (spaces c.args.depth.now) _ _ (else_clause_out c.args.clause.now))
-    (c.in_ok-write_str.ensures.writes plain refl
+    has_written_of_eq _ _ _ _ _ (else_clause_is (spaces c.args.depth.now) _ _ _ (else_clause_out c.args.clause.now))
+    (c.in_ok-write_start.ensures plain refl
     ▸ (λ p. c.write_compound.ensures p ok))
 
 pub write_switch::write_switch_clause-returns : goal.write_switch::write_switch_clause-returns
 write_switch::write_switch_clause-returns g t c = λ plain ok.
-    has_written_of_eq _ _ _ _ _ (switch_clause_is (spaces c.args.depth.now) _ _ _ (switch_clause_out c.args.clause.now))
-    (has_written_of_eq _ _ _ _ _ (ap (λ (xs : List CaseSelector). codes "case " ++ after_line_ends (spaces c.args.depth.now) (joined (codes ", ") (map print_selector (map selector_view xs))) ++ codes " ") c.deref.ensures.value) (c.in_ok-write_case.ensures plain refl)
+    has_written_of_eq _ _ _ _ _ (switch_clause_is (spaces c.args.depth.now) _ _ _ _ (switch_clause_out c.args.clause.now))
+    (c.in_ok-write_attribute_line.ensures plain refl
+    ▸ (λ p. has_written_of_eq _ _ _ _ _ (ap (λ (xs : List CaseSelector). codes "case " ++ after_line_ends (spaces c.args.depth.now) (joined (codes ", ") (map print_selector (map selector_view xs))) ++ codes " ") c.deref.ensures.value) (c.in_ok-write_case.ensures p refl))
     ▸ (λ p. c.write_compound.ensures p ok))
 
 pub write_loops::write_continuing-returns : goal.write_loops::write_continuing-returns
 write_loops::write_continuing-returns g t c = λ plain ok.
-    has_written_of_eq _ _ _ _ _ (continuing_is (spaces c.args.depth.now) _ _ _ (continuing_statement_out c.args.statement.now))
-    (c.in_ok-write_str.ensures.writes plain refl
+    has_written_of_eq _ _ _ _ _ (continuing_is (spaces c.args.depth.now) _ _ _ _ (continuing_statement_out c.args.statement.now))
+    (c.in_ok-write_start.ensures plain refl
     ▸ (λ p. c.in_ok-write_opened.ensures p refl)
     ▸ (λ p. c.in_ok-write_break_if.ensures p refl)
-    ▸ (λ p. c.write_str-2.ensures.writes p ok))
+    ▸ (λ p. c.write_str.ensures.writes p ok))
 
 pub write_loops::write_for-returns : goal.write_loops::write_for-returns
 write_loops::write_for-returns g t c = λ plain ok.
@@ -294,11 +296,14 @@ write::write_opened-returns-in_err-write_statement g t c = λ plain ok. absurd (
 pub write::write_statement-returns-in_err-write_unended : goal.write::write_statement-returns-in_err-write_unended
 write::write_statement-returns-in_err-write_unended g t c = λ plain ok. absurd (error_not_ok _ c.from_residual.ensures.0 ok)
 
-pub write_if::write_else_clause-returns-in_err-write_str : goal.write_if::write_else_clause-returns-in_err-write_str
-write_if::write_else_clause-returns-in_err-write_str g t c = λ plain ok. absurd (error_not_ok _ c.from_residual.ensures.0 ok)
+pub write_if::write_else_clause-returns-in_err-write_start : goal.write_if::write_else_clause-returns-in_err-write_start
+write_if::write_else_clause-returns-in_err-write_start g t c = λ plain ok. absurd (error_not_ok _ c.from_residual.ensures.0 ok)
+
+pub write_if::write_else_if_clause-returns-in_err-write_attribute_line : goal.write_if::write_else_if_clause-returns-in_err-write_attribute_line
+write_if::write_else_if_clause-returns-in_err-write_attribute_line g t c = λ plain ok. absurd (error_not_ok _ c.from_residual.ensures.0 ok)
 
 pub write_if::write_else_if_clause-returns-in_err-write_head : goal.write_if::write_else_if_clause-returns-in_err-write_head
-write_if::write_else_if_clause-returns-in_err-write_head g t c = λ plain ok. absurd (error_not_ok _ c.from_residual.ensures.0 ok)
+write_if::write_else_if_clause-returns-in_err-write_head g t c = λ plain ok. absurd (error_not_ok _ c.from_residual-in_err-write_head.ensures.0 ok)
 
 pub write_if::write_if-returns-in_err-write_attribute_line : goal.write_if::write_if-returns-in_err-write_attribute_line
 write_if::write_if-returns-in_err-write_attribute_line g t c = λ plain ok. absurd (error_not_ok _ c.from_residual.ensures.0 ok)
@@ -324,8 +329,8 @@ write_loops::write_continuing-returns-in_err-write_break_if g t c = λ plain ok.
 pub write_loops::write_continuing-returns-in_err-write_opened : goal.write_loops::write_continuing-returns-in_err-write_opened
 write_loops::write_continuing-returns-in_err-write_opened g t c = λ plain ok. absurd (error_not_ok _ c.from_residual-in_err-write_opened.ensures.0 ok)
 
-pub write_loops::write_continuing-returns-in_err-write_str : goal.write_loops::write_continuing-returns-in_err-write_str
-write_loops::write_continuing-returns-in_err-write_str g t c = λ plain ok. absurd (error_not_ok _ c.from_residual.ensures.0 ok)
+pub write_loops::write_continuing-returns-in_err-write_start : goal.write_loops::write_continuing-returns-in_err-write_start
+write_loops::write_continuing-returns-in_err-write_start g t c = λ plain ok. absurd (error_not_ok _ c.from_residual.ensures.0 ok)
 
 pub write_loops::write_for-returns-in_err-write_condition : goal.write_loops::write_for-returns-in_err-write_condition
 write_loops::write_for-returns-in_err-write_condition g t c = λ plain ok. absurd (error_not_ok _ c.from_residual-in_err-write_condition.ensures.0 ok)
@@ -381,8 +386,11 @@ write_switch::write_switch-returns-in_err-write_open g t c = λ plain ok. absurd
 pub write_switch::write_switch-returns-in_err-write_switch_clause : goal.write_switch::write_switch-returns-in_err-write_switch_clause
 write_switch::write_switch-returns-in_err-write_switch_clause g t c = λ plain ok. absurd (error_not_ok _ c.from_residual-in_err-write_switch_clause.ensures.0 ok)
 
+pub write_switch::write_switch_clause-returns-in_err-write_attribute_line : goal.write_switch::write_switch_clause-returns-in_err-write_attribute_line
+write_switch::write_switch_clause-returns-in_err-write_attribute_line g t c = λ plain ok. absurd (error_not_ok _ c.from_residual.ensures.0 ok)
+
 pub write_switch::write_switch_clause-returns-in_err-write_case : goal.write_switch::write_switch_clause-returns-in_err-write_case
-write_switch::write_switch_clause-returns-in_err-write_case g t c = λ plain ok. absurd (error_not_ok _ c.from_residual.ensures.0 ok)
+write_switch::write_switch_clause-returns-in_err-write_case g t c = λ plain ok. absurd (error_not_ok _ c.from_residual-in_err-write_case.ensures.0 ok)
 
 -- a part of a `for` header
 

@@ -1,9 +1,9 @@
-use Rattle.std.proofs.Common.{[], rules, ◌≡◌, ◌∙◌, sym, ap, map, length, get_or, arith, List, Option, Some, None}
+use Rattle.std.proofs.Common.{rules, ◌≡◌, ◌∙◌, sym, ap, map, length, get_or, arith, List, Option, Some, None}
 use Rattle.std.proofs.lemmas.List.{with_items_is}
 use Rattle.std.proofs.lemmas.List.Elements.{filter_from_retain}
 use Rattle.std.specs.Option.{option_map}
 use Rattle.std.specs.Vec.{with_items}
-use Rattle.wgsl_model.specs.Attributed.{Attributed, with_attributes}
+use Rattle.wgsl_model.specs.Attributed.{with_attributes}
 use Rattle.wgsl_model.specs.Statements as plain
 use Rattle.wgsl_model.specs.EmptyItems.{full_attributed, full_statement, full_compound, full_if, full_if_clause, full_else_if_clause, full_else_ifs, full_else_clause, full_else, full_part, full_switch, full_switch_clause, full_maybe_continuing, full_continuing}
 use Rattle.wgsl_expression.specs.View.{expression_node_view}
@@ -19,8 +19,7 @@ use denote.Hole.Carrier as Carrier
 use Rattle.wgsl_span.specs.declared.Spanned.{Spanned}
 use Rattle.wgsl_statement.proofs.StatementViews.{is_compound, is_if, is_switch, is_loop, is_for, is_while}
 use Rattle.wgsl_statement.proofs.Views.{compound_statement_roll, compound_statement_out, part_view, for_statement_roll, for_statement_out, if_statement_roll, if_statement_out, loop_statement_roll, loop_statement_out, switch_statement_roll, switch_statement_out, switch_clause_roll, switch_clause_out, while_statement_roll, while_statement_out}
-use Rattle.wgsl_statement.proofs.ClauseViews.{if_clause_out, else_if_clause_out, else_clause_out, continuing_statement_out}
-use Rattle.wgsl_statement.specs.declared.statement.Statement.TheFolds as folds
+use Rattle.wgsl_statement.proofs.ClauseViews.{if_clause_roll, if_clause_out, else_if_clause_roll, else_if_clause_out, else_clause_roll, else_clause_out, continuing_statement_roll, continuing_statement_out}
 use Rattle.wgsl_statement.specs.declared.statement.Statement.TheOpen as layer
 use Rattle.wgsl_statement.specs.declared.statement.Statement.{Statement}
 use Rattle.wgsl_statement.specs.declared.statement.CompoundStatement.{CompoundStatement}
@@ -35,10 +34,6 @@ use Rattle.wgsl_statement.specs.declared.statement.SwitchStatement.{SwitchStatem
 use Rattle.wgsl_statement.specs.declared.statement.WhileStatement.{WhileStatement}
 use Rattle.wgsl_statement.specs.View as V
 use Rattle.wgsl_statement.proofs.+remove.Goals as goal
-
-else_if_clause_roll : (x : layer.ElseIfClause-F Statement CompoundStatement ContinuingStatement ElseClause ElseIfClause ForStatement IfClause IfStatement LoopStatement SwitchClause SwitchStatement WhileStatement) → else_if_clause_view (layers.roll-ElseIfClause x)
-    ≡ plain.else_if_clause (expression_node_view x.expression) (V.compound_statement_view x.body)
-else_if_clause_roll x = folds.fold-roll-ElseIfClause plain.Statement plain.CompoundStatement plain.ContinuingStatement plain.ElseClause plain.ElseIfClause (Attributed plain.ForStatement) plain.IfClause (Attributed plain.IfStatement) (Attributed plain.LoopStatement) plain.SwitchClause (Attributed plain.SwitchStatement) (Attributed plain.WhileStatement) V.statement_step V.compound_statement_step V.continuing_statement_step V.else_clause_step V.else_if_clause_step V.for_statement_step V.if_clause_step V.if_statement_step V.loop_statement_step V.switch_clause_step V.switch_statement_step V.while_statement_step x
 
 pub statement::CompoundStatement::remove_voids-statements-preserved : goal.statement::CompoundStatement::remove_voids-statements-preserved
 statement::CompoundStatement::remove_voids-statements-preserved t c =
@@ -64,7 +59,7 @@ statement::SwitchStatement::remove_voids-clauses-preserved t c =
     let y = layers.roll-SwitchClause (record (layers.out-SwitchClause x) { body = c.remove_voids.new.self }) in
     let full : switch_clause_view y ≡ full_switch_clause (switch_clause_view x) =
     switch_clause_roll _
-    ∙ ap (plain.switch_clause [] (map selector_view (layers.out-SwitchClause x).case_selectors.items)) c.remove_voids.ensures
+    ∙ ap (plain.switch_clause (attributes_view (layers.out-SwitchClause x).attributes.items) (map selector_view (layers.out-SwitchClause x).case_selectors.items)) c.remove_voids.ensures
     ∙ sym (ap full_switch_clause (switch_clause_out x)) in
     next_done switch_clause_view full_switch_clause c.clauses.clauses.items (layers.out-SwitchStatement c.args.self.now).clauses.items c.clauses.i x y (search rules) c.index_mut.ensures.value full c.clauses.invariant
 
@@ -85,7 +80,7 @@ voids::remove_from_else_ifs-clauses-preserved t c =
     let y = layers.roll-ElseIfClause (record (layers.out-ElseIfClause x) { body = c.remove_voids.new.self }) in
     let full : else_if_clause_view y ≡ full_else_if_clause (else_if_clause_view x) =
     else_if_clause_roll _
-    ∙ ap (plain.else_if_clause (expression_node_view (layers.out-ElseIfClause x).expression)) c.remove_voids.ensures
+    ∙ ap (plain.else_if_clause (attributes_view (layers.out-ElseIfClause x).attributes.items) (expression_node_view (layers.out-ElseIfClause x).expression)) c.remove_voids.ensures
     ∙ sym (ap full_else_if_clause (else_if_clause_out x)) in
     next_done else_if_clause_view full_else_if_clause c.clauses.clauses c.args.clauses.now c.clauses.i c.index-clauses-i.result y (search rules) c.index-clauses-i.is (full ∙ ap (λ (z : ElseIfClause). full_else_if_clause (else_if_clause_view z)) (sym c.index-clauses-i.is)) c.clauses.invariant
 
@@ -144,9 +139,6 @@ statement::Statement::remove_voids-returns-in-For t c =
     ∙ sym (ap full_statement (is_for c.in-For.statement ∙ ap (plain.as_statement plain.for_statement) (for_statement_out c.in-For.statement))) in
     rw c.in-For.is (search (rules, whole))
 
-continuing_statement_roll : (x : layer.ContinuingStatement-F Statement CompoundStatement ContinuingStatement ElseClause ElseIfClause ForStatement IfClause IfStatement LoopStatement SwitchClause SwitchStatement WhileStatement) → V.continuing_statement_view (layers.roll-ContinuingStatement x) ≡ plain.continuing (V.compound_statement_view x.body) (option_map break_if_view x.break_if)
-continuing_statement_roll x = folds.fold-roll-ContinuingStatement plain.Statement plain.CompoundStatement plain.ContinuingStatement plain.ElseClause plain.ElseIfClause (Attributed plain.ForStatement) plain.IfClause (Attributed plain.IfStatement) (Attributed plain.LoopStatement) plain.SwitchClause (Attributed plain.SwitchStatement) (Attributed plain.WhileStatement) V.statement_step V.compound_statement_step V.continuing_statement_step V.else_clause_step V.else_if_clause_step V.for_statement_step V.if_clause_step V.if_statement_step V.loop_statement_step V.switch_clause_step V.switch_statement_step V.while_statement_step x
-
 abbrev LoopLayer : Type 0
 LoopLayer = layer.LoopStatement-F Statement CompoundStatement ContinuingStatement ElseClause ElseIfClause ForStatement IfClause IfStatement LoopStatement SwitchClause SwitchStatement WhileStatement
 
@@ -161,7 +153,7 @@ statement::Statement::remove_voids-returns-in-Some t c =
     let last = layers.roll-ContinuingStatement (record (layers.out-ContinuingStatement inner) { body = c.remove_voids-in-Some.new.self }) in
     let continuing =
     ap plain.one_continuing (continuing_statement_roll (record (layers.out-ContinuingStatement inner) { body = c.remove_voids-in-Some.new.self })
-    ∙ ap (λ (b : plain.CompoundStatement). plain.continuing b (option_map break_if_view (layers.out-ContinuingStatement inner).break_if)) c.remove_voids-in-Some.ensures
+    ∙ ap (λ (b : plain.CompoundStatement). plain.continuing (attributes_view (layers.out-ContinuingStatement inner).attributes.items) b (option_map break_if_view (layers.out-ContinuingStatement inner).break_if)) c.remove_voids-in-Some.ensures
     ∙ sym (ap full_continuing (continuing_statement_out inner)))
     ∙ ap (λ (o : Option ContinuingStatement). full_maybe_continuing (plain.continuing_of (option_map V.continuing_statement_view o))) (sym c.in-Some.is ∙ ap (λ (r : LoopLayer). r.continuing) (layers.out-roll-LoopStatement _) ∙ ap (λ (l : LoopStatement). (layers.out-LoopStatement l).continuing) c.in-Loop.statement-is) in
     let whole = is_loop (layers.roll-LoopStatement (record (layers.out-LoopStatement (layers.roll-LoopStatement first)) { continuing = Some last }))
@@ -189,12 +181,6 @@ statement::Statement::remove_voids-returns-in_default t c =
     ∙ sym (ap full_statement (is_loop statement ∙ ap (plain.as_statement plain.loop_statement) (loop_statement_out statement))) in
     rw c.in-Loop.is (search (rules, whole))
 
-if_clause_roll : (x : layer.IfClause-F Statement CompoundStatement ContinuingStatement ElseClause ElseIfClause ForStatement IfClause IfStatement LoopStatement SwitchClause SwitchStatement WhileStatement) → V.if_clause_view (layers.roll-IfClause x) ≡ plain.if_clause (expression_node_view x.expression) (V.compound_statement_view x.body)
-if_clause_roll x = folds.fold-roll-IfClause plain.Statement plain.CompoundStatement plain.ContinuingStatement plain.ElseClause plain.ElseIfClause (Attributed plain.ForStatement) plain.IfClause (Attributed plain.IfStatement) (Attributed plain.LoopStatement) plain.SwitchClause (Attributed plain.SwitchStatement) (Attributed plain.WhileStatement) V.statement_step V.compound_statement_step V.continuing_statement_step V.else_clause_step V.else_if_clause_step V.for_statement_step V.if_clause_step V.if_statement_step V.loop_statement_step V.switch_clause_step V.switch_statement_step V.while_statement_step x
-
-else_clause_roll : (x : layer.ElseClause-F Statement CompoundStatement ContinuingStatement ElseClause ElseIfClause ForStatement IfClause IfStatement LoopStatement SwitchClause SwitchStatement WhileStatement) → V.else_clause_view (layers.roll-ElseClause x) ≡ plain.else_clause (V.compound_statement_view x.body)
-else_clause_roll x = folds.fold-roll-ElseClause plain.Statement plain.CompoundStatement plain.ContinuingStatement plain.ElseClause plain.ElseIfClause (Attributed plain.ForStatement) plain.IfClause (Attributed plain.IfStatement) (Attributed plain.LoopStatement) plain.SwitchClause (Attributed plain.SwitchStatement) (Attributed plain.WhileStatement) V.statement_step V.compound_statement_step V.continuing_statement_step V.else_clause_step V.else_if_clause_step V.for_statement_step V.if_clause_step V.if_statement_step V.loop_statement_step V.switch_clause_step V.switch_statement_step V.while_statement_step x
-
 abbrev IfLayer : Type 0
 IfLayer = layer.IfStatement-F Statement CompoundStatement ContinuingStatement ElseClause ElseIfClause ForStatement IfClause IfStatement LoopStatement SwitchClause SwitchStatement WhileStatement
 
@@ -216,7 +202,7 @@ statement::IfStatement::remove_voids-returns-in-Some t c =
     let inner = c.in-Some.clause in
     let last = layers.roll-ElseClause (record (layers.out-ElseClause inner) { body = c.remove_voids-in-Some.new.self }) in
     let last_part =
-    ap plain.one_else (else_clause_roll (record (layers.out-ElseClause inner) { body = c.remove_voids-in-Some.new.self }) ∙ ap plain.else_clause c.remove_voids-in-Some.ensures ∙ sym (ap full_else_clause (else_clause_out inner)))
+    ap plain.one_else (else_clause_roll (record (layers.out-ElseClause inner) { body = c.remove_voids-in-Some.new.self }) ∙ ap (plain.else_clause (attributes_view (layers.out-ElseClause inner).attributes.items)) c.remove_voids-in-Some.ensures ∙ sym (ap full_else_clause (else_clause_out inner)))
     ∙ ap (λ (o : Option ElseClause). full_else (plain.else_of (option_map V.else_clause_view o))) (sym c.in-Some.is ∙ ap (λ (r : IfLayer). r.else_clause) changed) in
     ap (λ (r : IfLayer). V.if_statement_view (layers.roll-IfStatement (record r { else_clause = Some last }))) changed
     ∙ if_statement_roll third.attributes third.if_clause third.else_if_clauses (Some last)

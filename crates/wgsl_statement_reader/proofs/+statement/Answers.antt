@@ -36,8 +36,8 @@ switch::parse_switch_part-returns t c =
 pub switch::parse_switch_clause-returns : goal.switch::parse_switch_clause-returns
 switch::parse_switch_clause-returns t c =
     record {
-      value = switch_clause_reads _ _ _ _ _ c.in_ok-case_selectors.ensures.value c.in_ok-body.ensures.value ∙ ap (λ made. done made (state c.parse_compound_statement.new.tokens)) (sym (switch_clause_is c.in_ok-case_selectors.case_selectors c.in_ok-body.body));
-      shorter = omega (arith, c.in_ok-case_selectors.ensures.shorter, c.in_ok-body.ensures.shorter);
+      value = switch_clause_reads _ _ _ _ _ _ _ c.in_ok-attributes.ensures.value c.in_ok-case_selectors.ensures.value c.in_ok-body.ensures.value ∙ ap (λ made. done made (state c.parse_compound_statement.new.tokens)) (sym (switch_clause_is c.in_ok-attributes.attributes c.in_ok-case_selectors.case_selectors c.in_ok-body.body));
+      shorter = omega (arith, c.in_ok-attributes.ensures.shorter, c.in_ok-case_selectors.ensures.shorter, c.in_ok-body.ensures.shorter);
     }
 
 pub loops::parse_loop_part-returns : goal.loops::parse_loop_part-returns
@@ -47,11 +47,11 @@ loops::parse_loop_part-returns t c =
       shorter = omega (arith, c.in_ok-body_attributes.ensures.shorter, c.in_ok-statements.ensures.shorter);
     }
 
-pub loops::parse_continuing_statement-returns : goal.loops::parse_continuing_statement-returns
-loops::parse_continuing_statement-returns t c =
+pub loops::parse_continuing_part-returns : goal.loops::parse_continuing_part-returns
+loops::parse_continuing_part-returns t c =
     record {
-      value = continuing_reads _ _ _ _ _ c.in_ok-attributes.ensures.value c.in_ok-statements.ensures.value ∙ ap (λ made. done made (state c.parse_continuing_rest.new.tokens)) (sym (continuing_statement_is c.in_ok-attributes.attributes c.in_ok-statements.statements c.in_ok-statements.break_if));
-      shorter = omega (arith, c.in_ok-attributes.ensures.shorter, c.in_ok-statements.ensures.shorter);
+      value = continuing_reads _ _ _ _ _ _ c.in_ok-body_attributes.ensures.value c.in_ok-statements.ensures.value ∙ ap (λ made. done made (state c.parse_continuing_rest.new.tokens)) (sym (continuing_statement_is c.args.attributes c.in_ok-body_attributes.body_attributes c.in_ok-statements.statements c.in_ok-statements.break_if));
+      shorter = omega (arith, c.in_ok-body_attributes.ensures.shorter, c.in_ok-statements.ensures.shorter);
     }
 
 pub loops::parse_while_part-returns : goal.loops::parse_while_part-returns

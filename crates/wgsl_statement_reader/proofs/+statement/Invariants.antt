@@ -23,17 +23,14 @@ decreases-loops::parse_continuing_rest l = 9 * length (state l.tokens.now).rest 
 abbrev pub decreases-statement::parse_statement : goal.decreases-statement::parse_statement
 decreases-statement::parse_statement l = 9 * length (state l.tokens.now).rest + 7
 
-abbrev pub decreases-statement::parse_other_statement : goal.decreases-statement::parse_other_statement
-decreases-statement::parse_other_statement l = 9 * length (state l.tokens.now).rest + 6
-
-abbrev pub decreases-statement::parse_unplaced_statement : goal.decreases-statement::parse_unplaced_statement
-decreases-statement::parse_unplaced_statement l = 9 * length (state l.tokens.now).rest + 5
-
-abbrev pub decreases-statement::parse_attributed_statement : goal.decreases-statement::parse_attributed_statement
-decreases-statement::parse_attributed_statement l = 9 * length (state l.tokens.now).rest + 4
+abbrev pub decreases-statement::parse_statement_behind : goal.decreases-statement::parse_statement_behind
+decreases-statement::parse_statement_behind l = 9 * length (state l.tokens.now).rest + 6
 
 abbrev pub decreases-statement::parse_statement_part : goal.decreases-statement::parse_statement_part
-decreases-statement::parse_statement_part l = 9 * length (state l.tokens.now).rest + 3
+decreases-statement::parse_statement_part l = 9 * length (state l.tokens.now).rest + 5
+
+abbrev pub decreases-statement::parse_braced_part : goal.decreases-statement::parse_braced_part
+decreases-statement::parse_braced_part l = 9 * length (state l.tokens.now).rest + 4
 
 abbrev pub decreases-block::parse_block_part : goal.decreases-block::parse_block_part
 decreases-block::parse_block_part l = 9 * length (state l.tokens.now).rest
@@ -65,8 +62,8 @@ decreases-switch::parse_clauses l = 9 * length (state l.tokens.now).rest + 1
 abbrev pub decreases-switch::parse_switch_clause : goal.decreases-switch::parse_switch_clause
 decreases-switch::parse_switch_clause l = 9 * length (state l.tokens.now).rest
 
-abbrev pub decreases-loops::parse_continuing_statement : goal.decreases-loops::parse_continuing_statement
-decreases-loops::parse_continuing_statement l = 9 * length (state l.tokens.now).rest
+abbrev pub decreases-loops::parse_continuing_part : goal.decreases-loops::parse_continuing_part
+decreases-loops::parse_continuing_part l = 9 * length (state l.tokens.now).rest
 
 abbrev pub invariant-block::parse_statement_rest-statements : goal.invariant-block::parse_statement_rest-statements
 invariant-block::parse_statement_rest-statements l =

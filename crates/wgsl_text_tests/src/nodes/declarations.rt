@@ -46,6 +46,7 @@ pub fn see_global_declaration(
             facts.variant(path, "TypeAlias")?;
             facts.node(path, inner)?;
             facts.name(path, inner)?;
+            see_attributes(&inner.attributes, facts, path, "attributes")?;
             see_ident(&inner.ident, facts, path, "ident")?;
             see_type_part(&inner.ty, facts, path, "ty")
         }
@@ -67,6 +68,7 @@ pub fn see_global_declaration(
 fn see_struct(node: &Struct, facts: &mut Facts, path: &str) -> Result<(), AllocError> {
     facts.node(path, node)?;
     facts.name(path, node)?;
+    see_attributes(&node.attributes, facts, path, "attributes")?;
     see_ident(&node.ident, facts, path, "ident")?;
     facts.count(path, "members", node.members.len())?;
     for (place, member) in node.members.iter().enumerate() {

@@ -1,6 +1,7 @@
 //! Directives.
 
 use crate::facts::Facts;
+use crate::nodes::attributes::see_attributes;
 use std::alloc::AllocError;
 use wgsl_parse::syntax::GlobalDirective;
 
@@ -14,15 +15,18 @@ pub fn see_directive(
     match node {
         GlobalDirective::Diagnostic(inner) => {
             facts.node(path, inner)?;
+            see_attributes(&inner.attributes, facts, path, "attributes")?;
             facts.part(path, "severity", &inner.severity)?;
             facts.part(path, "rule_name", &inner.rule_name)
         }
         GlobalDirective::Enable(inner) => {
             facts.node(path, inner)?;
+            see_attributes(&inner.attributes, facts, path, "attributes")?;
             facts.count(path, "extensions", inner.extensions.len())
         }
         GlobalDirective::Requires(inner) => {
             facts.node(path, inner)?;
+            see_attributes(&inner.attributes, facts, path, "attributes")?;
             facts.count(path, "extensions", inner.extensions.len())
         }
     }

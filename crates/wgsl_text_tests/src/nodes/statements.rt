@@ -34,32 +34,46 @@ fn see_simple(node: &Statement, facts: &mut Facts, path: &str) -> Result<(), All
     match node {
         Statement::Assignment(inner) => {
             facts.node(path, inner)?;
+            see_attributes(&inner.attributes, facts, path, "attributes")?;
             facts.part(path, "operator", &inner.operator)?;
             see_part(&inner.lhs, facts, path, "lhs")?;
             see_part(&inner.rhs, facts, path, "rhs")
         }
         Statement::Increment(inner) => {
             facts.node(path, inner)?;
+            see_attributes(&inner.attributes, facts, path, "attributes")?;
             see_part(&inner.expression, facts, path, "expression")
         }
         Statement::Decrement(inner) => {
             facts.node(path, inner)?;
+            see_attributes(&inner.attributes, facts, path, "attributes")?;
             see_part(&inner.expression, facts, path, "expression")
         }
         Statement::Return(inner) => {
             facts.node(path, inner)?;
+            see_attributes(&inner.attributes, facts, path, "attributes")?;
             see_optional(&inner.expression, facts, path, "expression")
         }
         Statement::FunctionCall(inner) => {
             facts.node(path, inner)?;
+            see_attributes(&inner.attributes, facts, path, "attributes")?;
             let path = path_of(facts.alloc, path, "call")?;
             see_call(&inner.call, facts, &path)
         }
         Statement::ConstAssert(inner) => see_assertion(inner, facts, path),
         Statement::Declaration(inner) => see_declaration(inner, facts, path),
-        Statement::Break(inner) => facts.node(path, inner),
-        Statement::Continue(inner) => facts.node(path, inner),
-        Statement::Discard(inner) => facts.node(path, inner),
+        Statement::Break(inner) => {
+            facts.node(path, inner)?;
+            see_attributes(&inner.attributes, facts, path, "attributes")
+        }
+        Statement::Continue(inner) => {
+            facts.node(path, inner)?;
+            see_attributes(&inner.attributes, facts, path, "attributes")
+        }
+        Statement::Discard(inner) => {
+            facts.node(path, inner)?;
+            see_attributes(&inner.attributes, facts, path, "attributes")
+        }
         _ => Ok(()),
     }
 }
@@ -67,6 +81,7 @@ fn see_simple(node: &Statement, facts: &mut Facts, path: &str) -> Result<(), All
 /// The assertion of a constant.
 pub fn see_assertion(node: &ConstAssert, facts: &mut Facts, path: &str) -> Result<(), AllocError> {
     facts.node(path, node)?;
+    see_attributes(&node.attributes, facts, path, "attributes")?;
     see_part(&node.expression, facts, path, "expression")
 }
 
@@ -137,6 +152,7 @@ fn see_if_clause(node: &IfClause, facts: &mut Facts, path: &str) -> Result<(), A
 #[cycle(statement)]
 fn see_else_if(node: &ElseIfClause, facts: &mut Facts, path: &str) -> Result<(), AllocError> {
     facts.node(path, node)?;
+    see_attributes(&node.attributes, facts, path, "attributes")?;
     see_part(&node.expression, facts, path, "expression")?;
     see_body(&node.body, facts, path)
 }
@@ -146,6 +162,7 @@ fn see_else(node: &ElseClause, facts: &mut Facts, path: &str) -> Result<(), Allo
     facts.count(path, "else_clause", 1)?;
     let path = path_of(facts.alloc, path, "else_clause")?;
     facts.node(&path, node)?;
+    see_attributes(&node.attributes, facts, &path, "attributes")?;
     see_body(&node.body, facts, &path)
 }
 
@@ -166,6 +183,7 @@ fn see_switch(node: &SwitchStatement, facts: &mut Facts, path: &str) -> Result<(
 #[cycle(statement)]
 fn see_clause(node: &SwitchClause, facts: &mut Facts, path: &str) -> Result<(), AllocError> {
     facts.node(path, node)?;
+    see_attributes(&node.attributes, facts, path, "attributes")?;
     see_selectors(&node.case_selectors, facts, path)?;
     see_body(&node.body, facts, path)
 }
@@ -209,6 +227,7 @@ fn see_continuing(
     path: &str,
 ) -> Result<(), AllocError> {
     facts.node(path, node)?;
+    see_attributes(&node.attributes, facts, path, "attributes")?;
     see_body(&node.body, facts, path)?;
     match &node.break_if {
         Some(break_if) => {
@@ -222,6 +241,7 @@ fn see_continuing(
 fn see_break_if(node: &BreakIfStatement, facts: &mut Facts, path: &str) -> Result<(), AllocError> {
     let path = path_of(facts.alloc, path, "break_if")?;
     facts.node(&path, node)?;
+    see_attributes(&node.attributes, facts, &path, "attributes")?;
     see_part(&node.expression, facts, &path, "expression")
 }
 

@@ -123,9 +123,13 @@ pub returns-in-ExpressionRest : goal.returns-in-ExpressionRest
 unfolding rule_steps
 returns-in-ExpressionRest c = simp (c.in-ExpressionRest.is, choice_is)
 
-pub returns-in-OtherLeftSide : goal.returns-in-OtherLeftSide
+pub returns-in-LeftSideInParentheses : goal.returns-in-LeftSideInParentheses
 unfolding rule_steps
-returns-in-OtherLeftSide c = simp (c.in-OtherLeftSide.is, choice_is)
+returns-in-LeftSideInParentheses c = simp c.in-LeftSideInParentheses.is
+
+pub returns-in-PrefixedLeftSide : goal.returns-in-PrefixedLeftSide
+unfolding rule_steps
+returns-in-PrefixedLeftSide c = simp (c.in-PrefixedLeftSide.is, choice_is)
 
 pub returns-in-CompoundStatement : goal.returns-in-CompoundStatement
 unfolding rule_steps
@@ -135,49 +139,13 @@ pub returns-in-Statement : goal.returns-in-Statement
 unfolding rule_steps
 returns-in-Statement c = simp (c.in-Statement.is, choice_is)
 
-pub returns-in-ReturnStatement : goal.returns-in-ReturnStatement
-unfolding rule_steps
-returns-in-ReturnStatement c = simp (c.in-ReturnStatement.is, choice_is)
-
-pub returns-in-VarStatement : goal.returns-in-VarStatement
-unfolding rule_steps
-returns-in-VarStatement c = simp (c.in-VarStatement.is, choice_is)
-
-pub returns-in-ValueStatement : goal.returns-in-ValueStatement
-unfolding rule_steps
-returns-in-ValueStatement c = simp (c.in-ValueStatement.is, choice_is)
-
-pub returns-in-BreakStatement : goal.returns-in-BreakStatement
-unfolding rule_steps
-returns-in-BreakStatement c = simp c.in-BreakStatement.is
-
-pub returns-in-ContinueStatement : goal.returns-in-ContinueStatement
-unfolding rule_steps
-returns-in-ContinueStatement c = simp c.in-ContinueStatement.is
-
-pub returns-in-DiscardStatement : goal.returns-in-DiscardStatement
-unfolding rule_steps
-returns-in-DiscardStatement c = simp c.in-DiscardStatement.is
-
-pub returns-in-PhonyAssignment : goal.returns-in-PhonyAssignment
-unfolding rule_steps
-returns-in-PhonyAssignment c = simp c.in-PhonyAssignment.is
-
-pub returns-in-ConstAssert : goal.returns-in-ConstAssert
-unfolding rule_steps
-returns-in-ConstAssert c = simp c.in-ConstAssert.is
-
 pub returns-in-SwitchClause : goal.returns-in-SwitchClause
 unfolding rule_steps
-returns-in-SwitchClause c = simp (c.in-SwitchClause.is, choice_is)
+returns-in-SwitchClause c = simp c.in-SwitchClause.is
 
 pub returns-in-CaseSelector : goal.returns-in-CaseSelector
 unfolding rule_steps
 returns-in-CaseSelector c = simp (c.in-CaseSelector.is, choice_is)
-
-pub returns-in-ContinuingStatement : goal.returns-in-ContinuingStatement
-unfolding rule_steps
-returns-in-ContinuingStatement c = simp c.in-ContinuingStatement.is
 
 pub returns-in-ForInit : goal.returns-in-ForInit
 unfolding rule_steps
@@ -185,7 +153,7 @@ returns-in-ForInit c = simp (c.in-ForInit.is, choice_is)
 
 pub returns-in-ForUpdate : goal.returns-in-ForUpdate
 unfolding rule_steps
-returns-in-ForUpdate c = simp c.in-ForUpdate.is
+returns-in-ForUpdate c = simp (c.in-ForUpdate.is, choice_is)
 
 pub returns-in-Selectors : goal.returns-in-Selectors
 unfolding rule_steps
@@ -247,6 +215,46 @@ pub returns-in-BlockPart : goal.returns-in-BlockPart
 unfolding rule_steps
 returns-in-BlockPart c = simp c.in-BlockPart.is
 
+pub returns-in-BracedPart : goal.returns-in-BracedPart
+unfolding rule_steps
+returns-in-BracedPart c = simp (c.in-BracedPart.is, choice_is)
+
+pub returns-in-ReturningPart : goal.returns-in-ReturningPart
+unfolding rule_steps
+returns-in-ReturningPart c = simp (c.in-ReturningPart.is, choice_is)
+
+pub returns-in-LocalPart : goal.returns-in-LocalPart
+unfolding rule_steps
+returns-in-LocalPart c = simp (c.in-LocalPart.is, choice_is)
+
+pub returns-in-ValuePart : goal.returns-in-ValuePart
+unfolding rule_steps
+returns-in-ValuePart c = simp (c.in-ValuePart.is, choice_is)
+
+pub returns-in-PhonyPart : goal.returns-in-PhonyPart
+unfolding rule_steps
+returns-in-PhonyPart c = simp c.in-PhonyPart.is
+
+pub returns-in-SimplePart : goal.returns-in-SimplePart
+unfolding rule_steps
+returns-in-SimplePart c = simp (c.in-SimplePart.is, choice_is)
+
+pub returns-in-EndedPart : goal.returns-in-EndedPart
+unfolding rule_steps
+returns-in-EndedPart c = simp (c.in-EndedPart.is, choice_is)
+
+pub returns-in-AssertPart : goal.returns-in-AssertPart
+unfolding rule_steps
+returns-in-AssertPart c = simp c.in-AssertPart.is
+
+pub returns-in-ClausePart : goal.returns-in-ClausePart
+unfolding rule_steps
+returns-in-ClausePart c = simp (c.in-ClausePart.is, choice_is)
+
+pub returns-in-ContinuingPart : goal.returns-in-ContinuingPart
+unfolding rule_steps
+returns-in-ContinuingPart c = simp c.in-ContinuingPart.is
+
 pub returns-in-LeftSideRest : goal.returns-in-LeftSideRest
 unfolding rule_steps
 returns-in-LeftSideRest c = simp (c.in-LeftSideRest.is, choice_is)
@@ -255,13 +263,13 @@ pub returns-in-NameRestStatement : goal.returns-in-NameRestStatement
 unfolding rule_steps
 returns-in-NameRestStatement c = simp (c.in-NameRestStatement.is, choice_is)
 
-pub returns-in-SimpleStatement : goal.returns-in-SimpleStatement
+pub returns-in-ParenthesizedStatement : goal.returns-in-ParenthesizedStatement
 unfolding rule_steps
-returns-in-SimpleStatement c = simp (c.in-SimpleStatement.is, choice_is)
+returns-in-ParenthesizedStatement c = simp c.in-ParenthesizedStatement.is
 
-pub returns-in-OtherStatement : goal.returns-in-OtherStatement
+pub returns-in-PlainStatement : goal.returns-in-PlainStatement
 unfolding rule_steps
-returns-in-OtherStatement c = simp (c.in-OtherStatement.is, choice_is)
+returns-in-PlainStatement c = simp (c.in-PlainStatement.is, choice_is)
 
 pub returns-in-Attribute : goal.returns-in-Attribute
 unfolding rule_steps
@@ -287,37 +295,9 @@ pub returns-in-GlobalDeclaration : goal.returns-in-GlobalDeclaration
 unfolding rule_steps
 returns-in-GlobalDeclaration c = simp (c.in-GlobalDeclaration.is, choice_is)
 
-pub returns-in-ConstDeclaration : goal.returns-in-ConstDeclaration
-unfolding rule_steps
-returns-in-ConstDeclaration c = simp c.in-ConstDeclaration.is
-
-pub returns-in-AliasDeclaration : goal.returns-in-AliasDeclaration
-unfolding rule_steps
-returns-in-AliasDeclaration c = simp c.in-AliasDeclaration.is
-
-pub returns-in-StructDeclaration : goal.returns-in-StructDeclaration
-unfolding rule_steps
-returns-in-StructDeclaration c = simp c.in-StructDeclaration.is
-
 pub returns-in-DiagnosticSeverity : goal.returns-in-DiagnosticSeverity
 unfolding rule_steps
 returns-in-DiagnosticSeverity c = simp c.in-DiagnosticSeverity.is
-
-pub returns-in-GlobalDirective : goal.returns-in-GlobalDirective
-unfolding rule_steps
-returns-in-GlobalDirective c = simp (c.in-GlobalDirective.is, choice_is)
-
-pub returns-in-EnableDirective : goal.returns-in-EnableDirective
-unfolding rule_steps
-returns-in-EnableDirective c = simp c.in-EnableDirective.is
-
-pub returns-in-RequiresDirective : goal.returns-in-RequiresDirective
-unfolding rule_steps
-returns-in-RequiresDirective c = simp c.in-RequiresDirective.is
-
-pub returns-in-DiagnosticDirective : goal.returns-in-DiagnosticDirective
-unfolding rule_steps
-returns-in-DiagnosticDirective c = rw (c.in-DiagnosticDirective.is, choice_is, choice_is)
 
 pub returns-in-Unit : goal.returns-in-Unit
 unfolding rule_steps
@@ -371,10 +351,46 @@ pub returns-in-FunctionPart : goal.returns-in-FunctionPart
 unfolding rule_steps
 returns-in-FunctionPart c = simp (c.in-FunctionPart.is, choice_is)
 
-pub returns-in-DirectiveList : goal.returns-in-DirectiveList
+pub returns-in-ConstPart : goal.returns-in-ConstPart
 unfolding rule_steps
-returns-in-DirectiveList c = simp (c.in-DirectiveList.is, repeat_is)
+returns-in-ConstPart c = simp c.in-ConstPart.is
+
+pub returns-in-AliasPart : goal.returns-in-AliasPart
+unfolding rule_steps
+returns-in-AliasPart c = simp c.in-AliasPart.is
+
+pub returns-in-StructPart : goal.returns-in-StructPart
+unfolding rule_steps
+returns-in-StructPart c = simp c.in-StructPart.is
+
+pub returns-in-EnablePart : goal.returns-in-EnablePart
+unfolding rule_steps
+returns-in-EnablePart c = simp c.in-EnablePart.is
+
+pub returns-in-RequiresPart : goal.returns-in-RequiresPart
+unfolding rule_steps
+returns-in-RequiresPart c = simp c.in-RequiresPart.is
+
+pub returns-in-DiagnosticPart : goal.returns-in-DiagnosticPart
+unfolding rule_steps
+returns-in-DiagnosticPart c = rw (c.in-DiagnosticPart.is, choice_is, choice_is)
+
+pub returns-in-AttributedPart : goal.returns-in-AttributedPart
+unfolding rule_steps
+returns-in-AttributedPart c = simp (c.in-AttributedPart.is, choice_is)
+
+pub returns-in-LedPart : goal.returns-in-LedPart
+unfolding rule_steps
+returns-in-LedPart c = simp (c.in-LedPart.is, choice_is)
+
+pub returns-in-DirectivePart : goal.returns-in-DirectivePart
+unfolding rule_steps
+returns-in-DirectivePart c = simp (c.in-DirectivePart.is, choice_is)
 
 pub returns-in-DeclarationList : goal.returns-in-DeclarationList
 unfolding rule_steps
 returns-in-DeclarationList c = simp (c.in-DeclarationList.is, repeat_is)
+
+pub returns-in-Front : goal.returns-in-Front
+unfolding rule_steps
+returns-in-Front c = simp (c.in-Front.is, choice_is)

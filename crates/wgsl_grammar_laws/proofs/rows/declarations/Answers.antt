@@ -25,7 +25,7 @@ pub returns-clause-struct_without_members : goal.returns-clause-struct_without_m
 returns-clause-struct_without_members c = answers_are_true global_declaration struct_without_members_tokens finished
 
 pub returns-clause-attribute_before_a_struct : goal.returns-clause-attribute_before_a_struct
-returns-clause-attribute_before_a_struct c = answers_are_true global_declaration attribute_before_a_struct_tokens finished
+returns-clause-attribute_before_a_struct c = (answers_are_true global_declaration attribute_before_a_struct_tokens finished).1
 
 pub returns-clause-unknown_builtin : goal.returns-clause-unknown_builtin
 returns-clause-unknown_builtin c = answers_are_true global_declaration unknown_builtin_tokens finished

@@ -1,7 +1,7 @@
 -- The law is proved in the theory.
 use Rattle.grammar.specs.Faults.{Ending.finished}
-use Rattle.wgsl_model.specs.Symbols.{Symbol.expression, Symbol.global_declaration, Symbol.global_directive}
-use Rattle.wgsl_grammar_laws.specs.RecognisedAloneRows.{minus_minus_recognised_alone_tokens, reserved_word_recognised_alone_tokens, severity_recognised_alone_tokens, template_recognised_alone_tokens, keyword_recognised_alone_tokens}
+use Rattle.wgsl_model.specs.Symbols.{Symbol.expression, Symbol.global_declaration, Symbol.global_directive, Symbol.unit}
+use Rattle.wgsl_grammar_laws.specs.RecognisedAloneRows.{minus_minus_recognised_alone_tokens, reserved_word_recognised_alone_tokens, severity_recognised_alone_tokens, template_recognised_alone_tokens, keyword_recognised_alone_tokens, attribute_recognised_alone_tokens}
 use Rattle.wgsl_grammar_theory.proofs.SmallAnswers.{small_answers_are_true}
 use Rattle.wgsl_grammar_laws.proofs.rows.recognised_alone.Goals as goal
 
@@ -19,3 +19,6 @@ returns-clause-template_recognised_alone c = (small_answers_are_true global_decl
 
 pub returns-clause-keyword_recognised_alone : goal.returns-clause-keyword_recognised_alone
 returns-clause-keyword_recognised_alone c = small_answers_are_true global_declaration keyword_recognised_alone_tokens finished
+
+pub returns-clause-attribute_recognised_alone : goal.returns-clause-attribute_recognised_alone
+returns-clause-attribute_recognised_alone c = small_answers_are_true unit attribute_recognised_alone_tokens finished

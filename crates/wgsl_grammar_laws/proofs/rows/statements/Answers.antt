@@ -1,7 +1,7 @@
 -- The law is proved in the theory.
 use Rattle.grammar.specs.Faults.{Ending.finished}
 use Rattle.wgsl_model.specs.Symbols.{Symbol.statement}
-use Rattle.wgsl_grammar_laws.specs.StatementsRows.{for_header_tokens, loop_and_continuing_tokens, break_in_continuing_tokens, else_ifs_tokens, phony_assignment_tokens, left_side_in_parentheses_tokens, attribute_of_a_block_tokens, clause_of_a_default_tokens, last_comma_of_selectors_tokens, empty_return_tokens, product_as_a_statement_tokens, assignment_to_a_call_tokens, assignment_to_a_template_tokens, attribute_before_an_assignment_tokens}
+use Rattle.wgsl_grammar_laws.specs.StatementsRows.{for_header_tokens, loop_and_continuing_tokens, break_in_continuing_tokens, else_ifs_tokens, phony_assignment_tokens, left_side_in_parentheses_tokens, attribute_of_a_block_tokens, clause_of_a_default_tokens, last_comma_of_selectors_tokens, empty_return_tokens, product_as_a_statement_tokens, assignment_to_a_call_tokens, assignment_to_a_template_tokens, attribute_before_an_assignment_tokens, attributes_in_a_for_header_tokens, attribute_before_a_clause_tokens, attributes_in_a_loop_tokens, arguments_before_an_assignment_tokens, attribute_before_parentheses_tokens, attribute_before_a_semicolon_tokens, attribute_before_else_tokens, attribute_before_a_wrong_template_tokens}
 use Rattle.wgsl_grammar_theory.proofs.Answers.{answers_are_true}
 use Rattle.wgsl_grammar_laws.proofs.rows.statements.Goals as goal
 
@@ -45,4 +45,28 @@ pub returns-clause-assignment_to_a_template : goal.returns-clause-assignment_to_
 returns-clause-assignment_to_a_template c = answers_are_true statement assignment_to_a_template_tokens finished
 
 pub returns-clause-attribute_before_an_assignment : goal.returns-clause-attribute_before_an_assignment
-returns-clause-attribute_before_an_assignment c = answers_are_true statement attribute_before_an_assignment_tokens finished
+returns-clause-attribute_before_an_assignment c = (answers_are_true statement attribute_before_an_assignment_tokens finished).1
+
+pub returns-clause-attributes_in_a_for_header : goal.returns-clause-attributes_in_a_for_header
+returns-clause-attributes_in_a_for_header c = (answers_are_true statement attributes_in_a_for_header_tokens finished).1
+
+pub returns-clause-attribute_before_a_clause : goal.returns-clause-attribute_before_a_clause
+returns-clause-attribute_before_a_clause c = (answers_are_true statement attribute_before_a_clause_tokens finished).1
+
+pub returns-clause-attributes_in_a_loop : goal.returns-clause-attributes_in_a_loop
+returns-clause-attributes_in_a_loop c = (answers_are_true statement attributes_in_a_loop_tokens finished).1
+
+pub returns-clause-arguments_before_an_assignment : goal.returns-clause-arguments_before_an_assignment
+returns-clause-arguments_before_an_assignment c = answers_are_true statement arguments_before_an_assignment_tokens finished
+
+pub returns-clause-attribute_before_parentheses : goal.returns-clause-attribute_before_parentheses
+returns-clause-attribute_before_parentheses c = answers_are_true statement attribute_before_parentheses_tokens finished
+
+pub returns-clause-attribute_before_a_semicolon : goal.returns-clause-attribute_before_a_semicolon
+returns-clause-attribute_before_a_semicolon c = answers_are_true statement attribute_before_a_semicolon_tokens finished
+
+pub returns-clause-attribute_before_else : goal.returns-clause-attribute_before_else
+returns-clause-attribute_before_else c = answers_are_true statement attribute_before_else_tokens finished
+
+pub returns-clause-attribute_before_a_wrong_template : goal.returns-clause-attribute_before_a_wrong_template
+returns-clause-attribute_before_a_wrong_template c = answers_are_true statement attribute_before_a_wrong_template_tokens finished

@@ -1,13 +1,13 @@
-use Rattle.wgsl_model.specs.StatementsWithoutSpans.{bare_attributed, bare_declaration}
-use Rattle.wgsl_equality.specs.Declarations.{attributed_code, declaration_kind_code, declaration_code}
-use Rattle.wgsl_equality.proofs.DeclarationLaws.{attributed_equal, kinds_equal, declarations_equal}
+use Rattle.wgsl_model.specs.StatementsWithoutSpans.{bare_declaration}
+use Rattle.wgsl_equality.specs.Declarations.{declaration_kind_code, declaration_code}
+use Rattle.wgsl_equality.proofs.DeclarationLaws.{kinds_equal, declarations_equal}
 use Rattle.wgsl_simple_statement.specs.View.{declaration_kind_view, declaration_view}
 use Rattle.wgsl_simple_statement.specs.Equality.{equal_kinds, equal_declarations}
-use Rattle.wgsl_simple_statement.proofs.Equalities.{agree, kinds_same, declarations_same}
+use Rattle.wgsl_simple_statement.proofs.Equalities.{agree, agree_behind, kinds_same, declarations_same}
 use Rattle.wgsl_simple_statement.proofs.equality_laws.declarations.Goals as goal
 
 pub returns : goal.returns
 returns c = record {
   kind = agree equal_kinds declaration_kind_view declaration_kind_code kinds_same (λ k. k) kinds_equal;
-  declaration = agree equal_declarations declaration_view (attributed_code declaration_code) declarations_same (bare_attributed bare_declaration) (attributed_equal declaration_code bare_declaration declarations_equal);
+  declaration = agree_behind equal_declarations declaration_view declaration_code declarations_same bare_declaration declarations_equal;
 }

@@ -1,4 +1,4 @@
-use Rattle.std.proofs.Common.{[], rules, ◌≡◌, ◌∙◌, sym, ap, map, Some}
+use Rattle.std.proofs.Common.{rules, ◌≡◌, ◌∙◌, sym, ap, map, Some}
 use Rattle.std.proofs.lemmas.List.{take_all}
 use Rattle.std.proofs.lemmas.Result.{IfOk-from_err}
 use Rattle.std.specs.Option.{option_map}
@@ -10,7 +10,10 @@ use Rattle.wgsl_statement.specs.declared.statement.Statement.{Statement}
 use Rattle.wgsl_statement.specs.View as V
 use Rattle.wgsl_statement.proofs.StatementViews.{is_compound, is_assignment, is_increment, is_decrement, is_if, is_switch, is_loop, is_for, is_while, is_break, is_continue, is_return, is_discard, is_function_call, is_const_assert, is_declaration}
 use Rattle.wgsl_statement.proofs.Views.{compound_statement_roll, compound_statement_out, if_statement_roll, if_statement_out, switch_statement_roll, switch_statement_out, loop_statement_roll, loop_statement_out, for_statement_roll, for_statement_out, switch_clause_roll, switch_clause_out, while_statement_roll, while_statement_out}
+use Rattle.wgsl_simple_statement.specs.View.{break_if_view}
 use Rattle.wgsl_simple_statement.proofs.Copies.{attributes_shown, maybe_node_shown}
+use Rattle.wgsl_span.proofs.Copies.{option_shown}
+use Rattle.wgsl_statement.proofs.ClauseViews.{else_if_clause_roll, else_if_clause_out, else_clause_roll, else_clause_out, continuing_statement_roll, continuing_statement_out}
 use Rattle.wgsl_statement.proofs.Copies.{selectors_shown, node_more, item_more}
 use Rattle.wgsl_statement.proofs.clones.+clone.Goals as goal
 
@@ -84,10 +87,40 @@ ForStatementCloneWith::clone_with-returns t c =
 pub SwitchClauseCloneWith::clone_with-returns : goal.SwitchClauseCloneWith::clone_with-returns
 SwitchClauseCloneWith::clone_with-returns t c =
     let original = layers.out-SwitchClause c.args.self.now in
-    let selectors = selectors_shown original.case_selectors.items _ c.in_ok-clone_with.ensures.copy in record {
+    let attributes = attributes_shown original.attributes.items _ c.in_ok-clone_with.ensures.copy in
+    let selectors = selectors_shown original.case_selectors.items _ c.in_ok-clone_with-2.ensures.copy in record {
       copy = switch_clause_roll _
-          ∙ (λ i. plain.switch_clause [] (selectors i) (c.in_ok-clone_with-2.ensures.copy i))
+          ∙ (λ i. plain.switch_clause (attributes i) (selectors i) (c.in_ok-clone_with-3.ensures.copy i))
           ∙ sym (switch_clause_out c.args.self.now);
+    }
+
+pub ElseIfClauseCloneWith::clone_with-returns : goal.ElseIfClauseCloneWith::clone_with-returns
+ElseIfClauseCloneWith::clone_with-returns t c =
+    let original = layers.out-ElseIfClause c.args.self.now in
+    let attributes = attributes_shown original.attributes.items _ c.in_ok-clone_with.ensures.copy in
+    let expression : expression_node_view c.in_ok-clone_with-2.field-0 ≡ expression_node_view original.expression = search rules in record {
+      copy = else_if_clause_roll _
+          ∙ (λ i. plain.else_if_clause (attributes i) (expression i) (c.in_ok-clone_with-3.ensures.copy i))
+          ∙ sym (else_if_clause_out c.args.self.now);
+    }
+
+pub ElseClauseCloneWith::clone_with-returns : goal.ElseClauseCloneWith::clone_with-returns
+ElseClauseCloneWith::clone_with-returns t c =
+    let original = layers.out-ElseClause c.args.self.now in
+    let attributes = attributes_shown original.attributes.items _ c.in_ok-clone_with.ensures.copy in record {
+      copy = else_clause_roll _
+          ∙ (λ i. plain.else_clause (attributes i) (c.in_ok-clone_with-2.ensures.copy i))
+          ∙ sym (else_clause_out c.args.self.now);
+    }
+
+pub ContinuingStatementCloneWith::clone_with-returns : goal.ContinuingStatementCloneWith::clone_with-returns
+ContinuingStatementCloneWith::clone_with-returns t c =
+    let original = layers.out-ContinuingStatement c.args.self.now in
+    let attributes = attributes_shown original.attributes.items _ c.in_ok-clone_with.ensures.copy in
+    let break_if = option_shown _ break_if_view (λ b copy h. h) original.break_if _ c.in_ok-clone_with-3.ensures.copy in record {
+      copy = continuing_statement_roll _
+          ∙ (λ i. plain.continuing (attributes i) (c.in_ok-clone_with-2.ensures.copy i) (break_if i))
+          ∙ sym (continuing_statement_out c.args.self.now);
     }
 
 pub WhileStatementCloneWith::clone_with-returns : goal.WhileStatementCloneWith::clone_with-returns
@@ -104,13 +137,13 @@ pub StatementCloneWith::clone_with-returns-in_ok-clone_with-in-Compound : goal.S
 StatementCloneWith::clone_with-returns-in_ok-clone_with-in-Compound t c = record { copy = is_compound _ ∙ ap plain.block_statement c.in_ok-clone_with-in-Compound.ensures.copy ∙ sym (ap (λ (s : Statement). V.statement_view s) c.in-Compound.is ∙ is_compound _) }
 
 pub StatementCloneWith::clone_with-returns-in_ok-clone_with-in-Assignment : goal.StatementCloneWith::clone_with-returns-in_ok-clone_with-in-Assignment
-StatementCloneWith::clone_with-returns-in_ok-clone_with-in-Assignment t c = record { copy = is_assignment _ ∙ ap (λ s. plain.unattributed (plain.assignment s)) c.in_ok-clone_with-in-Assignment.ensures.copy ∙ sym (ap (λ (s : Statement). V.statement_view s) c.in-Assignment.is ∙ is_assignment _) }
+StatementCloneWith::clone_with-returns-in_ok-clone_with-in-Assignment t c = record { copy = is_assignment _ ∙ ap (plain.as_statement plain.assignment) c.in_ok-clone_with-in-Assignment.ensures.copy ∙ sym (ap (λ (s : Statement). V.statement_view s) c.in-Assignment.is ∙ is_assignment _) }
 
 pub StatementCloneWith::clone_with-returns-in_ok-clone_with-in-Increment : goal.StatementCloneWith::clone_with-returns-in_ok-clone_with-in-Increment
-StatementCloneWith::clone_with-returns-in_ok-clone_with-in-Increment t c = record { copy = is_increment _ ∙ ap (λ s. plain.unattributed (plain.increment s)) c.in_ok-clone_with-in-Increment.ensures.copy ∙ sym (ap (λ (s : Statement). V.statement_view s) c.in-Increment.is ∙ is_increment _) }
+StatementCloneWith::clone_with-returns-in_ok-clone_with-in-Increment t c = record { copy = is_increment _ ∙ ap (plain.as_statement plain.increment) c.in_ok-clone_with-in-Increment.ensures.copy ∙ sym (ap (λ (s : Statement). V.statement_view s) c.in-Increment.is ∙ is_increment _) }
 
 pub StatementCloneWith::clone_with-returns-in_ok-clone_with-in-Decrement : goal.StatementCloneWith::clone_with-returns-in_ok-clone_with-in-Decrement
-StatementCloneWith::clone_with-returns-in_ok-clone_with-in-Decrement t c = record { copy = is_decrement _ ∙ ap (λ s. plain.unattributed (plain.decrement s)) c.in_ok-clone_with-in-Decrement.ensures.copy ∙ sym (ap (λ (s : Statement). V.statement_view s) c.in-Decrement.is ∙ is_decrement _) }
+StatementCloneWith::clone_with-returns-in_ok-clone_with-in-Decrement t c = record { copy = is_decrement _ ∙ ap (plain.as_statement plain.decrement) c.in_ok-clone_with-in-Decrement.ensures.copy ∙ sym (ap (λ (s : Statement). V.statement_view s) c.in-Decrement.is ∙ is_decrement _) }
 
 pub StatementCloneWith::clone_with-returns-in_ok-clone_with-in-If : goal.StatementCloneWith::clone_with-returns-in_ok-clone_with-in-If
 StatementCloneWith::clone_with-returns-in_ok-clone_with-in-If t c = record { copy = is_if _ ∙ ap (plain.as_statement plain.if_statement) c.in_ok-clone_with-in-If.ensures.copy ∙ sym (ap (λ (s : Statement). V.statement_view s) c.in-If.is ∙ is_if _) }
@@ -128,22 +161,22 @@ pub StatementCloneWith::clone_with-returns-in_ok-clone_with-in-While : goal.Stat
 StatementCloneWith::clone_with-returns-in_ok-clone_with-in-While t c = record { copy = is_while _ ∙ ap (plain.as_statement plain.while_statement) c.in_ok-clone_with-in-While.ensures.copy ∙ sym (ap (λ (s : Statement). V.statement_view s) c.in-While.is ∙ is_while _) }
 
 pub StatementCloneWith::clone_with-returns-in_ok-clone_with-in-Break : goal.StatementCloneWith::clone_with-returns-in_ok-clone_with-in-Break
-StatementCloneWith::clone_with-returns-in_ok-clone_with-in-Break t c = record { copy = is_break _ ∙ sym (ap (λ (s : Statement). V.statement_view s) c.in-Break.is ∙ is_break _) }
+StatementCloneWith::clone_with-returns-in_ok-clone_with-in-Break t c = record { copy = is_break _ ∙ c.in_ok-clone_with-in-Break.ensures.copy ∙ sym (ap (λ (s : Statement). V.statement_view s) c.in-Break.is ∙ is_break _) }
 
 pub StatementCloneWith::clone_with-returns-in_ok-clone_with-in-Continue : goal.StatementCloneWith::clone_with-returns-in_ok-clone_with-in-Continue
-StatementCloneWith::clone_with-returns-in_ok-clone_with-in-Continue t c = record { copy = is_continue _ ∙ sym (ap (λ (s : Statement). V.statement_view s) c.in-Continue.is ∙ is_continue _) }
+StatementCloneWith::clone_with-returns-in_ok-clone_with-in-Continue t c = record { copy = is_continue _ ∙ c.in_ok-clone_with-in-Continue.ensures.copy ∙ sym (ap (λ (s : Statement). V.statement_view s) c.in-Continue.is ∙ is_continue _) }
 
 pub StatementCloneWith::clone_with-returns-in_ok-clone_with-in-Return : goal.StatementCloneWith::clone_with-returns-in_ok-clone_with-in-Return
-StatementCloneWith::clone_with-returns-in_ok-clone_with-in-Return t c = record { copy = is_return _ ∙ ap (λ s. plain.unattributed (plain.return_statement s)) c.in_ok-clone_with-in-Return.ensures.copy ∙ sym (ap (λ (s : Statement). V.statement_view s) c.in-Return.is ∙ is_return _) }
+StatementCloneWith::clone_with-returns-in_ok-clone_with-in-Return t c = record { copy = is_return _ ∙ ap (plain.as_statement plain.return_statement) c.in_ok-clone_with-in-Return.ensures.copy ∙ sym (ap (λ (s : Statement). V.statement_view s) c.in-Return.is ∙ is_return _) }
 
 pub StatementCloneWith::clone_with-returns-in_ok-clone_with-in-Discard : goal.StatementCloneWith::clone_with-returns-in_ok-clone_with-in-Discard
-StatementCloneWith::clone_with-returns-in_ok-clone_with-in-Discard t c = record { copy = is_discard _ ∙ sym (ap (λ (s : Statement). V.statement_view s) c.in-Discard.is ∙ is_discard _) }
+StatementCloneWith::clone_with-returns-in_ok-clone_with-in-Discard t c = record { copy = is_discard _ ∙ c.in_ok-clone_with-in-Discard.ensures.copy ∙ sym (ap (λ (s : Statement). V.statement_view s) c.in-Discard.is ∙ is_discard _) }
 
 pub StatementCloneWith::clone_with-returns-in_ok-clone_with-in-FunctionCall : goal.StatementCloneWith::clone_with-returns-in_ok-clone_with-in-FunctionCall
-StatementCloneWith::clone_with-returns-in_ok-clone_with-in-FunctionCall t c = record { copy = is_function_call _ ∙ ap (λ s. plain.unattributed (plain.function_call_statement s)) c.in_ok-clone_with-in-FunctionCall.ensures.copy ∙ sym (ap (λ (s : Statement). V.statement_view s) c.in-FunctionCall.is ∙ is_function_call _) }
+StatementCloneWith::clone_with-returns-in_ok-clone_with-in-FunctionCall t c = record { copy = is_function_call _ ∙ ap (plain.as_statement plain.function_call_statement) c.in_ok-clone_with-in-FunctionCall.ensures.copy ∙ sym (ap (λ (s : Statement). V.statement_view s) c.in-FunctionCall.is ∙ is_function_call _) }
 
 pub StatementCloneWith::clone_with-returns-in_ok-clone_with-in-ConstAssert : goal.StatementCloneWith::clone_with-returns-in_ok-clone_with-in-ConstAssert
-StatementCloneWith::clone_with-returns-in_ok-clone_with-in-ConstAssert t c = record { copy = is_const_assert _ ∙ ap (λ s. plain.unattributed (plain.const_assert s)) c.in_ok-clone_with-in-ConstAssert.ensures.copy ∙ sym (ap (λ (s : Statement). V.statement_view s) c.in-ConstAssert.is ∙ is_const_assert _) }
+StatementCloneWith::clone_with-returns-in_ok-clone_with-in-ConstAssert t c = record { copy = is_const_assert _ ∙ ap (plain.as_statement plain.const_assert) c.in_ok-clone_with-in-ConstAssert.ensures.copy ∙ sym (ap (λ (s : Statement). V.statement_view s) c.in-ConstAssert.is ∙ is_const_assert _) }
 
 pub StatementCloneWith::clone_with-returns-in_ok-clone_with-in-Declaration : goal.StatementCloneWith::clone_with-returns-in_ok-clone_with-in-Declaration
 StatementCloneWith::clone_with-returns-in_ok-clone_with-in-Declaration t c = record { copy = is_declaration _ ∙ ap (plain.as_statement plain.declaration) c.in_ok-clone_with-in-Declaration.ensures.copy ∙ sym (ap (λ (s : Statement). V.statement_view s) c.in-Declaration.is ∙ is_declaration _) }
@@ -168,14 +201,23 @@ ContinuingStatementCloneWith::clone_with-returns-in_err-clone_with t c = record 
 pub ContinuingStatementCloneWith::clone_with-returns-in_err-clone_with-2 : goal.ContinuingStatementCloneWith::clone_with-returns-in_err-clone_with-2
 ContinuingStatementCloneWith::clone_with-returns-in_err-clone_with-2 t c = record { copy = IfOk-from_err _ _ c.from_residual-in_err-clone_with-2.ensures.0 }
 
+pub ContinuingStatementCloneWith::clone_with-returns-in_err-clone_with-3 : goal.ContinuingStatementCloneWith::clone_with-returns-in_err-clone_with-3
+ContinuingStatementCloneWith::clone_with-returns-in_err-clone_with-3 t c = record { copy = IfOk-from_err _ _ c.from_residual-in_err-clone_with-3.ensures.0 }
+
 pub ElseClauseCloneWith::clone_with-returns-in_err-clone_with : goal.ElseClauseCloneWith::clone_with-returns-in_err-clone_with
 ElseClauseCloneWith::clone_with-returns-in_err-clone_with t c = record { copy = IfOk-from_err _ _ c.from_residual.ensures.0 }
+
+pub ElseClauseCloneWith::clone_with-returns-in_err-clone_with-2 : goal.ElseClauseCloneWith::clone_with-returns-in_err-clone_with-2
+ElseClauseCloneWith::clone_with-returns-in_err-clone_with-2 t c = record { copy = IfOk-from_err _ _ c.from_residual-in_err-clone_with-2.ensures.0 }
 
 pub ElseIfClauseCloneWith::clone_with-returns-in_err-clone_with : goal.ElseIfClauseCloneWith::clone_with-returns-in_err-clone_with
 ElseIfClauseCloneWith::clone_with-returns-in_err-clone_with t c = record { copy = IfOk-from_err _ _ c.from_residual.ensures.0 }
 
 pub ElseIfClauseCloneWith::clone_with-returns-in_err-clone_with-2 : goal.ElseIfClauseCloneWith::clone_with-returns-in_err-clone_with-2
 ElseIfClauseCloneWith::clone_with-returns-in_err-clone_with-2 t c = record { copy = IfOk-from_err _ _ c.from_residual-in_err-clone_with-2.ensures.0 }
+
+pub ElseIfClauseCloneWith::clone_with-returns-in_err-clone_with-3 : goal.ElseIfClauseCloneWith::clone_with-returns-in_err-clone_with-3
+ElseIfClauseCloneWith::clone_with-returns-in_err-clone_with-3 t c = record { copy = IfOk-from_err _ _ c.from_residual-in_err-clone_with-3.ensures.0 }
 
 pub ForStatementCloneWith::clone_with-returns-in_err-clone_part : goal.ForStatementCloneWith::clone_with-returns-in_err-clone_part
 ForStatementCloneWith::clone_with-returns-in_err-clone_part t c = record { copy = IfOk-from_err _ _ c.from_residual-in_err-clone_part.ensures.0 }
@@ -275,6 +317,9 @@ SwitchClauseCloneWith::clone_with-returns-in_err-clone_with t c = record { copy 
 
 pub SwitchClauseCloneWith::clone_with-returns-in_err-clone_with-2 : goal.SwitchClauseCloneWith::clone_with-returns-in_err-clone_with-2
 SwitchClauseCloneWith::clone_with-returns-in_err-clone_with-2 t c = record { copy = IfOk-from_err _ _ c.from_residual-in_err-clone_with-2.ensures.0 }
+
+pub SwitchClauseCloneWith::clone_with-returns-in_err-clone_with-3 : goal.SwitchClauseCloneWith::clone_with-returns-in_err-clone_with-3
+SwitchClauseCloneWith::clone_with-returns-in_err-clone_with-3 t c = record { copy = IfOk-from_err _ _ c.from_residual-in_err-clone_with-3.ensures.0 }
 
 pub SwitchStatementCloneWith::clone_with-returns-in_err-attributes : goal.SwitchStatementCloneWith::clone_with-returns-in_err-attributes
 SwitchStatementCloneWith::clone_with-returns-in_err-attributes t c = record { copy = IfOk-from_err _ _ c.from_residual.ensures.0 }

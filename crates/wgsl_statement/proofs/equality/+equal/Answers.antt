@@ -1,21 +1,20 @@
-use Rattle.std.proofs.Common.{rules, ◌≡◌, true, false, refl, sym, ◌∙◌, ◌&&◌}
-use Rattle.wgsl_model.specs.Statements as plain
+use Rattle.std.proofs.Common.{rules, ◌≡◌, true, false, refl, sym, ap, ◌∙◌, ◌&&◌}
 use Rattle.wgsl_expression.specs.View.{expression_node_view}
 use Rattle.wgsl_attribute.proofs.Equalities.{options_same, lists_same, attribute_lists_same}
 use Rattle.wgsl_equality.specs.Code.{same}
 use Rattle.wgsl_equality.specs.Expressions.{expression_node_code}
-use Rattle.wgsl_equality.specs.Declarations.{selector_code}
-use Rattle.wgsl_equality.specs.Statements.{statement_code}
+use Rattle.wgsl_equality.specs.Declarations.{attributed_code, break_if_code, selector_code}
 use Rattle.wgsl_equality.specs.Lists.{unlike, next_differs, none_left}
+use Rattle.wgsl_statement.specs.declared.statement.Statement.{Statement}
 use Rattle.wgsl_statement.specs.declared.statement.Statement.TheViews as layers
-use Rattle.wgsl_simple_statement.specs.View.{selector_view, assignment_view, increment_view, decrement_view, return_view, call_statement_view, assert_view}
+use Rattle.wgsl_simple_statement.specs.View.{break_if_view, selector_view}
 use Rattle.wgsl_statement.specs.View.{statement_view, compound_statement_view}
-use Rattle.wgsl_statement.proofs.StatementViews.{is_compound, is_assignment, is_increment, is_decrement, is_if, is_switch, is_loop, is_for, is_while, is_return, is_function_call, is_const_assert, is_declaration}
-use Rattle.wgsl_simple_statement.proofs.Equalities.{declarations_same, assignments_same, increments_same, decrements_same, call_statements_same, asserts_same, returns_same, selectors_same}
+use Rattle.wgsl_statement.proofs.StatementViews.{is_compound, is_assignment, is_increment, is_decrement, is_if, is_switch, is_loop, is_for, is_while, is_break, is_continue, is_return, is_discard, is_function_call, is_const_assert, is_declaration}
+use Rattle.wgsl_simple_statement.proofs.Equalities.{declarations_same, assignments_same, increments_same, decrements_same, call_statements_same, asserts_same, returns_same, breaks_same, continues_same, discards_same, break_ifs_same, selectors_same}
 use Rattle.wgsl_statement.proofs.BlockStatements.{blocks_same}
-use Rattle.wgsl_statement.proofs.Equalities.{unattributed_same, and_true, and_false, attributes_part, expression_part, condition_part, selectors_part, block_part, statements_part, if_clause_part, else_ifs_part, else_part, clauses_part, continuing_part, header_part, compounds_same, ifs_same, switches_same, switch_clauses_same, loops_same, fors_same, whiles_same, node_code, else_if_view_code, switch_clause_view_code, nodes_same, else_ifs_same, clauses_same}
+use Rattle.wgsl_statement.proofs.Equalities.{of_one_kind, and_true, and_false, attributes_part, expression_part, condition_part, selectors_part, break_if_part, block_part, statements_part, if_clause_part, else_ifs_part, else_part, clauses_part, continuing_part, header_part, compounds_same, ifs_same, switches_same, else_if_clauses_same, else_clauses_same, switch_clauses_same, loops_same, continuings_same, fors_same, whiles_same, node_code, else_if_view_code, switch_clause_view_code, nodes_same, else_ifs_same, clauses_same}
 use Rattle.wgsl_statement.proofs.equality.+equal.Goals as goal
-use Rattle.wgsl_statement.proofs.equality.+equal.Goals.{LoopStatementPartialEq::eq-then-eq, LoopStatementPartialEq::eq-else-eq, WhileStatementPartialEq::eq-then-eq, WhileStatementPartialEq::eq-else-eq, IfStatementPartialEq::eq-then-eq, IfStatementPartialEq::eq-else-eq, IfStatementPartialEq::eq-then-eq-2, IfStatementPartialEq::eq-else-eq-2, SwitchStatementPartialEq::eq-then-eq, SwitchStatementPartialEq::eq-else-eq, SwitchStatementPartialEq::eq-then-eq-2, SwitchStatementPartialEq::eq-else-eq-2, ForStatementPartialEq::eq-then-eq, ForStatementPartialEq::eq-else-eq, ForStatementPartialEq::eq-then-part_equal, ForStatementPartialEq::eq-else-part_equal, ForStatementPartialEq::eq-then-eq-2, ForStatementPartialEq::eq-else-eq-2}
+use Rattle.wgsl_statement.proofs.equality.+equal.Goals.{ElseIfClausePartialEq::eq-then-eq, ElseIfClausePartialEq::eq-else-eq, SwitchClausePartialEq::eq-then-eq, SwitchClausePartialEq::eq-else-eq, ContinuingStatementPartialEq::eq-then-eq, ContinuingStatementPartialEq::eq-else-eq, LoopStatementPartialEq::eq-then-eq, LoopStatementPartialEq::eq-else-eq, WhileStatementPartialEq::eq-then-eq, WhileStatementPartialEq::eq-else-eq, IfStatementPartialEq::eq-then-eq, IfStatementPartialEq::eq-else-eq, IfStatementPartialEq::eq-then-eq-2, IfStatementPartialEq::eq-else-eq-2, SwitchStatementPartialEq::eq-then-eq, SwitchStatementPartialEq::eq-else-eq, SwitchStatementPartialEq::eq-then-eq-2, SwitchStatementPartialEq::eq-else-eq-2, ForStatementPartialEq::eq-then-eq, ForStatementPartialEq::eq-else-eq, ForStatementPartialEq::eq-then-part_equal, ForStatementPartialEq::eq-else-part_equal, ForStatementPartialEq::eq-then-eq-2, ForStatementPartialEq::eq-else-eq-2}
 
 pub CompoundStatementPartialEq::eq-returns-then-eq : goal.CompoundStatementPartialEq::eq-returns-then-eq
 CompoundStatementPartialEq::eq-returns-then-eq t c =
@@ -35,23 +34,107 @@ CompoundStatementPartialEq::eq-returns-else-eq t c =
     let tested_1 : c.eq.result ≡ part_1 = c.eq.ensures ∙ attribute_lists_same a.attributes.items b.attributes.items in
     and_false c.eq.result (part_1) part_2 c.eq.result c.if-eq.false tested_1 refl ∙ sym (compounds_same c.args.self.now c.args.other.now)
 
-pub SwitchClausePartialEq::eq-returns-then-eq : goal.SwitchClausePartialEq::eq-returns-then-eq
-SwitchClausePartialEq::eq-returns-then-eq t c =
-    let a = layers.out-SwitchClause c.args.self.now in
-    let b = layers.out-SwitchClause c.args.other.now in
-    let part_1 = selectors_part a.case_selectors b.case_selectors in
-    let part_2 = block_part a.body b.body in
-    let tested_1 : c.eq.result ≡ part_1 = c.eq.ensures ∙ lists_same selector_view selector_code _ selectors_same a.case_selectors.items b.case_selectors.items in
-    and_true c.eq.result (part_1) part_2 c.eq-then-eq.result c.if-eq.true tested_1 (c.eq-then-eq.ensures) ∙ sym (switch_clauses_same c.args.self.now c.args.other.now)
+pub ElseIfClausePartialEq::eq-returns-then-eq-2 : goal.ElseIfClausePartialEq::eq-returns-then-eq-2
+ElseIfClausePartialEq::eq-returns-then-eq-2 t c =
+    let a = layers.out-ElseIfClause c.args.self.now in
+    let b = layers.out-ElseIfClause c.args.other.now in
+    let part_1 = attributes_part a.attributes b.attributes in
+    let part_2 = expression_part a.expression b.expression in
+    let part_3 = block_part a.body b.body in
+    let tested_1 : c.eq.result ≡ part_1 = c.eq.ensures ∙ attribute_lists_same a.attributes.items b.attributes.items in
+    let tested_2 : c.if-eq.value ≡ part_1 && part_2 = elim c.if-eq.branch [
+      | ElseIfClausePartialEq::eq-then-eq w ↦ and_true c.eq.result (part_1) part_2 c.if-eq.value w.if-eq.true tested_1 (w.value-is ∙ w.eq-then-eq.ensures)
+      | ElseIfClausePartialEq::eq-else-eq w ↦ and_false c.eq.result (part_1) part_2 c.if-eq.value w.if-eq.false tested_1 w.value-is
+    ] in
+    and_true c.if-eq.value (part_1 && part_2) part_3 c.eq-then-eq-2.result c.if-eq-2.true tested_2 (c.eq-then-eq-2.ensures) ∙ sym (else_if_clauses_same c.args.self.now c.args.other.now)
 
-pub SwitchClausePartialEq::eq-returns-else-eq : goal.SwitchClausePartialEq::eq-returns-else-eq
-SwitchClausePartialEq::eq-returns-else-eq t c =
+pub ElseIfClausePartialEq::eq-returns-else-eq-2 : goal.ElseIfClausePartialEq::eq-returns-else-eq-2
+ElseIfClausePartialEq::eq-returns-else-eq-2 t c =
+    let a = layers.out-ElseIfClause c.args.self.now in
+    let b = layers.out-ElseIfClause c.args.other.now in
+    let part_1 = attributes_part a.attributes b.attributes in
+    let part_2 = expression_part a.expression b.expression in
+    let part_3 = block_part a.body b.body in
+    let tested_1 : c.eq.result ≡ part_1 = c.eq.ensures ∙ attribute_lists_same a.attributes.items b.attributes.items in
+    let tested_2 : c.if-eq.value ≡ part_1 && part_2 = elim c.if-eq.branch [
+      | ElseIfClausePartialEq::eq-then-eq w ↦ and_true c.eq.result (part_1) part_2 c.if-eq.value w.if-eq.true tested_1 (w.value-is ∙ w.eq-then-eq.ensures)
+      | ElseIfClausePartialEq::eq-else-eq w ↦ and_false c.eq.result (part_1) part_2 c.if-eq.value w.if-eq.false tested_1 w.value-is
+    ] in
+    and_false c.if-eq.value (part_1 && part_2) part_3 c.if-eq.value c.if-eq-2.false tested_2 refl ∙ sym (else_if_clauses_same c.args.self.now c.args.other.now)
+
+pub ElseClausePartialEq::eq-returns-then-eq : goal.ElseClausePartialEq::eq-returns-then-eq
+ElseClausePartialEq::eq-returns-then-eq t c =
+    let a = layers.out-ElseClause c.args.self.now in
+    let b = layers.out-ElseClause c.args.other.now in
+    let part_1 = attributes_part a.attributes b.attributes in
+    let part_2 = block_part a.body b.body in
+    let tested_1 : c.eq.result ≡ part_1 = c.eq.ensures ∙ attribute_lists_same a.attributes.items b.attributes.items in
+    and_true c.eq.result (part_1) part_2 c.eq-then-eq.result c.if-eq.true tested_1 (c.eq-then-eq.ensures) ∙ sym (else_clauses_same c.args.self.now c.args.other.now)
+
+pub ElseClausePartialEq::eq-returns-else-eq : goal.ElseClausePartialEq::eq-returns-else-eq
+ElseClausePartialEq::eq-returns-else-eq t c =
+    let a = layers.out-ElseClause c.args.self.now in
+    let b = layers.out-ElseClause c.args.other.now in
+    let part_1 = attributes_part a.attributes b.attributes in
+    let part_2 = block_part a.body b.body in
+    let tested_1 : c.eq.result ≡ part_1 = c.eq.ensures ∙ attribute_lists_same a.attributes.items b.attributes.items in
+    and_false c.eq.result (part_1) part_2 c.eq.result c.if-eq.false tested_1 refl ∙ sym (else_clauses_same c.args.self.now c.args.other.now)
+
+pub SwitchClausePartialEq::eq-returns-then-eq-2 : goal.SwitchClausePartialEq::eq-returns-then-eq-2
+SwitchClausePartialEq::eq-returns-then-eq-2 t c =
     let a = layers.out-SwitchClause c.args.self.now in
     let b = layers.out-SwitchClause c.args.other.now in
-    let part_1 = selectors_part a.case_selectors b.case_selectors in
+    let part_1 = attributes_part a.attributes b.attributes in
+    let part_2 = selectors_part a.case_selectors b.case_selectors in
+    let part_3 = block_part a.body b.body in
+    let tested_1 : c.eq.result ≡ part_1 = c.eq.ensures ∙ attribute_lists_same a.attributes.items b.attributes.items in
+    let tested_2 : c.if-eq.value ≡ part_1 && part_2 = elim c.if-eq.branch [
+      | SwitchClausePartialEq::eq-then-eq w ↦ and_true c.eq.result (part_1) part_2 c.if-eq.value w.if-eq.true tested_1 (w.value-is ∙ w.eq-then-eq.ensures ∙ lists_same selector_view selector_code _ selectors_same a.case_selectors.items b.case_selectors.items)
+      | SwitchClausePartialEq::eq-else-eq w ↦ and_false c.eq.result (part_1) part_2 c.if-eq.value w.if-eq.false tested_1 w.value-is
+    ] in
+    and_true c.if-eq.value (part_1 && part_2) part_3 c.eq-then-eq-2.result c.if-eq-2.true tested_2 (c.eq-then-eq-2.ensures) ∙ sym (switch_clauses_same c.args.self.now c.args.other.now)
+
+pub SwitchClausePartialEq::eq-returns-else-eq-2 : goal.SwitchClausePartialEq::eq-returns-else-eq-2
+SwitchClausePartialEq::eq-returns-else-eq-2 t c =
+    let a = layers.out-SwitchClause c.args.self.now in
+    let b = layers.out-SwitchClause c.args.other.now in
+    let part_1 = attributes_part a.attributes b.attributes in
+    let part_2 = selectors_part a.case_selectors b.case_selectors in
+    let part_3 = block_part a.body b.body in
+    let tested_1 : c.eq.result ≡ part_1 = c.eq.ensures ∙ attribute_lists_same a.attributes.items b.attributes.items in
+    let tested_2 : c.if-eq.value ≡ part_1 && part_2 = elim c.if-eq.branch [
+      | SwitchClausePartialEq::eq-then-eq w ↦ and_true c.eq.result (part_1) part_2 c.if-eq.value w.if-eq.true tested_1 (w.value-is ∙ w.eq-then-eq.ensures ∙ lists_same selector_view selector_code _ selectors_same a.case_selectors.items b.case_selectors.items)
+      | SwitchClausePartialEq::eq-else-eq w ↦ and_false c.eq.result (part_1) part_2 c.if-eq.value w.if-eq.false tested_1 w.value-is
+    ] in
+    and_false c.if-eq.value (part_1 && part_2) part_3 c.if-eq.value c.if-eq-2.false tested_2 refl ∙ sym (switch_clauses_same c.args.self.now c.args.other.now)
+
+pub ContinuingStatementPartialEq::eq-returns-then-eq-2 : goal.ContinuingStatementPartialEq::eq-returns-then-eq-2
+ContinuingStatementPartialEq::eq-returns-then-eq-2 t c =
+    let a = layers.out-ContinuingStatement c.args.self.now in
+    let b = layers.out-ContinuingStatement c.args.other.now in
+    let part_1 = attributes_part a.attributes b.attributes in
     let part_2 = block_part a.body b.body in
-    let tested_1 : c.eq.result ≡ part_1 = c.eq.ensures ∙ lists_same selector_view selector_code _ selectors_same a.case_selectors.items b.case_selectors.items in
-    and_false c.eq.result (part_1) part_2 c.eq.result c.if-eq.false tested_1 refl ∙ sym (switch_clauses_same c.args.self.now c.args.other.now)
+    let part_3 = break_if_part a.break_if b.break_if in
+    let tested_1 : c.eq.result ≡ part_1 = c.eq.ensures ∙ attribute_lists_same a.attributes.items b.attributes.items in
+    let tested_2 : c.if-eq.value ≡ part_1 && part_2 = elim c.if-eq.branch [
+      | ContinuingStatementPartialEq::eq-then-eq w ↦ and_true c.eq.result (part_1) part_2 c.if-eq.value w.if-eq.true tested_1 (w.value-is ∙ w.eq-then-eq.ensures)
+      | ContinuingStatementPartialEq::eq-else-eq w ↦ and_false c.eq.result (part_1) part_2 c.if-eq.value w.if-eq.false tested_1 w.value-is
+    ] in
+    and_true c.if-eq.value (part_1 && part_2) part_3 c.eq-then-eq-2.result c.if-eq-2.true tested_2 (c.eq-then-eq-2.ensures ∙ options_same break_if_view (attributed_code break_if_code) _ break_ifs_same a.break_if b.break_if) ∙ sym (continuings_same c.args.self.now c.args.other.now)
+
+pub ContinuingStatementPartialEq::eq-returns-else-eq-2 : goal.ContinuingStatementPartialEq::eq-returns-else-eq-2
+ContinuingStatementPartialEq::eq-returns-else-eq-2 t c =
+    let a = layers.out-ContinuingStatement c.args.self.now in
+    let b = layers.out-ContinuingStatement c.args.other.now in
+    let part_1 = attributes_part a.attributes b.attributes in
+    let part_2 = block_part a.body b.body in
+    let part_3 = break_if_part a.break_if b.break_if in
+    let tested_1 : c.eq.result ≡ part_1 = c.eq.ensures ∙ attribute_lists_same a.attributes.items b.attributes.items in
+    let tested_2 : c.if-eq.value ≡ part_1 && part_2 = elim c.if-eq.branch [
+      | ContinuingStatementPartialEq::eq-then-eq w ↦ and_true c.eq.result (part_1) part_2 c.if-eq.value w.if-eq.true tested_1 (w.value-is ∙ w.eq-then-eq.ensures)
+      | ContinuingStatementPartialEq::eq-else-eq w ↦ and_false c.eq.result (part_1) part_2 c.if-eq.value w.if-eq.false tested_1 w.value-is
+    ] in
+    and_false c.if-eq.value (part_1 && part_2) part_3 c.if-eq.value c.if-eq-2.false tested_2 refl ∙ sym (continuings_same c.args.self.now c.args.other.now)
 
 pub LoopStatementPartialEq::eq-returns-then-eq-2 : goal.LoopStatementPartialEq::eq-returns-then-eq-2
 LoopStatementPartialEq::eq-returns-then-eq-2 t c =
@@ -290,290 +373,164 @@ clauses_equal-returns t c =
     let ys = c.args.b.now in
     sym (clauses_same xs ys ∙ none_left switch_clause_view_code xs ys c.clauses.i (search rules) (search rules) c.clauses.invariant)
 
-pub StatementPartialEq::eq-returns-in-Declaration-matches : goal.StatementPartialEq::eq-returns-in-Declaration-matches
-StatementPartialEq::eq-returns-in-Declaration-matches t c =
-    let x = c.in-Declaration.a in
-    let y = c.in-Declaration-matches.b in
-    let answer : c.eq-in-Declaration.result ≡ true = search rules in
-    sym ((λ i. same (statement_code (statement_view (c.in-Declaration.is i))) (statement_code (statement_view (c.in-Declaration-matches.is i))))
-    ∙ (λ i. same (statement_code (is_declaration x i)) (statement_code (is_declaration y i)))
-    ∙ sym (declarations_same x y)
-    ∙ sym c.eq-in-Declaration.ensures
-    ∙ answer)
-
-pub StatementPartialEq::eq-returns-in_default-matches-16 : goal.StatementPartialEq::eq-returns-in_default-matches-16
-StatementPartialEq::eq-returns-in_default-matches-16 t c =
-    let x = c.in-Declaration.a in
-    let y = c.in-Declaration-matches.b in
-    let answer : c.eq-in-Declaration.result ≡ false = search rules in
-    sym ((λ i. same (statement_code (statement_view (c.in-Declaration.is i))) (statement_code (statement_view (c.in-Declaration-matches.is i))))
-    ∙ (λ i. same (statement_code (is_declaration x i)) (statement_code (is_declaration y i)))
-    ∙ sym (declarations_same x y)
-    ∙ sym c.eq-in-Declaration.ensures
-    ∙ answer)
+-- the kinds of statements
 
 pub StatementPartialEq::eq-returns-in-Compound-matches : goal.StatementPartialEq::eq-returns-in-Compound-matches
 StatementPartialEq::eq-returns-in-Compound-matches t c =
-    let x = c.in-Compound.a in
-    let y = c.in-Compound-matches.b in
-    let answer : c.eq.result ≡ true = search rules in
-    sym ((λ i. same (statement_code (statement_view (c.in-Compound.is i))) (statement_code (statement_view (c.in-Compound-matches.is i))))
-    ∙ (λ i. same (statement_code (is_compound x i)) (statement_code (is_compound y i)))
-    ∙ blocks_same (compound_statement_view x) (compound_statement_view y)
-    ∙ sym c.eq.ensures
-    ∙ answer)
+    of_one_kind c.args.self.now c.args.other.now _ _ (ap (λ (s : Statement). statement_view s) c.in-Compound.is ∙ is_compound c.in-Compound.a) (ap (λ (s : Statement). statement_view s) c.in-Compound-matches.is ∙ is_compound c.in-Compound-matches.b)
+    c.eq.result true (c.eq.ensures ∙ sym (blocks_same (compound_statement_view c.in-Compound.a) (compound_statement_view c.in-Compound-matches.b))) (search rules)
 
-pub StatementPartialEq::eq-returns-in_default-matches-4 : goal.StatementPartialEq::eq-returns-in_default-matches-4
-StatementPartialEq::eq-returns-in_default-matches-4 t c =
-    let x = c.in-Compound.a in
-    let y = c.in-Compound-matches.b in
-    let answer : c.eq.result ≡ false = search rules in
-    sym ((λ i. same (statement_code (statement_view (c.in-Compound.is i))) (statement_code (statement_view (c.in-Compound-matches.is i))))
-    ∙ (λ i. same (statement_code (is_compound x i)) (statement_code (is_compound y i)))
-    ∙ blocks_same (compound_statement_view x) (compound_statement_view y)
-    ∙ sym c.eq.ensures
-    ∙ answer)
+pub StatementPartialEq::eq-returns-in_default-matches : goal.StatementPartialEq::eq-returns-in_default-matches
+StatementPartialEq::eq-returns-in_default-matches t c =
+    of_one_kind c.args.self.now c.args.other.now _ _ (ap (λ (s : Statement). statement_view s) c.in-Compound.is ∙ is_compound c.in-Compound.a) (ap (λ (s : Statement). statement_view s) c.in-Compound-matches.is ∙ is_compound c.in-Compound-matches.b)
+    c.eq.result false (c.eq.ensures ∙ sym (blocks_same (compound_statement_view c.in-Compound.a) (compound_statement_view c.in-Compound-matches.b))) (search rules)
 
 pub StatementPartialEq::eq-returns-in-Assignment-matches : goal.StatementPartialEq::eq-returns-in-Assignment-matches
 StatementPartialEq::eq-returns-in-Assignment-matches t c =
-    let x = c.in-Assignment.a in
-    let y = c.in-Assignment-matches.b in
-    let answer : c.eq-in-Assignment.result ≡ true = search rules in
-    sym ((λ i. same (statement_code (statement_view (c.in-Assignment.is i))) (statement_code (statement_view (c.in-Assignment-matches.is i))))
-    ∙ (λ i. same (statement_code (is_assignment x i)) (statement_code (is_assignment y i)))
-    ∙ unattributed_same (plain.assignment (assignment_view x)) (plain.assignment (assignment_view y))
-    ∙ sym (assignments_same x y)
-    ∙ sym c.eq-in-Assignment.ensures
-    ∙ answer)
+    of_one_kind c.args.self.now c.args.other.now _ _ (ap (λ (s : Statement). statement_view s) c.in-Assignment.is ∙ is_assignment c.in-Assignment.a) (ap (λ (s : Statement). statement_view s) c.in-Assignment-matches.is ∙ is_assignment c.in-Assignment-matches.b)
+    c.eq-in-Assignment.result true (c.eq-in-Assignment.ensures ∙ assignments_same c.in-Assignment.a c.in-Assignment-matches.b) (search rules)
 
-pub StatementPartialEq::eq-returns-in_default-matches-5 : goal.StatementPartialEq::eq-returns-in_default-matches-5
-StatementPartialEq::eq-returns-in_default-matches-5 t c =
-    let x = c.in-Assignment.a in
-    let y = c.in-Assignment-matches.b in
-    let answer : c.eq-in-Assignment.result ≡ false = search rules in
-    sym ((λ i. same (statement_code (statement_view (c.in-Assignment.is i))) (statement_code (statement_view (c.in-Assignment-matches.is i))))
-    ∙ (λ i. same (statement_code (is_assignment x i)) (statement_code (is_assignment y i)))
-    ∙ unattributed_same (plain.assignment (assignment_view x)) (plain.assignment (assignment_view y))
-    ∙ sym (assignments_same x y)
-    ∙ sym c.eq-in-Assignment.ensures
-    ∙ answer)
+pub StatementPartialEq::eq-returns-in_default-matches-2 : goal.StatementPartialEq::eq-returns-in_default-matches-2
+StatementPartialEq::eq-returns-in_default-matches-2 t c =
+    of_one_kind c.args.self.now c.args.other.now _ _ (ap (λ (s : Statement). statement_view s) c.in-Assignment.is ∙ is_assignment c.in-Assignment.a) (ap (λ (s : Statement). statement_view s) c.in-Assignment-matches.is ∙ is_assignment c.in-Assignment-matches.b)
+    c.eq-in-Assignment.result false (c.eq-in-Assignment.ensures ∙ assignments_same c.in-Assignment.a c.in-Assignment-matches.b) (search rules)
 
 pub StatementPartialEq::eq-returns-in-Increment-matches : goal.StatementPartialEq::eq-returns-in-Increment-matches
 StatementPartialEq::eq-returns-in-Increment-matches t c =
-    let x = c.in-Increment.a in
-    let y = c.in-Increment-matches.b in
-    let answer : c.eq-in-Increment.result ≡ true = search rules in
-    sym ((λ i. same (statement_code (statement_view (c.in-Increment.is i))) (statement_code (statement_view (c.in-Increment-matches.is i))))
-    ∙ (λ i. same (statement_code (is_increment x i)) (statement_code (is_increment y i)))
-    ∙ unattributed_same (plain.increment (increment_view x)) (plain.increment (increment_view y))
-    ∙ sym (increments_same x y)
-    ∙ sym c.eq-in-Increment.ensures
-    ∙ answer)
+    of_one_kind c.args.self.now c.args.other.now _ _ (ap (λ (s : Statement). statement_view s) c.in-Increment.is ∙ is_increment c.in-Increment.a) (ap (λ (s : Statement). statement_view s) c.in-Increment-matches.is ∙ is_increment c.in-Increment-matches.b)
+    c.eq-in-Increment.result true (c.eq-in-Increment.ensures ∙ increments_same c.in-Increment.a c.in-Increment-matches.b) (search rules)
 
-pub StatementPartialEq::eq-returns-in_default-matches-6 : goal.StatementPartialEq::eq-returns-in_default-matches-6
-StatementPartialEq::eq-returns-in_default-matches-6 t c =
-    let x = c.in-Increment.a in
-    let y = c.in-Increment-matches.b in
-    let answer : c.eq-in-Increment.result ≡ false = search rules in
-    sym ((λ i. same (statement_code (statement_view (c.in-Increment.is i))) (statement_code (statement_view (c.in-Increment-matches.is i))))
-    ∙ (λ i. same (statement_code (is_increment x i)) (statement_code (is_increment y i)))
-    ∙ unattributed_same (plain.increment (increment_view x)) (plain.increment (increment_view y))
-    ∙ sym (increments_same x y)
-    ∙ sym c.eq-in-Increment.ensures
-    ∙ answer)
+pub StatementPartialEq::eq-returns-in_default-matches-3 : goal.StatementPartialEq::eq-returns-in_default-matches-3
+StatementPartialEq::eq-returns-in_default-matches-3 t c =
+    of_one_kind c.args.self.now c.args.other.now _ _ (ap (λ (s : Statement). statement_view s) c.in-Increment.is ∙ is_increment c.in-Increment.a) (ap (λ (s : Statement). statement_view s) c.in-Increment-matches.is ∙ is_increment c.in-Increment-matches.b)
+    c.eq-in-Increment.result false (c.eq-in-Increment.ensures ∙ increments_same c.in-Increment.a c.in-Increment-matches.b) (search rules)
 
 pub StatementPartialEq::eq-returns-in-Decrement-matches : goal.StatementPartialEq::eq-returns-in-Decrement-matches
 StatementPartialEq::eq-returns-in-Decrement-matches t c =
-    let x = c.in-Decrement.a in
-    let y = c.in-Decrement-matches.b in
-    let answer : c.eq-in-Decrement.result ≡ true = search rules in
-    sym ((λ i. same (statement_code (statement_view (c.in-Decrement.is i))) (statement_code (statement_view (c.in-Decrement-matches.is i))))
-    ∙ (λ i. same (statement_code (is_decrement x i)) (statement_code (is_decrement y i)))
-    ∙ unattributed_same (plain.decrement (decrement_view x)) (plain.decrement (decrement_view y))
-    ∙ sym (decrements_same x y)
-    ∙ sym c.eq-in-Decrement.ensures
-    ∙ answer)
+    of_one_kind c.args.self.now c.args.other.now _ _ (ap (λ (s : Statement). statement_view s) c.in-Decrement.is ∙ is_decrement c.in-Decrement.a) (ap (λ (s : Statement). statement_view s) c.in-Decrement-matches.is ∙ is_decrement c.in-Decrement-matches.b)
+    c.eq-in-Decrement.result true (c.eq-in-Decrement.ensures ∙ decrements_same c.in-Decrement.a c.in-Decrement-matches.b) (search rules)
 
-pub StatementPartialEq::eq-returns-in_default-matches-7 : goal.StatementPartialEq::eq-returns-in_default-matches-7
-StatementPartialEq::eq-returns-in_default-matches-7 t c =
-    let x = c.in-Decrement.a in
-    let y = c.in-Decrement-matches.b in
-    let answer : c.eq-in-Decrement.result ≡ false = search rules in
-    sym ((λ i. same (statement_code (statement_view (c.in-Decrement.is i))) (statement_code (statement_view (c.in-Decrement-matches.is i))))
-    ∙ (λ i. same (statement_code (is_decrement x i)) (statement_code (is_decrement y i)))
-    ∙ unattributed_same (plain.decrement (decrement_view x)) (plain.decrement (decrement_view y))
-    ∙ sym (decrements_same x y)
-    ∙ sym c.eq-in-Decrement.ensures
-    ∙ answer)
+pub StatementPartialEq::eq-returns-in_default-matches-4 : goal.StatementPartialEq::eq-returns-in_default-matches-4
+StatementPartialEq::eq-returns-in_default-matches-4 t c =
+    of_one_kind c.args.self.now c.args.other.now _ _ (ap (λ (s : Statement). statement_view s) c.in-Decrement.is ∙ is_decrement c.in-Decrement.a) (ap (λ (s : Statement). statement_view s) c.in-Decrement-matches.is ∙ is_decrement c.in-Decrement-matches.b)
+    c.eq-in-Decrement.result false (c.eq-in-Decrement.ensures ∙ decrements_same c.in-Decrement.a c.in-Decrement-matches.b) (search rules)
 
 pub StatementPartialEq::eq-returns-in-If-matches : goal.StatementPartialEq::eq-returns-in-If-matches
 StatementPartialEq::eq-returns-in-If-matches t c =
-    let x = c.in-If.a in
-    let y = c.in-If-matches.b in
-    let answer : c.eq-in-If.result ≡ true = search rules in
-    sym ((λ i. same (statement_code (statement_view (c.in-If.is i))) (statement_code (statement_view (c.in-If-matches.is i))))
-    ∙ (λ i. same (statement_code (is_if x i)) (statement_code (is_if y i)))
-    ∙ sym c.eq-in-If.ensures
-    ∙ answer)
+    of_one_kind c.args.self.now c.args.other.now _ _ (ap (λ (s : Statement). statement_view s) c.in-If.is ∙ is_if c.in-If.a) (ap (λ (s : Statement). statement_view s) c.in-If-matches.is ∙ is_if c.in-If-matches.b)
+    c.eq-in-If.result true (c.eq-in-If.ensures) (search rules)
 
-pub StatementPartialEq::eq-returns-in_default-matches-8 : goal.StatementPartialEq::eq-returns-in_default-matches-8
-StatementPartialEq::eq-returns-in_default-matches-8 t c =
-    let x = c.in-If.a in
-    let y = c.in-If-matches.b in
-    let answer : c.eq-in-If.result ≡ false = search rules in
-    sym ((λ i. same (statement_code (statement_view (c.in-If.is i))) (statement_code (statement_view (c.in-If-matches.is i))))
-    ∙ (λ i. same (statement_code (is_if x i)) (statement_code (is_if y i)))
-    ∙ sym c.eq-in-If.ensures
-    ∙ answer)
+pub StatementPartialEq::eq-returns-in_default-matches-5 : goal.StatementPartialEq::eq-returns-in_default-matches-5
+StatementPartialEq::eq-returns-in_default-matches-5 t c =
+    of_one_kind c.args.self.now c.args.other.now _ _ (ap (λ (s : Statement). statement_view s) c.in-If.is ∙ is_if c.in-If.a) (ap (λ (s : Statement). statement_view s) c.in-If-matches.is ∙ is_if c.in-If-matches.b)
+    c.eq-in-If.result false (c.eq-in-If.ensures) (search rules)
 
 pub StatementPartialEq::eq-returns-in-Switch-matches : goal.StatementPartialEq::eq-returns-in-Switch-matches
 StatementPartialEq::eq-returns-in-Switch-matches t c =
-    let x = c.in-Switch.a in
-    let y = c.in-Switch-matches.b in
-    let answer : c.eq-in-Switch.result ≡ true = search rules in
-    sym ((λ i. same (statement_code (statement_view (c.in-Switch.is i))) (statement_code (statement_view (c.in-Switch-matches.is i))))
-    ∙ (λ i. same (statement_code (is_switch x i)) (statement_code (is_switch y i)))
-    ∙ sym c.eq-in-Switch.ensures
-    ∙ answer)
+    of_one_kind c.args.self.now c.args.other.now _ _ (ap (λ (s : Statement). statement_view s) c.in-Switch.is ∙ is_switch c.in-Switch.a) (ap (λ (s : Statement). statement_view s) c.in-Switch-matches.is ∙ is_switch c.in-Switch-matches.b)
+    c.eq-in-Switch.result true (c.eq-in-Switch.ensures) (search rules)
 
-pub StatementPartialEq::eq-returns-in_default-matches-9 : goal.StatementPartialEq::eq-returns-in_default-matches-9
-StatementPartialEq::eq-returns-in_default-matches-9 t c =
-    let x = c.in-Switch.a in
-    let y = c.in-Switch-matches.b in
-    let answer : c.eq-in-Switch.result ≡ false = search rules in
-    sym ((λ i. same (statement_code (statement_view (c.in-Switch.is i))) (statement_code (statement_view (c.in-Switch-matches.is i))))
-    ∙ (λ i. same (statement_code (is_switch x i)) (statement_code (is_switch y i)))
-    ∙ sym c.eq-in-Switch.ensures
-    ∙ answer)
+pub StatementPartialEq::eq-returns-in_default-matches-6 : goal.StatementPartialEq::eq-returns-in_default-matches-6
+StatementPartialEq::eq-returns-in_default-matches-6 t c =
+    of_one_kind c.args.self.now c.args.other.now _ _ (ap (λ (s : Statement). statement_view s) c.in-Switch.is ∙ is_switch c.in-Switch.a) (ap (λ (s : Statement). statement_view s) c.in-Switch-matches.is ∙ is_switch c.in-Switch-matches.b)
+    c.eq-in-Switch.result false (c.eq-in-Switch.ensures) (search rules)
 
 pub StatementPartialEq::eq-returns-in-Loop-matches : goal.StatementPartialEq::eq-returns-in-Loop-matches
 StatementPartialEq::eq-returns-in-Loop-matches t c =
-    let x = c.in-Loop.a in
-    let y = c.in-Loop-matches.b in
-    let answer : c.eq-in-Loop.result ≡ true = search rules in
-    sym ((λ i. same (statement_code (statement_view (c.in-Loop.is i))) (statement_code (statement_view (c.in-Loop-matches.is i))))
-    ∙ (λ i. same (statement_code (is_loop x i)) (statement_code (is_loop y i)))
-    ∙ sym c.eq-in-Loop.ensures
-    ∙ answer)
+    of_one_kind c.args.self.now c.args.other.now _ _ (ap (λ (s : Statement). statement_view s) c.in-Loop.is ∙ is_loop c.in-Loop.a) (ap (λ (s : Statement). statement_view s) c.in-Loop-matches.is ∙ is_loop c.in-Loop-matches.b)
+    c.eq-in-Loop.result true (c.eq-in-Loop.ensures) (search rules)
 
-pub StatementPartialEq::eq-returns-in_default-matches-10 : goal.StatementPartialEq::eq-returns-in_default-matches-10
-StatementPartialEq::eq-returns-in_default-matches-10 t c =
-    let x = c.in-Loop.a in
-    let y = c.in-Loop-matches.b in
-    let answer : c.eq-in-Loop.result ≡ false = search rules in
-    sym ((λ i. same (statement_code (statement_view (c.in-Loop.is i))) (statement_code (statement_view (c.in-Loop-matches.is i))))
-    ∙ (λ i. same (statement_code (is_loop x i)) (statement_code (is_loop y i)))
-    ∙ sym c.eq-in-Loop.ensures
-    ∙ answer)
+pub StatementPartialEq::eq-returns-in_default-matches-7 : goal.StatementPartialEq::eq-returns-in_default-matches-7
+StatementPartialEq::eq-returns-in_default-matches-7 t c =
+    of_one_kind c.args.self.now c.args.other.now _ _ (ap (λ (s : Statement). statement_view s) c.in-Loop.is ∙ is_loop c.in-Loop.a) (ap (λ (s : Statement). statement_view s) c.in-Loop-matches.is ∙ is_loop c.in-Loop-matches.b)
+    c.eq-in-Loop.result false (c.eq-in-Loop.ensures) (search rules)
 
 pub StatementPartialEq::eq-returns-in-For-matches : goal.StatementPartialEq::eq-returns-in-For-matches
 StatementPartialEq::eq-returns-in-For-matches t c =
-    let x = c.in-For.a in
-    let y = c.in-For-matches.b in
-    let answer : c.eq-in-For.result ≡ true = search rules in
-    sym ((λ i. same (statement_code (statement_view (c.in-For.is i))) (statement_code (statement_view (c.in-For-matches.is i))))
-    ∙ (λ i. same (statement_code (is_for x i)) (statement_code (is_for y i)))
-    ∙ sym c.eq-in-For.ensures
-    ∙ answer)
+    of_one_kind c.args.self.now c.args.other.now _ _ (ap (λ (s : Statement). statement_view s) c.in-For.is ∙ is_for c.in-For.a) (ap (λ (s : Statement). statement_view s) c.in-For-matches.is ∙ is_for c.in-For-matches.b)
+    c.eq-in-For.result true (c.eq-in-For.ensures) (search rules)
 
-pub StatementPartialEq::eq-returns-in_default-matches-11 : goal.StatementPartialEq::eq-returns-in_default-matches-11
-StatementPartialEq::eq-returns-in_default-matches-11 t c =
-    let x = c.in-For.a in
-    let y = c.in-For-matches.b in
-    let answer : c.eq-in-For.result ≡ false = search rules in
-    sym ((λ i. same (statement_code (statement_view (c.in-For.is i))) (statement_code (statement_view (c.in-For-matches.is i))))
-    ∙ (λ i. same (statement_code (is_for x i)) (statement_code (is_for y i)))
-    ∙ sym c.eq-in-For.ensures
-    ∙ answer)
+pub StatementPartialEq::eq-returns-in_default-matches-8 : goal.StatementPartialEq::eq-returns-in_default-matches-8
+StatementPartialEq::eq-returns-in_default-matches-8 t c =
+    of_one_kind c.args.self.now c.args.other.now _ _ (ap (λ (s : Statement). statement_view s) c.in-For.is ∙ is_for c.in-For.a) (ap (λ (s : Statement). statement_view s) c.in-For-matches.is ∙ is_for c.in-For-matches.b)
+    c.eq-in-For.result false (c.eq-in-For.ensures) (search rules)
 
 pub StatementPartialEq::eq-returns-in-While-matches : goal.StatementPartialEq::eq-returns-in-While-matches
 StatementPartialEq::eq-returns-in-While-matches t c =
-    let x = c.in-While.a in
-    let y = c.in-While-matches.b in
-    let answer : c.eq-in-While.result ≡ true = search rules in
-    sym ((λ i. same (statement_code (statement_view (c.in-While.is i))) (statement_code (statement_view (c.in-While-matches.is i))))
-    ∙ (λ i. same (statement_code (is_while x i)) (statement_code (is_while y i)))
-    ∙ sym c.eq-in-While.ensures
-    ∙ answer)
+    of_one_kind c.args.self.now c.args.other.now _ _ (ap (λ (s : Statement). statement_view s) c.in-While.is ∙ is_while c.in-While.a) (ap (λ (s : Statement). statement_view s) c.in-While-matches.is ∙ is_while c.in-While-matches.b)
+    c.eq-in-While.result true (c.eq-in-While.ensures) (search rules)
 
-pub StatementPartialEq::eq-returns-in_default-matches-12 : goal.StatementPartialEq::eq-returns-in_default-matches-12
-StatementPartialEq::eq-returns-in_default-matches-12 t c =
-    let x = c.in-While.a in
-    let y = c.in-While-matches.b in
-    let answer : c.eq-in-While.result ≡ false = search rules in
-    sym ((λ i. same (statement_code (statement_view (c.in-While.is i))) (statement_code (statement_view (c.in-While-matches.is i))))
-    ∙ (λ i. same (statement_code (is_while x i)) (statement_code (is_while y i)))
-    ∙ sym c.eq-in-While.ensures
-    ∙ answer)
+pub StatementPartialEq::eq-returns-in_default-matches-9 : goal.StatementPartialEq::eq-returns-in_default-matches-9
+StatementPartialEq::eq-returns-in_default-matches-9 t c =
+    of_one_kind c.args.self.now c.args.other.now _ _ (ap (λ (s : Statement). statement_view s) c.in-While.is ∙ is_while c.in-While.a) (ap (λ (s : Statement). statement_view s) c.in-While-matches.is ∙ is_while c.in-While-matches.b)
+    c.eq-in-While.result false (c.eq-in-While.ensures) (search rules)
+
+pub StatementPartialEq::eq-returns-in-Break-matches : goal.StatementPartialEq::eq-returns-in-Break-matches
+StatementPartialEq::eq-returns-in-Break-matches t c =
+    of_one_kind c.args.self.now c.args.other.now _ _ (ap (λ (s : Statement). statement_view s) c.in-Break.is ∙ is_break c.in-Break.a) (ap (λ (s : Statement). statement_view s) c.in-Break-matches.is ∙ is_break c.in-Break-matches.b)
+    c.eq-in-Break.result true (c.eq-in-Break.ensures ∙ breaks_same c.in-Break.a c.in-Break-matches.b) (search rules)
+
+pub StatementPartialEq::eq-returns-in_default-matches-10 : goal.StatementPartialEq::eq-returns-in_default-matches-10
+StatementPartialEq::eq-returns-in_default-matches-10 t c =
+    of_one_kind c.args.self.now c.args.other.now _ _ (ap (λ (s : Statement). statement_view s) c.in-Break.is ∙ is_break c.in-Break.a) (ap (λ (s : Statement). statement_view s) c.in-Break-matches.is ∙ is_break c.in-Break-matches.b)
+    c.eq-in-Break.result false (c.eq-in-Break.ensures ∙ breaks_same c.in-Break.a c.in-Break-matches.b) (search rules)
+
+pub StatementPartialEq::eq-returns-in-Continue-matches : goal.StatementPartialEq::eq-returns-in-Continue-matches
+StatementPartialEq::eq-returns-in-Continue-matches t c =
+    of_one_kind c.args.self.now c.args.other.now _ _ (ap (λ (s : Statement). statement_view s) c.in-Continue.is ∙ is_continue c.in-Continue.a) (ap (λ (s : Statement). statement_view s) c.in-Continue-matches.is ∙ is_continue c.in-Continue-matches.b)
+    c.eq-in-Continue.result true (c.eq-in-Continue.ensures ∙ continues_same c.in-Continue.a c.in-Continue-matches.b) (search rules)
+
+pub StatementPartialEq::eq-returns-in_default-matches-11 : goal.StatementPartialEq::eq-returns-in_default-matches-11
+StatementPartialEq::eq-returns-in_default-matches-11 t c =
+    of_one_kind c.args.self.now c.args.other.now _ _ (ap (λ (s : Statement). statement_view s) c.in-Continue.is ∙ is_continue c.in-Continue.a) (ap (λ (s : Statement). statement_view s) c.in-Continue-matches.is ∙ is_continue c.in-Continue-matches.b)
+    c.eq-in-Continue.result false (c.eq-in-Continue.ensures ∙ continues_same c.in-Continue.a c.in-Continue-matches.b) (search rules)
 
 pub StatementPartialEq::eq-returns-in-Return-matches : goal.StatementPartialEq::eq-returns-in-Return-matches
 StatementPartialEq::eq-returns-in-Return-matches t c =
-    let x = c.in-Return.a in
-    let y = c.in-Return-matches.b in
-    let answer : c.eq-in-Return.result ≡ true = search rules in
-    sym ((λ i. same (statement_code (statement_view (c.in-Return.is i))) (statement_code (statement_view (c.in-Return-matches.is i))))
-    ∙ (λ i. same (statement_code (is_return x i)) (statement_code (is_return y i)))
-    ∙ unattributed_same (plain.return_statement (return_view x)) (plain.return_statement (return_view y))
-    ∙ sym (returns_same x y)
-    ∙ sym c.eq-in-Return.ensures
-    ∙ answer)
+    of_one_kind c.args.self.now c.args.other.now _ _ (ap (λ (s : Statement). statement_view s) c.in-Return.is ∙ is_return c.in-Return.a) (ap (λ (s : Statement). statement_view s) c.in-Return-matches.is ∙ is_return c.in-Return-matches.b)
+    c.eq-in-Return.result true (c.eq-in-Return.ensures ∙ returns_same c.in-Return.a c.in-Return-matches.b) (search rules)
+
+pub StatementPartialEq::eq-returns-in_default-matches-12 : goal.StatementPartialEq::eq-returns-in_default-matches-12
+StatementPartialEq::eq-returns-in_default-matches-12 t c =
+    of_one_kind c.args.self.now c.args.other.now _ _ (ap (λ (s : Statement). statement_view s) c.in-Return.is ∙ is_return c.in-Return.a) (ap (λ (s : Statement). statement_view s) c.in-Return-matches.is ∙ is_return c.in-Return-matches.b)
+    c.eq-in-Return.result false (c.eq-in-Return.ensures ∙ returns_same c.in-Return.a c.in-Return-matches.b) (search rules)
+
+pub StatementPartialEq::eq-returns-in-Discard-matches : goal.StatementPartialEq::eq-returns-in-Discard-matches
+StatementPartialEq::eq-returns-in-Discard-matches t c =
+    of_one_kind c.args.self.now c.args.other.now _ _ (ap (λ (s : Statement). statement_view s) c.in-Discard.is ∙ is_discard c.in-Discard.a) (ap (λ (s : Statement). statement_view s) c.in-Discard-matches.is ∙ is_discard c.in-Discard-matches.b)
+    c.eq-in-Discard.result true (c.eq-in-Discard.ensures ∙ discards_same c.in-Discard.a c.in-Discard-matches.b) (search rules)
 
 pub StatementPartialEq::eq-returns-in_default-matches-13 : goal.StatementPartialEq::eq-returns-in_default-matches-13
 StatementPartialEq::eq-returns-in_default-matches-13 t c =
-    let x = c.in-Return.a in
-    let y = c.in-Return-matches.b in
-    let answer : c.eq-in-Return.result ≡ false = search rules in
-    sym ((λ i. same (statement_code (statement_view (c.in-Return.is i))) (statement_code (statement_view (c.in-Return-matches.is i))))
-    ∙ (λ i. same (statement_code (is_return x i)) (statement_code (is_return y i)))
-    ∙ unattributed_same (plain.return_statement (return_view x)) (plain.return_statement (return_view y))
-    ∙ sym (returns_same x y)
-    ∙ sym c.eq-in-Return.ensures
-    ∙ answer)
+    of_one_kind c.args.self.now c.args.other.now _ _ (ap (λ (s : Statement). statement_view s) c.in-Discard.is ∙ is_discard c.in-Discard.a) (ap (λ (s : Statement). statement_view s) c.in-Discard-matches.is ∙ is_discard c.in-Discard-matches.b)
+    c.eq-in-Discard.result false (c.eq-in-Discard.ensures ∙ discards_same c.in-Discard.a c.in-Discard-matches.b) (search rules)
 
 pub StatementPartialEq::eq-returns-in-FunctionCall-matches : goal.StatementPartialEq::eq-returns-in-FunctionCall-matches
 StatementPartialEq::eq-returns-in-FunctionCall-matches t c =
-    let x = c.in-FunctionCall.a in
-    let y = c.in-FunctionCall-matches.b in
-    let answer : c.eq-in-FunctionCall.result ≡ true = search rules in
-    sym ((λ i. same (statement_code (statement_view (c.in-FunctionCall.is i))) (statement_code (statement_view (c.in-FunctionCall-matches.is i))))
-    ∙ (λ i. same (statement_code (is_function_call x i)) (statement_code (is_function_call y i)))
-    ∙ unattributed_same (plain.function_call_statement (call_statement_view x)) (plain.function_call_statement (call_statement_view y))
-    ∙ sym (call_statements_same x y)
-    ∙ sym c.eq-in-FunctionCall.ensures
-    ∙ answer)
+    of_one_kind c.args.self.now c.args.other.now _ _ (ap (λ (s : Statement). statement_view s) c.in-FunctionCall.is ∙ is_function_call c.in-FunctionCall.a) (ap (λ (s : Statement). statement_view s) c.in-FunctionCall-matches.is ∙ is_function_call c.in-FunctionCall-matches.b)
+    c.eq-in-FunctionCall.result true (c.eq-in-FunctionCall.ensures ∙ call_statements_same c.in-FunctionCall.a c.in-FunctionCall-matches.b) (search rules)
 
 pub StatementPartialEq::eq-returns-in_default-matches-14 : goal.StatementPartialEq::eq-returns-in_default-matches-14
 StatementPartialEq::eq-returns-in_default-matches-14 t c =
-    let x = c.in-FunctionCall.a in
-    let y = c.in-FunctionCall-matches.b in
-    let answer : c.eq-in-FunctionCall.result ≡ false = search rules in
-    sym ((λ i. same (statement_code (statement_view (c.in-FunctionCall.is i))) (statement_code (statement_view (c.in-FunctionCall-matches.is i))))
-    ∙ (λ i. same (statement_code (is_function_call x i)) (statement_code (is_function_call y i)))
-    ∙ unattributed_same (plain.function_call_statement (call_statement_view x)) (plain.function_call_statement (call_statement_view y))
-    ∙ sym (call_statements_same x y)
-    ∙ sym c.eq-in-FunctionCall.ensures
-    ∙ answer)
+    of_one_kind c.args.self.now c.args.other.now _ _ (ap (λ (s : Statement). statement_view s) c.in-FunctionCall.is ∙ is_function_call c.in-FunctionCall.a) (ap (λ (s : Statement). statement_view s) c.in-FunctionCall-matches.is ∙ is_function_call c.in-FunctionCall-matches.b)
+    c.eq-in-FunctionCall.result false (c.eq-in-FunctionCall.ensures ∙ call_statements_same c.in-FunctionCall.a c.in-FunctionCall-matches.b) (search rules)
 
 pub StatementPartialEq::eq-returns-in-ConstAssert-matches : goal.StatementPartialEq::eq-returns-in-ConstAssert-matches
 StatementPartialEq::eq-returns-in-ConstAssert-matches t c =
-    let x = c.in-ConstAssert.a in
-    let y = c.in-ConstAssert-matches.b in
-    let answer : c.eq-in-ConstAssert.result ≡ true = search rules in
-    sym ((λ i. same (statement_code (statement_view (c.in-ConstAssert.is i))) (statement_code (statement_view (c.in-ConstAssert-matches.is i))))
-    ∙ (λ i. same (statement_code (is_const_assert x i)) (statement_code (is_const_assert y i)))
-    ∙ unattributed_same (plain.const_assert (assert_view x)) (plain.const_assert (assert_view y))
-    ∙ sym (asserts_same x y)
-    ∙ sym c.eq-in-ConstAssert.ensures
-    ∙ answer)
+    of_one_kind c.args.self.now c.args.other.now _ _ (ap (λ (s : Statement). statement_view s) c.in-ConstAssert.is ∙ is_const_assert c.in-ConstAssert.a) (ap (λ (s : Statement). statement_view s) c.in-ConstAssert-matches.is ∙ is_const_assert c.in-ConstAssert-matches.b)
+    c.eq-in-ConstAssert.result true (c.eq-in-ConstAssert.ensures ∙ asserts_same c.in-ConstAssert.a c.in-ConstAssert-matches.b) (search rules)
 
 pub StatementPartialEq::eq-returns-in_default-matches-15 : goal.StatementPartialEq::eq-returns-in_default-matches-15
 StatementPartialEq::eq-returns-in_default-matches-15 t c =
-    let x = c.in-ConstAssert.a in
-    let y = c.in-ConstAssert-matches.b in
-    let answer : c.eq-in-ConstAssert.result ≡ false = search rules in
-    sym ((λ i. same (statement_code (statement_view (c.in-ConstAssert.is i))) (statement_code (statement_view (c.in-ConstAssert-matches.is i))))
-    ∙ (λ i. same (statement_code (is_const_assert x i)) (statement_code (is_const_assert y i)))
-    ∙ unattributed_same (plain.const_assert (assert_view x)) (plain.const_assert (assert_view y))
-    ∙ sym (asserts_same x y)
-    ∙ sym c.eq-in-ConstAssert.ensures
-    ∙ answer)
+    of_one_kind c.args.self.now c.args.other.now _ _ (ap (λ (s : Statement). statement_view s) c.in-ConstAssert.is ∙ is_const_assert c.in-ConstAssert.a) (ap (λ (s : Statement). statement_view s) c.in-ConstAssert-matches.is ∙ is_const_assert c.in-ConstAssert-matches.b)
+    c.eq-in-ConstAssert.result false (c.eq-in-ConstAssert.ensures ∙ asserts_same c.in-ConstAssert.a c.in-ConstAssert-matches.b) (search rules)
+
+pub StatementPartialEq::eq-returns-in-Declaration-matches : goal.StatementPartialEq::eq-returns-in-Declaration-matches
+StatementPartialEq::eq-returns-in-Declaration-matches t c =
+    of_one_kind c.args.self.now c.args.other.now _ _ (ap (λ (s : Statement). statement_view s) c.in-Declaration.is ∙ is_declaration c.in-Declaration.a) (ap (λ (s : Statement). statement_view s) c.in-Declaration-matches.is ∙ is_declaration c.in-Declaration-matches.b)
+    c.eq-in-Declaration.result true (c.eq-in-Declaration.ensures ∙ declarations_same c.in-Declaration.a c.in-Declaration-matches.b) (search rules)
+
+pub StatementPartialEq::eq-returns-in_default-matches-16 : goal.StatementPartialEq::eq-returns-in_default-matches-16
+StatementPartialEq::eq-returns-in_default-matches-16 t c =
+    of_one_kind c.args.self.now c.args.other.now _ _ (ap (λ (s : Statement). statement_view s) c.in-Declaration.is ∙ is_declaration c.in-Declaration.a) (ap (λ (s : Statement). statement_view s) c.in-Declaration-matches.is ∙ is_declaration c.in-Declaration-matches.b)
+    c.eq-in-Declaration.result false (c.eq-in-Declaration.ensures ∙ declarations_same c.in-Declaration.a c.in-Declaration-matches.b) (search rules)

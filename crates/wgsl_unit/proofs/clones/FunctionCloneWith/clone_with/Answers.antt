@@ -1,15 +1,12 @@
 use Rattle.std.proofs.Common.{rules}
 use Rattle.wgsl_expression.specs.View.{type_expression_view}
-use Rattle.wgsl_attribute.specs.View.{attribute_view}
 use Rattle.wgsl_unit.specs.View.{parameter_view}
-use Rattle.wgsl_unit.proofs.Copies.{option_copied, items_copied, nodes_copied}
+use Rattle.wgsl_unit.proofs.Copies.{option_copied, items_copied}
 use Rattle.wgsl_unit.proofs.clones.FunctionCloneWith.clone_with.Goals as goal
 
 pub returns : goal.returns
 returns c =
     let original = c.args.self.now in
-    let attributes = nodes_copied attribute_view original.attributes.items _ c.in_ok-clone_with.ensures.copy in
-    let parameters = items_copied parameter_view original.parameters.items _ c.in_ok-clone_with-3.ensures.copy in
-    let return_attributes = nodes_copied attribute_view original.return_attributes.items _ c.in_ok-clone_with-4.ensures.copy in
-    let return_type = option_copied type_expression_view original.return_type _ c.in_ok-clone_with-5.ensures.copy in
+    let parameters = items_copied parameter_view original.parameters.items _ c.in_ok-clone_with-2.ensures.copy in
+    let return_type = option_copied type_expression_view original.return_type _ c.in_ok-clone_with-3.ensures.copy in
     search rules

@@ -1,16 +1,15 @@
 use Rattle.std.proofs.Common.{◌≡◌, ◌≤◌, length, map}
-use Rattle.grammar.specs.States.{start_of}
 use Rattle.wgsl_unit.specs.View.{global_directive_view}
-use Rattle.wgsl_grammar_theory.specs.Factored.{FactoredSymbol.further, Further.directive_list}
+use Rattle.wgsl_grammar_theory.specs.Factored.{FactoredSymbol.further, Further.front}
 use Rattle.wgsl_grammar_theory.specs.Reader.{reader}
 use Rattle.wgsl_cursor.specs.Reading.{state}
-use Rattle.wgsl_unit_reader.proofs.Turns.{directives_from}
-use Rattle.wgsl_unit_reader.proofs.unit.parse_global_directives.Given as goal
+use Rattle.wgsl_unit_reader.proofs.Front.{front_from}
+use Rattle.wgsl_unit_reader.proofs.unit.parse_front.Given as goal
 
 abbrev pub invariant-directives : goal.invariant-directives
 invariant-directives l =
     record {
-      whole : directives_from (start_of (state l.fn.tokens)) (map global_directive_view l.directives.items) (state l.tokens) ≡ reader (further directive_list) (state l.fn.tokens);
+      whole : front_from (map global_directive_view l.directives.items) (state l.tokens) ≡ reader (further front) (state l.fn.tokens);
       shorter : length (state l.tokens).rest ≤ length (state l.fn.tokens).rest;
     }
 
