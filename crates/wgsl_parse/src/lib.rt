@@ -73,6 +73,7 @@ pub mod syntax_node {
 /// Reading modules, and the parts of modules that are read by themselves, from texts and from lists of tokens.
 pub mod parser {
     pub use wgsl_dialect::recognize_str;
+    pub use wgsl_nesting::nesting;
     pub use wgsl_parser::{
         ExpressionParser, FromSource, GlobalDeclParser, GlobalDirectiveParser, LiteralParser,
         StatementParser, TranslationUnitParser, TryTemplateListParser, parse_str,

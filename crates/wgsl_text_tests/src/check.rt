@@ -11,7 +11,7 @@ use crate::tokens::{see_list, see_template_list, see_tokens};
 use crate::tree::{see_fault, see_tree};
 use std::alloc::{AllocError, Global};
 use wgsl_parse::lexer::Lexer;
-use wgsl_parse::parser::{LiteralParser, recognize_str};
+use wgsl_parse::parser::{LiteralParser, nesting, recognize_str};
 use wgsl_parse::syntax::{
     Expression, GlobalDeclaration, GlobalDirective, Statement, TranslationUnit,
 };
@@ -35,6 +35,17 @@ fn see_dialect(text: &str, facts: &mut Facts) -> Result<(), AllocError> {
         Ok(()) => {
             let words = String::from_str(facts.alloc, "accepted")?;
             facts.answer(words, String::new(facts.alloc))
+        }
+        Err(error) => see_fault(error, text, facts),
+    }
+}
+
+/// How deep a text nests.
+fn see_nesting(text: &str, facts: &mut Facts) -> Result<(), AllocError> {
+    match nesting(facts.alloc, text) {
+        Ok(depth) => {
+            let words = String::from_str(facts.alloc, "depth")?;
+            facts.answer(words, format!(in facts.alloc; "{depth}")?)
         }
         Err(error) => see_fault(error, text, facts),
     }
@@ -76,6 +87,7 @@ fn see_text(word: &str, text: &str, facts: &mut Facts) -> Result<(), AllocError>
         "list" => see_list(text, facts),
         "tokens" => see_tokens(text, facts),
         "dialect" => see_dialect(text, facts),
+        "nesting" => see_nesting(text, facts),
         _ => facts.refuse("a row says how its text is read", word),
     }
 }

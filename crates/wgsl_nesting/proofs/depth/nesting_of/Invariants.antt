@@ -1,0 +1,10 @@
+use Rattle.std.proofs.Common.{◌≡◌, [], max, false, length}
+use Rattle.wgsl_nesting.specs.Nesting.{deepest}
+use Rattle.wgsl_nesting.specs.Effects.{classes}
+use Rattle.wgsl_nesting.proofs.depth.nesting_of.Given as goal
+
+abbrev pub invariant-tokens : goal.invariant-tokens
+invariant-tokens l = max l.deepest (deepest l.behind_operand l.opened (classes l.tokens.items)) ≡ deepest false [] (classes l.fn.tokens.items)
+
+abbrev pub decreases-tokens : goal.decreases-tokens
+decreases-tokens l = length (classes l.tokens.items)

@@ -1,0 +1,30 @@
+-- What the code takes tokens for.
+use Rattle.std.specs.Prelude.{ℕ, Bool, true, false, List, ◌∷◌, [], ◌==◌, if◌then◌else◌, map}
+use Rattle.wgsl_model.specs.Classes.{SymPeriod}
+use Rattle.wgsl_token.specs.Placed.{placed_view}
+use Rattle.wgsl_token.specs.declared.placed.PlacedToken.{PlacedToken}
+use Rattle.wgsl_nesting.specs.Nesting.{opens, closes, is_operand, may_prefix}
+use Rattle.wgsl_nesting.specs.declared.effect.Effect.{Effect}
+use Rattle.wgsl_nesting.specs.declared.effect.Effect.TheVariants.{Opens, Closes, GoesOn, MayPrefix, Ends}
+use Rattle.wgsl_nesting.specs.declared.open.Open.{Open}
+use Rattle.wgsl_nesting.specs.declared.open.Open.TheVariants.{Bracket, Operator}
+
+-- what a class does
+abbrev pub effect : ℕ → Effect
+effect class =
+    if opens class then Opens
+    else if closes class then Closes
+    else if is_operand class then GoesOn
+    else if class == SymPeriod then GoesOn
+    else if may_prefix class then MayPrefix
+    else Ends
+
+-- the innermost is a prefix operator
+abbrev pub begins_with_operator : List Open → Bool
+begins_with_operator [] = false
+begins_with_operator (Operator ∷ opened) = true
+begins_with_operator (Bracket ∷ opened) = false
+
+-- the classes of tokens
+abbrev pub classes : List PlacedToken → List ℕ
+classes tokens = map (λ t. t.class) (map placed_view tokens)
