@@ -23,8 +23,8 @@ demo:
 build:
 	@tools/build
 
-# What rt ci runs; and each shader of examples/ has to print as examples/printed/ has it, and
-# what is there as it stands.
+# What rt ci runs; each shader of examples/ has to print as examples/printed/ has it, and what is
+# there as it stands; and the built program is run on made texts.
 test:
 	@test "$$(cat HANDLES)" = "Handles allowed: none." \
 	    || { echo "Failed: the file HANDLES."; exit 1; }
@@ -33,6 +33,8 @@ test:
 	    ../crates/wgslfmt/out/wgslfmt < $$shader | cmp - printed/$${shader##*/} \
 	        || { echo "Failed: the print of examples/$$shader."; exit 1; }; \
 	done
+	@tools/fuzz --program crates/wgslfmt/out/wgslfmt \
+	    || { echo "Failed: tools/fuzz, as the lines above say."; exit 1; }
 	@echo "All passed."
 
 install:

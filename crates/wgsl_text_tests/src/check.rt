@@ -6,7 +6,7 @@ use crate::nodes::expressions::see_literal;
 use crate::paths::see_path;
 use crate::row::Row;
 use crate::snippets::see_snippet;
-use crate::streams::see_run;
+use crate::streams::{see_program, see_run};
 use crate::tokens::{see_list, see_template_list, see_tokens};
 use crate::tree::{see_fault, see_tree};
 use std::alloc::{AllocError, Global};
@@ -77,7 +77,10 @@ pub fn facts_of(alloc: Global, row: &Row<'_>) -> Result<Facts, AllocError> {
 /// What is seen of a text that is read as the word says.
 fn see_text(word: &str, text: &str, facts: &mut Facts) -> Result<(), AllocError> {
     match word {
-        "unit" => see_tree::<TranslationUnit>(text, facts),
+        "unit" => {
+            see_tree::<TranslationUnit>(text, facts)?;
+            see_program(text, facts)
+        }
         "directive" => see_tree::<GlobalDirective>(text, facts),
         "declaration" => see_tree::<GlobalDeclaration>(text, facts),
         "statement" => see_tree::<Statement>(text, facts),

@@ -5,6 +5,7 @@
 mod check;
 mod discovered;
 mod facts;
+mod failing;
 mod nodes;
 mod paths;
 mod row;
