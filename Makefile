@@ -24,7 +24,8 @@ build:
 	@tools/build
 
 # What rt ci runs; each shader of examples/ has to print as examples/printed/ has it, and what is
-# there as it stands; and the built program is run on made texts.
+# there as it stands; the built program is run on made texts; and each request for memory of each
+# call is refused.
 test:
 	@test "$$(cat HANDLES)" = "Handles allowed: none." \
 	    || { echo "Failed: the file HANDLES."; exit 1; }
@@ -35,6 +36,7 @@ test:
 	done
 	@tools/fuzz --program crates/wgslfmt/out/wgslfmt \
 	    || { echo "Failed: tools/fuzz, as the lines above say."; exit 1; }
+	@tools/refused_memory || { echo "Failed: tools/refused_memory, as above."; exit 1; }
 	@echo "All passed."
 
 install:
