@@ -1,15 +1,17 @@
 -- What the scanner's own functions give and take, as their contracts see it.
-use Rattle.std.specs.Prelude.{ℕ, ℤ, pos, List, map, chars, Option, Some, None, option_map}
+use Rattle.std.specs.Prelude.{ℕ, ℤ, pos, List, chars, Option, Some, None, option_map}
 use denote.Bor.{Bor}
 use Rattle.grammar.specs.Tokens.{Payload.number}
 use Rattle.wgsl_model.specs.Classes as class
-use Rattle.wgsl_model.specs.Kind.{Kind}
+use Rattle.wgsl_model.specs.Kind.{Kind, named}
 use Rattle.wgsl_token.specs.declared.kind.TokenKind.{TokenKind}
-use Rattle.wgsl_token.specs.View.{class_of_kind}
+use Rattle.wgsl_token.specs.View.{class_of_kind, view_of_class}
 use Rattle.wgsl_scanner.specs.declared.float.FloatType.{FloatType}
 use Rattle.wgsl_scanner.specs.declared.float.FloatType.TheVariants as float_type
 use Rattle.wgsl_scanner.specs.declared.number.NumericLiteral.{NumericLiteral}
 use Rattle.wgsl_scanner.specs.declared.number.NumericLiteral.TheVariants as read
+use Rattle.wgsl_scanner.specs.declared.word_table.Meaning.{Meaning}
+use Rattle.wgsl_scanner.specs.declared.word_table.Meaning.TheVariants as meaning
 use Rattle.wgsl_scanner.specs.ScannedNumbers as scanned
 
 -- a whole number of a class
@@ -53,9 +55,8 @@ abbrev pub symbol_view : Option (TokenKind × Bor (List ℕ)) → Option (ℕ ×
 symbol_view None = None
 symbol_view (Some found) = Some (kind_and_rest found)
 
--- words with their classes, and words alone
-abbrev pub entries_view : List (Bor (List ℕ) × TokenKind) → List (List ℕ × ℕ)
-entries_view entries = map (λ (entry : Bor (List ℕ) × TokenKind). (entry.0.now, class_of_kind entry.1)) entries
-
-abbrev pub words_view : List (Bor (List ℕ)) → List (List ℕ)
-words_view words = map (λ (word : Bor (List ℕ)). word.now) words
+-- the token of a word by what the table of words says of it
+abbrev pub meant : Option Meaning → List ℕ → Kind
+meant None word = named class.Ident word
+meant (Some (meaning.Keyword kind)) word = view_of_class (class_of_kind kind)
+meant (Some (meaning.Reserved)) word = named class.ReservedWord word

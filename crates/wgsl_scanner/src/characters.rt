@@ -1,6 +1,6 @@
 //! The classes of characters. ASCII is tested first.
 
-ghost use Rattle.std.specs.Prelude.{◌≡◌, ◌==◌, ◌||◌};
+ghost use Rattle.std.specs.Prelude.{◌≡◌, ◌==◌, ◌||◌, ◌&&◌, nat_lt};
 ghost use Rattle.std.specs.Char.{is_ascii_alphanumeric};
 ghost use Rattle.unicode_ident.specs.Ident.{is_xid_start};
 ghost use Rattle.wgsl_model.specs.Characters.{is_blank, is_line_break};
@@ -39,6 +39,13 @@ pub(crate) fn starts_word(c: char) -> bool
         return c.is_ascii_alphabetic() || c == '_';
     }
     unicode_ident::is_xid_start(c)
+}
+
+/// Whether a byte is a blank character of ASCII.
+pub(crate) fn is_blank_byte(byte: u8) -> bool
+    ensures { result ≡ ((nat_lt 8 byte && nat_lt byte 14) || byte == 32) }
+{
+    byte == b' ' || (8 < byte && byte < 14)
 }
 
 /// Whether a byte is a character of ASCII that continues a word.
