@@ -6,12 +6,12 @@ ghost use Rattle.wgsl_cursor.specs.Reading.{state};
 ghost use Rattle.wgsl_answer.specs.Answers.{IsToldOf, IsAnsweredOf};
 
 use crate::message::{unexpected_end, unexpected_token};
-use crate::source::{TokenSource, is_opening, is_out_of_memory};
+use crate::source::{End, Origin, TokenSource, is_opening, is_out_of_memory};
 use std::alloc::{AllocError, Global};
 use wgsl_cursor::{Expected, Fault};
 use wgsl_error::{Error, ParseError};
 
-impl TokenSource {
+impl TokenSource<'_> {
     /// The value that was read, where no token is left behind it and no error ended the tokens; else what is wrong.
     pub fn answer<T: Drop>(
         self,
@@ -21,22 +21,24 @@ impl TokenSource {
     ) -> Result<T, Error>
         ensures { IsAnsweredOf read (state self.tokens) (ending_view self.error) self.end result }
     {
-        let TokenSource {
-            mut tokens,
-            error,
-            end,
-        } = self;
+        let TokenSource { mut tokens, origin } = self;
         let value = match read {
             Ok(value) => value,
-            Err(fault) => return Err(name_fault(alloc, fault, error, end)?),
+            Err(fault) => return Err(name_fault(alloc, fault, origin.end(alloc)?)?),
         };
         if !tokens.is_empty() {
             let fault = tokens.refuse(behind);
-            return Err(name_fault(alloc, fault, error, end)?);
+            return Err(name_fault(alloc, fault, origin.end(alloc)?)?);
         }
-        match error {
-            Some(error) => Err(Error::from(error)),
-            None => Ok(value),
+        match origin {
+            Origin::Text(_) => match tokens.fault() {
+                Some(span) => Err(Error::from((span.start, ParseError::LexerError, span.end))),
+                None => Ok(value),
+            },
+            Origin::Given(End { error, .. }) => match error {
+                Some(error) => Err(Error::from(error)),
+                None => Ok(value),
+            },
         }
     }
 }
@@ -45,11 +47,11 @@ impl TokenSource {
 fn name_fault(
     alloc: Global,
     fault: Fault,
-    error: Option<(usize, ParseError, usize)>,
-    end: usize,
+    end: End,
 ) -> Result<Error, AllocError>
     ensures { IfOk result (λ e. IsToldOf fault (ending_view error) end e) }
 {
+    let End { error, end } = end;
     match fault {
         Fault::UnexpectedToken(token, expected) => {
             if is_out_of_memory(&error) && is_opening(&token) {

@@ -10,25 +10,47 @@ ghost use Rattle.wgsl_grammar_theory.specs.Answers.{opening};
 ghost use Rattle.wgsl_cursor.specs.Reading.{state};
 ghost use Rattle.wgsl_answer.specs.Sources.{tokens_to_read};
 
-use std::alloc::AllocError;
+use std::alloc::{AllocError, Global};
 use std::collections::VecDeque;
 use wgsl_cursor::Cursor;
 use wgsl_error::ParseError;
-use wgsl_lexer::Collected;
+use wgsl_lexer::{Collected, Next, TextTokens};
 use wgsl_span::Span;
 use wgsl_token::placed::PlacedToken;
 use wgsl_token::token::Token;
 
-/// Tokens that are to be read, and the error that ended them if there was one.
+/// Tokens that are to be read, and where they are from.
 #[derive(Drop)]
-pub struct TokenSource {
-    pub tokens: Cursor,
+pub struct TokenSource<'s> {
+    pub tokens: Cursor<'s>,
+    pub(crate) origin: Origin<'s>,
+}
+
+/// Where tokens are from.
+#[derive(Drop)]
+pub(crate) enum Origin<'s> {
+    Text(&'s str),
+    Given(End),
+}
+
+/// How tokens end.
+#[derive(Drop)]
+pub(crate) struct End {
+    /// The error that ended them if there was one.
     pub(crate) error: Option<(usize, ParseError, usize)>,
     /// Where the last token ends.
     pub(crate) end: usize,
 }
 
-impl TokenSource {
+impl<'s> TokenSource<'s> {
+    /// The tokens of a text.
+    pub fn of_text(alloc: Global, source: &'s str) -> Result<Self, AllocError> {
+        Ok(TokenSource {
+            tokens: Cursor::of_text(TextTokens::new(alloc, source)?),
+            origin: Origin::Text(source),
+        })
+    }
+
     /// The tokens of an iterator. Where memory was refused for what follows them a `(` stands behind, so that an
     /// attribute at the end is not told to lack its arguments.
     pub fn new(found: Collected) -> Result<Self, AllocError>
@@ -43,8 +65,7 @@ impl TokenSource {
         }
         Ok(TokenSource {
             tokens: Cursor::new(tokens),
-            error,
-            end,
+            origin: Origin::Given(End { error, end }),
         })
     }
 }
@@ -57,6 +78,37 @@ pub fn last_end(tokens: &VecDeque<PlacedToken>) -> usize
     match tokens.back() {
         Some(last) => last.span.end,
         None => 0,
+    }
+}
+
+impl Origin<'_> {
+    /// How the tokens end. Those of a text are gone through anew.
+    pub(crate) fn end(self, alloc: Global) -> Result<End, AllocError> {
+        match self {
+            Origin::Text(source) => end_of(TextTokens::new(alloc, source)?),
+            Origin::Given(end) => Ok(end),
+        }
+    }
+}
+
+/// How the tokens of a text end.
+fn end_of(mut tokens: TextTokens) -> Result<End, AllocError> {
+    let mut end = 0;
+    'tokens: loop {
+        match tokens.next() {
+            Next::Token { span, .. } => {
+                end = span.end;
+                tokens.skip();
+                continue;
+            }
+            Next::Invalid(span) => {
+                return Ok(End {
+                    error: Some((span.start, ParseError::LexerError, span.end)),
+                    end,
+                });
+            }
+            Next::NoneLeft => return Ok(End { error: None, end }),
+        }
     }
 }
 

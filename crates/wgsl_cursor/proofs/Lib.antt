@@ -1,2 +1,3 @@
 pub mod AttributeNames
 pub mod Hints
+pub mod First

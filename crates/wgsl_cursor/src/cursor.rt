@@ -11,15 +11,18 @@ ghost use Rattle.wgsl_token.specs.Placed.{placed_view};
 ghost use Rattle.wgsl_expression.specs.View.{ident_name, literal_view};
 ghost use Rattle.wgsl_grammar_theory.specs.Factored.{FactoredSymbol.of};
 ghost use Rattle.wgsl_grammar_theory.specs.Reader.{reader};
+ghost use Rattle.wgsl_lexer.specs.TextTokens.{tokens_left};
 ghost use Rattle.wgsl_cursor.specs.Reading.{state, span_back, Gives, Fails, Parses};
 ghost use Rattle.wgsl_cursor.specs.Words.{word_text, attribute_name_at};
 
 use crate::expected::Expected;
 use crate::fault::Fault;
+use crate::tokens::Tokens;
 use crate::word::Word;
 use std::collections::VecDeque;
 use wgsl_error::{Error, ErrorKind};
 use wgsl_expression::{Ident, LiteralExpression};
+use wgsl_lexer::TextTokens;
 use wgsl_span::Span;
 use wgsl_token::kind::TokenKind;
 use wgsl_token::placed::PlacedToken;
@@ -27,31 +30,50 @@ use wgsl_token::token::Token;
 
 /// The tokens that are left, and where the last one that was taken ended.
 #[derive(Drop)]
-pub struct Cursor {
-    tokens: VecDeque<PlacedToken>,
+pub struct Cursor<'s> {
+    tokens: Tokens<'s>,
     end: usize,
 }
 
-impl Cursor {
-    pub fn new(tokens: VecDeque<PlacedToken>) -> Cursor
+impl<'s> Cursor<'s> {
+    /// Tokens that were given.
+    pub fn new(tokens: VecDeque<PlacedToken>) -> Cursor<'s>
         ensures { state result ≡ record { end = 0; rest = map placed_view tokens.items } }
     {
-        Cursor { tokens, end: 0 }
+        Cursor {
+            tokens: Tokens::Given(tokens),
+            end: 0,
+        }
+    }
+
+    /// The tokens of a text.
+    pub fn of_text(tokens: TextTokens<'s>) -> Cursor<'s>
+        ensures { state result ≡ record { end = 0; rest = tokens_left tokens } }
+    {
+        Cursor {
+            tokens: Tokens::Text(tokens),
+            end: 0,
+        }
+    }
+
+    /// What ends the tokens of a text that were all taken.
+    pub fn fault(&self) -> Option<Span> {
+        self.tokens.fault()
     }
 
     /// Whether no token is left.
     pub fn is_empty(&self) -> bool
         ensures { IsTrue result ↔ ((state self.now).rest ≡ []) }
     {
-        self.tokens.is_empty()
+        self.tokens.kind().is_none()
     }
 
     /// Whether the next token is of a kind.
     pub fn is_at(&self, kind: TokenKind) -> bool
         ensures { result ≡ is_at (class_of_kind kind) (state self.now) }
     {
-        match self.tokens.front() {
-            Some(next) => next.token.kind() == kind,
+        match self.tokens.kind() {
+            Some(next) => next == kind,
             None => false,
         }
     }
@@ -60,8 +82,8 @@ impl Cursor {
     pub fn start(&self) -> usize
         ensures { result ≡ start_of (state self.now) }
     {
-        match self.tokens.front() {
-            Some(next) => next.span.start,
+        match self.tokens.span() {
+            Some(span) => span.start,
             None => 0,
         }
     }
@@ -85,8 +107,9 @@ impl Cursor {
         if !self.is_at(kind) {
             return false;
         }
-        if let Some(next) = self.tokens.pop_front() {
-            self.end = next.span.end;
+        if let Some(span) = self.tokens.span() {
+            self.end = span.end;
+            self.tokens.skip();
         }
         true
     }
@@ -105,9 +128,10 @@ impl Cursor {
     pub fn refuse(&mut self, expected: Expected) -> Fault
         ensures { Fails result (refused {A = Token} (state self.old).rest) }
     {
-        match self.tokens.pop_front() {
-            Some(next) => Fault::UnexpectedToken(next, expected),
-            None => Fault::UnexpectedEnd(expected),
+        match self.tokens.take() {
+            Ok(Some(next)) => Fault::UnexpectedToken(next, expected),
+            Ok(None) => Fault::UnexpectedEnd(expected),
+            Err(error) => Fault::from(error),
         }
     }
 
@@ -126,7 +150,7 @@ impl Cursor {
         ensures text { IfOk result (λ name. string_bytes name ≡ text_of (first_of (state self.old))) }
         ensures shorter { OnOk result (length (state self.new).rest < length (state self.old).rest) }
     {
-        match self.tokens.pop_front() {
+        match self.tokens.take()? {
             None => Err(Fault::UnexpectedEnd(Expected::One(TokenKind::Ident))),
             Some(PlacedToken { token, span }) => match token {
                 Token::Ident(name) => {
@@ -151,7 +175,7 @@ impl Cursor {
         ensures word { IfOk result (λ word. word_text word ≡ text_of (first_of (state self.old))) }
         ensures shorter { OnOk result (length (state self.new).rest < length (state self.old).rest) }
     {
-        match self.tokens.pop_front() {
+        match self.tokens.take()? {
             None => Err(Fault::UnexpectedEnd(Expected::ATTRIBUTE_NAME)),
             Some(PlacedToken { token, span }) => {
                 let word = match token {
@@ -176,7 +200,7 @@ impl Cursor {
     pub fn literal(&mut self, expected: Expected) -> Result<LiteralExpression, Fault>
         ensures { Parses literal_view result self.old self.new (reader (of literal)) }
     {
-        match self.tokens.pop_front() {
+        match self.tokens.take()? {
             None => Err(Fault::UnexpectedEnd(expected)),
             Some(PlacedToken { token, span }) => {
                 let literal = match token {

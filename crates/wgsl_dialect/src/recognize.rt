@@ -12,18 +12,17 @@ use crate::accept::accept;
 use crate::rules::right_side;
 use crate::symbol::Symbol;
 use std::alloc::Global;
-use wgsl_answer::{TokenSource, tokens_of};
+use wgsl_answer::TokenSource;
 use wgsl_cursor::Expected;
 use wgsl_error::Error;
-use wgsl_lexer::Collected;
 
 /// Whether tokens are a module.
 #[tactic(auto, using(crate::proofs::Weights::rule_settled, crate::proofs::Recognized::unit_is))]
-fn recognize_unit(alloc: Global, found: Collected) -> Result<(), Error>
+fn recognize_unit(alloc: Global, source: TokenSource) -> Result<(), Error>
     requires { wants_memory (ending_view found.error) ≡ false }
     ensures { Recognized result (tokens_view found) (ending_view found.error) }
 {
-    let mut source = TokenSource::new(found)?;
+    let mut source = source;
     let read = accept(right_side(Symbol::Unit), &mut source.tokens);
     source.answer(alloc, read, Expected::DECLARATION)
 }
@@ -36,5 +35,5 @@ pub fn recognize_str(alloc: Global, source: &str) -> Result<(), Error>
     ensures refused { IfErr result (λ e. IsOutOfMemory e ⊎ IsRefused (chars source.now) (fault_view e)) }
     ensures placed { IfErr result (λ e. StandsWithin e.span (length source.now)) }
 {
-    recognize_unit(alloc, tokens_of(alloc, source)?)
+    recognize_unit(alloc, TokenSource::of_text(alloc, source)?)
 }

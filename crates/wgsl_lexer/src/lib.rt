@@ -2,14 +2,17 @@
 #![tactic(auto)]
 
 mod collect;
+mod ends;
 pub mod laws;
 mod lexer;
 mod open_lists;
 mod source;
+mod text_tokens;
 mod token_iterator;
 
 pub use collect::{Collected, collect_tokens};
 pub use lexer::Lexer;
 pub use source::{lex, recognize_template_list};
+pub use text_tokens::{Next, TextTokens};
 pub use token_iterator::{FiniteTokens, TokenItem, TokenIterator};
 pub use wgsl_templates::{Templates, discover};

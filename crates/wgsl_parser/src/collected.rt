@@ -16,7 +16,6 @@ use wgsl_cursor::Expected;
 use wgsl_error::Error;
 use wgsl_expression::{ExpressionNode, LiteralExpression};
 use wgsl_expression_reader::parse_expression;
-use wgsl_lexer::Collected;
 use wgsl_statement::StatementNode;
 use wgsl_unit::{GlobalDeclarationNode, GlobalDirective, TranslationUnit};
 use wgsl_unit_reader::{
@@ -24,20 +23,20 @@ use wgsl_unit_reader::{
 };
 
 #[tactic(auto, using(wgsl_answer::proofs::Seen::seen))]
-pub(crate) fn unit_of(alloc: Global, found: Collected) -> Result<TranslationUnit, Error>
+pub(crate) fn unit_of(alloc: Global, source: TokenSource) -> Result<TranslationUnit, Error>
     ensures { Answered unit_view result (answer_of unit (tokens_view found) (ending_view found.error)) }
 {
-    let mut source = TokenSource::new(found)?;
+    let mut source = source;
     let read = parse_translation_unit(alloc, &mut source.tokens);
     let behind = behind_unit(&read);
     source.answer(alloc, read, behind)
 }
 
 #[tactic(auto, using(wgsl_answer::proofs::Seen::seen))]
-pub(crate) fn directive_of(alloc: Global, found: Collected) -> Result<GlobalDirective, Error>
+pub(crate) fn directive_of(alloc: Global, source: TokenSource) -> Result<GlobalDirective, Error>
     ensures { Answered global_directive_view result (answer_of global_directive (tokens_view found) (ending_view found.error)) }
 {
-    let mut source = TokenSource::new(found)?;
+    let mut source = source;
     let read = parse_global_directive(alloc, &mut source.tokens);
     source.answer(alloc, read, Expected::End)
 }
@@ -45,39 +44,39 @@ pub(crate) fn directive_of(alloc: Global, found: Collected) -> Result<GlobalDire
 #[tactic(auto, using(wgsl_answer::proofs::Seen::seen))]
 pub(crate) fn declaration_of(
     alloc: Global,
-    found: Collected,
+    source: TokenSource,
 ) -> Result<GlobalDeclarationNode, Error>
     ensures { Answered (spanned_view global_declaration_view) result (answer_of global_declaration (tokens_view found) (ending_view found.error)) }
 {
-    let mut source = TokenSource::new(found)?;
+    let mut source = source;
     let read = parse_global_declaration(alloc, &mut source.tokens);
     source.answer(alloc, read, Expected::End)
 }
 
 #[tactic(auto, using(wgsl_answer::proofs::Seen::seen))]
-pub(crate) fn statement_of(alloc: Global, found: Collected) -> Result<StatementNode, Error>
+pub(crate) fn statement_of(alloc: Global, source: TokenSource) -> Result<StatementNode, Error>
     ensures { Answered statement_node_view result (answer_of statement (tokens_view found) (ending_view found.error)) }
 {
-    let mut source = TokenSource::new(found)?;
+    let mut source = source;
     let read = parse_statement(alloc, &mut source.tokens);
     let behind = behind_statement(&read);
     source.answer(alloc, read, behind)
 }
 
 #[tactic(auto, using(wgsl_answer::proofs::Seen::seen))]
-pub(crate) fn expression_of(alloc: Global, found: Collected) -> Result<ExpressionNode, Error>
+pub(crate) fn expression_of(alloc: Global, source: TokenSource) -> Result<ExpressionNode, Error>
     ensures { Answered expression_node_view result (answer_of expression (tokens_view found) (ending_view found.error)) }
 {
-    let mut source = TokenSource::new(found)?;
+    let mut source = source;
     let read = parse_expression(alloc, &mut source.tokens);
     source.answer(alloc, read, BEHIND_EXPRESSION)
 }
 
 #[tactic(auto, using(wgsl_answer::proofs::Seen::seen))]
-pub(crate) fn literal_of(alloc: Global, found: Collected) -> Result<LiteralExpression, Error>
+pub(crate) fn literal_of(alloc: Global, source: TokenSource) -> Result<LiteralExpression, Error>
     ensures { Answered literal_view result (answer_of literal (tokens_view found) (ending_view found.error)) }
 {
-    let mut source = TokenSource::new(found)?;
+    let mut source = source;
     let read = source.tokens.literal(Expected::LITERAL);
     source.answer(alloc, read, Expected::End)
 }
