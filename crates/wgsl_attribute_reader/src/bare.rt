@@ -8,9 +8,7 @@ ghost use Rattle.wgsl_named_values.specs.View.{severity_view, access_mode_view, 
 ghost use Rattle.wgsl_expression.specs.View.{ident_name, expression_node_view};
 
 use std::alloc::{AllocError, Global};
-use wgsl_expression::{
-    Expression, ExpressionNode, Ident, NamedComponentExpression, TypeExpression,
-};
+use wgsl_expression::{Expression, ExpressionNode, Ident, TypeExpression};
 use wgsl_named_values::{
     AccessMode, AddressSpace, BuiltinValue, DiagnosticSeverity, InterpolationSampling,
     InterpolationType,
@@ -39,7 +37,8 @@ pub(crate) fn rule_name(
     ensures { IfOk result (λ rule. option_map string_bytes rule ≡ rule_name (expression_node_view expression)) }
 {
     match expression.into_inner() {
-        Expression::NamedComponent(NamedComponentExpression { base, component }) => {
+        Expression::NamedComponent(inner) => {
+            let (base, component) = inner.into_parts();
             match bare_name(base) {
                 Some(base) => Ok(Some(format!(in alloc; "{base}.{component}")?)),
                 None => Ok(None),

@@ -21,7 +21,7 @@ use wgsl_attribute::{
     WorkgroupSizeAttribute,
 };
 use wgsl_cursor::Word;
-use wgsl_expression::{BinaryExpression, Expression, ExpressionNode, TypeExpression};
+use wgsl_expression::{Expression, ExpressionNode, TypeExpression};
 use wgsl_named_values::BinaryOperator;
 
 /// The attribute that a name makes of its arguments. One that is not known keeps them as they are.
@@ -153,13 +153,11 @@ fn variants(
 {
     match expression {
         Expression::TypeOrIdentifier(ty) => Ok(Some(vec![in alloc; ty]?)),
-        Expression::Binary(
-            BinaryExpression {
-                operator: BinaryOperator::BitwiseOr,
-                left,
-                right,
-            },
-        ) => {
+        Expression::Binary(inner) => {
+            let (left, operator, right) = inner.into_parts();
+            if operator != BinaryOperator::BitwiseOr {
+                return Ok(None);
+            }
             let Expression::TypeOrIdentifier(ty) = right.into_inner() else {
                 return Ok(None);
             };

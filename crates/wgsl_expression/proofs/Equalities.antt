@@ -1,5 +1,5 @@
 -- Equality of calls and of types, part by part.
-use Rattle.std.proofs.Common.{◌≡◌, refl, ◌∙◌, ap, true, Some, List, [], ◌∷◌, ◌&&◌, ◌==◌}
+use Rattle.std.proofs.Common.{◌≡◌, refl, ◌∙◌, ap, Bool, true, false, Some, List, [], ◌∷◌, ◌&&◌, ◌==◌}
 use Rattle.std.specs.declared.vec.Vec.{Vec}
 use Rattle.std.specs.declared.alloc.Global.{Global}
 use Rattle.std.specs.Cmp.Lexicographic.{pointwise}
@@ -50,3 +50,21 @@ templated_same a b xs ys first second names =
     types_same a b
     ∙ (λ i. names i && same (template_code (V.template_args_view (first i))) (template_code (V.template_args_view (second i))))
     ∙ templates_same xs.items ys.items
+
+-- what is compared with something else that is known
+pub left_alone : (x y : Bool) → y ≡ true → x && y ≡ x
+left_alone true y e = e
+left_alone false y e = refl
+
+pub right_false : (x y : Bool) → y ≡ false → x && y ≡ false
+right_false true y e = e
+right_false false y e = refl
+
+-- the same of what stands between two others
+pub between_alone : (o l r : Bool) → o && r ≡ true → o && (l && r) ≡ l
+between_alone true l r e = left_alone l r e
+between_alone false l r e = absurd cc
+
+pub between_false : (o l r : Bool) → o && r ≡ false → o && (l && r) ≡ false
+between_false true l r e = right_false l r e
+between_false false l r e = refl

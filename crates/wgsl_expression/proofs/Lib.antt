@@ -1,3 +1,4 @@
+pub mod Chains
 mod Views
 mod Texts
 mod Copies

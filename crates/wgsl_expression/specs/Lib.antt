@@ -1,3 +1,4 @@
 pub mod View
 pub mod Variants
 pub mod Equality
+pub mod Chains

@@ -1,8 +1,10 @@
 //! Copies that ask for memory.
 
-ghost use Rattle.std.specs.Prelude.{◌≡◌, IfOk};
+ghost use Rattle.std.specs.Prelude.{◌≡◌, ◌≤◌, IfOk};
 ghost use Rattle.wgsl_expression.specs.View.{expression_node_view, expression_view, parenthesized_expression_view, named_component_expression_view, indexing_expression_view, unary_expression_view, binary_expression_view, function_call_view, type_expression_view, template_arg_view};
+ghost use Rattle.wgsl_expression.specs.Chains.{steps_in, below, with_left};
 
+use crate::chain::descend;
 use crate::expression::{
     BinaryExpression, Expression, ExpressionNode, FunctionCall, IndexingExpression,
     NamedComponentExpression, ParenthesizedExpression, TemplateArg, TypeExpression,
@@ -16,6 +18,103 @@ fn clone_node(node: &ExpressionNode, alloc: Global) -> Result<ExpressionNode, Al
     ensures { IfOk result (λ copy. expression_node_view copy ≡ expression_node_view node.now) }
 {
     Spanned::new(alloc, node.node().clone_with(alloc)?, node.span())
+}
+
+/// Copies an expression: first what stands furthest down on the left, then what is around it.
+#[cycle(clone)]
+fn clone_chain(top: &ExpressionNode, alloc: Global) -> Result<ExpressionNode, AllocError>
+    ensures { IfOk result (λ copy. expression_node_view copy ≡ expression_node_view top.now) }
+{
+    let (bottom, steps) = descend(top, usize::MAX);
+    let copy = clone_node(bottom, alloc)?;
+    clone_above(top, steps, copy, alloc)
+}
+
+/// Copies what is around a copy of what stands some steps down. It calls itself for the lower half
+/// of the steps, so no more calls are open than their number has binary digits.
+#[cycle(clone)]
+#[tactic(auto, using(crate::proofs::Chains::half_some, crate::proofs::Chains::below_parts, crate::proofs::Chains::with_own_left))]
+fn clone_above(
+    top: &ExpressionNode,
+    steps: usize,
+    bottom: ExpressionNode,
+    alloc: Global,
+) -> Result<ExpressionNode, AllocError>
+    requires steps { steps ≤ steps_in (expression_node_view top.now) }
+    requires bottom { expression_node_view bottom ≡ below steps (expression_node_view top.now) }
+    ensures { IfOk result (λ copy. expression_node_view copy ≡ expression_node_view top.now) }
+{
+    let mut left = steps;
+    let mut copy = bottom;
+    'halves: while left > 1 {
+        let (middle, upper) = descend(top, left / 2);
+        copy = clone_above(middle, left - upper, copy, alloc)?;
+        left = upper;
+    }
+    if left == 0 {
+        return Ok(copy);
+    }
+    Spanned::new(alloc, top.node().clone_onto(copy, alloc)?, top.span())
+}
+
+impl Expression {
+    /// A copy, but with what is given on the left.
+    #[cycle(clone)]
+    fn clone_onto(&self, left: ExpressionNode, alloc: Global) -> Result<Self, AllocError>
+        ensures { IfOk result (λ copy. expression_view copy ≡ with_left (expression_view self.now) (expression_node_view left)) }
+    {
+        match self {
+            Expression::NamedComponent(inner) => Ok(Expression::NamedComponent(inner.clone_onto(
+                left, alloc,
+            )?)),
+            Expression::Indexing(inner) => Ok(Expression::Indexing(inner.clone_onto(left, alloc)?)),
+            Expression::Binary(inner) => Ok(Expression::Binary(inner.clone_onto(left, alloc)?)),
+            Expression::Literal(_)
+            | Expression::Parenthesized(_)
+            | Expression::Unary(_)
+            | Expression::FunctionCall(_)
+            | Expression::TypeOrIdentifier(_) => self.clone_with(alloc),
+        }
+    }
+}
+
+impl NamedComponentExpression {
+    /// A copy, but with another base.
+    fn clone_onto(&self, base: ExpressionNode, alloc: Global) -> Result<Self, AllocError>
+        ensures { IfOk result (λ copy. named_component_expression_view copy ≡ with_left (named_component_expression_view self.now) (expression_node_view base)) }
+    {
+        Ok(NamedComponentExpression {
+            base,
+            component: self.component.clone_with(alloc)?,
+        })
+    }
+}
+
+impl IndexingExpression {
+    /// A copy, but with another base.
+    #[cycle(clone)]
+    fn clone_onto(&self, base: ExpressionNode, alloc: Global) -> Result<Self, AllocError>
+        ensures { IfOk result (λ copy. indexing_expression_view copy ≡ with_left (indexing_expression_view self.now) (expression_node_view base)) }
+    {
+        Ok(IndexingExpression {
+            base,
+            index: clone_node(&self.index, alloc)?,
+        })
+    }
+}
+
+impl BinaryExpression {
+    /// A copy, but with another left operand.
+    #[cycle(clone)]
+    fn clone_onto(&self, left: ExpressionNode, alloc: Global) -> Result<Self, AllocError>
+        ensures { IfOk result (λ copy. binary_expression_view copy ≡ with_left (binary_expression_view self.now) (expression_node_view left)) }
+    {
+        Ok(BinaryExpression {
+            operator: self.operator,
+            left,
+            right: clone_node(&self.right, alloc)?,
+        })
+    }
 }
 
 impl CloneWith for Expression {
@@ -60,10 +159,7 @@ impl CloneWith for NamedComponentExpression {
 
     #[cycle(clone)]
     fn clone_with(&self, alloc: Global) -> Result<Self, AllocError> {
-        Ok(NamedComponentExpression {
-            base: clone_node(&self.base, alloc)?,
-            component: self.component.clone_with(alloc)?,
-        })
+        self.clone_onto(clone_chain(&self.base, alloc)?, alloc)
     }
 }
 
@@ -72,10 +168,7 @@ impl CloneWith for IndexingExpression {
 
     #[cycle(clone)]
     fn clone_with(&self, alloc: Global) -> Result<Self, AllocError> {
-        Ok(IndexingExpression {
-            base: clone_node(&self.base, alloc)?,
-            index: clone_node(&self.index, alloc)?,
-        })
+        self.clone_onto(clone_chain(&self.base, alloc)?, alloc)
     }
 }
 
@@ -96,11 +189,7 @@ impl CloneWith for BinaryExpression {
 
     #[cycle(clone)]
     fn clone_with(&self, alloc: Global) -> Result<Self, AllocError> {
-        Ok(BinaryExpression {
-            operator: self.operator,
-            left: clone_node(&self.left, alloc)?,
-            right: clone_node(&self.right, alloc)?,
-        })
+        self.clone_onto(clone_chain(&self.left, alloc)?, alloc)
     }
 }
 

@@ -1,13 +1,17 @@
 //! The printed texts of expressions and types.
 
-ghost use Rattle.std.specs.Prelude.{◌≡◌, Some};
+ghost use Rattle.std.specs.Prelude.{◌≡◌, ◌≤◌, Some};
+ghost use Rattle.std.specs.Fmt.{WritesOnOk};
 ghost use Rattle.wgsl_model.specs.PrintedExpressions.{print_expression, print_expression_node, print_call, print_type, is_abstract_int, fuses};
 ghost use Rattle.wgsl_named_values.specs.View.{unary_operator_view};
-ghost use Rattle.wgsl_expression.specs.View.{expression_view, parenthesized_expression_view, named_component_expression_view, indexing_expression_view, unary_expression_view, binary_expression_view, function_call_view, type_expression_view, template_arg_view};
+ghost use Rattle.wgsl_expression.specs.View.{expression_view, expression_node_view, parenthesized_expression_view, named_component_expression_view, indexing_expression_view, unary_expression_view, binary_expression_view, function_call_view, type_expression_view, template_arg_view};
+ghost use Rattle.wgsl_expression.specs.Chains.{steps_in, text_behind, text_above};
 
+use crate::chain::descend;
 use crate::expression::{
-    BinaryExpression, Expression, FunctionCall, IndexingExpression, NamedComponentExpression,
-    ParenthesizedExpression, TemplateArg, TypeExpression, UnaryExpression,
+    BinaryExpression, Expression, ExpressionNode, FunctionCall, IndexingExpression,
+    NamedComponentExpression, ParenthesizedExpression, TemplateArg, TypeExpression,
+    UnaryExpression,
 };
 use crate::literal::LiteralExpression;
 use std::fmt;
@@ -47,13 +51,8 @@ impl fmt::Display for NamedComponentExpression {
 
     #[cycle(display)]
     fn fmt<W: fmt::Write>(&self, f: &mut fmt::Formatter<W>) -> fmt::Result {
-        let base = &self.base;
-        let component = &self.component;
-        if self.base.node().is_abstract_int() {
-            write!(f, "{base} .{component}")
-        } else {
-            write!(f, "{base}.{component}")
-        }
+        write_chain(&self.base, f)?;
+        self.write_behind(f)
     }
 }
 
@@ -62,9 +61,8 @@ impl fmt::Display for IndexingExpression {
 
     #[cycle(display)]
     fn fmt<W: fmt::Write>(&self, f: &mut fmt::Formatter<W>) -> fmt::Result {
-        let base = &self.base;
-        let index = &self.index;
-        write!(f, "{base}[{index}]")
+        write_chain(&self.base, f)?;
+        self.write_behind(f)
     }
 }
 
@@ -88,10 +86,8 @@ impl fmt::Display for BinaryExpression {
 
     #[cycle(display)]
     fn fmt<W: fmt::Write>(&self, f: &mut fmt::Formatter<W>) -> fmt::Result {
-        let operator = self.operator;
-        let left = &self.left;
-        let right = &self.right;
-        write!(f, "{left} {operator} {right}")
+        write_chain(&self.left, f)?;
+        self.write_behind(f)
     }
 }
 
@@ -140,6 +136,96 @@ impl fmt::Display for TemplateArg {
         let expression = &self.expression;
         write!(f, "{expression}")
     }
+}
+
+impl Expression {
+    /// Writes what is printed behind the left side.
+    #[cycle(display)]
+    fn write_behind<W: fmt::Write>(&self, f: &mut fmt::Formatter<W>) -> fmt::Result
+        ensures { WritesOnOk W.write_str_gives f.old result (text_behind (expression_view self.now)) f.new }
+    {
+        match self {
+            Expression::NamedComponent(inner) => inner.write_behind(f),
+            Expression::Indexing(inner) => inner.write_behind(f),
+            Expression::Binary(inner) => inner.write_behind(f),
+            Expression::Literal(_)
+            | Expression::Parenthesized(_)
+            | Expression::Unary(_)
+            | Expression::FunctionCall(_)
+            | Expression::TypeOrIdentifier(_) => Ok(()),
+        }
+    }
+}
+
+impl NamedComponentExpression {
+    /// Writes what is printed behind the base.
+    fn write_behind<W: fmt::Write>(&self, f: &mut fmt::Formatter<W>) -> fmt::Result
+        ensures { WritesOnOk W.write_str_gives f.old result (text_behind (named_component_expression_view self.now)) f.new }
+    {
+        let component = &self.component;
+        if self.base.node().is_abstract_int() {
+            write!(f, " .{component}")
+        } else {
+            write!(f, ".{component}")
+        }
+    }
+}
+
+impl IndexingExpression {
+    /// Writes what is printed behind the base.
+    #[cycle(display)]
+    fn write_behind<W: fmt::Write>(&self, f: &mut fmt::Formatter<W>) -> fmt::Result
+        ensures { WritesOnOk W.write_str_gives f.old result (text_behind (indexing_expression_view self.now)) f.new }
+    {
+        let index = &self.index;
+        write!(f, "[{index}]")
+    }
+}
+
+impl BinaryExpression {
+    /// Writes what is printed behind the left operand.
+    #[cycle(display)]
+    fn write_behind<W: fmt::Write>(&self, f: &mut fmt::Formatter<W>) -> fmt::Result
+        ensures { WritesOnOk W.write_str_gives f.old result (text_behind (binary_expression_view self.now)) f.new }
+    {
+        let operator = self.operator;
+        let right = &self.right;
+        write!(f, " {operator} {right}")
+    }
+}
+
+/// Writes an expression: first what stands furthest down on the left, then what is behind it.
+#[cycle(display)]
+fn write_chain<W: fmt::Write>(top: &ExpressionNode, f: &mut fmt::Formatter<W>) -> fmt::Result
+    ensures { WritesOnOk W.write_str_gives f.old result (print_expression_node (expression_node_view top.now)) f.new }
+{
+    let (bottom, steps) = descend(top, usize::MAX);
+    write!(f, "{bottom}")?;
+    write_above(top, steps, f)
+}
+
+/// Writes what is printed behind what stands some steps down. It calls itself for the lower half
+/// of the steps, so no more calls are open than their number has binary digits.
+#[cycle(display)]
+#[tactic(auto, using(crate::proofs::Chains::half_some))]
+fn write_above<W: fmt::Write>(
+    top: &ExpressionNode,
+    steps: usize,
+    f: &mut fmt::Formatter<W>,
+) -> fmt::Result
+    requires { steps ≤ steps_in (expression_node_view top.now) }
+    ensures { WritesOnOk W.write_str_gives f.old result (text_above steps (expression_node_view top.now)) f.new }
+{
+    let mut left = steps;
+    'halves: while left > 1 {
+        let (middle, upper) = descend(top, left / 2);
+        write_above(middle, left - upper, f)?;
+        left = upper;
+    }
+    if left == 0 {
+        return Ok(());
+    }
+    top.node().write_behind(f)
 }
 
 impl Expression {

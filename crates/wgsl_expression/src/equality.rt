@@ -1,14 +1,17 @@
 //! Equality by content: spans are set aside.
 
+ghost use Rattle.std.specs.Prelude.{◌≡◌};
 ghost use Rattle.std.specs.Cmp.{on_per};
 ghost use Rattle.wgsl_equality.specs.Code.{same};
 ghost use Rattle.wgsl_equality.specs.Laws.{same_partial};
 ghost use Rattle.wgsl_equality.specs.Expressions.{expression_code, expression_node_code, call_code, type_code, literal_code};
+ghost use Rattle.wgsl_expression.specs.Chains.{same_behind};
 ghost use Rattle.wgsl_expression.specs.View.{literal_view, expression_view, parenthesized_expression_view, named_component_expression_view, indexing_expression_view, unary_expression_view, binary_expression_view, function_call_view, type_expression_view, template_arg_view};
 
 use crate::expression::{
-    BinaryExpression, Expression, FunctionCall, IndexingExpression, NamedComponentExpression,
-    ParenthesizedExpression, TemplateArg, TypeExpression, UnaryExpression,
+    BinaryExpression, Expression, ExpressionNode, FunctionCall, IndexingExpression,
+    NamedComponentExpression, ParenthesizedExpression, TemplateArg, TypeExpression,
+    UnaryExpression,
 };
 
 impl PartialEq for Expression {
@@ -103,6 +106,50 @@ impl PartialEq for Expression {
     }
 }
 
+/// Whether two are equal in all but their left operands.
+#[cycle(equal)]
+fn equal_behind(x: &BinaryExpression, y: &BinaryExpression) -> bool
+    ensures { result ≡ same_behind x.now y.now }
+{
+    x.operator == y.operator && *x.right.node() == *y.right.node()
+}
+
+/// Whether two expressions are equal. What goes down on their left sides is compared by a loop.
+#[cycle(equal)]
+#[tactic(auto, using(crate::proofs::Equalities::left_alone, crate::proofs::Equalities::right_false, crate::proofs::Equalities::between_alone, crate::proofs::Equalities::between_false))]
+fn equal_chains(a: &ExpressionNode, b: &ExpressionNode) -> bool
+    ensures { result ≡ same (expression_code (expression_view a.now.node.value)) (expression_code (expression_view b.now.node.value)) }
+{
+    let mut first = a.node();
+    let mut second = b.node();
+    'steps: loop {
+        match (first, second) {
+            (Expression::NamedComponent(x), Expression::NamedComponent(y)) => {
+                if x.component.name() != y.component.name() {
+                    return false;
+                }
+                first = x.base.node();
+                second = y.base.node();
+            }
+            (Expression::Indexing(x), Expression::Indexing(y)) => {
+                if !(*x.index.node() == *y.index.node()) {
+                    return false;
+                }
+                first = x.base.node();
+                second = y.base.node();
+            }
+            (Expression::Binary(x), Expression::Binary(y)) => {
+                if !equal_behind(x, y) {
+                    return false;
+                }
+                first = x.left.node();
+                second = y.left.node();
+            }
+            _ => return *first == *second,
+        }
+    }
+}
+
 impl PartialEq for ParenthesizedExpression {
     ghost eq = { λ a b. same (expression_code (parenthesized_expression_view a)) (expression_code (parenthesized_expression_view b)) };
 
@@ -121,7 +168,7 @@ impl PartialEq for NamedComponentExpression {
 
     #[cycle(equal)]
     fn eq(&self, other: &NamedComponentExpression) -> bool {
-        *self.base.node() == *other.base.node() && self.component.name() == other.component.name()
+        equal_chains(&self.base, &other.base) && self.component.name() == other.component.name()
     }
 }
 
@@ -132,7 +179,7 @@ impl PartialEq for IndexingExpression {
 
     #[cycle(equal)]
     fn eq(&self, other: &IndexingExpression) -> bool {
-        *self.base.node() == *other.base.node() && *self.index.node() == *other.index.node()
+        equal_chains(&self.base, &other.base) && *self.index.node() == *other.index.node()
     }
 }
 
@@ -155,7 +202,7 @@ impl PartialEq for BinaryExpression {
     #[cycle(equal)]
     fn eq(&self, other: &BinaryExpression) -> bool {
         self.operator == other.operator
-            && *self.left.node() == *other.left.node()
+            && equal_chains(&self.left, &other.left)
             && *self.right.node() == *other.right.node()
     }
 }

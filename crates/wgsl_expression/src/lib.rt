@@ -1,6 +1,7 @@
 //! Names, literals, expressions and types.
 #![tactic(auto)]
 
+mod chain;
 mod clones;
 mod display;
 mod equality;

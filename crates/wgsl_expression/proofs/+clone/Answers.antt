@@ -5,17 +5,17 @@ use Rattle.wgsl_expression.specs.declared.expression.Expression.TheViews.{out-Fu
 use Rattle.wgsl_expression.specs.View.{ident_name, type_expression_view, expression_nodes_view, template_arg_nodes_view, template_args_view}
 use Rattle.wgsl_expression.proofs.Views.{call_view_out, type_view_out, call_view_roll, type_view_roll}
 use Rattle.wgsl_expression.proofs.Copies.{node_more, arg_more}
-use Rattle.wgsl_expression.proofs.clones.+clone.Goals as goal
+use Rattle.wgsl_expression.proofs.+clone.Goals as goal
 
-pub FunctionCallCloneWith::clone_with-arguments-preserved :
-    goal.FunctionCallCloneWith::clone_with-arguments-preserved
-FunctionCallCloneWith::clone_with-arguments-preserved t c =
+pub clones::FunctionCallCloneWith::clone_with-arguments-preserved :
+    goal.clones::FunctionCallCloneWith::clone_with-arguments-preserved
+clones::FunctionCallCloneWith::clone_with-arguments-preserved t c =
     ap expression_nodes_view c.in_ok-push.ensures.items
     ∙ node_more c.deref-argument-items.result.now c.arguments.arguments.items c.arguments.argument-index c.argument-item.result c.in_ok-clone_node.field-0
     (search rules) c.argument-item.is c.arguments.invariant c.in_ok-clone_node.ensures
 
-pub FunctionCallCloneWith::clone_with-returns : goal.FunctionCallCloneWith::clone_with-returns
-FunctionCallCloneWith::clone_with-returns t c = record {
+pub clones::FunctionCallCloneWith::clone_with-returns : goal.clones::FunctionCallCloneWith::clone_with-returns
+clones::FunctionCallCloneWith::clone_with-returns t c = record {
   copy =
       let f = out-FunctionCall c.args.self.now in
       call_view_roll (record { ty = c.in_ok-ty.ty; arguments = c.arguments.arguments })
@@ -25,16 +25,16 @@ FunctionCallCloneWith::clone_with-returns t c = record {
       ∙ ap (call (type_expression_view c.in_ok-ty.ty)) (sym c.arguments.invariant));
 }
 
-pub TypeExpressionCloneWith::clone_with-arguments-preserved :
-    goal.TypeExpressionCloneWith::clone_with-arguments-preserved
-TypeExpressionCloneWith::clone_with-arguments-preserved t c =
+pub clones::TypeExpressionCloneWith::clone_with-arguments-preserved :
+    goal.clones::TypeExpressionCloneWith::clone_with-arguments-preserved
+clones::TypeExpressionCloneWith::clone_with-arguments-preserved t c =
     ap template_arg_nodes_view c.in_ok-push-in-Some.ensures.items
     ∙ arg_more c.deref-argument-items.result.now c.arguments.copied.items c.arguments.argument-index c.argument-item.result c.in_ok-clone_with-in-Some.field-0
     (search rules) c.argument-item.is c.arguments.invariant c.in_ok-clone_with-in-Some.ensures.copy
 
-pub TypeExpressionCloneWith::clone_with-returns-after-arguments :
-    goal.TypeExpressionCloneWith::clone_with-returns-after-arguments
-TypeExpressionCloneWith::clone_with-returns-after-arguments t c = record {
+pub clones::TypeExpressionCloneWith::clone_with-returns-after-arguments :
+    goal.clones::TypeExpressionCloneWith::clone_with-returns-after-arguments
+clones::TypeExpressionCloneWith::clone_with-returns-after-arguments t c = record {
   copy =
       let e = out-TypeExpression c.args.self.now in
       type_view_roll c.in_ok-ident.ident (Some c.arguments.copied)
