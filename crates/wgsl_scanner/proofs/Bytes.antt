@@ -1,9 +1,9 @@
 -- The bytes of a text that is cut.
-use Rattle.std.proofs.Common.{◌≡◌, ℕ, ◌-◌, ◌≤◌, refl, sym, ap, subst, List, [], ◌∷◌, ◌++◌, length, take, chars, ◌∙◌, arith, length-append, append-nil, Option, Some, None}
+use Rattle.std.proofs.Common.{◌≡◌, ℕ, ◌-◌, ◌≤◌, ◌<◌, drop, slice_get, refl, sym, ap, subst, List, [], ◌∷◌, ◌++◌, length, take, chars, ◌∙◌, arith, length-append, append-nil, Option, Some, None}
 use Rattle.std.specs.Prelude.{slice_range, MatchOption}
 use Rattle.std.specs.Char.{encode_utf8}
 use Rattle.std.specs.Str.{IsUtf8, IsCharBoundary, encode_utf8_all}
-use Rattle.std.proofs.lemmas.Str.{encodes-chars, encodes-append, chars_from_encodes, IsCharBoundary-at_seam}
+use Rattle.std.proofs.lemmas.Str.{encode_ascii, chars-nil, chars_past_char, encodes-chars, encodes-append, chars_from_encodes, IsCharBoundary-at_seam, IsCharBoundary-after_ascii}
 use Rattle.wgsl_model.specs.Numbers.{without_last}
 use Rattle.wgsl_model.proofs.Fronts.{take-append_front}
 
@@ -63,3 +63,18 @@ no_chars (b ∷ bs) e t = absurd (omega (arith, e))
 pub chars-last_taken : (text rest : List ℕ) (P : Type 0) (last : Option ℕ) → (P → rest ≡ text) → MatchOption last ((length text ≡ 0) × P) (λ c. text ≡ rest ++ encode_utf8 c) → IsUtf8 text → IsUtf8 rest → chars rest ≡ without_last (chars text)
 chars-last_taken text rest P None same h t r = ap chars (same h.1) ∙ no_chars text h.0 t
 chars-last_taken text rest P (Some c) same h t r = chars-before_last text rest c t r h
+
+-- ---- a first byte of ASCII
+
+-- the text may be cut behind it, and it is the first character
+pub first_ascii : (text : List ℕ) (b : ℕ) → Some b ≡ slice_get text 0 → b < 128 → IsUtf8 text → IsCharBoundary text 1 × (chars text ≡ b ∷ chars (drop 1 text))
+first_ascii [] b e low t = absurd (cc)
+first_ascii (x ∷ xs) b e low t =
+    let same : b ≡ x = cc in
+    let low_first : x < 128 = omega (arith, low, same) in
+    let first : chars (x ∷ xs) ≡ x ∷ chars xs = chars_past_char (x ∷ xs) xs x t (sym (ap (λ bs. bs ++ xs) (encode_ascii x low_first))) in
+    (IsCharBoundary-after_ascii (x ∷ xs) 0 t (omega arith) low_first, first ∙ ap (λ c. c ∷ chars xs) (sym same))
+
+pub no_first : (text : List ℕ) → None ≡ slice_get text 0 → chars text ≡ []
+no_first [] e = chars-nil
+no_first (x ∷ xs) e = absurd (cc)

@@ -1,5 +1,5 @@
 -- Classes of characters: digits by their value, and what may begin a word.
-use Rattle.std.proofs.Common.{◌≡◌, ℕ, ◌+◌, ◌*◌, ◌<◌, ◌≤◌, Bool, true, false, ◌==◌, ◌||◌, refl, sym, ◌∙◌, ap, arith, List, ◌∷◌}
+use Rattle.std.proofs.Common.{◌≡◌, ℕ, ◌+◌, ◌*◌, ◌<◌, ◌≤◌, Bool, true, false, ◌==◌, ◌||◌, refl, sym, ◌∙◌, ap, arith, List, [], ◌∷◌}
 use mathlib.Core.Path.{fun_ext}
 use Rattle.std.specs.Char.{is_ascii_digit, is_ascii_hexdigit, is_ascii_alphabetic, is_ascii_alphanumeric, is_digit, digit_value}
 use Rattle.std.proofs.lemmas.Bool.{false_from_ne_true}
@@ -7,6 +7,7 @@ use Rattle.std.proofs.lemmas.Grind.{common_steps}
 use Rattle.unicode_ident.specs.Ident.{is_xid_start, is_xid_continue}
 use Rattle.unicode_ident.proofs.IdentLemmas.{is_xid_start-ascii, is_xid_continue-ascii}
 use Rattle.wgsl_scanner.specs.Digits.{skip_while, read_digits, skip_digits}
+use Rattle.wgsl_scanner.specs.Scanning.{after_word}
 
 pub is_digit-decimal : (c : ℕ) → is_digit c 10 ≡ is_ascii_digit c
 is_digit-decimal c = grind (arith, common_steps)
@@ -40,6 +41,23 @@ other_start c h = grind (arith, common_steps)
 
 pub ascii_continue : (c : ℕ) → c < 128 → is_xid_continue c ≡ (is_ascii_alphanumeric c || c == 95)
 ascii_continue c h = is_xid_continue-ascii c h
+
+pub word_byte_bound : (c : ℕ) → (is_ascii_alphanumeric c || c == 95) ≡ true → c < 128
+word_byte_bound c h = grind (arith, common_steps)
+
+-- ---- the bytes of a word
+
+pub word_goes_on : (c : ℕ) (cs : List ℕ) → (is_ascii_alphanumeric c || c == 95) ≡ true → after_word (c ∷ cs) ≡ after_word cs
+unfolding skip_while
+word_goes_on c cs h = rw (ascii_continue c (word_byte_bound c h), h) refl
+
+pub word_ends_at : (c : ℕ) (cs : List ℕ) → c < 128 → (is_ascii_alphanumeric c || c == 95) ≡ false → after_word (c ∷ cs) ≡ c ∷ cs
+unfolding skip_while
+word_ends_at c cs low h = rw (ascii_continue c low, h) refl
+
+pub word_of_nothing : after_word [] ≡ []
+unfolding skip_while
+word_of_nothing = refl
 
 -- ---- digits
 

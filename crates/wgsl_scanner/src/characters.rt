@@ -1,8 +1,20 @@
 //! The classes of characters. ASCII is tested first.
 
 ghost use Rattle.std.specs.Prelude.{◌≡◌, ◌==◌, ◌||◌};
-ghost use Rattle.unicode_ident.specs.Ident.{is_xid_start, is_xid_continue};
+ghost use Rattle.std.specs.Char.{is_ascii_alphanumeric};
+ghost use Rattle.unicode_ident.specs.Ident.{is_xid_start};
 ghost use Rattle.wgsl_model.specs.Characters.{is_blank, is_line_break};
+
+// Each byte that is a character of a word stands at its own place, and a dot at every other place.
+static WORD_BYTES: [u8; 256] = *b"\
+    ................................\
+    ................0123456789......\
+    .ABCDEFGHIJKLMNOPQRSTUVWXYZ...._\
+    .abcdefghijklmnopqrstuvwxyz.....\
+    ................................\
+    ................................\
+    ................................\
+    ................................";
 
 pub fn is_blank(c: char) -> bool
     ensures { result ≡ is_blank c }
@@ -29,12 +41,9 @@ pub(crate) fn starts_word(c: char) -> bool
     unicode_ident::is_xid_start(c)
 }
 
-#[tactic(auto, using(crate::proofs::CharacterClasses::ascii_continue))]
-pub(crate) fn continues_word(c: char) -> bool
-    ensures { result ≡ is_xid_continue c }
+/// Whether a byte is a character of ASCII that continues a word.
+pub(crate) fn is_word_byte(byte: u8) -> bool
+    ensures { result ≡ (is_ascii_alphanumeric byte || byte == 95) }
 {
-    if c.is_ascii() {
-        return c.is_ascii_alphanumeric() || c == '_';
-    }
-    unicode_ident::is_xid_continue(c)
+    WORD_BYTES[byte as usize] != b'.'
 }

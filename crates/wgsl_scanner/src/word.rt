@@ -1,28 +1,45 @@
 //! Words: keywords, reserved words and identifiers.
 
-ghost use Rattle.std.specs.Prelude.{◌≡◌, ◌≤◌, chars, length};
+ghost use Rattle.std.specs.Prelude.{◌≡◌, ◌≤◌, ◌<◌, chars, length, IfSome, MatchOption};
 ghost use Rattle.wgsl_model.specs.Raw.{word_of};
 ghost use Rattle.wgsl_scanner.specs.Scanning.{after_word};
 ghost use Rattle.wgsl_scanner.specs.View.{lexeme_view};
 
-use crate::characters::continues_word;
+use crate::characters::is_word_byte;
 use crate::keyword::keyword;
 use crate::lexeme::Lexeme;
 use crate::reserved::is_reserved;
 use crate::text::split_first;
 use wgsl_token::kind::TokenKind;
 
-/// The text after the characters that continue a word.
+/// The text after a first character that continues a word.
 #[tactic(auto, unfolding(crate::specs::Digits::skip_while))]
+fn after_word_character(text: &str) -> Option<&str>
+    ensures step { MatchOption result (after_word (chars text.now) ≡ chars text.now) (λ after. after_word (chars text.now) ≡ after_word (chars after.now)) }
+    ensures shorter { IfSome result (λ after. length after.now < length text.now) }
+{
+    let first = *text.as_bytes().first()?;
+    if is_word_byte(first) {
+        return Some(&text[1..]);
+    }
+    if first.is_ascii() {
+        return None;
+    }
+    let (c, after) = split_first(text)?;
+    if unicode_ident::is_xid_continue(c) {
+        Some(after)
+    } else {
+        None
+    }
+}
+
+/// The text after the characters that continue a word.
 pub(crate) fn after_word(text: &str) -> &str
     ensures rest { chars result.now ≡ after_word (chars text.now) }
     ensures within { length result.now ≤ length text.now }
 {
     let mut rest = text;
-    while let Some((c, after)) = split_first(rest) {
-        if !continues_word(c) {
-            return rest;
-        }
+    while let Some(after) = after_word_character(rest) {
         rest = after;
     }
     rest
