@@ -5,3 +5,4 @@ pub mod Templates
 pub mod Begun
 pub mod Classes
 pub mod Hints
+pub mod Variants

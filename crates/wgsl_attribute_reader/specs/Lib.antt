@@ -6,3 +6,4 @@ pub mod Settles
 pub mod Rules
 pub mod Initializers
 pub mod Behind
+pub mod Variants

@@ -1,7 +1,7 @@
 //! What attributes make of their arguments (WGSL, "Attributes").
 #![tactic(auto, unfolding(crate::proofs::Hints::definitions), using(crate::proofs::Hints::lemmas))]
 
-ghost use Rattle.std.specs.Prelude.{◌≡◌, IfOk, option_map, map};
+ghost use Rattle.std.specs.Prelude.{◌≡◌, ◌<◌, [], ◌∷◌, ◌++◌, Some, None, IfOk, IfSome, IsNone, option_map, map};
 ghost use Rattle.wgsl_model.specs.Checks.{builtin_attribute, diagnostic_attribute, interpolate_attribute, workgroup_size_attribute, type_attribute, variants, variants_in};
 ghost use Rattle.wgsl_expression.specs.View.{expression_view, type_expression_view};
 ghost use Rattle.wgsl_attribute.specs.View.{attribute_view, expressions_view, interpolate_view};
@@ -9,6 +9,7 @@ ghost use Rattle.wgsl_cursor.specs.Words.{word_text};
 ghost use Rattle.wgsl_attribute_reader.specs.Known.{checked_attribute};
 ghost use Rattle.wgsl_attribute_reader.specs.Counted.{interpolation};
 ghost use Rattle.wgsl_attribute_reader.specs.Makes.{Makes};
+ghost use Rattle.wgsl_attribute_reader.specs.Variants.{variants_before, operands_before};
 
 use crate::arguments::{Refusal, no_arguments, only_argument, two_arguments, up_to_three};
 use crate::bare::{
@@ -151,22 +152,36 @@ fn variants(
 ) -> Result<Option<Vec<TypeExpression>>, AllocError>
     ensures { IfOk result (λ types. option_map (λ list. map type_expression_view list.items) types ≡ variants_in (expression_view expression)) }
 {
+    let mut types = Vec::new(alloc);
+    let mut rest = Some(expression);
+    'types: while let Some(joined) = rest {
+        let Some((front, ty)) = last_variant(joined) else {
+            return Ok(None);
+        };
+        types.push(ty)?;
+        rest = front;
+    }
+    types.reverse();
+    Ok(Some(types))
+}
+
+/// The last of the types that an expression joins by `|`, behind what stands before it.
+fn last_variant(expression: Expression) -> Option<(Option<Expression>, TypeExpression)>
+    ensures some { IfSome result (λ parts. variants_in (expression_view expression) ≡ option_map (λ front. front ++ (type_expression_view parts.1 ∷ [])) (variants_before (option_map expression_view parts.0))) }
+    ensures none { IsNone result → variants_in (expression_view expression) ≡ None }
+    ensures shorter { IfSome result (λ parts. operands_before (option_map expression_view parts.0) < operands_before (Some (expression_view expression))) }
+{
     match expression {
-        Expression::TypeOrIdentifier(ty) => Ok(Some(vec![in alloc; ty]?)),
+        Expression::TypeOrIdentifier(ty) => Some((None, ty)),
         Expression::Binary(inner) => {
             let (left, operator, right) = inner.into_parts();
-            if operator != BinaryOperator::BitwiseOr {
-                return Ok(None);
+            match right.into_inner() {
+                Expression::TypeOrIdentifier(ty) if operator == BinaryOperator::BitwiseOr => {
+                    Some((Some(left.into_inner()), ty))
+                }
+                _ => None,
             }
-            let Expression::TypeOrIdentifier(ty) = right.into_inner() else {
-                return Ok(None);
-            };
-            let Some(mut types) = variants(alloc, left.into_inner())? else {
-                return Ok(None);
-            };
-            types.push(ty)?;
-            Ok(Some(types))
         }
-        _ => Ok(None),
+        _ => None,
     }
 }
