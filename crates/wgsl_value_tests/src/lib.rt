@@ -5,6 +5,8 @@
 #[cfg(test)]
 mod callers;
 #[cfg(test)]
+mod chains;
+#[cfg(test)]
 mod faults;
 #[cfg(test)]
 mod lists;
