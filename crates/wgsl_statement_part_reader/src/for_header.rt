@@ -36,6 +36,7 @@ pub type ForHeader = (
 );
 
 /// `for` and its header in parentheses.
+#[inline(never)]
 pub fn parse_for_header(alloc: Global, tokens: &mut Cursor) -> Result<ForHeader, Fault>
     ensures { Parses (λ header. (option_map statement_node_view header.0, (option_map expression_node_view header.1, option_map statement_node_view header.2))) result tokens.old tokens.new for_header_at }
 {

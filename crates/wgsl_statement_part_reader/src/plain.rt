@@ -81,6 +81,7 @@ pub fn begins_plain_statement(tokens: &Cursor) -> bool
 }
 
 /// A statement that has no attributes, with its `;`.
+#[inline(never)]
 pub fn parse_plain_statement(alloc: Global, tokens: &mut Cursor) -> Result<StatementNode, Fault>
     ensures { Parses statement_node_view result tokens.old tokens.new (reader (further plain_statement)) }
 {
@@ -102,6 +103,7 @@ fn parse_unplaced_plain(alloc: Global, tokens: &mut Cursor) -> Result<Statement,
 }
 
 /// `break` behind its attributes, with its `;`.
+#[inline(never)]
 pub fn parse_break_part(tokens: &mut Cursor, attributes: Attributes) -> Result<Statement, Fault>
     ensures { Parses statement_view result tokens.old tokens.new (behind_attributes statement (attributes_view attributes.items) break_part_at) }
 {
@@ -111,6 +113,7 @@ pub fn parse_break_part(tokens: &mut Cursor, attributes: Attributes) -> Result<S
 }
 
 /// A statement other than `break` that a `;` ends, behind its attributes, with its `;`.
+#[inline(never)]
 pub fn parse_ended_part(
     alloc: Global,
     tokens: &mut Cursor,

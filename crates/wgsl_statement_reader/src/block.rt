@@ -36,6 +36,7 @@ pub fn parse_compound_statement(
 }
 
 /// A block as a statement, behind its attributes.
+#[inline(never)]
 #[cycle(statement)]
 pub fn parse_block_part(
     alloc: Global,

@@ -20,6 +20,7 @@ use wgsl_statement_part_reader::parse_condition;
 use wgsl_token::kind::TokenKind;
 
 /// An `if` with all of its clauses, behind its attributes.
+#[inline(never)]
 #[cycle(statement)]
 pub fn parse_if_part(
     alloc: Global,
@@ -40,6 +41,7 @@ pub fn parse_if_part(
 }
 
 /// The clauses behind the first.
+#[inline(never)]
 #[cycle(statement)]
 fn parse_else_rest(
     alloc: Global,

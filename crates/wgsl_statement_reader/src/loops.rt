@@ -30,6 +30,7 @@ use wgsl_statement_part_reader::{
 use wgsl_token::kind::TokenKind;
 
 /// A `loop`, behind its attributes.
+#[inline(never)]
 #[cycle(statement)]
 pub fn parse_loop_part(
     alloc: Global,
@@ -77,6 +78,7 @@ fn parse_loop_rest(
 }
 
 /// What a `loop` does after each turn, behind its attributes.
+#[inline(never)]
 #[cycle(statement)]
 fn parse_continuing_part(
     alloc: Global,
@@ -127,6 +129,7 @@ fn parse_continuing_rest(
 }
 
 /// A `while`, behind its attributes.
+#[inline(never)]
 #[cycle(statement)]
 pub fn parse_while_part(
     alloc: Global,
@@ -145,6 +148,7 @@ pub fn parse_while_part(
 }
 
 /// A `for`, behind its attributes.
+#[inline(never)]
 #[cycle(statement)]
 pub fn parse_for_part(
     alloc: Global,

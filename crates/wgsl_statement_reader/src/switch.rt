@@ -22,6 +22,7 @@ use wgsl_statement_part_reader::{parse_clause_head, parse_switch_head};
 use wgsl_token::kind::TokenKind;
 
 /// A `switch`, behind its attributes.
+#[inline(never)]
 #[cycle(statement)]
 pub fn parse_switch_part(
     alloc: Global,
