@@ -1,5 +1,5 @@
 -- Classes of characters: digits by their value, and what may begin a word.
-use Rattle.std.proofs.Common.{◌≡◌, ℕ, ◌+◌, ◌*◌, ◌<◌, ◌≤◌, Bool, true, false, ◌==◌, ◌||◌, refl, sym, ◌∙◌, ap, arith, List, [], ◌∷◌}
+use Rattle.std.proofs.Common.{◌≡◌, ℕ, ◌+◌, ◌*◌, ◌<◌, ◌≤◌, Bool, true, false, ◌==◌, ◌||◌, refl, sym, ◌∙◌, ap, arith, List, [], ◌∷◌, None}
 use mathlib.Core.Path.{fun_ext}
 use Rattle.std.specs.Char.{is_ascii_digit, is_ascii_hexdigit, is_ascii_alphabetic, is_ascii_alphanumeric, is_digit, digit_value}
 use Rattle.std.proofs.lemmas.Bool.{false_from_ne_true}
@@ -7,6 +7,7 @@ use Rattle.std.proofs.lemmas.Grind.{common_steps}
 use Rattle.unicode_ident.specs.Ident.{is_xid_start, is_xid_continue}
 use Rattle.unicode_ident.proofs.IdentLemmas.{is_xid_start-ascii, is_xid_continue-ascii}
 use Rattle.wgsl_scanner.specs.Digits.{skip_while, read_digits, skip_digits}
+use Rattle.wgsl_scanner.specs.ScannedNumbers.{number}
 use Rattle.wgsl_scanner.specs.Scanning.{after_word}
 
 pub is_digit-decimal : (c : ℕ) → is_digit c 10 ≡ is_ascii_digit c
@@ -76,3 +77,17 @@ read_digits-step radix n c cs h = rw (digit_below c radix h) refl
 pub skip_digits-step : (radix c : ℕ) (cs : List ℕ) → digit_value c < radix → skip_digits radix (c ∷ cs) ≡ skip_digits radix cs
 unfolding skip_while
 skip_digits-step radix c cs h = rw (digit_below c radix h) refl
+
+-- ---- what begins no number
+
+no_point : (c : ℕ) → (is_ascii_digit c || c == 46) ≡ false → (c == 46) ≡ false
+no_point c h = grind (arith, common_steps)
+
+no_zero : (c : ℕ) → (is_ascii_digit c || c == 46) ≡ false → (c == 48) ≡ false
+no_zero c h = grind (arith, common_steps)
+
+no_digit : (c : ℕ) → (is_ascii_digit c || c == 46) ≡ false → is_ascii_digit c ≡ false
+no_digit c h = grind (arith, common_steps)
+
+pub no_number : (c : ℕ) (cs : List ℕ) → (is_ascii_digit c || c == 46) ≡ false → number c cs ≡ None
+no_number c cs h = rw (no_point c h, no_zero c h, is_digit-decimal c ∙ no_digit c h) refl

@@ -1,5 +1,5 @@
 -- Where the longest spelling cuts a text.
-use Rattle.std.proofs.Common.{◌≡◌, ℕ, zero, suc, ◌-◌, refl, sym, ap, List, [], ◌∷◌, ◌++◌, length, take, Option, Some, None, ◌∙◌, arith, length-append}
+use Rattle.std.proofs.Common.{◌≡◌, ℕ, sym, ap, List, ◌∷◌, ◌++◌, Option, Some, None, ◌∙◌}
 use Rattle.wgsl_model.specs.Kind.{Kind}
 use Rattle.wgsl_model.specs.Pattern.{after_spelling}
 use Rattle.wgsl_model.specs.Raw.{invalid, front, value, spelled, valued, raw_at}

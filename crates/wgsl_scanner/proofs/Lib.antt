@@ -11,3 +11,5 @@ pub mod Numbers
 pub mod Symbols
 pub mod Words
 pub mod Front
+pub mod Table
+pub mod Blanks

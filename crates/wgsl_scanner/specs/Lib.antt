@@ -3,3 +3,4 @@ pub mod ScannedNumbers
 pub mod Scanning
 pub mod View
 pub mod Parts
+pub mod WordTable

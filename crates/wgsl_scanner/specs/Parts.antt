@@ -1,5 +1,5 @@
 -- What the scanner's own functions give and take, as their contracts see it.
-use Rattle.std.specs.Prelude.{ℕ, ℤ, pos, List, map, chars, Option, Some, None, option_map}
+use Rattle.std.specs.Prelude.{ℕ, ℤ, pos, List, chars, Option, Some, None, option_map}
 use denote.Bor.{Bor}
 use Rattle.grammar.specs.Tokens.{Payload.number}
 use Rattle.wgsl_model.specs.Classes as class
@@ -52,10 +52,3 @@ kind_and_rest found = (class_of_kind found.0, chars found.1.now)
 abbrev pub symbol_view : Option (TokenKind × Bor (List ℕ)) → Option (ℕ × List ℕ)
 symbol_view None = None
 symbol_view (Some found) = Some (kind_and_rest found)
-
--- words with their classes, and words alone
-abbrev pub entries_view : List (Bor (List ℕ) × TokenKind) → List (List ℕ × ℕ)
-entries_view entries = map (λ (entry : Bor (List ℕ) × TokenKind). (entry.0.now, class_of_kind entry.1)) entries
-
-abbrev pub words_view : List (Bor (List ℕ)) → List (List ℕ)
-words_view words = map (λ (word : Bor (List ℕ)). word.now) words

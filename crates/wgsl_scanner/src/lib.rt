@@ -4,13 +4,12 @@
 pub mod characters;
 mod digits;
 mod float;
-mod keyword;
 pub mod laws;
 pub mod lexeme;
 mod number;
-mod reserved;
 pub mod scan;
 mod symbol;
 pub mod text;
 mod trivia;
 mod word;
+mod word_table;

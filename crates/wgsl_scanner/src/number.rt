@@ -8,6 +8,7 @@ ghost use Rattle.wgsl_scanner.specs.ScannedNumbers.{number_kind, suffixed, decim
 ghost use Rattle.wgsl_scanner.specs.Parts.{whole_kind, number_view, number_and_rest, optional_number_view};
 ghost use Rattle.wgsl_scanner.specs.View.{lexeme_view};
 
+use crate::characters::begins_number;
 use crate::digits::{read_digits, skip_digits};
 use crate::float::{FloatType, decimal_float, hexadecimal_float, hexadecimal_point, point};
 use crate::lexeme::Lexeme;
@@ -127,8 +128,8 @@ fn after_zero(text: &str) -> (NumericLiteral, &str)
     }
 }
 
-/// The number that begins with a character, and the text after it; none where no number does.
-pub(crate) fn number(c: char, text: &str) -> Option<(NumericLiteral, &str)>
+/// The number that begins with a digit or a point, and the text after it; none where no number does.
+fn number_behind(c: char, text: &str) -> Option<(NumericLiteral, &str)>
     ensures value { optional_number_view result ≡ number c (chars text.now) }
     ensures within { IfSome result (λ found. length found.1.now ≤ length text.now) }
 {
@@ -141,4 +142,15 @@ pub(crate) fn number(c: char, text: &str) -> Option<(NumericLiteral, &str)>
     }
     let (value, rest) = read_digits(c.to_digit(10)?, 10, text);
     Some(decimal(rest, value, rest))
+}
+
+/// The number that begins with a character, and the text after it; none where no number does.
+pub(crate) fn number(c: char, text: &str) -> Option<(NumericLiteral, &str)>
+    ensures value { optional_number_view result ≡ number c (chars text.now) }
+    ensures within { IfSome result (λ found. length found.1.now ≤ length text.now) }
+{
+    if begins_number(c) {
+        return number_behind(c, text);
+    }
+    None
 }

@@ -6,10 +6,9 @@ ghost use Rattle.wgsl_scanner.specs.Scanning.{after_word};
 ghost use Rattle.wgsl_scanner.specs.View.{lexeme_view};
 
 use crate::characters::is_word_byte;
-use crate::keyword::keyword;
 use crate::lexeme::Lexeme;
-use crate::reserved::is_reserved;
 use crate::text::split_first;
+use crate::word_table::{Meaning, listed};
 use wgsl_token::kind::TokenKind;
 
 /// The text after a first character that continues a word.
@@ -52,11 +51,9 @@ pub(crate) fn word(text: &str) -> Lexeme<'_>
     if text == "_" {
         return Lexeme::Plain(TokenKind::SymUnderscore);
     }
-    if let Some(kind) = keyword(text) {
-        return Lexeme::Plain(kind);
+    match listed(text) {
+        Some(Meaning::Keyword(kind)) => Lexeme::Plain(kind),
+        Some(Meaning::Reserved) => Lexeme::ReservedWord(text),
+        None => Lexeme::Ident(text),
     }
-    if is_reserved(text) {
-        return Lexeme::ReservedWord(text);
-    }
-    Lexeme::Ident(text)
 }

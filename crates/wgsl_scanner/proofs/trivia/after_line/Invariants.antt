@@ -4,12 +4,12 @@ use denote.Shadow.{shadow}
 use Rattle.wgsl_model.specs.Trivia.{after_trivia, in_line}
 use Rattle.wgsl_scanner.proofs.trivia.after_line.Given as goal
 
-abbrev pub invariant-loop-c : goal.invariant-loop-c
-invariant-loop-c l = record {
+abbrev pub invariant-loop-after : goal.invariant-loop-after
+invariant-loop-after l = record {
   text : shadow (Utf8 l.rest);
   rest : after_trivia in_line (chars l.rest) ≡ after_trivia in_line (chars l.text);
   within : length l.rest ≤ length l.text;
 }
 
-abbrev pub decreases-loop-c : goal.decreases-loop-c
-decreases-loop-c l = length l.rest
+abbrev pub decreases-loop-after : goal.decreases-loop-after
+decreases-loop-after l = length l.rest

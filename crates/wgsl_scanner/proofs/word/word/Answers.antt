@@ -1,12 +1,17 @@
-use Rattle.std.proofs.Common.{◌≡◌, ◌∙◌, sym, refl, Some, false}
-use Rattle.std.specs.Prelude.{bytes_eq, codes}
-use Rattle.wgsl_model.specs.Words.{look_up, keywords}
-use Rattle.wgsl_token.specs.View.{class_of_kind}
-use Rattle.wgsl_scanner.proofs.PlainClasses.{keyword-plain}
+use Rattle.std.proofs.Common.{◌∙◌, sym}
+use Rattle.wgsl_scanner.specs.declared.word_table.Meaning.TheVariants as meaning
+use Rattle.wgsl_scanner.proofs.Table.{word_of-name, word_of-meant}
 use Rattle.wgsl_scanner.proofs.word.word.Goals as goal
 
-pub returns-in-Some : goal.returns-in-Some
-returns-in-Some c =
-    let found : look_up keywords c.args.text.now ≡ Some (class_of_kind c.in-Some.kind) = sym c.in-Some.ensures in
-    let no_underscore : bytes_eq c.args.text.now (codes "_") ≡ false = sym c.if-eq.ensures in
-    keyword-plain c.args.text.now (class_of_kind c.in-Some.kind) found ∙ rw (no_underscore, found) refl
+pub returns-in-Some-Keyword : goal.returns-in-Some-Keyword
+returns-in-Some-Keyword c =
+    let found = c.in-Some-Keyword in
+    word_of-meant found.field-0 (meaning.Keyword found.kind) c.args.text.now found.field-0-is found.ensures (sym c.eq.ensures ∙ c.if-eq.false)
+
+pub returns-in-Some-Reserved : goal.returns-in-Some-Reserved
+returns-in-Some-Reserved c =
+    let found = c.in-Some-Reserved in
+    word_of-meant found.field-0 (meaning.Reserved) c.args.text.now found.field-0-is found.ensures (sym c.eq.ensures ∙ c.if-eq.false)
+
+pub returns-in-None : goal.returns-in-None
+returns-in-None c = c.in-None.ensures ∙ word_of-name c.args.text.now (sym c.eq.ensures ∙ c.if-eq.false)
