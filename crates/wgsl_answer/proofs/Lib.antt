@@ -1,5 +1,5 @@
 pub mod Lasts
 pub mod Behind
+pub mod Origins
 pub mod Seen
-pub mod Texts
 pub mod Places

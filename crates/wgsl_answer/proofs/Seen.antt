@@ -22,9 +22,12 @@ use Rattle.wgsl_error.specs.View.{fault_view}
 use Rattle.wgsl_token.specs.Placed.{placed_view}
 use Rattle.wgsl_cursor.specs.declared.fault.Fault as declared
 use Rattle.wgsl_cursor.specs.declared.fault.Fault.TheVariants as fault
-use Rattle.wgsl_cursor.specs.Reading.{Fails, Gives}
+use Rattle.wgsl_cursor.specs.Reading.{Fails, Gives, state}
 use Rattle.wgsl_answer.specs.Sources.{tokens_to_read}
 use Rattle.wgsl_answer.specs.Answers.{IsToldOf, IsToldBehind, IsAnsweredOf, Answered}
+use Rattle.wgsl_answer.specs.declared.source.TokenSource.{TokenSource}
+use Rattle.wgsl_answer.specs.Origins.{AreOf, IsSourceOf, IsReadTo}
+use Rattle.wgsl_answer.proofs.Origins.{all_taken}
 
 -- ---- tokens that did not end because memory was refused
 behind_said : {Y : Type 0} (ts us : List Token) (ending : Ending) (a : Y) (e : Error) → IsToldBehind us ending e → answer_said ts ending (ok a us) ≡ denied (fault_view e)
@@ -147,3 +150,12 @@ seen n view ts (carried x) read left result gives told = by_want (wants_memory (
         want_seen view (last_end 0 ts) x (start_state (ts ++ (opening ∷ []))) (reads_of (ts ++ (opening ∷ []))) read left result m
         (is_opened n ts (reads_of (ts ++ (opening ∷ []))) (outcomes tables body rank_limit apart tested (of n) (ts ++ (opening ∷ [])))) given told
     by_want false m given = said_seen view ts (carried x) (start_state ts) (reads_of ts) read left result given told
+
+-- what is answered of what a parse function gave of a source
+pub source_seen : (n : Symbol) {X : Type 0} (view : X → Value n) (source : TokenSource) (read : Result X declared.Fault) (left : State) (result : Result X Error) (ts : List Token) (ending : Ending) → IsSourceOf source ts ending
+    → Gives view read left (reader (of n) (state source.tokens)) → ((us : List Token) (e : Ending) → AreOf source.origin us e → IsReadTo source.origin read left us → IsAnsweredOf read left e (last_end 0 us) result) → Answered view result (answer_of n ts ending)
+unfolding reader reads
+source_seen n view source read left result ts ending is gives answered =
+    let given = subst (λ (s : State). Gives view read left (reader (of n) s)) is.0 gives in
+    let taken = all_taken view source.origin ts ending (read_all tables full body rank_limit (of n) (tokens_to_read ts ending)) read left is.1 given in
+    seen n view ts ending read left result given (answered ts ending is.1 taken)

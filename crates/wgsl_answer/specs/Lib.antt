@@ -1,3 +1,4 @@
 pub mod Sources
+pub mod Origins
 pub mod Answers
 pub mod Places

@@ -1,17 +1,18 @@
 //! What is answered of what was read of all tokens.
 
-ghost use Rattle.std.specs.Prelude.{IfOk};
-ghost use Rattle.wgsl_lexer.specs.Placed.{ending_view};
+ghost use Rattle.std.specs.Prelude.{List};
+ghost use Rattle.grammar.specs.Tokens.{Token, last_end};
+ghost use Rattle.grammar.specs.Faults.{Ending};
 ghost use Rattle.wgsl_cursor.specs.Reading.{state};
-ghost use Rattle.wgsl_answer.specs.Answers.{IsToldOf, IsAnsweredOf};
+ghost use Rattle.wgsl_answer.specs.Answers.{IsAnsweredOf};
+ghost use Rattle.wgsl_answer.specs.Origins.{AreOf, IsReadTo};
 
-use crate::message::{unexpected_end, unexpected_token};
-use crate::source::{TokenSource, is_opening, is_out_of_memory};
-use std::alloc::{AllocError, Global};
+use crate::source::TokenSource;
+use std::alloc::Global;
 use wgsl_cursor::{Expected, Fault};
-use wgsl_error::{Error, ParseError};
+use wgsl_error::Error;
 
-impl TokenSource {
+impl TokenSource<'_> {
     /// The value that was read, where no token is left behind it and no error ended the tokens; else what is wrong.
     pub fn answer<T: Drop>(
         self,
@@ -19,49 +20,21 @@ impl TokenSource {
         read: Result<T, Fault>,
         behind: Expected,
     ) -> Result<T, Error>
-        ensures { IsAnsweredOf read (state self.tokens) (ending_view self.error) self.end result }
+        ensures { (ts : List Token) (ending : Ending) → AreOf self.entry.origin ts ending → IsReadTo self.entry.origin read (state self.entry.tokens) ts → IsAnsweredOf read (state self.entry.tokens) ending (last_end 0 ts) result }
     {
-        let TokenSource {
-            mut tokens,
-            error,
-            end,
-        } = self;
+        let TokenSource { mut tokens, origin } = self;
         let value = match read {
             Ok(value) => value,
-            Err(fault) => return Err(name_fault(alloc, fault, error, end)?),
+            Err(fault) => return Err(origin.name(alloc, fault)?),
         };
         if !tokens.is_empty() {
             let fault = tokens.refuse(behind);
-            return Err(name_fault(alloc, fault, error, end)?);
+            return Err(origin.name(alloc, fault)?);
         }
-        match error {
+        let last = tokens.span_from(0);
+        match origin.error(last.end) {
             Some(error) => Err(Error::from(error)),
             None => Ok(value),
         }
-    }
-}
-
-/// The error of what stopped a parse function, where the tokens ended at a place, of themselves or with an error.
-fn name_fault(
-    alloc: Global,
-    fault: Fault,
-    error: Option<(usize, ParseError, usize)>,
-    end: usize,
-) -> Result<Error, AllocError>
-    ensures { IfOk result (λ e. IsToldOf fault (ending_view error) end e) }
-{
-    match fault {
-        Fault::UnexpectedToken(token, expected) => {
-            if is_out_of_memory(&error) && is_opening(&token) {
-                return Err(AllocError);
-            }
-            unexpected_token(alloc, token, expected)
-        }
-        Fault::UnexpectedEnd(expected) => match error {
-            Some(error) => Ok(Error::from(error)),
-            None => unexpected_end(alloc, end, expected),
-        },
-        Fault::Checked(error) => Ok(error),
-        Fault::OutOfMemory => Err(AllocError),
     }
 }

@@ -3,8 +3,7 @@
 
 mod answer;
 mod message;
+mod origin;
 mod source;
-mod text;
 
 pub use source::{TokenSource, is_out_of_memory, last_end};
-pub use text::tokens_of;

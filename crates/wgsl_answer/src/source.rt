@@ -1,50 +1,61 @@
-//! The tokens that are to be read, and how they end.
+//! The tokens that are to be read, and where they are from.
 
 ghost use Rattle.std.specs.Prelude.{◌≡◌, map, IfOk, IsTrue};
 ghost use Rattle.grammar.specs.Tokens.{last_end};
-ghost use Rattle.grammar.specs.States.{start_state};
 ghost use Rattle.wgsl_model.specs.CheckedFaults.{wants_memory};
 ghost use Rattle.wgsl_token.specs.Placed.{placed_view};
-ghost use Rattle.wgsl_lexer.specs.Placed.{tokens_view, ending_view};
+ghost use Rattle.wgsl_lexer.specs.Placed.{ending_view};
 ghost use Rattle.wgsl_grammar_theory.specs.Answers.{opening};
-ghost use Rattle.wgsl_cursor.specs.Reading.{state};
-ghost use Rattle.wgsl_answer.specs.Sources.{tokens_to_read};
 
-use std::alloc::AllocError;
+use crate::origin::Origin;
+use std::alloc::{AllocError, Global};
 use std::collections::VecDeque;
 use wgsl_cursor::Cursor;
 use wgsl_error::ParseError;
-use wgsl_lexer::Collected;
+use wgsl_lexer::{Collected, TextTokens};
 use wgsl_span::Span;
 use wgsl_token::placed::PlacedToken;
 use wgsl_token::token::Token;
 
-/// Tokens that are to be read, and the error that ended them if there was one.
+/// Tokens that are to be read, and where they are from.
 #[derive(Drop)]
-pub struct TokenSource {
-    pub tokens: Cursor,
-    pub(crate) error: Option<(usize, ParseError, usize)>,
-    /// Where the last token ends.
-    pub(crate) end: usize,
+pub struct TokenSource<'s> {
+    pub tokens: Cursor<'s>,
+    pub(crate) origin: Origin<'s>,
 }
 
-impl TokenSource {
+impl<'s> TokenSource<'s> {
+    ghost use Rattle.std.specs.Prelude.{chars, List};
+    ghost use Rattle.grammar.specs.Tokens as grammar;
+    ghost use Rattle.grammar.specs.Faults.{Ending};
+    ghost use Rattle.wgsl_model.specs.TokenList.{IsTokenList};
+    ghost use Rattle.wgsl_lexer.specs.Placed.{tokens_view};
+    ghost use Rattle.wgsl_answer.specs.Origins.{IsSourceOf};
+
+    /// The tokens of a text.
+    pub fn of_text(alloc: Global, text: &'s str) -> Result<TokenSource<'s>, AllocError>
+        ensures { IfOk result (λ source. (ts : List grammar.Token) × (ending : Ending) × IsTokenList (chars text.now) ts ending × IsSourceOf source ts ending) }
+    {
+        let tokens = TextTokens::new(alloc, text)?;
+        Ok(TokenSource {
+            tokens: Cursor::of_text(tokens),
+            origin: Origin::Text(text),
+        })
+    }
+
     /// The tokens of an iterator. Where memory was refused for what follows them a `(` stands behind, so that an
     /// attribute at the end is not told to lack its arguments.
-    pub fn new(found: Collected) -> Result<Self, AllocError>
-        ensures tokens { IfOk result (λ source. state source.tokens ≡ start_state (tokens_to_read (tokens_view found) (ending_view found.error))) }
-        ensures error { IfOk result (λ source. source.error ≡ found.error) }
-        ensures end { IfOk result (λ source. source.end ≡ last_end 0 (tokens_view found)) }
+    pub fn new(found: Collected) -> Result<TokenSource<'s>, AllocError>
+        ensures { IfOk result (λ source. IsSourceOf source (tokens_view found) (ending_view found.error)) }
     {
         let Collected { mut tokens, error } = found;
-        let end = last_end(&tokens);
+        let place = last_end(&tokens);
         if is_out_of_memory(&error) {
             tokens.push_back(opening())?;
         }
         Ok(TokenSource {
             tokens: Cursor::new(tokens),
-            error,
-            end,
+            origin: Origin::Given { error, place },
         })
     }
 }

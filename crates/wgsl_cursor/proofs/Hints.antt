@@ -3,10 +3,12 @@ use Rattle.std.specs.Prelude.{⊤}
 use Rattle.grammar.specs.States.{is_at, start_of, after, take, first_of}
 use Rattle.wgsl_grammar_theory.specs.ExpressionRules.{ident_at, literal_at}
 use Rattle.wgsl_grammar_theory.proofs.ExpressionEquations.{ident_is, literal_is}
+use Rattle.wgsl_cursor.specs.Tokens.{rest_of, next_class}
+use Rattle.wgsl_cursor.proofs.First.{kind_known, none_known, first_kind, first_none, first_place, first_end, none_end, behind_first, fewer_behind}
 use Rattle.wgsl_cursor.proofs.AttributeNames.{attribute_name_is, no_attribute_name, keyword_text}
 
 unfoldable pub definitions : ⊤
-unfolding is_at start_of after take ident_at first_of literal_at
+unfolding is_at start_of after take ident_at first_of literal_at rest_of next_class
 definitions = tt
 
-pub ruleset lemmas = (ident_is, attribute_name_is, no_attribute_name, keyword_text, literal_is)
+pub ruleset lemmas = (kind_known, none_known, first_kind, first_none, first_place, first_end, none_end, behind_first, fewer_behind, ident_is, attribute_name_is, no_attribute_name, keyword_text, literal_is)

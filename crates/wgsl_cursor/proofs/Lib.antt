@@ -1,2 +1,5 @@
 pub mod AttributeNames
 pub mod Hints
+pub mod First
+pub mod Refused
+pub mod Literals

@@ -1,16 +1,17 @@
 -- What functions returned, and what is read.
-use Rattle.std.specs.Prelude.{◌≡◌, ◌<◌, ◌≤◌, ℕ, length, map, Result, Ok, Err, OnOk}
+use Rattle.std.specs.Prelude.{◌≡◌, ◌<◌, ◌≤◌, ℕ, length, Result, Ok, Err, OnOk}
 use Rattle.grammar.specs.States.{State, Read, Read.done, Read.stop, Stop, Stop.unexpected, Stop.ended, Stop.faulty, Stop.never}
 use Rattle.wgsl_span.specs.declared.Span.{Span}
 use Rattle.wgsl_error.specs.View.{fault_view}
 use Rattle.wgsl_token.specs.Placed.{placed_view}
+use Rattle.wgsl_cursor.specs.Tokens.{rest_of}
 use Rattle.wgsl_cursor.specs.declared.cursor.Cursor.{Cursor}
 use Rattle.wgsl_cursor.specs.declared.fault.Fault.{Fault}
 use Rattle.wgsl_cursor.specs.declared.fault.Fault.TheVariants as fault
 
 -- the tokens that are left, and where the last one that was taken ended
 abbrev pub state : Cursor → State
-state c = record { end = c.end; rest = map placed_view c.tokens.items }
+state c = record { end = c.end; rest = rest_of c.tokens }
 
 -- from a place to the end of the last token that was taken
 abbrev pub span_back : ℕ → State → Span

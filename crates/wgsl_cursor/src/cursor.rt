@@ -1,25 +1,20 @@
 //! The tokens that are left to be read.
 #![tactic(auto, unfolding(crate::proofs::Hints::definitions), using(crate::proofs::Hints::lemmas))]
 
-ghost use Rattle.std.specs.Prelude.{◌≡◌, ◌↔◌, ◌<◌, [], length, map, OnOk, IfOk, IsTrue, if◌then◌else◌, string_bytes};
+ghost use Rattle.std.specs.Prelude.{◌≡◌, option_map};
 ghost use Rattle.grammar.specs.Tokens.{Token};
-ghost use Rattle.grammar.specs.States.{is_at, start_of, first_of, after, take, refused};
-ghost use Rattle.wgsl_model.specs.TokenValues.{text_of};
-ghost use Rattle.wgsl_model.specs.Symbols.{Symbol.ident, Symbol.literal};
 ghost use Rattle.wgsl_token.specs.View.{class_of_kind};
-ghost use Rattle.wgsl_token.specs.Placed.{placed_view};
-ghost use Rattle.wgsl_expression.specs.View.{ident_name, literal_view};
-ghost use Rattle.wgsl_grammar_theory.specs.Factored.{FactoredSymbol.of};
-ghost use Rattle.wgsl_grammar_theory.specs.Reader.{reader};
-ghost use Rattle.wgsl_cursor.specs.Reading.{state, span_back, Gives, Fails, Parses};
-ghost use Rattle.wgsl_cursor.specs.Words.{word_text, attribute_name_at};
+ghost use Rattle.wgsl_cursor.specs.Tokens.{rest_of, next_class};
 
 use crate::expected::Expected;
 use crate::fault::Fault;
+use crate::tokens::Tokens;
 use crate::word::Word;
+use std::alloc::AllocError;
 use std::collections::VecDeque;
 use wgsl_error::{Error, ErrorKind};
 use wgsl_expression::{Ident, LiteralExpression};
+use wgsl_lexer::TextTokens;
 use wgsl_span::Span;
 use wgsl_token::kind::TokenKind;
 use wgsl_token::placed::PlacedToken;
@@ -27,31 +22,67 @@ use wgsl_token::token::Token;
 
 /// The tokens that are left, and where the last one that was taken ended.
 #[derive(Drop)]
-pub struct Cursor {
-    tokens: VecDeque<PlacedToken>,
+pub struct Cursor<'s> {
+    tokens: Tokens<'s>,
+    /// Which of them stands next, if one does.
+    next: Option<TokenKind>,
     end: usize,
+    ghost known: { option_map class_of_kind next ≡ next_class tokens },
 }
 
-impl Cursor {
-    pub fn new(tokens: VecDeque<PlacedToken>) -> Cursor
+impl<'s> Cursor<'s> {
+    ghost use Rattle.std.specs.Prelude.{◌↔◌, ◌<◌, [], length, map, OnOk, IfOk, IsTrue, if◌then◌else◌, string_bytes};
+    ghost use Rattle.grammar.specs.States.{is_at, start_of, first_of, after, take, refused};
+    ghost use Rattle.wgsl_model.specs.TokenValues.{text_of};
+    ghost use Rattle.wgsl_model.specs.Symbols.{Symbol.ident, Symbol.literal};
+    ghost use Rattle.wgsl_token.specs.Placed.{placed_view};
+    ghost use Rattle.wgsl_expression.specs.View.{ident_name, literal_view};
+    ghost use Rattle.wgsl_grammar_theory.specs.Factored.{FactoredSymbol.of};
+    ghost use Rattle.wgsl_grammar_theory.specs.Reader.{reader};
+    ghost use Rattle.wgsl_lexer.specs.TextTokens.{tokens_left, IsTaken};
+    ghost use Rattle.wgsl_cursor.specs.Reading.{state, span_back, Gives, Fails, Parses};
+    ghost use Rattle.wgsl_cursor.specs.Words.{word_text, attribute_name_at};
+
+    /// Tokens that were given.
+    pub fn new(tokens: VecDeque<PlacedToken>) -> Cursor<'s>
         ensures { state result ≡ record { end = 0; rest = map placed_view tokens.items } }
     {
-        Cursor { tokens, end: 0 }
+        Cursor::before(Tokens::Given(tokens))
+    }
+
+    /// The tokens of a text.
+    pub fn of_text(tokens: TextTokens<'s>) -> Cursor<'s>
+        ensures { state result ≡ record { end = 0; rest = tokens_left tokens.entry } }
+    {
+        Cursor::before(Tokens::Text(tokens))
+    }
+
+    /// Tokens of which none was taken.
+    fn before(tokens: Tokens<'s>) -> Cursor<'s>
+        ensures { state result ≡ record { end = 0; rest = rest_of tokens.entry } }
+    {
+        let next = tokens.kind();
+        Cursor {
+            tokens,
+            next,
+            end: 0,
+        }
     }
 
     /// Whether no token is left.
     pub fn is_empty(&self) -> bool
         ensures { IsTrue result ↔ ((state self.now).rest ≡ []) }
     {
-        self.tokens.is_empty()
+        self.next.is_none()
     }
 
     /// Whether the next token is of a kind.
+    #[inline]
     pub fn is_at(&self, kind: TokenKind) -> bool
         ensures { result ≡ is_at (class_of_kind kind) (state self.now) }
     {
-        match self.tokens.front() {
-            Some(next) => next.token.kind() == kind,
+        match self.next {
+            Some(next) => next == kind,
             None => false,
         }
     }
@@ -60,8 +91,8 @@ impl Cursor {
     pub fn start(&self) -> usize
         ensures { result ≡ start_of (state self.now) }
     {
-        match self.tokens.front() {
-            Some(next) => next.span.start,
+        match self.tokens.span() {
+            Some(span) => span.start,
             None => 0,
         }
     }
@@ -85,10 +116,37 @@ impl Cursor {
         if !self.is_at(kind) {
             return false;
         }
-        if let Some(next) = self.tokens.pop_front() {
-            self.end = next.span.end;
-        }
+        self.skip();
         true
+    }
+
+    /// Where the next token ends, or where there is none the last one that was taken.
+    fn next_end(&self) -> usize
+        ensures { result ≡ (after (state self.now)).end }
+    {
+        match self.tokens.span() {
+            Some(span) => span.end,
+            None => self.end,
+        }
+    }
+
+    /// Goes behind the next token, if there is one.
+    fn skip(&mut self)
+        ensures { state self.new ≡ after (state self.old) }
+    {
+        self.end = self.next_end();
+        self.tokens.skip();
+        self.next = self.tokens.kind();
+    }
+
+    /// Takes the next token, if there is one. Where it ends is not noted.
+    fn take(&mut self) -> Result<Option<PlacedToken>, AllocError>
+        ensures taken { IfOk result (λ taken. IsTaken (state self.old).rest taken (state self.new).rest) }
+        ensures end { self.new.end ≡ self.old.end }
+    {
+        let taken = self.tokens.take();
+        self.next = self.tokens.kind();
+        taken
     }
 
     /// Takes the next token, which has to be of a kind.
@@ -105,9 +163,10 @@ impl Cursor {
     pub fn refuse(&mut self, expected: Expected) -> Fault
         ensures { Fails result (refused {A = Token} (state self.old).rest) }
     {
-        match self.tokens.pop_front() {
-            Some(next) => Fault::UnexpectedToken(next, expected),
-            None => Fault::UnexpectedEnd(expected),
+        match self.take() {
+            Ok(Some(next)) => Fault::UnexpectedToken(next, expected),
+            Ok(None) => Fault::UnexpectedEnd(expected),
+            Err(error) => Fault::from(error),
         }
     }
 
@@ -126,7 +185,7 @@ impl Cursor {
         ensures text { IfOk result (λ name. string_bytes name ≡ text_of (first_of (state self.old))) }
         ensures shorter { OnOk result (length (state self.new).rest < length (state self.old).rest) }
     {
-        match self.tokens.pop_front() {
+        match self.take()? {
             None => Err(Fault::UnexpectedEnd(Expected::One(TokenKind::Ident))),
             Some(PlacedToken { token, span }) => match token {
                 Token::Ident(name) => {
@@ -151,7 +210,7 @@ impl Cursor {
         ensures word { IfOk result (λ word. word_text word ≡ text_of (first_of (state self.old))) }
         ensures shorter { OnOk result (length (state self.new).rest < length (state self.old).rest) }
     {
-        match self.tokens.pop_front() {
+        match self.take()? {
             None => Err(Fault::UnexpectedEnd(Expected::ATTRIBUTE_NAME)),
             Some(PlacedToken { token, span }) => {
                 let word = match token {
@@ -176,25 +235,21 @@ impl Cursor {
     pub fn literal(&mut self, expected: Expected) -> Result<LiteralExpression, Fault>
         ensures { Parses literal_view result self.old self.new (reader (of literal)) }
     {
-        match self.tokens.pop_front() {
+        match self.take()? {
             None => Err(Fault::UnexpectedEnd(expected)),
             Some(PlacedToken { token, span }) => {
-                let literal = match token {
-                    Token::KwTrue => LiteralExpression::Bool(true),
-                    Token::KwFalse => LiteralExpression::Bool(false),
-                    Token::AbstractInt(number) => LiteralExpression::AbstractInt(number),
-                    Token::I32(number) => LiteralExpression::I32(number),
-                    Token::U32(number) => LiteralExpression::U32(number),
-                    Token::AbstractFloat(text) => LiteralExpression::AbstractFloat(text),
-                    Token::F32(text) => LiteralExpression::F32(text),
-                    Token::F16(text) => LiteralExpression::F16(text),
-                    token => return Err(Fault::UnexpectedToken(
-                        PlacedToken { token, span },
-                        expected,
-                    )),
-                };
                 self.end = span.end;
-                Ok(literal)
+                match token {
+                    Token::KwTrue => Ok(LiteralExpression::Bool(true)),
+                    Token::KwFalse => Ok(LiteralExpression::Bool(false)),
+                    Token::AbstractInt(number) => Ok(LiteralExpression::AbstractInt(number)),
+                    Token::I32(number) => Ok(LiteralExpression::I32(number)),
+                    Token::U32(number) => Ok(LiteralExpression::U32(number)),
+                    Token::AbstractFloat(text) => Ok(LiteralExpression::AbstractFloat(text)),
+                    Token::F32(text) => Ok(LiteralExpression::F32(text)),
+                    Token::F16(text) => Ok(LiteralExpression::F16(text)),
+                    token => Err(Fault::UnexpectedToken(PlacedToken { token, span }, expected)),
+                }
             }
         }
     }

@@ -4,6 +4,7 @@
 pub mod cursor;
 pub mod expected;
 pub mod fault;
+mod tokens;
 pub mod word;
 
 pub use cursor::Cursor;

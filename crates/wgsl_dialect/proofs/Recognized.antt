@@ -1,6 +1,6 @@
 -- What is answered of the tokens of a text is what the definitions name.
-use Rattle.std.proofs.Common.{◌≡◌, ◌⊎◌, inl, inr, ℕ, false, List, [], ◌∷◌, ◌++◌, length, refl, sym, ap, subst, ◌∙◌}
-use Rattle.std.specs.Prelude.{Bool, Result, Ok, Err, IfOk, IfErr, chars, if◌then◌else◌}
+use Rattle.std.proofs.Common.{◌≡◌, ◌⊎◌, inl, inr, ℕ, false, List, [], ◌∷◌, length, refl, sym, ap, subst, ◌∙◌}
+use Rattle.std.specs.Prelude.{Result, Ok, Err, IfOk, IfErr, chars}
 use Rattle.std.specs.Str.{IsUtf8}
 use Rattle.grammar.specs.Tokens.{Token, last_end}
 use Rattle.grammar.specs.Grammar.{Mode.full}
@@ -14,15 +14,17 @@ use Rattle.wgsl_model.specs.TokenList.{IsTokenList}
 use Rattle.wgsl_model.specs.Named.{IsNamedSmall}
 use Rattle.wgsl_grammar_theory.specs.Factored.{FactoredSymbol.of, small_body}
 use Rattle.wgsl_grammar_theory.specs.Tables.{rank_limit, tables}
-use Rattle.wgsl_grammar_theory.specs.Answers.{answer_said, opening, small_answer_of, IsSmallAnswer}
+use Rattle.wgsl_grammar_theory.specs.Answers.{answer_said, small_answer_of, IsSmallAnswer}
 use Rattle.wgsl_grammar_theory.proofs.SmallAnswers.{small_answers_are_true}
 use Rattle.wgsl_error.specs.declared.Error.{Error}
 use Rattle.wgsl_error.specs.View.{fault_view}
 use Rattle.wgsl_cursor.specs.declared.fault.Fault as declared
-use Rattle.wgsl_cursor.specs.Reading.{Gives}
+use Rattle.wgsl_cursor.specs.Reading.{Gives, state}
 use Rattle.wgsl_answer.specs.Answers.{IsOutOfMemory, IsAnsweredOf, Answered}
 use Rattle.wgsl_answer.specs.Places.{StandsWithin}
-use Rattle.wgsl_answer.specs.Sources.{tokens_to_read}
+use Rattle.wgsl_answer.specs.declared.source.TokenSource.{TokenSource}
+use Rattle.wgsl_answer.specs.Origins.{AreOf, IsSourceOf, IsReadTo}
+use Rattle.wgsl_answer.proofs.Origins.{read_alone, all_taken}
 use Rattle.wgsl_answer.proofs.Places.{named_within_small, memory_within, width_is}
 use Rattle.wgsl_answer.proofs.Seen.{said_seen}
 use Rattle.wgsl_dialect.specs.Steps.{rule_steps}
@@ -74,18 +76,16 @@ true_is ts ending (Err e) a h (inl m) = inl m
 true_is ts ending (Err e) (accepted v) h (inr r) = absurd cc
 true_is ts ending (Err e) (denied x) h (inr r) = let same : x ≡ fault_view e = cc in inr (subst (IsNamedSmall unit ts ending) same h)
 
--- where memory was not refused, the tokens are read as they are
-read_alone : (ts : List Token) (ending : Ending) → wants_memory ending ≡ false → tokens_to_read ts ending ≡ ts
-read_alone ts ending w = ap (λ (b : Bool). if b then ts ++ (opening ∷ []) else ts) w
-
 -- what is answered of what was followed
-pub unit_is : (ts : List Token) (ending : Ending) (read : Result (Unit {0}) declared.Fault) (left : State) (result : Result (Unit {0}) Error) → wants_memory ending ≡ false
-    → Gives (λ u. u) read left (follow (rule_steps (of unit)) (start_state (tokens_to_read ts ending))) → IsAnsweredOf read left ending (last_end 0 ts) result → Recognized result ts ending
-unit_is ts ending read left result w gives told =
-    let same : follow (rule_steps (of unit)) (start_state (tokens_to_read ts ending)) ≡ tag (start_state ts) (bare (outcome ts)) =
-    ap (λ (us : List Token). follow (rule_steps (of unit)) (start_state us)) (read_alone ts ending w) ∙ followed ts in
-    let given = subst (λ (m : Read (Unit {0})). Gives (λ u. u) read left m) same gives in
-    let said = said_seen (λ u. u) ts ending (start_state ts) (bare (outcome ts)) read left result given told in
+pub unit_is : (source : TokenSource) (ts : List Token) (ending : Ending) (read : Result (Unit {0}) declared.Fault) (left : State) (result : Result (Unit {0}) Error) → IsSourceOf source ts ending → wants_memory ending ≡ false
+    → Gives (λ u. u) read left (follow (rule_steps (of unit)) (state source.tokens))
+    → ((us : List Token) (e : Ending) → AreOf source.origin us e → IsReadTo source.origin read left us → IsAnsweredOf read left e (last_end 0 us) result) → Recognized result ts ending
+unit_is source ts ending read left result is w gives answered =
+    let alone = read_alone ts ending w in
+    let start : state source.tokens ≡ start_state ts = is.0 ∙ ap start_state alone in
+    let given = subst (λ (m : Read (Unit {0})). Gives (λ u. u) read left m) (ap (follow (rule_steps (of unit))) start ∙ followed ts) gives in
+    let taken = all_taken (λ u. u) source.origin ts ending (bare (outcome ts)) read left is.1 (subst (λ (us : List Token). Gives (λ u. u) read left (tag (start_state us) (bare (outcome ts)))) (sym alone) given) in
+    let said = said_seen (λ u. u) ts ending (start_state ts) (bare (outcome ts)) read left result given (answered ts ending is.1 taken) in
     true_is ts ending result (small_answer_of unit ts ending) (small_answers_are_true unit ts ending) (subst (Answered (λ u. u) result) (said_bare ts ending (outcome ts)) said)
 
 -- ---- of the text

@@ -1,10 +1,12 @@
 //! Recognising a module.
 
-ghost use Rattle.std.specs.Prelude.{◌≡◌, ◌⊎◌, false, chars, length, IfOk, IfErr};
+ghost use Rattle.std.specs.Prelude.{◌≡◌, ◌⊎◌, false, chars, length, List, IfOk, IfErr};
+ghost use Rattle.grammar.specs.Tokens.{Token};
+ghost use Rattle.grammar.specs.Faults.{Ending};
 ghost use Rattle.wgsl_model.specs.CheckedFaults.{wants_memory};
 ghost use Rattle.wgsl_error.specs.View.{fault_view};
-ghost use Rattle.wgsl_lexer.specs.Placed.{tokens_view, ending_view};
 ghost use Rattle.wgsl_answer.specs.Answers.{IsOutOfMemory};
+ghost use Rattle.wgsl_answer.specs.Origins.{IsSourceOf};
 ghost use Rattle.wgsl_answer.specs.Places.{StandsWithin};
 ghost use Rattle.wgsl_dialect.specs.Recognized.{IsRecognized, IsRefused, Recognized};
 
@@ -12,18 +14,16 @@ use crate::accept::accept;
 use crate::rules::right_side;
 use crate::symbol::Symbol;
 use std::alloc::Global;
-use wgsl_answer::{TokenSource, tokens_of};
+use wgsl_answer::TokenSource;
 use wgsl_cursor::Expected;
 use wgsl_error::Error;
-use wgsl_lexer::Collected;
 
-/// Whether tokens are a module.
+/// Whether the tokens of a source are a module.
 #[tactic(auto, using(crate::proofs::Weights::rule_settled, crate::proofs::Recognized::unit_is))]
-fn recognize_unit(alloc: Global, found: Collected) -> Result<(), Error>
-    requires { wants_memory (ending_view found.error) ≡ false }
-    ensures { Recognized result (tokens_view found) (ending_view found.error) }
+fn recognize_unit(alloc: Global, source: TokenSource) -> Result<(), Error>
+    ensures { (ts : List Token) (ending : Ending) → IsSourceOf source.entry ts ending → wants_memory ending ≡ false → Recognized result ts ending }
 {
-    let mut source = TokenSource::new(found)?;
+    let mut source = source;
     let read = accept(right_side(Symbol::Unit), &mut source.tokens);
     source.answer(alloc, read, Expected::DECLARATION)
 }
@@ -36,5 +36,5 @@ pub fn recognize_str(alloc: Global, source: &str) -> Result<(), Error>
     ensures refused { IfErr result (λ e. IsOutOfMemory e ⊎ IsRefused (chars source.now) (fault_view e)) }
     ensures placed { IfErr result (λ e. StandsWithin e.span (length source.now)) }
 {
-    recognize_unit(alloc, tokens_of(alloc, source)?)
+    recognize_unit(alloc, TokenSource::of_text(alloc, source)?)
 }

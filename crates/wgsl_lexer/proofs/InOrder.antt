@@ -9,7 +9,7 @@ use Rattle.wgsl_lexer.specs.Left.{LeftOf, left_nothing, left_fault, left_end, le
 use Rattle.wgsl_lexer.specs.InOrder.{AreInOrder, IsFaultBehind}
 use Rattle.wgsl_token_theory.proofs.Cuts.{CutsIn, IsCut, raw-cuts, cut_at}
 use Rattle.wgsl_token_theory.proofs.Widths.{within, past, past_first}
-use Rattle.wgsl_lexer.proofs.LeftTokens.{stream}
+use Rattle.wgsl_left_theory.proofs.LeftTokens.{stream}
 
 -- where a token stands in a source of so many bytes that a text ends
 abbrev Stands : ℕ → List ℕ → List ℕ → List ℕ → Type 0

@@ -11,14 +11,12 @@ use Rattle.wgsl_model.specs.Trivia.{after_trivia}
 use Rattle.wgsl_model.specs.Faults.{invalid_token}
 use Rattle.wgsl_model.specs.Templates.{is_word}
 use Rattle.wgsl_model.specs.TokenList.{IsTokenList, place, width}
-use Rattle.wgsl_token.specs.declared.token.Token as rust
-use Rattle.wgsl_token.specs.View.{kind_view, token_view}
 use Rattle.wgsl_lexer.specs.declared.lexer.Lexer.{Lexer}
 use Rattle.wgsl_template_theory.specs.Attempts.{EndsAt, HasNoEnd}
 use Rattle.wgsl_lexer.specs.Left.{IsBeforeEnd, LeftOf, left_nothing, left_fault, left_end, left_start, left_token, IsLeft, HasEnded, HasToken, Gives}
 use Rattle.wgsl_lexer.specs.Given.{TokenItem}
 use Rattle.wgsl_template_theory.proofs.Attempts.{none_begins}
-use Rattle.wgsl_lexer.proofs.LeftTokens.{left_exists, left_unique, some_left, stream, unstream}
+use Rattle.wgsl_left_theory.proofs.LeftTokens.{left_exists, left_unique, some_left, stream, unstream}
 
 -- a text with nothing in it has no tokens
 empty_raw : raw [] ≡ none_left
@@ -44,32 +42,32 @@ pub some_token : (l : Lexer) (from after : List ℕ) (kind : Kind) → raw (char
 some_token l from after kind r = some_left l.total l.lists l.behind_word (chars l.rest.now) from after kind r
 
 -- the same token
-same_token : (total : ℕ) (from after : List ℕ) (kind : Kind) (start : ℕ) (t : rust.Token) (end : ℕ) → start ≡ place total from → end ≡ place total after → kind_view t ≡ kind → placed kind (place total from) (place total after) ≡ token_view start t end
-same_token total from after kind start t end s d k = cc
+same_token : (total : ℕ) (from after : List ℕ) (kind : Kind) (start : ℕ) (same : Kind) (end : ℕ) → start ≡ place total from → end ≡ place total after → same ≡ kind → placed kind (place total from) (place total after) ≡ placed same start end
+same_token total from after kind start same end s d k = cc
 
 -- a token that begins or ends no list
-pub token_left : (total : ℕ) (ends : List ℕ) (word : Bool) (text from after : List ℕ) (kind : Kind) (start : ℕ) (t : rust.Token) (end : ℕ) (ts : List Token) (e : Ending) → raw text ≡ token kind from after → IsBeforeEnd total ends from
-    → (word ≡ true → kind.class ≡ SymLessThan → HasNoEnd total after) → start ≡ place total from → end ≡ place total after → kind_view t ≡ kind → LeftOf total ends (is_word kind.class) after ts e → LeftOf total ends word text (token_view start t end ∷ ts) e
-token_left total ends word text from after kind start t end ts e r b n s d k h =
-    subst (λ (x : Token). LeftOf total ends word text (x ∷ ts) e) (same_token total from after kind start t end s d k)
+pub token_left : (total : ℕ) (ends : List ℕ) (word : Bool) (text from after : List ℕ) (kind : Kind) (start : ℕ) (same : Kind) (end : ℕ) (ts : List Token) (e : Ending) → raw text ≡ token kind from after → IsBeforeEnd total ends from
+    → (word ≡ true → kind.class ≡ SymLessThan → HasNoEnd total after) → start ≡ place total from → end ≡ place total after → same ≡ kind → LeftOf total ends (is_word kind.class) after ts e → LeftOf total ends word text (placed same start end ∷ ts) e
+token_left total ends word text from after kind start same end ts e r b n s d k h =
+    subst (λ (x : Token). LeftOf total ends word text (x ∷ ts) e) (same_token total from after kind start same end s d k)
     (left_token ends word text from after kind ts e r b (λ w. none_begins total text from after kind r (n w)) h)
 
 -- the `<` of a list
 pub start_left : (total : ℕ) (ends : List ℕ) (word : Bool) (text from after list_end : List ℕ) (kind : Kind) (start : ℕ) (end : ℕ) (ts : List Token) (e : Ending) → raw text ≡ token kind from after → IsBeforeEnd total ends from
     → word ≡ true → kind.class ≡ SymLessThan → EndsAt total after list_end → start ≡ place total from → end ≡ place total after → LeftOf total (place total list_end ∷ ends) false after ts e
-    → LeftOf total ends word text (token_view start rust.TheVariants.TemplateArgsStart end ∷ ts) e
+    → LeftOf total ends word text (placed (plain TemplateArgsStart) start end ∷ ts) e
 start_left total ends word text from after list_end kind start end ts e r b w c k s d h =
-    subst (λ x. LeftOf total ends x text (token_view start rust.TheVariants.TemplateArgsStart end ∷ ts) e) (sym w)
-    (subst (λ (x : Token). LeftOf total ends true text (x ∷ ts) e) (same_token total from after (plain TemplateArgsStart) start rust.TheVariants.TemplateArgsStart end s d refl)
+    subst (λ x. LeftOf total ends x text (placed (plain TemplateArgsStart) start end ∷ ts) e) (sym w)
+    (subst (λ (x : Token). LeftOf total ends true text (x ∷ ts) e) (same_token total from after (plain TemplateArgsStart) start (plain TemplateArgsStart) end s d refl)
     (left_start ends text from after list_end kind ts e r b c k h))
 
 -- the `>` of a list
 pub end_left : (total : ℕ) (ends outer : List ℕ) (word : Bool) (text from after rest : List ℕ) (kind : Kind) (start : ℕ) (end : ℕ) (ts : List Token) (e : Ending) → raw text ≡ token kind from after → ends ≡ start ∷ outer
-    → rest ≡ drop 1 from → start ≡ place total from → end ≡ place total rest → LeftOf total outer false rest ts e → LeftOf total ends word text (token_view start rust.TheVariants.TemplateArgsEnd end ∷ ts) e
+    → rest ≡ drop 1 from → start ≡ place total from → end ≡ place total rest → LeftOf total outer false rest ts e → LeftOf total ends word text (placed (plain TemplateArgsEnd) start end ∷ ts) e
 end_left total ends outer word text from after rest kind start end ts e r o f s d h =
     let same : place total from ∷ outer ≡ ends = ap (λ x. x ∷ outer) (sym s) ∙ sym o in
-    subst (λ x. LeftOf total x word text (token_view start rust.TheVariants.TemplateArgsEnd end ∷ ts) e) same
-    (subst (λ (x : Token). LeftOf total (place total from ∷ outer) word text (x ∷ ts) e) (same_token total from (drop 1 from) (plain TemplateArgsEnd) start rust.TheVariants.TemplateArgsEnd end s (d ∙ ap (place total) f) refl)
+    subst (λ x. LeftOf total x word text (placed (plain TemplateArgsEnd) start end ∷ ts) e) same
+    (subst (λ (x : Token). LeftOf total (place total from ∷ outer) word text (x ∷ ts) e) (same_token total from (drop 1 from) (plain TemplateArgsEnd) start (plain TemplateArgsEnd) end s (d ∙ ap (place total) f) refl)
     (left_end outer word text from after kind ts e r (subst (λ x. LeftOf total outer false x ts e) f h)))
 
 -- a list that grows and shrinks at its end, as it is seen

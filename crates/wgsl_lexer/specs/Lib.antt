@@ -3,3 +3,6 @@ pub mod Placed
 pub mod Given
 pub mod OpenLists
 pub mod Left
+pub mod Room
+pub mod TextTokens
+pub mod Endings

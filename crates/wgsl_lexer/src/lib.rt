@@ -2,14 +2,19 @@
 #![tactic(auto)]
 
 mod collect;
+mod ending;
+mod ends;
 pub mod laws;
 mod lexer;
 mod open_lists;
 mod source;
+mod text_tokens;
 mod token_iterator;
 
 pub use collect::{Collected, collect_tokens};
+pub use ending::{end_of_tokens, invalid_behind};
 pub use lexer::Lexer;
 pub use source::{lex, recognize_template_list};
+pub use text_tokens::TextTokens;
 pub use token_iterator::{FiniteTokens, TokenItem, TokenIterator};
 pub use wgsl_templates::{Templates, discover};

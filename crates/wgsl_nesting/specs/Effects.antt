@@ -1,8 +1,8 @@
 -- What the code takes tokens for.
 use Rattle.std.specs.Prelude.{ℕ, Bool, true, false, List, ◌∷◌, [], ◌==◌, if◌then◌else◌, map}
 use Rattle.wgsl_model.specs.Classes.{SymPeriod}
-use Rattle.wgsl_token.specs.Placed.{placed_view}
-use Rattle.wgsl_token.specs.declared.placed.PlacedToken.{PlacedToken}
+use Rattle.wgsl_lexer.specs.TextTokens.{tokens_left}
+use Rattle.wgsl_lexer.specs.declared.text_tokens.TextTokens.{TextTokens}
 use Rattle.wgsl_nesting.specs.Nesting.{opens, closes, is_operand, may_prefix}
 use Rattle.wgsl_nesting.specs.declared.effect.Effect.{Effect}
 use Rattle.wgsl_nesting.specs.declared.effect.Effect.TheVariants.{Opens, Closes, GoesOn, MayPrefix, Ends}
@@ -25,6 +25,6 @@ begins_with_operator [] = false
 begins_with_operator (Operator ∷ opened) = true
 begins_with_operator (Bracket ∷ opened) = false
 
--- the classes of tokens
-abbrev pub classes : List PlacedToken → List ℕ
-classes tokens = map (λ t. t.class) (map placed_view tokens)
+-- the classes of the tokens that are left
+abbrev pub classes : TextTokens → List ℕ
+classes tokens = map (λ t. t.class) (tokens_left tokens)

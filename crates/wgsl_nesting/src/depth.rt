@@ -12,11 +12,9 @@ ghost use Rattle.wgsl_token.specs.View.{class_of_kind};
 use crate::effect::{Effect, effect_of, ends_operand};
 use crate::open::{Open, Opened};
 use std::alloc::{AllocError, Global};
-use std::collections::VecDeque;
-use wgsl_answer::tokens_of;
 use wgsl_error::Error;
+use wgsl_lexer::TextTokens;
 use wgsl_token::kind::TokenKind;
-use wgsl_token::placed::PlacedToken;
 
 /// Opens and closes what a token does.
 fn take(opened: &mut Opened, behind_operand: bool, kind: TokenKind) -> Result<(), AllocError>
@@ -41,16 +39,18 @@ fn take(opened: &mut Opened, behind_operand: bool, kind: TokenKind) -> Result<()
     Ok(())
 }
 
-/// The kind of the token at the front, which is taken off.
-fn take_kind(tokens: &mut VecDeque<PlacedToken>) -> Option<TokenKind>
-    ensures { MatchOption result (classes tokens.old.items ≡ []) (λ kind. classes tokens.old.items ≡ class_of_kind kind ∷ classes tokens.new.items) }
+/// The kind of the next token, which is taken.
+#[tactic(auto, using(crate::proofs::Classes::first_class))]
+fn take_kind(tokens: &mut TextTokens) -> Option<TokenKind>
+    ensures { MatchOption result (classes tokens.old ≡ []) (λ kind. classes tokens.old ≡ class_of_kind kind ∷ classes tokens.new) }
 {
-    let placed = tokens.pop_front()?;
-    Some(placed.token.kind())
+    let kind = tokens.kind()?;
+    tokens.skip();
+    Some(kind)
 }
 
-fn nesting_of(alloc: Global, tokens: VecDeque<PlacedToken>) -> Result<usize, AllocError>
-    ensures { IfOk result (λ depth. depth ≡ deepest false [] (classes tokens.items)) }
+fn nesting_of(alloc: Global, tokens: TextTokens) -> Result<usize, AllocError>
+    ensures { IfOk result (λ depth. depth ≡ deepest false [] (classes tokens.entry)) }
 {
     let mut tokens = tokens;
     let mut opened = Opened::new(alloc);
@@ -71,6 +71,6 @@ pub fn nesting(alloc: Global, source: &str) -> Result<usize, Error>
     ensures value { IfOk result (λ depth. (ts : List grammar.Token) × (e : Ending) × IsTokenList (chars source.now) ts e × (depth ≡ nesting ts)) }
     ensures refused { IfErr result IsOutOfMemory }
 {
-    let found = tokens_of(alloc, source)?;
-    Ok(nesting_of(alloc, found.tokens)?)
+    let tokens = TextTokens::new(alloc, source)?;
+    Ok(nesting_of(alloc, tokens)?)
 }

@@ -7,8 +7,9 @@ ghost use Rattle.wgsl_statement.specs.View.{statement_node_view};
 ghost use Rattle.wgsl_unit.specs.View.{global_declaration_view};
 ghost use Rattle.wgsl_parser.specs.Iterators.{Derived, IsParsed};
 
-use crate::collected::{declaration_of, expression_of, statement_of};
+use crate::whole::{declaration_of, expression_of, statement_of};
 use std::alloc::Global;
+use wgsl_answer::TokenSource;
 use wgsl_error::Error;
 use wgsl_expression::ExpressionNode;
 use wgsl_lexer::{TokenIterator, collect_tokens};
@@ -21,7 +22,7 @@ pub(crate) fn declaration_given<T: TokenIterator>(
 ) -> Result<GlobalDeclarationNode, Error>
     ensures { IsParsed global_declaration (λ v found. Derived global_declaration (spanned_view global_declaration_view v) found) (T.into_iter_gives tokens) T.IntoIter.next_gives result }
 {
-    declaration_of(alloc, collect_tokens(alloc, tokens)?)
+    declaration_of(alloc, TokenSource::new(collect_tokens(alloc, tokens)?)?)
 }
 
 pub(crate) fn statement_given<T: TokenIterator>(
@@ -30,7 +31,7 @@ pub(crate) fn statement_given<T: TokenIterator>(
 ) -> Result<StatementNode, Error>
     ensures { IsParsed statement (λ v found. Derived statement (statement_node_view v) found) (T.into_iter_gives tokens) T.IntoIter.next_gives result }
 {
-    statement_of(alloc, collect_tokens(alloc, tokens)?)
+    statement_of(alloc, TokenSource::new(collect_tokens(alloc, tokens)?)?)
 }
 
 pub(crate) fn expression_given<T: TokenIterator>(
@@ -39,5 +40,5 @@ pub(crate) fn expression_given<T: TokenIterator>(
 ) -> Result<ExpressionNode, Error>
     ensures { IsParsed expression (λ v found. Derived expression (expression_node_view v) found) (T.into_iter_gives tokens) T.IntoIter.next_gives result }
 {
-    expression_of(alloc, collect_tokens(alloc, tokens)?)
+    expression_of(alloc, TokenSource::new(collect_tokens(alloc, tokens)?)?)
 }

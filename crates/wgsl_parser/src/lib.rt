@@ -1,7 +1,6 @@
 //! Reading modules, and the parts of modules that are read by themselves, from texts and from lists of tokens.
 #![tactic(auto)]
 
-mod collected;
 mod expected;
 mod from_source;
 mod from_tokens;
@@ -9,6 +8,7 @@ mod parse;
 mod parsers;
 mod source;
 mod template_list;
+mod whole;
 
 pub use from_source::FromSource;
 pub use parse::parse_str;

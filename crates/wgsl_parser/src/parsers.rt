@@ -10,9 +10,10 @@ ghost use Rattle.wgsl_statement.specs.View.{statement_view};
 ghost use Rattle.wgsl_unit.specs.View.{unit_view, global_directive_view, global_declaration_view};
 ghost use Rattle.wgsl_parser.specs.Iterators.{Derived, IsParsed};
 
-use crate::collected::{directive_of, literal_of, unit_of};
 use crate::from_tokens::{declaration_given, expression_given, statement_given};
+use crate::whole::{directive_of, literal_of, unit_of};
 use std::alloc::Global;
+use wgsl_answer::TokenSource;
 use wgsl_error::Error;
 use wgsl_expression::{Expression, LiteralExpression};
 use wgsl_lexer::{TokenIterator, collect_tokens};
@@ -36,7 +37,7 @@ impl TranslationUnitParser {
     ) -> Result<TranslationUnit, Error>
         ensures { IsParsed unit (λ v found. Derived unit (unit_view v) found) (T.into_iter_gives tokens) T.IntoIter.next_gives result }
     {
-        unit_of(alloc, collect_tokens(alloc, tokens)?)
+        unit_of(alloc, TokenSource::new(collect_tokens(alloc, tokens)?)?)
     }
 }
 
@@ -57,7 +58,7 @@ impl GlobalDirectiveParser {
     ) -> Result<GlobalDirective, Error>
         ensures { IsParsed global_directive (λ v found. Derived global_directive (global_directive_view v) found) (T.into_iter_gives tokens) T.IntoIter.next_gives result }
     {
-        directive_of(alloc, collect_tokens(alloc, tokens)?)
+        directive_of(alloc, TokenSource::new(collect_tokens(alloc, tokens)?)?)
     }
 }
 
@@ -136,6 +137,6 @@ impl LiteralParser {
     ) -> Result<LiteralExpression, Error>
         ensures { IsParsed literal (λ v found. Derived literal (literal_view v) found) (T.into_iter_gives tokens) T.IntoIter.next_gives result }
     {
-        literal_of(alloc, collect_tokens(alloc, tokens)?)
+        literal_of(alloc, TokenSource::new(collect_tokens(alloc, tokens)?)?)
     }
 }

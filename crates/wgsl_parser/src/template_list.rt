@@ -45,7 +45,7 @@ fn span_of(found: &Collected) -> Span
 }
 
 /// The arguments of the template list that the tokens are.
-#[tactic(auto, using(wgsl_answer::proofs::Seen::seen))]
+#[tactic(auto, using(wgsl_answer::proofs::Seen::source_seen))]
 fn template_args_of(alloc: Global, found: Collected) -> Result<Vec<TemplateArg>, Error>
     ensures { Answered (λ args. map template_arg_view args.items) result (answer_of template_list (tokens_view found) (ending_view found.error)) }
 {

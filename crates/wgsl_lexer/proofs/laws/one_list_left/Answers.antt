@@ -1,5 +1,5 @@
 use Rattle.std.specs.Prelude.{chars}
-use Rattle.wgsl_lexer.proofs.LeftTokens.{left_exists, left_unique}
+use Rattle.wgsl_left_theory.proofs.LeftTokens.{left_exists, left_unique}
 use Rattle.wgsl_lexer.proofs.laws.one_list_left.Goals as goal
 
 pub returns-clause-exists : goal.returns-clause-exists

@@ -4,7 +4,7 @@ use Rattle.wgsl_nesting.specs.Effects.{classes}
 use Rattle.wgsl_nesting.proofs.depth.nesting_of.Given as goal
 
 abbrev pub invariant-tokens : goal.invariant-tokens
-invariant-tokens l = max l.deepest (deepest l.behind_operand l.opened (classes l.tokens.items)) ≡ deepest false [] (classes l.fn.tokens.items)
+invariant-tokens l = max l.deepest (deepest l.behind_operand l.opened (classes l.tokens)) ≡ deepest false [] (classes l.fn.tokens)
 
 abbrev pub decreases-tokens : goal.decreases-tokens
-decreases-tokens l = length (classes l.tokens.items)
+decreases-tokens l = length (classes l.tokens)

@@ -1,11 +1,10 @@
 use Rattle.wgsl_model.specs.Symbols.{Symbol.global_declaration}
 use Rattle.wgsl_span.specs.View.{spanned_view}
 use Rattle.wgsl_unit.specs.View.{global_declaration_view}
-use Rattle.wgsl_lexer.specs.Placed.{tokens_view, ending_view}
 use Rattle.wgsl_parser.proofs.Texts.{read_is}
 use Rattle.wgsl_parser.proofs.source.declaration_from.Goals as goal
 
 pub returns : goal.returns
 returns c =
-    let found = c.in_ok-tokens_of.field-0 in
-    read_is global_declaration (spanned_view global_declaration_view) c.args.source.now (tokens_view found) (ending_view found.error) c.declaration_of.result c.utf8.source c.in_ok-tokens_of.ensures.tokens c.declaration_of.ensures
+    let found = c.in_ok-of_text.ensures in
+    read_is global_declaration (spanned_view global_declaration_view) c.args.source.now found.0 found.1 c.declaration_of.result c.utf8.source found.2 (c.declaration_of.ensures found.0 found.1 found.3)

@@ -1,6 +1,7 @@
 use Rattle.std.proofs.Common.{◌≡◌, ◌∷◌, ◌∙◌, ◌-◌, ◌≤◌, sym, ap, ap₂, subst, false, drop, chars, arith}
 use Rattle.wgsl_model.specs.Templates.{is_word}
 use Rattle.wgsl_model.specs.TokenList.{place, width}
+use Rattle.wgsl_token.specs.View.{kind_view}
 use Rattle.wgsl_scanner.specs.View.{lexeme_view}
 use Rattle.wgsl_token_theory.proofs.Cuts.{cut_at, joined, behind_first, behind_token}
 use Rattle.wgsl_token_theory.proofs.Places.{bytes_width}
@@ -68,7 +69,7 @@ returns-clause-value c ts e h =
     let l = c.args.self.now in
     let kept = subst (λ b. Leaves c.place-start.result l.lists b c.leave.new.self) c.if-leave.false c.leave.ensures in
     let word = c.is_word-self.ensures ∙ ap is_word c.kind-kind.ensures in
-    token_left l.total l.lists l.behind_word (chars l.rest.now) (chars c.args.from.now) (chars c.args.after.now) (lexeme_view c.args.lexeme) c.place-start.result c.in_ok-token.token c.place-2.result ts e
+    token_left l.total l.lists l.behind_word (chars l.rest.now) (chars c.args.from.now) (chars c.args.after.now) (lexeme_view c.args.lexeme) c.place-start.result (kind_view c.in_ok-token.token) c.place-2.result ts e
     c.requires.front (before_end_of l.total l.lists (chars c.args.from.now) c.place-start.result c.place-start.ensures kept.1)
     (λ w less. no_end_told l.total l.templates.lists.spans.items (chars l.rest.now) (chars c.args.from.now) (chars c.args.after.now) (lexeme_view c.args.lexeme) c.place-start.result c.requires.front l.told less c.place-start.ensures
     (c.in_default.ensures w (c.kind-kind.ensures ∙ less)))

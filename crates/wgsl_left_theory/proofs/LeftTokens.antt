@@ -17,7 +17,7 @@ use Rattle.wgsl_token_theory.proofs.Unique.{inside_unique, template_unique}
 use Rattle.wgsl_token_theory.proofs.Decided.{Decided, Begins, template_decided}
 use Rattle.wgsl_token_theory.proofs.Lists.{fault_at, tokens_exist}
 use Rattle.wgsl_template_theory.specs.Attempts.{EndsAt}
-use Rattle.wgsl_lexer.specs.Left.{IsBeforeEnd, LeftOf, left_nothing, left_fault, left_end, left_start, left_token}
+use Rattle.wgsl_left_theory.specs.Left.{IsBeforeEnd, LeftOf, left_nothing, left_fault, left_end, left_start, left_token}
 use Rattle.wgsl_template_theory.proofs.Attempts.{list_front, front_list, none_left_begins}
 
 -- the `<` and the `>` of a list

@@ -1,0 +1,64 @@
+//! The tokens that are left, those of a text or those that were given.
+#![tactic(auto, unfolding(crate::specs::Tokens::rest_of))]
+
+ghost use Rattle.std.specs.Prelude.{◌≡◌, [], drop, IfOk, MatchOption};
+ghost use Rattle.wgsl_lexer.specs.TextTokens.{BeginWith, BeginAt, IsTaken};
+ghost use Rattle.wgsl_cursor.specs.Tokens.{rest_of};
+
+use std::alloc::AllocError;
+use std::collections::VecDeque;
+use wgsl_lexer::TextTokens;
+use wgsl_span::Span;
+use wgsl_token::kind::TokenKind;
+use wgsl_token::placed::PlacedToken;
+
+/// The tokens that are left.
+#[derive(Drop)]
+pub(crate) enum Tokens<'s> {
+    Text(TextTokens<'s>),
+    Given(VecDeque<PlacedToken>),
+}
+
+impl Tokens<'_> {
+    /// Which token stands next, if one does.
+    pub(crate) fn kind(&self) -> Option<TokenKind>
+        ensures { MatchOption result (rest_of self.now ≡ []) (BeginWith (rest_of self.now)) }
+    {
+        match self {
+            Tokens::Text(tokens) => tokens.kind(),
+            Tokens::Given(tokens) => Some(tokens.front()?.token.kind()),
+        }
+    }
+
+    /// Where the next token stands, if there is one.
+    pub(crate) fn span(&self) -> Option<Span>
+        ensures { MatchOption result (rest_of self.now ≡ []) (BeginAt (rest_of self.now)) }
+    {
+        match self {
+            Tokens::Text(tokens) => tokens.span(),
+            Tokens::Given(tokens) => Some(tokens.front()?.span),
+        }
+    }
+
+    /// Goes behind the next token, if there is one.
+    pub(crate) fn skip(&mut self)
+        ensures { rest_of self.new ≡ drop 1 (rest_of self.old) }
+    {
+        match self {
+            Tokens::Text(tokens) => tokens.skip(),
+            Tokens::Given(tokens) => {
+                tokens.pop_front();
+            }
+        }
+    }
+
+    /// Takes the next token, if there is one.
+    pub(crate) fn take(&mut self) -> Result<Option<PlacedToken>, AllocError>
+        ensures { IfOk result (λ taken. IsTaken (rest_of self.old) taken (rest_of self.new)) }
+    {
+        match self {
+            Tokens::Text(tokens) => tokens.take(),
+            Tokens::Given(tokens) => Ok(tokens.pop_front()),
+        }
+    }
+}

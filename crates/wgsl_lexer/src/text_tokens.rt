@@ -1,0 +1,204 @@
+//! The tokens of a text that are left, each made where it is taken.
+
+ghost use Rattle.std.specs.Prelude.{◌+◌, ◌-◌, ◌≤◌, chars, length, vec_len, vec_capacity};
+ghost use Rattle.wgsl_templates.specs.Lists.{AreTold};
+ghost use Rattle.wgsl_lexer.specs.Room.{starts_from};
+
+use crate::ends::{enter, leave};
+use std::alloc::{AllocError, Global};
+use wgsl_scanner::lexeme::Lexeme;
+use wgsl_scanner::scan::{Scanned, place, scan};
+use wgsl_span::Span;
+use wgsl_templates::roles::{is_less_than, is_word};
+use wgsl_templates::text::behind_first;
+use wgsl_templates::{Templates, discover};
+use wgsl_token::kind::TokenKind;
+use wgsl_token::placed::PlacedToken;
+
+/// What stands next in a text.
+#[derive(Clone, Copy)]
+pub(crate) enum Next<'s> {
+    Token { lexeme: Lexeme<'s>, span: Span },
+    /// Text that is no token.
+    Invalid(Span),
+    NoneLeft,
+}
+
+/// The tokens of a text that are left. Going on takes no memory, and a token takes it only for what it holds.
+#[derive(Drop)]
+pub struct TextTokens<'s> {
+    alloc: Global,
+    /// How many bytes the source has.
+    total: usize,
+    next: Next<'s>,
+    /// The text behind what stands next.
+    rest: &'s str,
+    /// Whether what stands next is a word that a template list may follow.
+    behind_word: bool,
+    /// Where the template lists end that the rest stands in, the innermost last.
+    ends: Vec<usize>,
+    /// How many more may be entered.
+    room: usize,
+    /// The template lists of the source.
+    templates: Templates,
+    ghost within: { length rest.now ≤ total },
+    ghost told: { AreTold total templates.lists.spans.items (chars rest.now) },
+    ghost reserved: { vec_len ends + room ≤ vec_capacity ends },
+    ghost enough: { starts_from (total - length rest.now) templates.lists.spans.items ≤ room },
+}
+
+impl<'s> TextTokens<'s> {
+    ghost use Rattle.std.specs.Prelude.{◌≡◌, ◌<◌, List, [], drop, true, IfOk, MatchOption, Some, None};
+    ghost use Rattle.grammar.specs.Tokens as grammar;
+    ghost use Rattle.grammar.specs.Faults.{Ending};
+    ghost use Rattle.wgsl_model.specs.Classes.{SymLessThan};
+    ghost use Rattle.wgsl_model.specs.Raw.{raw, Raw.token};
+    ghost use Rattle.wgsl_model.specs.TokenList.{IsTokenList, place};
+    ghost use Rattle.wgsl_token.specs.View.{class_of_kind};
+    ghost use Rattle.wgsl_scanner.specs.View.{lexeme_view};
+    ghost use Rattle.wgsl_templates.specs.Spans.{end_from};
+    ghost use Rattle.wgsl_lexer.specs.TextTokens.{AreBehind, behind, from_next, IsToken, tokens_left, ending_left, BeginWith, BeginAt, IsTaken};
+
+    pub fn new(alloc: Global, source: &'s str) -> Result<TextTokens<'s>, AllocError>
+        ensures { IfOk result (λ tokens. IsTokenList (chars source.now) (tokens_left tokens) (ending_left tokens)) }
+    {
+        let mut tokens = TextTokens::before(alloc, source)?;
+        tokens.go_on();
+        Ok(tokens)
+    }
+
+    /// Nothing stands next, and the whole source behind it.
+    fn before(alloc: Global, source: &'s str) -> Result<TextTokens<'s>, AllocError>
+        ensures { IfOk result (λ tokens. (ts : List grammar.Token) (e : Ending) → AreBehind tokens ts e → IsTokenList (chars source.now) ts e) }
+    {
+        let templates = discover(alloc, source)?;
+        let room = templates.attempts();
+        let ends = Vec::with_capacity(alloc, room)?;
+        Ok(TextTokens {
+            alloc,
+            total: source.len(),
+            next: Next::NoneLeft,
+            rest: source,
+            behind_word: false,
+            ends,
+            room,
+            templates,
+        })
+    }
+
+    /// Which token stands next, if one does.
+    pub fn kind(&self) -> Option<TokenKind>
+        ensures { MatchOption result (tokens_left self.now ≡ []) (BeginWith (tokens_left self.now)) }
+    {
+        match self.next {
+            Next::Token { lexeme, .. } => Some(lexeme.kind()),
+            Next::Invalid(_) | Next::NoneLeft => None,
+        }
+    }
+
+    /// Where the next token stands, if there is one.
+    pub fn span(&self) -> Option<Span>
+        ensures { MatchOption result (tokens_left self.now ≡ []) (BeginAt (tokens_left self.now)) }
+    {
+        match self.next {
+            Next::Token { span, .. } => Some(span),
+            Next::Invalid(_) | Next::NoneLeft => None,
+        }
+    }
+
+    /// Takes the next token, if there is one.
+    pub fn take(&mut self) -> Result<Option<PlacedToken>, AllocError>
+        ensures taken { IfOk result (λ taken. IsTaken (tokens_left self.old) taken (tokens_left self.new)) }
+        ensures ending { IfOk result (λ _. ending_left self.new ≡ ending_left self.old) }
+    {
+        let Next::Token { lexeme, span } = self.next else {
+            return Ok(None);
+        };
+        let token = lexeme.to_token(self.alloc)?;
+        self.go_on();
+        Ok(Some(PlacedToken { token, span }))
+    }
+
+    /// Goes on behind the next token, if there is one.
+    pub fn skip(&mut self)
+        ensures left { tokens_left self.new ≡ drop 1 (tokens_left self.old) }
+        ensures ending { ending_left self.new ≡ ending_left self.old }
+    {
+        if let Next::Token { .. } = self.next {
+            self.go_on();
+        }
+    }
+
+    /// Finds what stands next behind it.
+    fn go_on(&mut self)
+        ensures left { tokens_left self.new ≡ (behind self.old).0 }
+        ensures ending { ending_left self.new ≡ (behind self.old).1 }
+    {
+        match scan(self.rest) {
+            Scanned::NoneLeft => self.next = Next::NoneLeft,
+            Scanned::Invalid { from, after } => {
+                self.next = Next::Invalid(self.span_of(from, after));
+            }
+            Scanned::Found {
+                lexeme,
+                from,
+                after,
+            } => self.next = self.found(lexeme, from, after),
+        }
+    }
+
+    /// From one place of the text to another.
+    fn span_of(&self, from: &str, after: &str) -> Span
+        ensures start { result.start ≡ place self.now.total (chars from.now) }
+        ensures end { result.end ≡ place self.now.total (chars after.now) }
+    {
+        Span {
+            start: place(self.total, from),
+            end: place(self.total, after),
+        }
+    }
+
+    /// Where the text begins behind the list whose `<` is a token of a kind at the place.
+    fn list_end(&self, kind: TokenKind, start: usize) -> Option<usize>
+        ensures { MatchOption result (self.now.behind_word ≡ true → class_of_kind kind ≡ SymLessThan → end_from self.now.templates.lists.spans.items start ≡ None) (λ end. (self.now.behind_word ≡ true) × (class_of_kind kind ≡ SymLessThan) × (end_from self.now.templates.lists.spans.items start ≡ Some end)) }
+    {
+        if self.behind_word && is_less_than(kind) {
+            return self.templates.end_of(start);
+        }
+        None
+    }
+
+    /// Goes behind the token at the front of the rest, which is what stands next then.
+    fn found(&mut self, lexeme: Lexeme<'s>, from: &'s str, after: &'s str) -> Next<'s>
+        requires front { raw (chars self.old.rest.now) ≡ token (lexeme_view lexeme) (chars from.now) (chars after.now) }
+        requires from { length from.now ≤ length self.old.rest.now }
+        requires after { length after.now < length self.old.rest.now }
+        ensures value { (ts : List grammar.Token) (e : Ending) → AreBehind self.new ts e → AreBehind self.old (from_next result ts) e }
+        ensures some { IsToken result }
+    {
+        let span = self.span_of(from, after);
+        if leave(&mut self.ends, span.start) {
+            let rest = behind_first(from);
+            self.behind_word = false;
+            self.rest = rest;
+            return Next::Token {
+                lexeme: Lexeme::Plain(TokenKind::TemplateArgsEnd),
+                span: self.span_of(from, rest),
+            };
+        }
+        let kind = lexeme.kind();
+        if let Some(end) = self.list_end(kind, span.start) {
+            enter(&mut self.ends, end - 1);
+            self.room -= 1;
+            self.behind_word = false;
+            self.rest = after;
+            return Next::Token {
+                lexeme: Lexeme::Plain(TokenKind::TemplateArgsStart),
+                span,
+            };
+        }
+        self.behind_word = is_word(kind);
+        self.rest = after;
+        Next::Token { lexeme, span }
+    }
+}
