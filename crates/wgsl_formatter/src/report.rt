@@ -47,7 +47,11 @@ fn report_on(alloc: Global, source: &[u8]) -> Result<Report, AllocError>
         return Ok(Report::NotUtf8);
     };
     match parse_str(alloc, text) {
-        Ok(unit) => Ok(Report::Printed(unit.to_string(alloc)?)),
+        Ok(unit) => {
+            let mut printed = String::with_capacity(alloc, text.len())?;
+            write!(printed, "{unit}")?;
+            Ok(Report::Printed(printed))
+        }
         Err(error) => match error.error {
             ErrorKind::OutOfMemory => Err(AllocError),
             _ => Ok(Report::Refused(format!(in alloc; "{}\n", error.without_expected())?)),

@@ -1,4 +1,5 @@
-use Rattle.std.proofs.Common.{ap}
+use Rattle.std.proofs.Common.{ap, ◌∙◌, ◌++◌}
+use Rattle.wgsl_model.specs.PrintedUnits.{print_unit}
 use Rattle.wgsl_unit.specs.View.{unit_view}
 use Rattle.wgsl_error.specs.declared.Error.{Error}
 use Rattle.wgsl_error.specs.View.{fault_view}
@@ -12,7 +13,10 @@ pub returns-in-Ok-parse_str : goal.returns-in-Ok-parse_str
 returns-in-Ok-parse_str c =
     let source = c.in-Ok.ensures.cases in
     let derived = rw source.0 at c.in-Ok-parse_str.ensures.accepted in
-    formats_unit _ _ (unit_view c.in-Ok-parse_str.unit) source.1 derived c.in_ok-to_string-in-Ok-parse_str.ensures.ok
+    let unit = unit_view c.in-Ok-parse_str.unit in
+    let empty = c.in_ok-printed-in-Ok-parse_str.ensures.bytes in
+    let written = c.in_ok-write-in-Ok-parse_str.ensures.bytes ∙ ap (λ before. before ++ print_unit unit) empty in
+    formats_unit _ _ unit source.1 derived written
 
 pub returns : goal.returns
 returns c =
