@@ -78,3 +78,7 @@ first_ascii (x ∷ xs) b e low t =
 pub no_first : (text : List ℕ) → None ≡ slice_get text 0 → chars text ≡ []
 no_first [] e = chars-nil
 no_first (x ∷ xs) e = absurd (cc)
+
+pub no_bytes : (text : List ℕ) → None ≡ slice_get text 0 → length text ≡ 0
+no_bytes [] e = refl
+no_bytes (x ∷ xs) e = absurd (cc)

@@ -4,11 +4,15 @@ ghost use Rattle.std.specs.Prelude.{◌≡◌, ◌<◌, ◌∷◌, ◌++◌, [],
 ghost use Rattle.wgsl_model.specs.Numbers.{without_last};
 ghost use Rattle.wgsl_model.specs.Raw.{front};
 
-/// The first character and the text after it.
+/// The first character and the text after it. It is decoded only past ASCII.
 pub fn split_first(text: &str) -> Option<(char, &str)>
     ensures parts { MatchOption result (chars text.now ≡ []) (λ found. chars text.now ≡ found.0 ∷ chars found.1.now) }
     ensures shorter { MatchOption result (length text.now ≡ 0) (λ found. length found.1.now < length text.now) }
 {
+    let byte = *text.as_bytes().first()?;
+    if byte.is_ascii() {
+        return Some((byte as char, &text[1..]));
+    }
     let mut rest = text.chars();
     let first = rest.next()?;
     Some((first, rest.as_str()))
