@@ -5,7 +5,7 @@ use Rattle.grammar.specs.Tokens.{Token, Fault, last_end}
 use Rattle.grammar.specs.Grammar.{Mode.full}
 use Rattle.grammar.specs.Faults.{Ending, Ending.finished, Ending.carried, Answer.denied}
 use Rattle.grammar.specs.Reading.{Outcome, Outcome.ok, Outcome.stuck, Outcome.bad, Outcome.out, read_all, Says}
-use Rattle.grammar.specs.States.{State, start_state, tag}
+use Rattle.grammar.specs.States.{State, Read.stop, start_state, tag}
 use Rattle.grammar.proofs.Outcomes.{outcomes}
 use Rattle.wgsl_model.specs.Faults.{unexpected_token}
 use Rattle.wgsl_model.specs.CheckedFaults.{wants_memory}
@@ -20,11 +20,13 @@ use Rattle.wgsl_grammar_theory.proofs.Outcomes.{tested}
 use Rattle.wgsl_error.specs.declared.Error.{Error}
 use Rattle.wgsl_error.specs.View.{fault_view}
 use Rattle.wgsl_token.specs.Placed.{placed_view}
+use Rattle.wgsl_cursor.specs.declared.fault.Refusal.{Refusal}
+use Rattle.wgsl_cursor.specs.declared.fault.Refusal.TheVariants as refusal
 use Rattle.wgsl_cursor.specs.declared.fault.Fault as declared
 use Rattle.wgsl_cursor.specs.declared.fault.Fault.TheVariants as fault
-use Rattle.wgsl_cursor.specs.Reading.{Fails, Gives, state}
+use Rattle.wgsl_cursor.specs.Reading.{refusal_stop, Fails, Gives, state}
 use Rattle.wgsl_answer.specs.Sources.{tokens_to_read}
-use Rattle.wgsl_answer.specs.Answers.{IsToldOf, IsToldBehind, IsAnsweredOf, Answered}
+use Rattle.wgsl_answer.specs.Answers.{IsToldOfRefusal, IsToldOf, IsToldBehind, IsAnsweredOf, Answered}
 use Rattle.wgsl_answer.specs.declared.source.TokenSource.{TokenSource}
 use Rattle.wgsl_answer.specs.Origins.{AreOf, IsSourceOf, IsReadTo}
 use Rattle.wgsl_answer.proofs.Origins.{all_taken}
@@ -35,23 +37,27 @@ behind_said ts [] finished a e told = absurd told
 behind_said ts [] (carried x) a e told = ap denied (sym told)
 behind_said ts (t ∷ us) ending a e told = ap denied (sym told.1)
 
+refusal_said : {Y : Type 0} (ts : List Token) (ending : Ending) (s : State) (o : Outcome Y) (r : Refusal) (e : Error) → tag s o ≡ stop (refusal_stop r) → IsToldOfRefusal r ending (last_end 0 ts) e → answer_said ts ending o ≡ denied (fault_view e)
+unfolding refusal_stop
+refusal_said ts ending s (ok a us) (refusal.UnexpectedToken p expected) e fails told = absurd cc
+refusal_said ts ending s (stuck []) (refusal.UnexpectedToken p expected) e fails told = absurd cc
+refusal_said ts ending s (stuck (t ∷ us)) (refusal.UnexpectedToken p expected) e fails told = let same : t ≡ placed_view p = cc in ap (λ u. denied (unexpected_token u)) same ∙ ap denied (sym told.1)
+refusal_said ts ending s (bad y us) (refusal.UnexpectedToken p expected) e fails told = absurd cc
+refusal_said ts ending s out (refusal.UnexpectedToken p expected) e fails told = absurd cc
+refusal_said ts ending s (ok a us) (refusal.UnexpectedEnd expected) e fails told = absurd cc
+refusal_said ts finished s (stuck []) (refusal.UnexpectedEnd expected) e fails told = ap denied (sym told)
+refusal_said ts (carried x) s (stuck []) (refusal.UnexpectedEnd expected) e fails told = ap denied (sym told)
+refusal_said ts ending s (stuck (t ∷ us)) (refusal.UnexpectedEnd expected) e fails told = absurd cc
+refusal_said ts ending s (bad y us) (refusal.UnexpectedEnd expected) e fails told = absurd cc
+refusal_said ts ending s out (refusal.UnexpectedEnd expected) e fails told = absurd cc
+refusal_said ts ending s (ok a us) (refusal.Checked x) e fails told = absurd cc
+refusal_said ts ending s (stuck []) (refusal.Checked x) e fails told = absurd cc
+refusal_said ts ending s (stuck (t ∷ us)) (refusal.Checked x) e fails told = absurd cc
+refusal_said ts ending s (bad y us) (refusal.Checked x) e fails told = let same : y ≡ fault_view x = cc in ap denied (same ∙ ap fault_view (sym told))
+refusal_said ts ending s out (refusal.Checked x) e fails told = absurd cc
+
 stop_said : {Y : Type 0} (ts : List Token) (ending : Ending) (s : State) (o : Outcome Y) (x : declared.Fault) (e : Error) → Fails x (tag s o) → IsToldOf x ending (last_end 0 ts) e → answer_said ts ending o ≡ denied (fault_view e)
-stop_said ts ending s (ok a us) (fault.UnexpectedToken p expected) e fails told = absurd cc
-stop_said ts ending s (stuck []) (fault.UnexpectedToken p expected) e fails told = absurd cc
-stop_said ts ending s (stuck (t ∷ us)) (fault.UnexpectedToken p expected) e fails told = let same : t ≡ placed_view p = cc in ap (λ u. denied (unexpected_token u)) same ∙ ap denied (sym told.1)
-stop_said ts ending s (bad y us) (fault.UnexpectedToken p expected) e fails told = absurd cc
-stop_said ts ending s out (fault.UnexpectedToken p expected) e fails told = absurd cc
-stop_said ts ending s (ok a us) (fault.UnexpectedEnd expected) e fails told = absurd cc
-stop_said ts finished s (stuck []) (fault.UnexpectedEnd expected) e fails told = ap denied (sym told)
-stop_said ts (carried x) s (stuck []) (fault.UnexpectedEnd expected) e fails told = ap denied (sym told)
-stop_said ts ending s (stuck (t ∷ us)) (fault.UnexpectedEnd expected) e fails told = absurd cc
-stop_said ts ending s (bad y us) (fault.UnexpectedEnd expected) e fails told = absurd cc
-stop_said ts ending s out (fault.UnexpectedEnd expected) e fails told = absurd cc
-stop_said ts ending s (ok a us) (fault.Checked x) e fails told = absurd cc
-stop_said ts ending s (stuck []) (fault.Checked x) e fails told = absurd cc
-stop_said ts ending s (stuck (t ∷ us)) (fault.Checked x) e fails told = absurd cc
-stop_said ts ending s (bad y us) (fault.Checked x) e fails told = let same : y ≡ fault_view x = cc in ap denied (same ∙ ap fault_view (sym told))
-stop_said ts ending s out (fault.Checked x) e fails told = absurd cc
+stop_said ts ending s o (fault.Refused refusal) e fails told = refusal_said ts ending s o refusal.value e fails told
 stop_said ts ending s o fault.OutOfMemory e fails told = absurd told
 
 pub said_seen : {X Y : Type 0} (view : X → Y) (ts : List Token) (ending : Ending) (s : State) (o : Outcome Y) (read : Result X declared.Fault) (left : State) (result : Result X Error)
@@ -99,24 +105,29 @@ behind_in_want [] x a e m opened told = ap denied (sym told)
 behind_in_want (t ∷ []) x a e m opened told = let no = told.0 opened in absurd cc
 behind_in_want (t ∷ (u ∷ us)) x a e m opened told = ap denied (sym told.1)
 
+refusal_in_want : {Y : Type 0} (place : ℕ) (x : Fault) (s : State) (o : Outcome Y) (r : Refusal) (e : Error) → wants_memory (carried x) ≡ true → IsOpened o → tag s o ≡ stop (refusal_stop r) → IsToldOfRefusal r (carried x) place e
+    → answer_in_want x o ≡ denied (fault_view e)
+unfolding refusal_stop
+refusal_in_want place x s (ok a us) (refusal.UnexpectedToken p expected) e m opened fails told = absurd cc
+refusal_in_want place x s (stuck []) (refusal.UnexpectedToken p expected) e m opened fails told = absurd cc
+refusal_in_want place x s (stuck (t ∷ [])) (refusal.UnexpectedToken p expected) e m opened fails told = let same : placed_view p ≡ t = cc in let no = told.0 (same ∙ opened) in absurd cc
+refusal_in_want place x s (stuck (t ∷ (u ∷ us))) (refusal.UnexpectedToken p expected) e m opened fails told = let same : t ≡ placed_view p = cc in ap (λ u. denied (unexpected_token u)) same ∙ ap denied (sym told.1)
+refusal_in_want place x s (bad z us) (refusal.UnexpectedToken p expected) e m opened fails told = absurd cc
+refusal_in_want place x s out (refusal.UnexpectedToken p expected) e m opened fails told = absurd cc
+refusal_in_want place x s (ok a us) (refusal.UnexpectedEnd expected) e m opened fails told = absurd cc
+refusal_in_want place x s (stuck []) (refusal.UnexpectedEnd expected) e m opened fails told = ap denied (sym told)
+refusal_in_want place x s (stuck (t ∷ us)) (refusal.UnexpectedEnd expected) e m opened fails told = absurd cc
+refusal_in_want place x s (bad z us) (refusal.UnexpectedEnd expected) e m opened fails told = absurd cc
+refusal_in_want place x s out (refusal.UnexpectedEnd expected) e m opened fails told = absurd cc
+refusal_in_want place x s (ok a us) (refusal.Checked y) e m opened fails told = absurd cc
+refusal_in_want place x s (stuck []) (refusal.Checked y) e m opened fails told = absurd cc
+refusal_in_want place x s (stuck (t ∷ us)) (refusal.Checked y) e m opened fails told = absurd cc
+refusal_in_want place x s (bad z us) (refusal.Checked y) e m opened fails told = let same : z ≡ fault_view y = cc in ap denied (same ∙ ap fault_view (sym told))
+refusal_in_want place x s out (refusal.Checked y) e m opened fails told = absurd cc
+
 stop_in_want : {Y : Type 0} (place : ℕ) (x : Fault) (s : State) (o : Outcome Y) (y : declared.Fault) (e : Error) → wants_memory (carried x) ≡ true → IsOpened o → Fails y (tag s o) → IsToldOf y (carried x) place e
     → answer_in_want x o ≡ denied (fault_view e)
-stop_in_want place x s (ok a us) (fault.UnexpectedToken p expected) e m opened fails told = absurd cc
-stop_in_want place x s (stuck []) (fault.UnexpectedToken p expected) e m opened fails told = absurd cc
-stop_in_want place x s (stuck (t ∷ [])) (fault.UnexpectedToken p expected) e m opened fails told = let same : placed_view p ≡ t = cc in let no = told.0 (same ∙ opened) in absurd cc
-stop_in_want place x s (stuck (t ∷ (u ∷ us))) (fault.UnexpectedToken p expected) e m opened fails told = let same : t ≡ placed_view p = cc in ap (λ u. denied (unexpected_token u)) same ∙ ap denied (sym told.1)
-stop_in_want place x s (bad z us) (fault.UnexpectedToken p expected) e m opened fails told = absurd cc
-stop_in_want place x s out (fault.UnexpectedToken p expected) e m opened fails told = absurd cc
-stop_in_want place x s (ok a us) (fault.UnexpectedEnd expected) e m opened fails told = absurd cc
-stop_in_want place x s (stuck []) (fault.UnexpectedEnd expected) e m opened fails told = ap denied (sym told)
-stop_in_want place x s (stuck (t ∷ us)) (fault.UnexpectedEnd expected) e m opened fails told = absurd cc
-stop_in_want place x s (bad z us) (fault.UnexpectedEnd expected) e m opened fails told = absurd cc
-stop_in_want place x s out (fault.UnexpectedEnd expected) e m opened fails told = absurd cc
-stop_in_want place x s (ok a us) (fault.Checked y) e m opened fails told = absurd cc
-stop_in_want place x s (stuck []) (fault.Checked y) e m opened fails told = absurd cc
-stop_in_want place x s (stuck (t ∷ us)) (fault.Checked y) e m opened fails told = absurd cc
-stop_in_want place x s (bad z us) (fault.Checked y) e m opened fails told = let same : z ≡ fault_view y = cc in ap denied (same ∙ ap fault_view (sym told))
-stop_in_want place x s out (fault.Checked y) e m opened fails told = absurd cc
+stop_in_want place x s o (fault.Refused refusal) e m opened fails told = refusal_in_want place x s o refusal.value e m opened fails told
 stop_in_want place x s o fault.OutOfMemory e m opened fails told = absurd told
 
 want_seen : {X Y : Type 0} (view : X → Y) (place : ℕ) (x : Fault) (s : State) (o : Outcome Y) (read : Result X declared.Fault) (left : State) (result : Result X Error) → wants_memory (carried x) ≡ true → IsOpened o

@@ -11,6 +11,8 @@ use Rattle.wgsl_error.specs.declared.ParseError.TheVariants as parse
 use Rattle.wgsl_error.specs.Kinds.{error_at}
 use Rattle.wgsl_error.specs.View.{fault_view}
 use Rattle.wgsl_token.specs.Placed.{placed_view}
+use Rattle.wgsl_cursor.specs.declared.fault.Refusal.{Refusal}
+use Rattle.wgsl_cursor.specs.declared.fault.Refusal.TheVariants as refusal
 use Rattle.wgsl_cursor.specs.declared.fault.Fault as declared
 use Rattle.wgsl_cursor.specs.declared.fault.Fault.TheVariants as fault
 
@@ -27,11 +29,15 @@ end_fault (carried x) place = x
 abbrev pub IsRefusalOf : Token → Ending → Error → Type 0
 IsRefusalOf t ending e = ((t ≡ opening) → wants_memory ending ≡ false) × (fault_view e ≡ unexpected_token t)
 
+-- the error that is told of what was refused, where the tokens ended so and the last of them at a place
+abbrev pub IsToldOfRefusal : Refusal → Ending → ℕ → Error → Type 0
+IsToldOfRefusal (refusal.UnexpectedToken t expected) ending place e = IsRefusalOf (placed_view t) ending e
+IsToldOfRefusal (refusal.UnexpectedEnd expected) ending place e = fault_view e ≡ end_fault ending place
+IsToldOfRefusal (refusal.Checked x) ending place e = e ≡ x
+
 -- the error that is told of why tokens could not be read, where they ended so and the last of them at a place
 abbrev pub IsToldOf : declared.Fault → Ending → ℕ → Error → Type 0
-IsToldOf (fault.UnexpectedToken t expected) ending place e = IsRefusalOf (placed_view t) ending e
-IsToldOf (fault.UnexpectedEnd expected) ending place e = fault_view e ≡ end_fault ending place
-IsToldOf (fault.Checked x) ending place e = e ≡ x
+IsToldOf (fault.Refused refusal) ending place e = IsToldOfRefusal refusal.value ending place e
 IsToldOf fault.OutOfMemory ending place e = ⊥
 
 -- what is told of a value behind which these tokens are left

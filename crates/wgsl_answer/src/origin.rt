@@ -7,7 +7,7 @@ ghost use Rattle.wgsl_lexer.specs.Endings.{ending_with};
 use crate::message::{unexpected_end, unexpected_token};
 use crate::source::{is_opening, is_out_of_memory};
 use std::alloc::{AllocError, Global};
-use wgsl_cursor::{Expected, Fault};
+use wgsl_cursor::{Expected, Fault, Refusal};
 use wgsl_error::{Error, ParseError};
 use wgsl_lexer::{end_of_tokens, invalid_behind};
 use wgsl_span::Span;
@@ -32,7 +32,7 @@ impl Origin<'_> {
     ghost use Rattle.wgsl_grammar_theory.specs.Answers.{opening};
     ghost use Rattle.wgsl_error.specs.View.{fault_view};
     ghost use Rattle.wgsl_token.specs.Placed.{placed_view};
-    ghost use Rattle.wgsl_answer.specs.Answers.{IsToldOf, end_fault};
+    ghost use Rattle.wgsl_answer.specs.Answers.{IsToldOf, IsToldOfRefusal, end_fault};
     ghost use Rattle.wgsl_answer.specs.Origins.{AreOf, IsLastOf};
 
     /// Whether memory was refused for a token.
@@ -91,15 +91,24 @@ impl Origin<'_> {
         ensures { IfOk result (λ e. (ts : List Token) (ending : Ending) → AreOf self.entry ts ending → IsToldOf fault ending (last_end 0 ts) e) }
     {
         match fault {
-            Fault::UnexpectedToken(token, expected) => {
+            Fault::Refused(refusal) => self.name_refusal(alloc, Box::into_inner(refusal)),
+            Fault::OutOfMemory => Err(AllocError),
+        }
+    }
+
+    /// The error of what was refused.
+    fn name_refusal(self, alloc: Global, refusal: Refusal) -> Result<Error, AllocError>
+        ensures { IfOk result (λ e. (ts : List Token) (ending : Ending) → AreOf self.entry ts ending → IsToldOfRefusal refusal ending (last_end 0 ts) e) }
+    {
+        match refusal {
+            Refusal::UnexpectedToken(token, expected) => {
                 if self.is_opening(&token) {
                     return Err(AllocError);
                 }
                 unexpected_token(alloc, token, expected)
             }
-            Fault::UnexpectedEnd(expected) => self.unexpected_end(alloc, expected),
-            Fault::Checked(error) => Ok(error),
-            Fault::OutOfMemory => Err(AllocError),
+            Refusal::UnexpectedEnd(expected) => self.unexpected_end(alloc, expected),
+            Refusal::Checked(error) => Ok(error),
         }
     }
 }

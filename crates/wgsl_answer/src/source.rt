@@ -38,7 +38,7 @@ impl<'s> TokenSource<'s> {
     {
         let tokens = TextTokens::new(alloc, text)?;
         Ok(TokenSource {
-            tokens: Cursor::of_text(tokens),
+            tokens: Cursor::of_text(alloc, tokens),
             origin: Origin::Text(text),
         })
     }

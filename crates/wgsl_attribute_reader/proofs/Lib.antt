@@ -1,6 +1,7 @@
 pub mod BareWords
 pub mod Counts
 pub mod Equations
+pub mod Settled
 pub mod Templates
 pub mod Begun
 pub mod Classes

@@ -37,6 +37,7 @@ pub fn parse_attributes(alloc: Global, tokens: &mut Cursor) -> Result<Attributes
     Ok(attributes)
 }
 
+#[inline(never)]
 fn parse_attribute(alloc: Global, tokens: &mut Cursor) -> Result<AttributeNode, Fault>
     ensures { Parses (spanned_view attribute_view) result tokens.old tokens.new attribute_node_at }
 {
@@ -86,9 +87,12 @@ fn checked_attribute(
     match make_attribute(alloc, name, arguments) {
         Ok(attribute) => Ok(attribute),
         Err(Refusal::OutOfMemory) => Err(Fault::OutOfMemory),
-        Err(Refusal::Arguments(name, text)) => Err(Fault::Checked(Error {
-            error: ErrorKind::Attribute(name, text),
-            span,
-        })),
+        Err(Refusal::Arguments(name, text)) => Err(Fault::checked(
+            alloc,
+            Error {
+                error: ErrorKind::Attribute(name, text),
+                span,
+            },
+        )),
     }
 }

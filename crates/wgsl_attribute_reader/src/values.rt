@@ -37,10 +37,13 @@ pub fn parse_var_kind(alloc: Global, tokens: &mut Cursor) -> Result<DeclarationK
     let template = parse_template_list(alloc, tokens)?;
     match address_space(template) {
         Ok(space) => Ok(DeclarationKind::Var(Some(space))),
-        Err(text) => Err(Fault::Checked(Error {
-            error: ErrorKind::VarTemplate(text),
-            span: tokens.span_from(start),
-        })),
+        Err(text) => Err(Fault::checked(
+            alloc,
+            Error {
+                error: ErrorKind::VarTemplate(text),
+                span: tokens.span_from(start),
+            },
+        )),
     }
 }
 

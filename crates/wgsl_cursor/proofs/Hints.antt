@@ -5,10 +5,12 @@ use Rattle.wgsl_grammar_theory.specs.ExpressionRules.{ident_at, literal_at}
 use Rattle.wgsl_grammar_theory.proofs.ExpressionEquations.{ident_is, literal_is}
 use Rattle.wgsl_cursor.specs.Tokens.{rest_of, next_class}
 use Rattle.wgsl_cursor.proofs.First.{kind_known, none_known, first_kind, first_none, first_place, first_end, none_end, behind_first, fewer_behind}
+use Rattle.wgsl_cursor.specs.Reading.{refusal_stop}
+use Rattle.wgsl_cursor.proofs.Refused.{told}
 use Rattle.wgsl_cursor.proofs.AttributeNames.{attribute_name_is, no_attribute_name, keyword_text}
 
 unfoldable pub definitions : ⊤
-unfolding is_at start_of after take ident_at first_of literal_at rest_of next_class
+unfolding refusal_stop is_at start_of after take ident_at first_of literal_at rest_of next_class
 definitions = tt
 
-pub ruleset lemmas = (kind_known, none_known, first_kind, first_none, first_place, first_end, none_end, behind_first, fewer_behind, ident_is, attribute_name_is, no_attribute_name, keyword_text, literal_is)
+pub ruleset lemmas = (told, kind_known, none_known, first_kind, first_none, first_place, first_end, none_end, behind_first, fewer_behind, ident_is, attribute_name_is, no_attribute_name, keyword_text, literal_is)

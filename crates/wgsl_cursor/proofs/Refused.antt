@@ -1,18 +1,19 @@
 -- A token that was not taken is refused.
-use Rattle.std.proofs.Common.{◌≡◌, ℕ, Bool, true, false, List, [], ◌∷◌, cond, ap, subst, if◌then◌else◌}
+use Rattle.std.proofs.Common.{◌≡◌, ℕ, Bool, true, false, List, [], ◌∷◌, cond, ap, sym, subst, ◌∙◌, if◌then◌else◌}
 use Rattle.grammar.specs.Tokens.{Token}
-use Rattle.grammar.specs.States.{State, Stop, done, stop, unexpected, ended, faulty, is_at, first_of, after, take, refused}
-use Rattle.wgsl_token.specs.Placed.{placed_view}
-use Rattle.wgsl_error.specs.View.{fault_view}
+use Rattle.grammar.specs.States.{State, Stop, Read, done, stop, unexpected, ended, is_at, first_of, after, take, refused}
 use Rattle.wgsl_cursor.specs.declared.fault.Fault.{Fault}
 use Rattle.wgsl_cursor.specs.declared.fault.Fault.TheVariants as fault
-use Rattle.wgsl_cursor.specs.Reading.{Fails}
+use Rattle.wgsl_cursor.specs.Reading.{refusal_stop, Tells, Fails}
+
+-- what a fault tells is why reading stops
+pub told : {Y : Type 0} (x : Fault) (s : Stop) (read : Read Y) → Tells x s → read ≡ stop s → Fails x read
+told (fault.Refused refusal) s read t r = r ∙ ap stop (sym t)
+told fault.OutOfMemory s read t r = tt
 
 -- whatever would be read
 stops : (A : Type 0) (x : Fault) (s : Stop) → Fails {Y = A} x (stop s) → Fails {Y = Token} x (stop s)
-stops A (fault.UnexpectedToken p expected) s h = let same : s ≡ unexpected (placed_view p) = cc in ap stop same
-stops A (fault.UnexpectedEnd expected) s h = let same : s ≡ ended = cc in ap stop same
-stops A (fault.Checked e) s h = let same : s ≡ faulty (fault_view e) = cc in ap stop same
+stops A (fault.Refused refusal) s h = let same : s ≡ refusal_stop refusal.value = cc in ap stop same
 stops A fault.OutOfMemory s h = tt
 
 refuses : (A : Type 0) (x : Fault) (ts : List Token) → Fails x (refused {A = A} ts) → Fails x (refused {A = Token} ts)

@@ -6,6 +6,8 @@ use Rattle.wgsl_error.specs.View.{fault_view}
 use Rattle.wgsl_token.specs.Placed.{placed_view}
 use Rattle.wgsl_cursor.specs.Tokens.{rest_of}
 use Rattle.wgsl_cursor.specs.declared.cursor.Cursor.{Cursor}
+use Rattle.wgsl_cursor.specs.declared.fault.Refusal.{Refusal}
+use Rattle.wgsl_cursor.specs.declared.fault.Refusal.TheVariants as refusal
 use Rattle.wgsl_cursor.specs.declared.fault.Fault.{Fault}
 use Rattle.wgsl_cursor.specs.declared.fault.Fault.TheVariants as fault
 
@@ -17,12 +19,21 @@ state c = record { end = c.end; rest = rest_of c.tokens }
 abbrev pub span_back : ℕ → State → Span
 span_back start s = record { start = start; end = s.end }
 
+-- what was refused
+unfoldable pub refusal_stop : Refusal → Stop
+refusal_stop (refusal.UnexpectedToken t expected) = unexpected (placed_view t)
+refusal_stop (refusal.UnexpectedEnd expected) = ended
+refusal_stop (refusal.Checked e) = faulty (fault_view e)
+
 -- why reading stopped
 abbrev pub stop_of : Fault → Stop
-stop_of (fault.UnexpectedToken t expected) = unexpected (placed_view t)
-stop_of (fault.UnexpectedEnd expected) = ended
-stop_of (fault.Checked e) = faulty (fault_view e)
+stop_of (fault.Refused refusal) = refusal_stop refusal.value
 stop_of fault.OutOfMemory = never
+
+-- a fault tells why reading stopped, unless memory ran out
+abbrev pub Tells : Fault → Stop → Type 0
+Tells fault.OutOfMemory s = Unit {0}
+Tells e s = stop_of e ≡ s
 
 -- reading stopped so, unless memory ran out
 abbrev pub Fails : {Y : Type 0} → Fault → Read Y → Type 0

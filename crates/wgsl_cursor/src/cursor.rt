@@ -10,7 +10,7 @@ use crate::expected::Expected;
 use crate::fault::Fault;
 use crate::tokens::Tokens;
 use crate::word::Word;
-use std::alloc::AllocError;
+use std::alloc::{AllocError, Global};
 use std::collections::VecDeque;
 use wgsl_error::{Error, ErrorKind};
 use wgsl_expression::{Ident, LiteralExpression};
@@ -23,6 +23,8 @@ use wgsl_token::token::Token;
 /// The tokens that are left, and where the last one that was taken ended.
 #[derive(Drop)]
 pub struct Cursor<'s> {
+    /// For what is refused.
+    alloc: Global,
     tokens: Tokens<'s>,
     /// Which of them stands next, if one does.
     next: Option<TokenKind>,
@@ -47,22 +49,24 @@ impl<'s> Cursor<'s> {
     pub fn new(tokens: VecDeque<PlacedToken>) -> Cursor<'s>
         ensures { state result ≡ record { end = 0; rest = map placed_view tokens.items } }
     {
-        Cursor::before(Tokens::Given(tokens))
+        let alloc = *tokens.allocator();
+        Cursor::before(alloc, Tokens::Given(tokens))
     }
 
     /// The tokens of a text.
-    pub fn of_text(tokens: TextTokens<'s>) -> Cursor<'s>
+    pub fn of_text(alloc: Global, tokens: TextTokens<'s>) -> Cursor<'s>
         ensures { state result ≡ record { end = 0; rest = tokens_left tokens.entry } }
     {
-        Cursor::before(Tokens::Text(tokens))
+        Cursor::before(alloc, Tokens::Text(tokens))
     }
 
     /// Tokens of which none was taken.
-    fn before(tokens: Tokens<'s>) -> Cursor<'s>
+    fn before(alloc: Global, tokens: Tokens<'s>) -> Cursor<'s>
         ensures { state result ≡ record { end = 0; rest = rest_of tokens.entry } }
     {
         let next = tokens.kind();
         Cursor {
+            alloc,
             tokens,
             next,
             end: 0,
@@ -88,6 +92,7 @@ impl<'s> Cursor<'s> {
     }
 
     /// Where the next token starts.
+    #[inline(never)]
     pub fn start(&self) -> usize
         ensures { result ≡ start_of (state self.now) }
     {
@@ -108,6 +113,7 @@ impl<'s> Cursor<'s> {
     }
 
     /// Takes the next token if it is of a kind.
+    #[inline]
     pub fn eat(&mut self, kind: TokenKind) -> bool
         ensures value { result ≡ is_at (class_of_kind kind) (state self.old) }
         ensures rest { state self.new ≡ (if result then after (state self.old) else state self.old) }
@@ -131,6 +137,7 @@ impl<'s> Cursor<'s> {
     }
 
     /// Goes behind the next token, if there is one.
+    #[inline(never)]
     fn skip(&mut self)
         ensures { state self.new ≡ after (state self.old) }
     {
@@ -164,8 +171,8 @@ impl<'s> Cursor<'s> {
         ensures { Fails result (refused {A = Token} (state self.old).rest) }
     {
         match self.take() {
-            Ok(Some(next)) => Fault::UnexpectedToken(next, expected),
-            Ok(None) => Fault::UnexpectedEnd(expected),
+            Ok(Some(next)) => Fault::unexpected_token(self.alloc, next, expected),
+            Ok(None) => Fault::unexpected_end(self.alloc, expected),
             Err(error) => Fault::from(error),
         }
     }
@@ -186,17 +193,21 @@ impl<'s> Cursor<'s> {
         ensures shorter { OnOk result (length (state self.new).rest < length (state self.old).rest) }
     {
         match self.take()? {
-            None => Err(Fault::UnexpectedEnd(Expected::One(TokenKind::Ident))),
+            None => Err(Fault::unexpected_end(self.alloc, Expected::One(TokenKind::Ident))),
             Some(PlacedToken { token, span }) => match token {
                 Token::Ident(name) => {
                     self.end = span.end;
                     Ok(name)
                 }
-                Token::ReservedWord(word) => Err(Fault::Checked(Error {
-                    error: ErrorKind::ReservedWord(word),
-                    span,
-                })),
-                token => Err(Fault::UnexpectedToken(
+                Token::ReservedWord(word) => Err(Fault::checked(
+                    self.alloc,
+                    Error {
+                        error: ErrorKind::ReservedWord(word),
+                        span,
+                    },
+                )),
+                token => Err(Fault::unexpected_token(
+                    self.alloc,
                     PlacedToken { token, span },
                     Expected::One(TokenKind::Ident),
                 )),
@@ -211,13 +222,14 @@ impl<'s> Cursor<'s> {
         ensures shorter { OnOk result (length (state self.new).rest < length (state self.old).rest) }
     {
         match self.take()? {
-            None => Err(Fault::UnexpectedEnd(Expected::ATTRIBUTE_NAME)),
+            None => Err(Fault::unexpected_end(self.alloc, Expected::ATTRIBUTE_NAME)),
             Some(PlacedToken { token, span }) => {
                 let word = match token {
                     Token::Ident(name) | Token::ReservedWord(name) => Word::Held(name),
                     token => {
                         if !token.is_keyword() {
-                            return Err(Fault::UnexpectedToken(
+                            return Err(Fault::unexpected_token(
+                                self.alloc,
                                 PlacedToken { token, span },
                                 Expected::ATTRIBUTE_NAME,
                             ));
@@ -236,7 +248,7 @@ impl<'s> Cursor<'s> {
         ensures { Parses literal_view result self.old self.new (reader (of literal)) }
     {
         match self.take()? {
-            None => Err(Fault::UnexpectedEnd(expected)),
+            None => Err(Fault::unexpected_end(self.alloc, expected)),
             Some(PlacedToken { token, span }) => {
                 self.end = span.end;
                 match token {
@@ -248,7 +260,11 @@ impl<'s> Cursor<'s> {
                     Token::AbstractFloat(text) => Ok(LiteralExpression::AbstractFloat(text)),
                     Token::F32(text) => Ok(LiteralExpression::F32(text)),
                     Token::F16(text) => Ok(LiteralExpression::F16(text)),
-                    token => Err(Fault::UnexpectedToken(PlacedToken { token, span }, expected)),
+                    token => Err(Fault::unexpected_token(
+                        self.alloc,
+                        PlacedToken { token, span },
+                        expected,
+                    )),
                 }
             }
         }

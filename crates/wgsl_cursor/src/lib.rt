@@ -9,5 +9,5 @@ pub mod word;
 
 pub use cursor::Cursor;
 pub use expected::Expected;
-pub use fault::Fault;
+pub use fault::{Fault, Refusal};
 pub use word::Word;

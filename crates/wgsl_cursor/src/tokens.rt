@@ -21,6 +21,7 @@ pub(crate) enum Tokens<'s> {
 
 impl Tokens<'_> {
     /// Which token stands next, if one does.
+    #[inline(always)]
     pub(crate) fn kind(&self) -> Option<TokenKind>
         ensures { MatchOption result (rest_of self.now ≡ []) (BeginWith (rest_of self.now)) }
     {
@@ -31,6 +32,7 @@ impl Tokens<'_> {
     }
 
     /// Where the next token stands, if there is one.
+    #[inline(always)]
     pub(crate) fn span(&self) -> Option<Span>
         ensures { MatchOption result (rest_of self.now ≡ []) (BeginAt (rest_of self.now)) }
     {

@@ -57,7 +57,7 @@ pub fn parse_directive_part(
         return parse_requires_part(alloc, tokens, attributes);
     }
     if tokens.is_at(TokenKind::KwDiagnostic) {
-        return parse_diagnostic_part(tokens, attributes);
+        return parse_diagnostic_part(alloc, tokens, attributes);
     }
     Err(tokens.refuse(DIRECTIVE))
 }
@@ -112,12 +112,13 @@ fn parse_names(alloc: Global, tokens: &mut Cursor) -> Result<Vec<String>, Fault>
 
 /// A `diagnostic` behind its attributes, with its severity and the name of its rule (WGSL, "Diagnostics").
 fn parse_diagnostic_part(
+    alloc: Global,
     tokens: &mut Cursor,
     attributes: Attributes,
 ) -> Result<GlobalDirective, Fault>
     ensures { Parses global_directive_view result tokens.old tokens.new (behind_attributes with_attributes (attributes_view attributes.items) (reader (further diagnostic_part))) }
 {
-    let severity = parse_severity(tokens)?;
+    let severity = parse_severity(alloc, tokens)?;
     tokens.expect(TokenKind::SymComma)?;
     let first = tokens.name()?;
     let second = parse_second_name(tokens)?;
@@ -132,7 +133,7 @@ fn parse_diagnostic_part(
 }
 
 /// `diagnostic (` and a name, which has to be a severity's.
-fn parse_severity(tokens: &mut Cursor) -> Result<DiagnosticSeverity, Fault>
+fn parse_severity(alloc: Global, tokens: &mut Cursor) -> Result<DiagnosticSeverity, Fault>
     ensures value { Gives (λ _. third_of (state tokens.old)) result (state tokens.new) (reader (of diagnostic_severity) (state tokens.old)) }
     ensures severity { IfOk result (λ severity. severity_view severity ≡ severity_of (third_of (state tokens.old))) }
     ensures shorter { OnOk result (length (state tokens.new).rest < length (state tokens.old).rest) }
@@ -144,10 +145,13 @@ fn parse_severity(tokens: &mut Cursor) -> Result<DiagnosticSeverity, Fault>
     let span = tokens.span_from(start);
     match DiagnosticSeverity::from_str(name.as_str()) {
         Ok(severity) => Ok(severity),
-        Err(()) => Err(Fault::Checked(Error {
-            error: ErrorKind::DiagnosticSeverity,
-            span,
-        })),
+        Err(()) => Err(Fault::checked(
+            alloc,
+            Error {
+                error: ErrorKind::DiagnosticSeverity,
+                span,
+            },
+        )),
     }
 }
 

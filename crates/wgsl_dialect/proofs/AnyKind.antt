@@ -56,9 +56,7 @@ no_kind kinds i s h = ap (λ (xs : List TokenKind). take_any (classes xs) s) (dr
 
 -- what fails, with its value forgotten
 pub fails_forgotten : {A : Type 0} (e : Fault) (m : Read A) → Fails e m → Fails e (forgotten m)
-fails_forgotten (fault.UnexpectedToken t x) m h = ap (λ (r : Read _). forgotten r) h
-fails_forgotten (fault.UnexpectedEnd x) m h = ap (λ (r : Read _). forgotten r) h
-fails_forgotten (fault.Checked x) m h = ap (λ (r : Read _). forgotten r) h
+fails_forgotten (fault.Refused refusal) m h = ap (λ (r : Read _). forgotten r) h
 fails_forgotten fault.OutOfMemory m h = tt
 
 pub refused_forgotten : (A : Type 0) (ts : List Token) → forgotten (refused {A = A} ts) ≡ refused ts

@@ -155,9 +155,7 @@ less_work g w s n h l = let q : token_weight * length s.rest + weight w ≤ n = 
 
 -- ---- what fails
 pub stopped : (e : Fault) (m : Read (Unit {0})) (f : Unit {0} → State → Read (Unit {0})) → Fails e m → Fails e (m >>= f)
-stopped (fault.UnexpectedToken t x) m f h = ap (λ (r : Read (Unit {0})). r >>= f) h
-stopped (fault.UnexpectedEnd x) m f h = ap (λ (r : Read (Unit {0})). r >>= f) h
-stopped (fault.Checked x) m f h = ap (λ (r : Read (Unit {0})). r >>= f) h
+stopped (fault.Refused refusal) m f h = ap (λ (r : Read (Unit {0})). r >>= f) h
 stopped fault.OutOfMemory m f h = tt
 
 -- a failing inner part fails the whole

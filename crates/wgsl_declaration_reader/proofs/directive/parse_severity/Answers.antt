@@ -4,6 +4,7 @@ use Rattle.grammar.specs.States.{Read.stop, Stop.faulty, span_from}
 use Rattle.wgsl_model.specs.Faults.{diagnostic_severity}
 use Rattle.wgsl_span.specs.View.{span_view}
 use Rattle.wgsl_cursor.specs.Reading.{state}
+use Rattle.wgsl_cursor.proofs.Refused.{told}
 use Rattle.wgsl_declaration_reader.proofs.Severities.{severity_named, severity_is, severity_refused}
 use Rattle.wgsl_declaration_reader.proofs.directive.parse_severity.Goals as goal
 
@@ -19,7 +20,8 @@ returns-in-Ok-clause-severity c =
 
 pub returns-clause-value : goal.returns-clause-value
 returns-clause-value c =
-    severity_refused _ _ _ _ _ _ c.in_ok-expect.ensures.value c.in_ok-expect-2.ensures.value c.in_ok-name.ensures.value
+    told _ _ _ c.checked.ensures
+    (severity_refused _ _ _ _ _ _ c.in_ok-expect.ensures.value c.in_ok-expect-2.ensures.value c.in_ok-name.ensures.value
     (λ severity e. c.in-Err.ensures severity (c.as_str.ensures.value ∙ c.in_ok-name.ensures.text ∙ e))
     ∙ ap (λ (span : Span). stop (faulty (diagnostic_severity span)))
-    (ap (λ start. span_from start (state c.name.new.self)) (sym c.start-start.ensures) ∙ ap span_view (sym c.span_from-span.ensures))
+    (ap (λ start. span_from start (state c.name.new.self)) (sym c.start-start.ensures) ∙ ap span_view (sym c.span_from-span.ensures)))
