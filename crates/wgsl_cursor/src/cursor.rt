@@ -192,6 +192,20 @@ impl<'s> Cursor<'s> {
         ensures text { IfOk result (λ name. string_bytes name ≡ text_of (first_of (state self.old))) }
         ensures shorter { OnOk result (length (state self.new).rest < length (state self.old).rest) }
     {
+        if let Some(name) = self.tokens.name() {
+            let name = String::from_str(self.alloc, name)?;
+            self.skip();
+            return Ok(name);
+        }
+        self.take_name()
+    }
+
+    /// Takes a name with its token.
+    fn take_name(&mut self) -> Result<String, Fault>
+        ensures value { Gives (λ _. first_of (state self.old)) result (state self.new) (reader (of ident) (state self.old)) }
+        ensures text { IfOk result (λ name. string_bytes name ≡ text_of (first_of (state self.old))) }
+        ensures shorter { OnOk result (length (state self.new).rest < length (state self.old).rest) }
+    {
         match self.take()? {
             None => Err(Fault::unexpected_end(self.alloc, Expected::One(TokenKind::Ident))),
             Some(PlacedToken { token, span }) => match token {

@@ -1,8 +1,8 @@
 //! The tokens that are left, those of a text or those that were given.
 #![tactic(auto, unfolding(crate::specs::Tokens::rest_of))]
 
-ghost use Rattle.std.specs.Prelude.{◌≡◌, [], drop, IfOk, MatchOption};
-ghost use Rattle.wgsl_lexer.specs.TextTokens.{BeginWith, BeginAt, IsTaken};
+ghost use Rattle.std.specs.Prelude.{◌≡◌, [], drop, IfOk, IfSome, MatchOption};
+ghost use Rattle.wgsl_lexer.specs.TextTokens.{BeginWith, BeginAt, BeginWithName, IsTaken};
 ghost use Rattle.wgsl_cursor.specs.Tokens.{rest_of};
 
 use std::alloc::AllocError;
@@ -19,7 +19,7 @@ pub(crate) enum Tokens<'s> {
     Given(VecDeque<PlacedToken>),
 }
 
-impl Tokens<'_> {
+impl<'s> Tokens<'s> {
     /// Which token stands next, if one does.
     #[inline(always)]
     pub(crate) fn kind(&self) -> Option<TokenKind>
@@ -39,6 +39,17 @@ impl Tokens<'_> {
         match self {
             Tokens::Text(tokens) => tokens.span(),
             Tokens::Given(tokens) => Some(tokens.front()?.span),
+        }
+    }
+
+    /// The name that stands next in a text, if one does. One that was given is moved: see `take`.
+    #[inline(always)]
+    pub(crate) fn name(&self) -> Option<&'s str>
+        ensures { IfSome result (λ name. BeginWithName (rest_of self.now) name.now) }
+    {
+        match self {
+            Tokens::Text(tokens) => tokens.name(),
+            Tokens::Given(_) => None,
         }
     }
 

@@ -1,8 +1,9 @@
 -- The tokens of a text that are left, where what stands next is known.
-use Rattle.std.specs.Prelude.{◌≡◌, List, [], ◌∷◌, chars, reverse, Option, Some, None}
+use Rattle.std.specs.Prelude.{◌≡◌, ℕ, List, [], ◌∷◌, chars, reverse, Option, Some, None}
 use Rattle.grammar.specs.Tokens.{Token}
 use Rattle.grammar.specs.Faults.{Ending, Ending.finished, Ending.carried}
-use Rattle.wgsl_model.specs.Kind.{placed}
+use Rattle.wgsl_model.specs.Classes.{Ident}
+use Rattle.wgsl_model.specs.Kind.{named, placed}
 use Rattle.wgsl_model.specs.Faults.{invalid_token}
 use Rattle.wgsl_span.specs.declared.Span.{Span}
 use Rattle.wgsl_span.specs.View.{span_view}
@@ -59,6 +60,11 @@ BeginWith (t ∷ ts) kind = t.class ≡ class_of_kind kind
 abbrev pub BeginAt : List Token → Span → Type 0
 BeginAt [] span = ⊥
 BeginAt (t ∷ ts) span = (t.start ≡ span.start) × (t.end ≡ span.end)
+
+-- the first of some tokens is a name of these bytes
+abbrev pub BeginWithName : List Token → List ℕ → Type 0
+BeginWithName [] text = ⊥
+BeginWithName (t ∷ ts) text = t ≡ placed (named Ident text) t.start t.end
 
 -- the first of some tokens was taken, if there is one
 abbrev pub IsTaken : List Token → Option PlacedToken → List Token → Type 0

@@ -48,7 +48,7 @@ pub struct TextTokens<'s> {
 }
 
 impl<'s> TextTokens<'s> {
-    ghost use Rattle.std.specs.Prelude.{◌≡◌, ◌<◌, List, [], drop, true, IfOk, MatchOption, Some, None};
+    ghost use Rattle.std.specs.Prelude.{◌≡◌, ◌<◌, List, [], drop, true, IfOk, IfSome, MatchOption, Some, None};
     ghost use Rattle.grammar.specs.Tokens as grammar;
     ghost use Rattle.grammar.specs.Faults.{Ending};
     ghost use Rattle.wgsl_model.specs.Classes.{SymLessThan};
@@ -57,7 +57,7 @@ impl<'s> TextTokens<'s> {
     ghost use Rattle.wgsl_token.specs.View.{class_of_kind};
     ghost use Rattle.wgsl_scanner.specs.View.{lexeme_view};
     ghost use Rattle.wgsl_templates.specs.Spans.{end_from};
-    ghost use Rattle.wgsl_lexer.specs.TextTokens.{AreBehind, behind, from_next, IsToken, tokens_left, ending_left, BeginWith, BeginAt, IsTaken};
+    ghost use Rattle.wgsl_lexer.specs.TextTokens.{AreBehind, behind, from_next, IsToken, tokens_left, ending_left, BeginWith, BeginAt, BeginWithName, IsTaken};
 
     pub fn new(alloc: Global, source: &'s str) -> Result<TextTokens<'s>, AllocError>
         ensures { IfOk result (λ tokens. IsTokenList (chars source.now) (tokens_left tokens) (ending_left tokens)) }
@@ -102,6 +102,16 @@ impl<'s> TextTokens<'s> {
     {
         match self.next {
             Next::Token { span, .. } => Some(span),
+            Next::Invalid(_) | Next::NoneLeft => None,
+        }
+    }
+
+    /// The name that stands next, if one does.
+    pub fn name(&self) -> Option<&'s str>
+        ensures { IfSome result (λ name. BeginWithName (tokens_left self.now) name.now) }
+    {
+        match self.next {
+            Next::Token { lexeme, .. } => lexeme.name(),
             Next::Invalid(_) | Next::NoneLeft => None,
         }
     }

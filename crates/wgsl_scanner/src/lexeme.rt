@@ -1,6 +1,8 @@
 //! A token whose name or spelling is still a part of the source.
 
-ghost use Rattle.std.specs.Prelude.{◌≡◌, IfOk};
+ghost use Rattle.std.specs.Prelude.{◌≡◌, IfOk, IfSome};
+ghost use Rattle.wgsl_model.specs.Classes.{Ident};
+ghost use Rattle.wgsl_model.specs.Kind.{named};
 ghost use Rattle.wgsl_token.specs.View.{class_of_kind, kind_view};
 ghost use Rattle.wgsl_scanner.specs.View.{lexeme_view};
 
@@ -37,6 +39,23 @@ impl<'s> Lexeme<'s> {
             Lexeme::AbstractFloat(_) => TokenKind::AbstractFloat,
             Lexeme::F32(_) => TokenKind::F32,
             Lexeme::F16(_) => TokenKind::F16,
+        }
+    }
+
+    /// The name, if it is one.
+    pub fn name(self) -> Option<&'s str>
+        ensures { IfSome result (λ name. lexeme_view self.entry ≡ named Ident name.now) }
+    {
+        match self {
+            Lexeme::Ident(name) => Some(name),
+            Lexeme::Plain(_)
+            | Lexeme::ReservedWord(_)
+            | Lexeme::AbstractInt(_)
+            | Lexeme::I32(_)
+            | Lexeme::U32(_)
+            | Lexeme::AbstractFloat(_)
+            | Lexeme::F32(_)
+            | Lexeme::F16(_) => None,
         }
     }
 
