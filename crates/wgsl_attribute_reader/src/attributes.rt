@@ -19,7 +19,7 @@ use crate::arguments::Refusal;
 use crate::checks::make_attribute;
 use std::alloc::Global;
 use wgsl_attribute::{Attribute, AttributeNode, Attributes};
-use wgsl_cursor::{Cursor, Fault, Word};
+use wgsl_cursor::{Cursor, Fault, Word, add};
 use wgsl_error::{Error, ErrorKind};
 use wgsl_expression::ExpressionNode;
 use wgsl_expression_reader::parse_arguments;
@@ -32,7 +32,7 @@ pub fn parse_attributes(alloc: Global, tokens: &mut Cursor) -> Result<Attributes
 {
     let mut attributes = Vec::new(alloc);
     'attributes: while tokens.is_at(TokenKind::SymAttr) {
-        attributes.push(parse_attribute(alloc, tokens)?)?;
+        add(&mut attributes, parse_attribute(alloc, tokens)?)?;
     }
     Ok(attributes)
 }

@@ -10,7 +10,7 @@ ghost use Rattle.wgsl_cursor.specs.Reading.{Parses};
 
 use crate::expression::parse_expression;
 use std::alloc::Global;
-use wgsl_cursor::{Cursor, Fault};
+use wgsl_cursor::{Cursor, Fault, add};
 use wgsl_expression::ExpressionNode;
 use wgsl_token::kind::TokenKind;
 
@@ -22,7 +22,7 @@ pub fn parse_arguments(alloc: Global, tokens: &mut Cursor) -> Result<Vec<Express
     tokens.expect(TokenKind::SymParenLeft)?;
     let mut arguments = Vec::new(alloc);
     'arguments: while !tokens.eat(TokenKind::SymParenRight) {
-        arguments.push(parse_expression(alloc, tokens)?)?;
+        add(&mut arguments, parse_expression(alloc, tokens)?)?;
         if !tokens.eat(TokenKind::SymComma) {
             tokens.expect(TokenKind::SymParenRight)?;
             return Ok(arguments);

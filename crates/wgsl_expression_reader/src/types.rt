@@ -43,7 +43,7 @@ pub fn parse_template_list(alloc: Global, tokens: &mut Cursor) -> Result<Vec<Tem
     ensures { Parses (λ args. map template_arg_view args.items) result tokens.old tokens.new (reader (of template_list)) }
 {
     tokens.expect(TokenKind::TemplateArgsStart)?;
-    let mut arguments = Vec::new(alloc);
+    let mut arguments = Vec::with_capacity(alloc, 1)?;
     'arguments: loop {
         let expression = parse_expression(alloc, tokens)?;
         arguments.push(template_arg(expression))?;

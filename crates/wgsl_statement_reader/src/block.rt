@@ -14,7 +14,7 @@ ghost use Rattle.wgsl_attribute_reader.specs.Behind.{behind_attributes};
 use crate::statement::parse_statement;
 use std::alloc::Global;
 use wgsl_attribute::Attributes;
-use wgsl_cursor::{Cursor, Fault};
+use wgsl_cursor::{Cursor, Fault, add};
 use wgsl_statement::{CompoundStatement, Statement, StatementNode};
 use wgsl_statement_part_reader::parse_block_start;
 use wgsl_token::kind::TokenKind;
@@ -60,7 +60,7 @@ fn parse_statement_rest(alloc: Global, tokens: &mut Cursor) -> Result<Vec<Statem
 {
     let mut statements = Vec::new(alloc);
     'statements: while !tokens.eat(TokenKind::SymBraceRight) {
-        statements.push(parse_statement(alloc, tokens)?)?;
+        add(&mut statements, parse_statement(alloc, tokens)?)?;
     }
     Ok(statements)
 }
