@@ -7,7 +7,7 @@ use Rattle.wgsl_formatter.specs.declared.report.Report.TheVariants.{Printed, Ref
 
 -- the status of the report and its text, for the output or for the errors
 abbrev pub outcome_of : Report → Outcome
-outcome_of (Printed text) = record { status = 0; output = string_bytes text; errors = [] }
+outcome_of (Printed text unit) = record { status = 0; output = string_bytes text; errors = [] }
 outcome_of (Refused line) = complaint 1 (string_bytes line)
 outcome_of NotUtf8 = complaint 2 (codes "input is not UTF-8\n")
 outcome_of OutOfMemory = out_of_memory

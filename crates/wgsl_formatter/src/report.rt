@@ -12,12 +12,14 @@ use std::alloc::{AllocError, Global};
 use std::io::Write;
 use wgsl_error::ErrorKind;
 use wgsl_parser::parse_str;
+use wgsl_unit::TranslationUnit;
 
 /// What is to be written, and the status that goes with it.
 #[derive(Drop)]
 pub enum Report {
-    /// The printed unit, for the output: status 0.
-    Printed(String),
+    /// The printed unit, for the output: status 0. With the unit, so that who ends the program need not
+    /// wait until it is freed.
+    Printed(String, TranslationUnit),
     /// The line of the fault that is named, for the errors: status 1.
     Refused(String),
     /// The source is no text: status 2.
@@ -50,7 +52,7 @@ fn report_on(alloc: Global, source: &[u8]) -> Result<Report, AllocError>
         Ok(unit) => {
             let mut printed = String::with_capacity(alloc, text.len())?;
             write!(printed, "{unit}")?;
-            Ok(Report::Printed(printed))
+            Ok(Report::Printed(printed, unit))
         }
         Err(error) => match error.error {
             ErrorKind::OutOfMemory => Err(AllocError),
@@ -69,7 +71,7 @@ pub fn deliver<W: Write, E: Write>(report: &Report, output: &mut W, errors: &mut
     ensures spared { 0 < (outcome_of report.now).status → output.new ≡ output.old }
 {
     match report {
-        Report::Printed(text) => tell(output, text.as_str().as_bytes(), 0),
+        Report::Printed(text, _) => tell(output, text.as_str().as_bytes(), 0),
         Report::Refused(line) => tell(errors, line.as_bytes(), 1),
         Report::NotUtf8 => tell(errors, b"input is not UTF-8\n", 2),
         Report::OutOfMemory => refuse_memory(errors),
