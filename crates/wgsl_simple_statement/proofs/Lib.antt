@@ -1,5 +1,5 @@
 pub mod Copies
 pub mod Equalities
 pub mod Blocks
-pub mod AtDepth
+pub mod Pieces
 pub mod Writes

@@ -3,7 +3,7 @@
 ghost use Rattle.std.specs.Prelude.{◌≡◌, IfOk};
 ghost use Rattle.std.specs.Fmt.{WritesOnOk};
 ghost use Rattle.wgsl_model.specs.PrintedAttributes.{print_attribute_line};
-ghost use Rattle.wgsl_writer.specs.Writing.{WritesAt};
+ghost use Rattle.wgsl_writer.specs.Writing.{WritesInto};
 ghost use Rattle.wgsl_attribute.specs.View.{attributes_view};
 
 use std::alloc::{AllocError, Global};
@@ -11,7 +11,7 @@ use std::fmt;
 use std::fmt::Write;
 use wgsl_attribute::{Attributes, AttributesBefore};
 use wgsl_span::CloneWith;
-use wgsl_writer::{Depth, write_indented};
+use wgsl_writer::Indented;
 
 pub fn clone_attributes(attributes: &Attributes, alloc: Global) -> Result<Attributes, AllocError>
     ensures { IfOk result (λ copy. attributes_view copy.items ≡ attributes_view attributes.now.items) }
@@ -33,17 +33,21 @@ pub fn write_attributes<W: fmt::Write>(
     write!(f, "{line}")
 }
 
-/// Writes attributes on a line of their own, at a depth.
+/// Writes attributes on a line of their own, into a writer that indents.
 pub fn write_attribute_line<W: fmt::Write>(
     attributes: &Attributes,
-    depth: &Depth<'_>,
-    f: &mut fmt::Formatter<W>,
+    out: &mut Indented<'_, W>,
 ) -> fmt::Result
-    ensures { WritesAt W.write_str_gives depth.now f.old result (print_attribute_line (attributes_view attributes.now.items)) f.new }
+    ensures { WritesInto W.write_str_gives out.old result (print_attribute_line (attributes_view attributes.now.items)) out.new }
 {
+    let list = attributes.as_slice();
+    if list.is_empty() {
+        return Ok(());
+    }
     let line = AttributesBefore {
-        attributes: attributes.as_slice(),
-        end: "\n",
+        attributes: list,
+        end: "",
     };
-    write_indented(&line, depth, f)
+    out.write_value(&line)?;
+    out.write_line_end()
 }

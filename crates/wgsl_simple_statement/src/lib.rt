@@ -14,8 +14,7 @@ mod variants;
 pub use attributes::{clone_attributes, write_attribute_line, write_attributes};
 pub use declaration::{Declaration, DeclarationKind, DeclarationStatement};
 pub use parts::{
-    write_break_if, write_case, write_condition, write_gap, write_head, write_line_end, write_open,
-    write_start,
+    write_break_if, write_case, write_condition, write_gap, write_head, write_open, write_start,
 };
 pub use simple::{
     AssignmentStatement, BreakIfStatement, BreakStatement, CaseSelector, ConstAssert,

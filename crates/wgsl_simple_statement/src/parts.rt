@@ -1,16 +1,14 @@
-//! The parts of statements that hold no statements, written at a depth.
+//! The parts of statements that hold no statements.
 
-ghost use Rattle.std.specs.Prelude.{Some, ◌++◌, codes, map, if◌then◌else◌};
+ghost use Rattle.std.specs.Prelude.{Some, ◌++◌, IsTrue, codes, map, if◌then◌else◌};
 ghost use Rattle.std.specs.Option.{option_map};
-ghost use Rattle.std.specs.Fmt.{WritesOnOk};
 ghost use Rattle.wgsl_model.specs.Joining.{joined};
-ghost use Rattle.wgsl_model.specs.Indentation.{after_line_ends};
 ghost use Rattle.wgsl_model.specs.PrintedAttributes.{print_attribute_line};
 ghost use Rattle.wgsl_model.specs.PrintedExpressions.{print_expression_node};
 ghost use Rattle.wgsl_model.specs.PrintedDeclarations.{print_condition, print_selector};
 ghost use Rattle.wgsl_model.specs.PrintedStatements.{break_if_line};
-ghost use Rattle.wgsl_writer.specs.Depth.{spaces};
-ghost use Rattle.wgsl_writer.specs.Writing.{WritesAt};
+ghost use Rattle.wgsl_writer.specs.LineEnds.{is_one_line};
+ghost use Rattle.wgsl_writer.specs.Writing.{WritesInto};
 ghost use Rattle.wgsl_expression.specs.View.{expression_node_view};
 ghost use Rattle.wgsl_attribute.specs.View.{attributes_view};
 ghost use Rattle.wgsl_simple_statement.specs.View.{break_if_view, selector_view};
@@ -18,99 +16,85 @@ ghost use Rattle.wgsl_simple_statement.specs.View.{break_if_view, selector_view}
 use crate::attributes::write_attribute_line;
 use crate::simple::{BreakIfStatement, CaseSelector};
 use std::fmt;
-use std::fmt::Write;
 use wgsl_attribute::Attributes;
 use wgsl_expression::ExpressionNode;
-use wgsl_writer::{Depth, write_indented, write_joined, write_spaces};
+use wgsl_writer::{Indented, write_joined};
 
 /// Writes the word that a statement begins with, on the line below its attributes.
 pub fn write_start<W: fmt::Write>(
     attributes: &Attributes,
     word: &str,
-    depth: &Depth<'_>,
-    f: &mut fmt::Formatter<W>,
+    out: &mut Indented<'_, W>,
 ) -> fmt::Result
-    ensures { WritesOnOk W.write_str_gives f.old result (after_line_ends (spaces depth.now) (print_attribute_line (attributes_view attributes.now.items)) ++ word.now) f.new }
+    requires { IsTrue (is_one_line word.now) }
+    ensures { WritesInto W.write_str_gives out.old result (print_attribute_line (attributes_view attributes.now.items) ++ word.now) out.new }
 {
-    write_attribute_line(attributes, depth, f)?;
-    f.write_str(word)
+    write_attribute_line(attributes, out)?;
+    out.write_piece(word)
 }
 
 /// Writes the brace that opens a block, on the line below its attributes, and the end of its line.
-pub fn write_open<W: fmt::Write>(
-    attributes: &Attributes,
-    depth: &Depth<'_>,
-    f: &mut fmt::Formatter<W>,
-) -> fmt::Result
-    ensures { WritesOnOk W.write_str_gives f.old result (after_line_ends (spaces depth.now) (print_attribute_line (attributes_view attributes.now.items)) ++ codes "{\n" ++ spaces depth.now) f.new }
+pub fn write_open<W: fmt::Write>(attributes: &Attributes, out: &mut Indented<'_, W>) -> fmt::Result
+    ensures { WritesInto W.write_str_gives out.old result (print_attribute_line (attributes_view attributes.now.items) ++ codes "{\n") out.new }
 {
-    write_attribute_line(attributes, depth, f)?;
-    f.write_str("{\n")?;
-    write_spaces(depth, f)
-}
-
-/// Writes a line end, and the spaces before the next line.
-pub fn write_line_end<W: fmt::Write>(depth: &Depth<'_>, f: &mut fmt::Formatter<W>) -> fmt::Result
-    ensures { WritesOnOk W.write_str_gives f.old result (codes "\n" ++ spaces depth.now) f.new }
-{
-    f.write_str("\n")?;
-    write_spaces(depth, f)
+    write_attribute_line(attributes, out)?;
+    out.write_piece("{")?;
+    out.write_line_end()
 }
 
 /// Writes a word, and the expression between it and a block.
 pub fn write_head<W: fmt::Write>(
     word: &str,
     expression: &ExpressionNode,
-    depth: &Depth<'_>,
-    f: &mut fmt::Formatter<W>,
+    out: &mut Indented<'_, W>,
 ) -> fmt::Result
-    ensures { WritesOnOk W.write_str_gives f.old result (word.now ++ after_line_ends (spaces depth.now) (print_expression_node (expression_node_view expression.now)) ++ codes " ") f.new }
+    requires { IsTrue (is_one_line word.now) }
+    ensures { WritesInto W.write_str_gives out.old result (word.now ++ print_expression_node (expression_node_view expression.now) ++ codes " ") out.new }
 {
-    f.write_str(word)?;
-    write_indented(expression, depth, f)?;
-    f.write_str(" ")
+    out.write_piece(word)?;
+    out.write_value(expression)?;
+    out.write_piece(" ")
 }
 
 fn write_expression<W: fmt::Write>(
     expression: &Option<ExpressionNode>,
-    depth: &Depth<'_>,
-    f: &mut fmt::Formatter<W>,
+    out: &mut Indented<'_, W>,
 ) -> fmt::Result
-    ensures { WritesAt W.write_str_gives depth.now f.old result (print_condition (option_map expression_node_view expression.now)) f.new }
+    ensures { WritesInto W.write_str_gives out.old result (print_condition (option_map expression_node_view expression.now)) out.new }
 {
     match expression {
         None => Ok(()),
-        Some(expression) => write_indented(expression, depth, f),
+        Some(expression) => out.write_value(expression),
     }
 }
 
 /// Writes the condition of a `for`, if there is one, between its semicolons.
 pub fn write_condition<W: fmt::Write>(
     condition: &Option<ExpressionNode>,
-    depth: &Depth<'_>,
-    f: &mut fmt::Formatter<W>,
+    out: &mut Indented<'_, W>,
 ) -> fmt::Result
-    ensures { WritesOnOk W.write_str_gives f.old result (codes "; " ++ after_line_ends (spaces depth.now) (print_condition (option_map expression_node_view condition.now)) ++ codes "; ") f.new }
+    ensures { WritesInto W.write_str_gives out.old result (codes "; " ++ print_condition (option_map expression_node_view condition.now) ++ codes "; ") out.new }
 {
-    f.write_str("; ")?;
-    write_expression(condition, depth, f)?;
-    f.write_str("; ")
+    out.write_piece("; ")?;
+    write_expression(condition, out)?;
+    out.write_piece("; ")
 }
 
+/// Writes `break if`, if it is there, on a line four spaces in.
 pub fn write_break_if<W: fmt::Write>(
     statement: &Option<BreakIfStatement>,
-    depth: &Depth<'_>,
-    f: &mut fmt::Formatter<W>,
+    out: &mut Indented<'_, W>,
 ) -> fmt::Result
-    ensures { WritesAt W.write_str_gives depth.now f.old result (break_if_line (option_map break_if_view statement.now)) f.new }
+    ensures { WritesInto W.write_str_gives out.old result (break_if_line (option_map break_if_view statement.now)) out.new }
 {
     match statement {
         None => Ok(()),
         Some(statement) => {
-            let inner = Depth::Below(&*depth);
-            f.write_str("    ")?;
-            write_indented(statement, &inner, f)?;
-            write_line_end(depth, f)
+            out.indent()?;
+            out.write_piece("    ")?;
+            out.write_value(statement)?;
+            out.unindent();
+            out.write_line_end()
         }
     }
 }
@@ -130,28 +114,23 @@ impl fmt::Display for Selectors<'_> {
 /// Writes what stands before the block of a clause.
 pub fn write_case<W: fmt::Write>(
     selectors: &[CaseSelector],
-    depth: &Depth<'_>,
-    f: &mut fmt::Formatter<W>,
+    out: &mut Indented<'_, W>,
 ) -> fmt::Result
-    ensures { WritesOnOk W.write_str_gives f.old result (codes "case " ++ after_line_ends (spaces depth.now) (joined (codes ", ") (map print_selector (map selector_view selectors.now))) ++ codes " ") f.new }
+    ensures { WritesInto W.write_str_gives out.old result (codes "case " ++ joined (codes ", ") (map print_selector (map selector_view selectors.now)) ++ codes " ") out.new }
 {
-    f.write_str("case ")?;
-    write_indented(&Selectors(selectors), depth, f)?;
-    f.write_str(" ")
+    out.write_piece("case ")?;
+    out.write_value(&Selectors(selectors))?;
+    out.write_piece(" ")
 }
 
 /// Writes what stands before a text in a block: before the first the four spaces, before each other a
-/// line end too.
-pub fn write_gap<W: fmt::Write>(
-    first: bool,
-    inner: &Depth<'_>,
-    f: &mut fmt::Formatter<W>,
-) -> fmt::Result
-    ensures { WritesOnOk W.write_str_gives f.old result (if first then codes "    " else codes "\n" ++ spaces inner.now) f.new }
+/// line end.
+pub fn write_gap<W: fmt::Write>(first: bool, out: &mut Indented<'_, W>) -> fmt::Result
+    ensures { WritesInto W.write_str_gives out.old result (if first then codes "    " else codes "\n") out.new }
 {
     if first {
-        f.write_str("    ")
+        out.write_piece("    ")
     } else {
-        write_line_end(inner, f)
+        out.write_line_end()
     }
 }

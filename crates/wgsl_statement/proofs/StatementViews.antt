@@ -26,6 +26,10 @@ use denote.Hole.Carrier as Carrier
 use Rattle.wgsl_simple_statement.specs.View as simple
 use Rattle.wgsl_statement.specs.View as V
 
+pub is_empty : V.statement_view variant.Void ≡ plain.unattributed plain.void
+unfolding roll-Statement Carrier.roll
+is_empty = folds.fold-roll-Statement plain.Statement plain.CompoundStatement plain.ContinuingStatement plain.ElseClause plain.ElseIfClause (Attributed plain.ForStatement) plain.IfClause (Attributed plain.IfStatement) (Attributed plain.LoopStatement) plain.SwitchClause (Attributed plain.SwitchStatement) (Attributed plain.WhileStatement) V.statement_step V.compound_statement_step V.continuing_statement_step V.else_clause_step V.else_if_clause_step V.for_statement_step V.if_clause_step V.if_statement_step V.loop_statement_step V.switch_clause_step V.switch_statement_step V.while_statement_step layer.Void
+
 pub is_compound : (x : CompoundStatement) → V.statement_view (variant.Compound x) ≡ plain.block_statement (V.compound_statement_view x)
 unfolding roll-Statement Carrier.roll
 is_compound x = folds.fold-roll-Statement plain.Statement plain.CompoundStatement plain.ContinuingStatement plain.ElseClause plain.ElseIfClause (Attributed plain.ForStatement) plain.IfClause (Attributed plain.IfStatement) (Attributed plain.LoopStatement) plain.SwitchClause (Attributed plain.SwitchStatement) (Attributed plain.WhileStatement) V.statement_step V.compound_statement_step V.continuing_statement_step V.else_clause_step V.else_if_clause_step V.for_statement_step V.if_clause_step V.if_statement_step V.loop_statement_step V.switch_clause_step V.switch_statement_step V.while_statement_step (layer.Compound x)

@@ -14,13 +14,16 @@ use crate::write_if::{write_else_clause, write_else_if_clause, write_if, write_i
 use crate::write_loops::{write_continuing, write_for, write_loop, write_while};
 use crate::write_switch::{write_switch, write_switch_clause};
 use std::fmt;
-use wgsl_writer::Depth;
+use wgsl_writer::Indented;
 
 impl fmt::Display for Statement {
     ghost output = { λ statement. Some (print_statement (statement_view statement)) };
 
     fn fmt<W: fmt::Write>(&self, f: &mut fmt::Formatter<W>) -> fmt::Result {
-        write_statement(self, &Depth::Top, f)
+        let mut out = Indented::new(f);
+        let outcome = write_statement(self, &mut out);
+        out.into_inner();
+        outcome
     }
 }
 
@@ -28,7 +31,10 @@ impl fmt::Display for CompoundStatement {
     ghost output = { λ block. Some (print_compound (compound_statement_view block)) };
 
     fn fmt<W: fmt::Write>(&self, f: &mut fmt::Formatter<W>) -> fmt::Result {
-        write_compound(self, &Depth::Top, f)
+        let mut out = Indented::new(f);
+        let outcome = write_compound(self, &mut out);
+        out.into_inner();
+        outcome
     }
 }
 
@@ -36,7 +42,10 @@ impl fmt::Display for IfStatement {
     ghost output = { λ statement. Some (print_attributed print_if (if_statement_view statement)) };
 
     fn fmt<W: fmt::Write>(&self, f: &mut fmt::Formatter<W>) -> fmt::Result {
-        write_if(self, &Depth::Top, f)
+        let mut out = Indented::new(f);
+        let outcome = write_if(self, &mut out);
+        out.into_inner();
+        outcome
     }
 }
 
@@ -44,7 +53,10 @@ impl fmt::Display for IfClause {
     ghost output = { λ clause. Some (print_if_clause (if_clause_view clause)) };
 
     fn fmt<W: fmt::Write>(&self, f: &mut fmt::Formatter<W>) -> fmt::Result {
-        write_if_clause(self, &Depth::Top, f)
+        let mut out = Indented::new(f);
+        let outcome = write_if_clause(self, &mut out);
+        out.into_inner();
+        outcome
     }
 }
 
@@ -52,7 +64,10 @@ impl fmt::Display for ElseIfClause {
     ghost output = { λ clause. Some (print_else_if_clause (else_if_clause_view clause)) };
 
     fn fmt<W: fmt::Write>(&self, f: &mut fmt::Formatter<W>) -> fmt::Result {
-        write_else_if_clause(self, &Depth::Top, f)
+        let mut out = Indented::new(f);
+        let outcome = write_else_if_clause(self, &mut out);
+        out.into_inner();
+        outcome
     }
 }
 
@@ -60,7 +75,10 @@ impl fmt::Display for ElseClause {
     ghost output = { λ clause. Some (print_else_clause (else_clause_view clause)) };
 
     fn fmt<W: fmt::Write>(&self, f: &mut fmt::Formatter<W>) -> fmt::Result {
-        write_else_clause(self, &Depth::Top, f)
+        let mut out = Indented::new(f);
+        let outcome = write_else_clause(self, &mut out);
+        out.into_inner();
+        outcome
     }
 }
 
@@ -68,7 +86,10 @@ impl fmt::Display for SwitchStatement {
     ghost output = { λ statement. Some (print_attributed print_switch (switch_statement_view statement)) };
 
     fn fmt<W: fmt::Write>(&self, f: &mut fmt::Formatter<W>) -> fmt::Result {
-        write_switch(self, &Depth::Top, f)
+        let mut out = Indented::new(f);
+        let outcome = write_switch(self, &mut out);
+        out.into_inner();
+        outcome
     }
 }
 
@@ -76,7 +97,10 @@ impl fmt::Display for SwitchClause {
     ghost output = { λ clause. Some (print_switch_clause (switch_clause_view clause)) };
 
     fn fmt<W: fmt::Write>(&self, f: &mut fmt::Formatter<W>) -> fmt::Result {
-        write_switch_clause(self, &Depth::Top, f)
+        let mut out = Indented::new(f);
+        let outcome = write_switch_clause(self, &mut out);
+        out.into_inner();
+        outcome
     }
 }
 
@@ -84,7 +108,10 @@ impl fmt::Display for LoopStatement {
     ghost output = { λ statement. Some (print_attributed print_loop (loop_statement_view statement)) };
 
     fn fmt<W: fmt::Write>(&self, f: &mut fmt::Formatter<W>) -> fmt::Result {
-        write_loop(self, &Depth::Top, f)
+        let mut out = Indented::new(f);
+        let outcome = write_loop(self, &mut out);
+        out.into_inner();
+        outcome
     }
 }
 
@@ -92,7 +119,10 @@ impl fmt::Display for ContinuingStatement {
     ghost output = { λ statement. Some (print_continuing (continuing_statement_view statement)) };
 
     fn fmt<W: fmt::Write>(&self, f: &mut fmt::Formatter<W>) -> fmt::Result {
-        write_continuing(self, &Depth::Top, f)
+        let mut out = Indented::new(f);
+        let outcome = write_continuing(self, &mut out);
+        out.into_inner();
+        outcome
     }
 }
 
@@ -100,7 +130,10 @@ impl fmt::Display for ForStatement {
     ghost output = { λ statement. Some (print_attributed print_for (for_statement_view statement)) };
 
     fn fmt<W: fmt::Write>(&self, f: &mut fmt::Formatter<W>) -> fmt::Result {
-        write_for(self, &Depth::Top, f)
+        let mut out = Indented::new(f);
+        let outcome = write_for(self, &mut out);
+        out.into_inner();
+        outcome
     }
 }
 
@@ -108,6 +141,9 @@ impl fmt::Display for WhileStatement {
     ghost output = { λ statement. Some (print_attributed print_while (while_statement_view statement)) };
 
     fn fmt<W: fmt::Write>(&self, f: &mut fmt::Formatter<W>) -> fmt::Result {
-        write_while(self, &Depth::Top, f)
+        let mut out = Indented::new(f);
+        let outcome = write_while(self, &mut out);
+        out.into_inner();
+        outcome
     }
 }

@@ -1,41 +1,36 @@
--- Texts that are not empty, and their indentation.
-use Rattle.std.proofs.Common.{ℕ, ◌≡◌, refl, ◌==◌, true≢false, false, List, [], ◌∷◌, ◌++◌, length, codes}
+-- The texts of members, none of which is empty, one more at a time.
+use Rattle.std.proofs.Common.{ℕ, ◌+◌, ◌<◌, ◌≡◌, sym, ◌∙◌, ap, List, [], ◌∷◌, ◌++◌, length, take, map, get_or, codes}
+use Rattle.std.proofs.lemmas.List.{take_more, map-append}
+use Rattle.wgsl_model.specs.Spanned as plain_tree
 use Rattle.wgsl_model.specs.Units as plain
-use Rattle.wgsl_model.specs.Indentation.{after_line_ends, indented}
 use Rattle.wgsl_model.specs.PrintedExpressions.{print_type}
 use Rattle.wgsl_model.specs.PrintedAttributes.{print_attribute_line}
 use Rattle.wgsl_model.specs.PrintedUnits.{print_member}
 use Rattle.wgsl_span.specs.declared.Spanned.{Spanned}
 use Rattle.wgsl_span.specs.Spanned.{spanned_node}
+use Rattle.wgsl_span.specs.View.{spanned_view}
+use Rattle.wgsl_writer.proofs.Within.{IsFilled, left_filled, right_filled}
+use Rattle.wgsl_simple_statement.proofs.Blocks.{BeginsFilled, begins}
 use Rattle.wgsl_unit.specs.declared.unit.StructMember.{StructMember}
 use Rattle.wgsl_unit.specs.View.{member_view}
-use Rattle.wgsl_unit.specs.Printed.{print_members}
 
-abbrev IsFilled : List ℕ → Type 0
-IsFilled [] = ⊥
-IsFilled (b ∷ bs) = Unit {0}
-
-left_filled : (xs ys : List ℕ) → IsFilled xs → IsFilled (xs ++ ys)
-left_filled [] ys h = absurd h
-left_filled (x ∷ xs) ys h = tt
-
-right_filled : (xs ys : List ℕ) → IsFilled ys → IsFilled (xs ++ ys)
-right_filled [] ys h = h
-right_filled (x ∷ xs) ys h = tt
-
-filled_indented : (bs : List ℕ) → IsFilled bs → codes "    " ++ after_line_ends (codes "    ") bs ≡ indented bs
-filled_indented [] h = absurd h
-filled_indented (b ∷ bs) h = refl
-
-member_filled : (m : plain.StructMember) → IsFilled (print_member m)
+pub member_filled : (m : plain.StructMember) → IsFilled (print_member m)
 member_filled m =
     let named = print_attribute_line m.attributes ++ m.ident in
     left_filled (named ++ codes ": ") (print_type m.ty) (right_filled named (codes ": ") tt)
 
-members_filled : (members : List (Spanned StructMember)) → (length members == 0) ≡ false → IsFilled (print_members members)
-members_filled [] e = absurd (true≢false e)
-members_filled (m ∷ ms) e = left_filled (print_member (member_view (spanned_node m))) _ (member_filled (member_view (spanned_node m)))
+abbrev pub member_texts : List (Spanned StructMember) → List (List ℕ)
+member_texts members = map (λ (m : plain_tree.Spanned plain.StructMember). print_member m.node) (map (spanned_view member_view) members)
 
--- where there are members, their text is indented from its first line on
-pub members_indented : (members : List (Spanned StructMember)) → (length members == 0) ≡ false → codes "    " ++ after_line_ends (codes "    ") (print_members members) ≡ indented (print_members members)
-members_indented members e = filled_indented (print_members members) (members_filled members e)
+pub members_filled : (members : List (Spanned StructMember)) → BeginsFilled (member_texts members)
+members_filled [] = tt
+members_filled (m ∷ ms) = begins (print_member (member_view (spanned_node m))) (member_texts ms) (member_filled (member_view (spanned_node m)))
+
+pub members_more : (xs : List (Spanned StructMember)) (k : ℕ) (x : Spanned StructMember) → k < length xs → x ≡ get_or xs k x
+    → member_texts (take k xs) ++ (print_member (member_view (spanned_node x)) ∷ []) ≡ member_texts (take (k + 1) xs)
+members_more xs k x inside at =
+    let view = spanned_view member_view in
+    let text : plain_tree.Spanned plain.StructMember → List ℕ = λ m. print_member m.node in
+    sym (ap member_texts (take_more xs k x inside ∙ ap (λ (y : Spanned StructMember). take k xs ++ (y ∷ [])) (sym at))
+    ∙ ap (map text) (map-append view (take k xs) (x ∷ []))
+    ∙ map-append text (map view (take k xs)) (view x ∷ []))

@@ -1,6 +1,6 @@
 //! The printed texts.
 
-ghost use Rattle.std.specs.Prelude.{Some, ◌++◌, codes, map, string_bytes};
+ghost use Rattle.std.specs.Prelude.{Some, ◌++◌, codes, map, if◌then◌else◌, string_bytes};
 ghost use Rattle.std.specs.Option.{option_map};
 ghost use Rattle.std.specs.Fmt.{WritesOnOk};
 ghost use Rattle.wgsl_model.specs.Joining.{joined};
@@ -12,6 +12,7 @@ ghost use Rattle.wgsl_expression.specs.View.{ident_name, type_expression_view};
 ghost use Rattle.wgsl_attribute.specs.View.{attributes_view};
 ghost use Rattle.wgsl_unit.specs.View.{global_directive_view, diagnostic_directive_view, enable_directive_view, requires_directive_view, type_alias_view, struct_view, member_view, parameter_view, function_view, global_declaration_view, unit_view};
 ghost use Rattle.wgsl_unit.specs.Printed.{print_members};
+ghost use Rattle.wgsl_writer.specs.Writing.{WritesInto};
 
 use crate::unit::{
     DiagnosticDirective, EnableDirective, FormalParameter, Function, GlobalDeclaration,
@@ -23,7 +24,7 @@ use std::fmt::Write;
 use wgsl_attribute::{Attributes, AttributesBefore};
 use wgsl_expression::{Ident, TypeExpression};
 use wgsl_simple_statement::write_attributes;
-use wgsl_writer::{Depth, write_indented, write_joined};
+use wgsl_writer::{Indented, write_joined};
 
 impl fmt::Display for TranslationUnit {
     ghost output = { λ unit. Some (print_unit (unit_view unit)) };
@@ -172,22 +173,40 @@ fn write_members<W: fmt::Write>(
 ) -> fmt::Result
     ensures { WritesOnOk W.write_str_gives f.old result (indented (print_members members.now)) f.new }
 {
-    if members.is_empty() {
-        return Ok(());
-    }
-    f.write_str("    ")?;
-    write_indented(&Members(members), &Depth::Below(&Depth::Top), f)
+    let mut out = Indented::new(f);
+    let outcome = write_member_lines(members, &mut out);
+    out.into_inner();
+    outcome
 }
 
-/// Members with a `,` and a line end between each two.
-#[derive(Drop)]
-struct Members<'a>(&'a [StructMemberNode]);
+/// Writes the lines of members, with a `,` and a line end between each two.
+fn write_member_lines<W: fmt::Write>(
+    members: &[StructMemberNode],
+    out: &mut Indented<'_, W>,
+) -> fmt::Result
+    ensures { WritesInto W.write_str_gives out.old result (indented (print_members members.now)) out.new }
+{
+    out.indent()?;
+    let mut first = true;
+    'lines: for member in members {
+        write_member_gap(first, out)?;
+        out.write_value(member)?;
+        first = false;
+    }
+    out.unindent();
+    Ok(())
+}
 
-impl fmt::Display for Members<'_> {
-    ghost output = { λ list. Some (print_members list.0.now) };
-
-    fn fmt<W: fmt::Write>(&self, f: &mut fmt::Formatter<W>) -> fmt::Result {
-        write_joined(self.0, ",\n", f)
+/// Writes what stands before a member: before the first the four spaces, before each other a `,` and
+/// a line end.
+fn write_member_gap<W: fmt::Write>(first: bool, out: &mut Indented<'_, W>) -> fmt::Result
+    ensures { WritesInto W.write_str_gives out.old result (if first then codes "    " else codes ",\n") out.new }
+{
+    if first {
+        out.write_piece("    ")
+    } else {
+        out.write_piece(",")?;
+        out.write_line_end()
     }
 }
 

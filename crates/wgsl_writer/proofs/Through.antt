@@ -1,38 +1,44 @@
--- What goes through an `Indented`.
-use Rattle.std.proofs.Common.{ℕ, ◌≡◌, sym, ◌∙◌, ap, subst, List, [], ◌∷◌, Option, None, Some, Result, Ok, Err}
+-- Texts that go into an `Indented`, one after another.
+use Rattle.std.proofs.Common.{ℕ, ◌≡◌, refl, sym, ◌∙◌, subst, List, [], ◌∷◌, ◌++◌, Option, None, Some, Result, Ok, Err, true≢false, IfSome}
 use Rattle.std.proofs.Output.{has_written_append, has_written_of_eq, writes_in_calls_nil}
 use Rattle.std.specs.List.{FoldsTo, concat}
-use Rattle.std.specs.Option.{option_map}
 use Rattle.std.specs.Result.{OnOk}
-use Rattle.std.specs.Fmt.{HasWritten, IsPlainFormatter, WritesInCalls, WritesText, DisplaysOnOk}
-use Rattle.std.specs.declared.fmt.Formatter.{Formatter}
+use Rattle.std.specs.Fmt.{HasWritten, WritesText}
 use Rattle.std.specs.declared.fmt.Error.{Error}
-use Rattle.wgsl_writer.specs.declared.Indented.{Indented}
+use Rattle.wgsl_writer.specs.declared.indented.Indented.{Indented}
 use Rattle.wgsl_model.specs.Indentation.{after_line_ends}
 use Rattle.wgsl_writer.specs.Depth.{spaces}
+use Rattle.wgsl_writer.specs.Writing.{Wrote, WritesInto}
 use Rattle.wgsl_writer.proofs.Indents.{after_append}
 
 module _ {W : Type 0} (took : W → List ℕ → W → Type 0) where
-  -- what one call of `write_str` gives
-  abbrev pub Took : Indented W → List ℕ → Indented W → Type 0
-  Took s bs t = (t.depth ≡ s.depth) × (t.to.ghost_name ≡ s.to.ghost_name) × (IsPlainFormatter s.to.now → HasWritten took s.to.now (after_line_ends (spaces s.depth.now) bs) t.to.now)
+  -- nothing was written
+  pub wrote_nothing : (s : Indented W) → Wrote took s [] s
+  wrote_nothing s = record { depth = refl; lent = refl; written = λ plain. record { wrote = writes_in_calls_nil took s.to.now.writer; plain = plain } }
 
-  calls : (s : Indented W) (xs : List (List ℕ)) (t : Indented W) → FoldsTo Took s xs t → (t.to.ghost_name ≡ s.to.ghost_name) × (IsPlainFormatter s.to.now → HasWritten took s.to.now (after_line_ends (spaces s.depth.now) (concat xs)) t.to.now)
-  calls s [] t p = (ap (λ (x : Indented W). x.to.ghost_name) (sym p), λ plain. record { wrote = subst (λ (x : Indented W). WritesInCalls took s.to.now.writer [] x.to.now.writer) p (writes_in_calls_nil took s.to.now.writer); plain = subst (λ (x : Indented W). IsPlainFormatter x.to.now) p plain })
-  calls s (x ∷ xs) t p =
-      let rest = calls p.0 xs t p.2 in
-      let gap = spaces s.depth.now in (
-        rest.0 ∙ p.1.1,
-        λ plain.
-            let one = p.1.2 plain in
-            let two = subst (λ (d : _). HasWritten took p.0.to.now (after_line_ends (spaces d.now) (concat xs)) t.to.now) p.1.0 (rest.1 one.plain) in
-            has_written_of_eq took s.to.now _ _ t.to.now (sym (after_append gap x (concat xs))) (has_written_append took s.to.now _ p.0.to.now _ t.to.now one two),
-      )
+  -- one text, and the next behind it
+  pub wrote_append : (a : Indented W) (xs : List ℕ) (b : Indented W) (ys : List ℕ) (c : Indented W) → Wrote took a xs b → Wrote took b ys c → Wrote took a (xs ++ ys) c
+  wrote_append a xs b ys c p q =
+      let gap = spaces a.depth in
+      record {
+        depth = q.depth ∙ p.depth;
+        lent = q.lent ∙ p.lent;
+        written = λ plain.
+            let one = p.written plain in
+            let two = subst (λ (d : ℕ). HasWritten took b.to.now (after_line_ends (spaces d) ys) c.to.now) p.depth (q.written one.plain) in
+            has_written_of_eq took a.to.now _ _ c.to.now (sym (after_append gap xs ys)) (has_written_append took a.to.now _ b.to.now _ c.to.now one two);
+      }
 
-  pub displays_through : (s t : Indented W) (o : Option (List ℕ)) (r : Result (Unit {0}) Error) (f : Formatter W) → OnOk r (WritesText Took s o t) → (t.to.ghost_name ≡ s.to.ghost_name → f ≡ t.to.now) → DisplaysOnOk took s.to.now r (option_map (after_line_ends (spaces s.depth.now)) o) f
-  displays_through s t None r f w back = tt
-  displays_through s t (Some bs) (Err e) f w back = λ plain ok. cc
-  displays_through s t (Some bs) (Ok u) f w back = λ plain ok.
-      let whole = calls s w.parts t w.calls in
-      subst (λ (x : Formatter W). HasWritten took s.to.now (after_line_ends (spaces s.depth.now) bs) x) (sym (back whole.0))
-      (has_written_of_eq took s.to.now _ _ t.to.now (ap (after_line_ends (spaces s.depth.now)) w.whole) (whole.1 plain))
+  -- the same text in another form
+  pub wrote_of_eq : (a : Indented W) (xs ys : List ℕ) (b : Indented W) → xs ≡ ys → Wrote took a xs b → Wrote took a ys b
+  wrote_of_eq a xs ys b e = subst (λ (text : List ℕ). Wrote took a text b) e
+
+  calls : (s : Indented W) (xs : List (List ℕ)) (t : Indented W) → FoldsTo (Wrote took) s xs t → Wrote took s (concat xs) t
+  calls s [] t p = subst (λ (x : Indented W). Wrote took s [] x) p (wrote_nothing s)
+  calls s (x ∷ xs) t p = wrote_append s x p.0 (concat xs) t p.1 (calls p.0 xs t p.2)
+
+  -- what a value writes by calls of `write_str`
+  pub value_written : (s t : Indented W) (o : Option (List ℕ)) (r : Result (Unit {0}) Error) → OnOk r (WritesText (Wrote took) s o t) → IfSome o (λ text. WritesInto took s r text t)
+  value_written s t None r w = tt
+  value_written s t (Some bs) (Err e) w = λ ok. absurd (true≢false (sym ok))
+  value_written s t (Some bs) (Ok u) w = λ ok. wrote_of_eq s (concat w.parts) bs t w.whole (calls s w.parts t w.calls)

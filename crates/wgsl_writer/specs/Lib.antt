@@ -1,3 +1,4 @@
 pub mod Joined
 pub mod Depth
+pub mod LineEnds
 pub mod Writing

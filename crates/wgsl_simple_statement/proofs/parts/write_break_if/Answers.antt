@@ -1,18 +1,29 @@
-use Rattle.std.proofs.Common.{refl, sym, ap, ◌∙◌, Option}
-use Rattle.std.proofs.Output.{has_written_of_eq}
+use Rattle.std.proofs.Common.{refl, sym, ap, ℕ, List, Option}
 use Rattle.std.specs.Option.{option_map}
-use Rattle.wgsl_model.specs.Indentation.{after_line_ends}
+use Rattle.wgsl_model.specs.PrintedDeclarations.{print_attributed, print_break_if}
 use Rattle.wgsl_model.specs.PrintedStatements.{break_if_line}
-use Rattle.wgsl_writer.specs.Depth.{spaces}
+use Rattle.wgsl_writer.proofs.Through.{wrote_nothing, wrote_of_eq}
+use Rattle.wgsl_writer.proofs.Within.{begun_filled, wrote_within}
 use Rattle.wgsl_simple_statement.specs.declared.simple.BreakIfStatement.{BreakIfStatement}
 use Rattle.wgsl_simple_statement.specs.View.{break_if_view}
-use Rattle.wgsl_simple_statement.proofs.AtDepth.{break_if_is}
+use Rattle.wgsl_simple_statement.proofs.Pieces.{break_if_filled}
 use Rattle.wgsl_simple_statement.proofs.Writes.{◌▸◌}
 use Rattle.wgsl_simple_statement.proofs.parts.write_break_if.Goals as goal
 
-pub returns-in_ok-write_indented-in-Some : goal.returns-in_ok-write_indented-in-Some
-returns-in_ok-write_indented-in-Some g c = λ plain ok.
-    let gap = spaces c.args.depth.now in
-    let text = λ (o : Option BreakIfStatement). after_line_ends gap (break_if_line (option_map break_if_view o)) in
-    has_written_of_eq _ _ _ _ _ (break_if_is gap (break_if_view c.in-Some.statement) ∙ sym (ap text c.in-Some.is))
-    (c.in_ok-write_str-in-Some.ensures.writes plain refl ▸ (λ p. c.in_ok-write_indented-in-Some.ensures p refl) ▸ (λ p. c.write_line_end.ensures p ok))
+-- `break if`, if it is there
+abbrev text : Option BreakIfStatement → List ℕ
+text o = break_if_line (option_map break_if_view o)
+
+pub returns-in-None : goal.returns-in-None
+returns-in-None g c = λ ok. wrote_of_eq _ _ _ _ _ (sym (ap text c.in-None.is)) (wrote_nothing g.W.Write.write_str_gives _)
+
+pub returns-in_ok-write_value-in-Some : goal.returns-in_ok-write_value-in-Some
+returns-in_ok-write_value-in-Some g c = λ ok.
+    let took = g.W.Write.write_str_gives in
+    let b = break_if_view c.in-Some.statement in
+    let line = print_attributed print_break_if b in
+    wrote_of_eq _ _ _ _ _ (sym (ap text c.in-Some.is))
+    (wrote_within took _ _ _ _ line (c.in_ok-indent-in-Some.ensures refl)
+    (wrote_of_eq _ _ _ _ _ (begun_filled line (break_if_filled b)) (c.in_ok-write_piece-in-Some.ensures refl ▸ c.in_ok-write_value-in-Some.ensures refl))
+    c.unindent.ensures
+    ▸ c.write_line_end.ensures ok)

@@ -1,9 +1,6 @@
-use Rattle.std.proofs.Output.{has_written_of_eq}
-use Rattle.wgsl_model.specs.PrintedDeclarations.{print_attributed}
-use Rattle.wgsl_model.specs.PrintedStatements.{print_if}
-use Rattle.wgsl_statement.specs.View.{if_statement_view}
-use Rattle.wgsl_simple_statement.proofs.Blocks.{after_nothing}
+use Rattle.std.proofs.Common.{rules}
+use Rattle.wgsl_writer.proofs.Within.{printed}
 use Rattle.wgsl_statement.proofs.display.IfStatementDisplay.fmt.Goals as goal
 
 pub returns-clause-writes : goal.returns-clause-writes
-returns-clause-writes g c = λ plain ok. has_written_of_eq _ _ _ _ _ (after_nothing (print_attributed print_if (if_statement_view c.args.self.now))) (c.write_if.ensures plain ok)
+returns-clause-writes g c = printed g.W.Write.write_str_gives _ _ _ c.into_inner.result _ _ _ c.new-out.ensures.to c.new-out.ensures.depth c.write_if-outcome.ensures c.into_inner.ensures (λ same. search rules)
