@@ -1,0 +1,142 @@
+-- The laid-out text of pieces: each piece as it stands, and before it nothing, a space, or a line end, an empty line at most, and the blank space of the line's depth.
+use Rattle.std.specs.Prelude.{ℕ, zero, suc, Bool, true, false, not, ◌&&◌, ◌||◌, ◌==◌, nat_lt, if◌then◌else◌, List, [], ◌∷◌, ◌++◌, codes}
+use Rattle.wgsl_model.specs.Classes.{LineComment, BlockComment}
+use Rattle.wgsl_model.specs.Pattern.{is_empty}
+use Rattle.wgsl_model.specs.Trivia.{after_trivia, outside}
+use Rattle.wgsl_tidy_model.specs.Pieces.{Piece}
+use Rattle.wgsl_tidy_model.specs.Roles.{Role, beginning, opening, template_start, template_end, opens, closes}
+use Rattle.wgsl_tidy_model.specs.Joints.{Joint, line, nothing, space, nothing_or_line, space_or_line, is_tight, joint}
+use Rattle.wgsl_tidy_model.specs.Open.{State, start, in_brackets, depth_of, comment_depth, role_in, behind_token}
+
+-- nothing, a space, or a line end, with an empty line or without, and the blank space of a line so deep
+pub data Gap : Type 0 where
+  closed blank : Gap
+  broken : Bool → ℕ → Gap
+
+-- the last piece is a token, a line comment or a block comment; where there is none, it counts as a token
+pub data Last : Type 0 where
+  token line_comment block_comment : Last
+
+-- the state behind the last token, and what the last piece is
+pub record Spot : Type 0 where
+  pub state : State
+  pub last : Last
+
+-- ---- which gap stands before a piece; n is how many line ends stand there, and break what a line end is there
+
+-- a line end of the author's stays
+abbrev pub kept : ℕ → Gap → Gap → Gap
+kept zero break other = other
+kept (suc n) break other = break
+
+-- by what stands between two tokens
+abbrev pub joint_gap : Joint → ℕ → Gap → Gap
+joint_gap line n break = break
+joint_gap nothing n break = closed
+joint_gap space n break = blank
+joint_gap nothing_or_line n break = kept n break closed
+joint_gap space_or_line n break = kept n break blank
+
+-- what nothing stands before, behind a comment too
+abbrev pub closes_up : Role → Bool
+closes_up template_end = true
+closes_up right = is_tight right
+
+-- between a block comment and a token, by what stands between that and the token before: a line end of the author's stays
+abbrev pub behind_comment : Joint → Role → Joint
+behind_comment line right = line
+behind_comment joint right = if closes_up right then nothing_or_line else space_or_line
+
+-- before a token: what stands between it and the token before, by what they do
+abbrev pub token_gap : Bool → Last → Role → Role → ℕ → Gap → Gap
+token_gap in_brackets token beginning right n break = closed
+token_gap in_brackets token left right n break = joint_gap (joint in_brackets left right) n break
+token_gap in_brackets line_comment left right n break = break
+token_gap in_brackets block_comment left right n break = joint_gap (behind_comment (joint in_brackets left right) right) n break
+
+-- before a comment: a space, but nothing behind an opening bracket, or a line end of the author's
+abbrev pub comment_gap : Last → Role → ℕ → Gap → Gap
+comment_gap token beginning n break = closed
+comment_gap token opening n break = kept n break closed
+comment_gap token template_start n break = kept n break closed
+comment_gap token left n break = kept n break blank
+comment_gap line_comment left n break = break
+comment_gap block_comment left n break = kept n break blank
+
+-- the last piece is an opening bracket
+abbrev pub is_behind_opening : Last → Role → Bool
+is_behind_opening token left = opens left
+is_behind_opening last left = false
+
+-- a line end before what does so: an empty line of the author's stays, but neither behind an opening bracket nor before a closing one
+abbrev pub line_end : Last → Role → Role → ℕ → ℕ → Gap
+line_end last left right n depth = broken (nat_lt 1 n && not (is_behind_opening last left || closes right)) depth
+
+-- a comment
+abbrev pub is_comment : ℕ → Bool
+is_comment class = class == LineComment || class == BlockComment
+
+-- what the first token of these pieces does, or nothing
+abbrev pub next_role : State → List Piece → Role
+next_role state [] = beginning
+next_role state (p ∷ ps) = if is_comment p.class then next_role state ps else role_in state p.class
+
+-- the gap before a piece; the first token from there on does so
+abbrev pub gap_before : Spot → Role → Piece → Gap
+gap_before spot right p =
+    if is_comment p.class then comment_gap spot.last spot.state.last p.line_ends (line_end spot.last spot.state.last beginning p.line_ends (comment_depth spot.state right))
+    else token_gap (in_brackets spot.state.opened) spot.last spot.state.last right p.line_ends (line_end spot.last spot.state.last right p.line_ends (depth_of spot.state right))
+
+-- ---- the whole text
+
+-- blank space so deep
+abbrev pub indentation : ℕ → List ℕ
+indentation zero = []
+indentation (suc depth) = codes "    " ++ indentation depth
+
+abbrev pub gap_text : Gap → List ℕ
+gap_text closed = []
+gap_text blank = codes " "
+gap_text (broken true depth) = codes "\n\n" ++ indentation depth
+gap_text (broken false depth) = codes "\n" ++ indentation depth
+
+-- how deep a line is in which a piece stands behind a gap
+abbrev pub depth_behind : Gap → ℕ → ℕ
+depth_behind (broken empty depth) before = depth
+depth_behind gap before = before
+
+-- the state in a line of another depth
+abbrev pub in_line_of : State → ℕ → State
+in_line_of state depth = record { opened = state.opened; line = depth; last = state.last; structure = state.structure }
+
+-- behind a piece
+abbrev pub behind_piece : Spot → Role → Gap → Piece → Spot
+behind_piece spot right gap p =
+    if p.class == LineComment then record { state = in_line_of spot.state (depth_behind gap spot.state.line); last = line_comment }
+    else if p.class == BlockComment then record { state = in_line_of spot.state (depth_behind gap spot.state.line); last = block_comment }
+    else record { state = behind_token spot.state (depth_behind gap spot.state.line) p.class right; last = token }
+
+-- a block comment that is not closed: a token behind it would be a part of it
+abbrev pub is_unclosed : Piece → Bool
+is_unclosed p = p.class == BlockComment && is_empty (after_trivia outside (p.text ++ codes ";"))
+
+-- what stands behind the last piece: a line end, but not where it would be a part of that
+abbrev pub end_behind : Piece → List ℕ
+end_behind p = if is_unclosed p then [] else codes "\n"
+
+-- what stands behind a piece before the gap of the next: nothing, where there is one
+abbrev pub ending : Piece → List Piece → List ℕ
+ending p [] = end_behind p
+ending p (q ∷ ps) = []
+
+-- pieces laid out behind a spot
+abbrev pub laid_from : Spot → List Piece → List ℕ
+laid_from spot [] = []
+laid_from spot (p ∷ ps) =
+    let right = next_role spot.state (p ∷ ps) in
+    let gap = gap_before spot right p in
+    gap_text gap ++ (p.text ++ (ending p ps ++ laid_from (behind_piece spot right gap p) ps))
+
+-- the laid-out text of pieces
+abbrev pub laid_out : List Piece → List ℕ
+laid_out ps = laid_from (record { state = start; last = token }) ps

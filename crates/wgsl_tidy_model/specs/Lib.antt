@@ -1,0 +1,6 @@
+-- The definitions, in the order in which they are read.
+pub mod Pieces
+pub mod Roles
+pub mod Joints
+pub mod Open
+pub mod LaidOut
