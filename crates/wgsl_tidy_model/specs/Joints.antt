@@ -1,6 +1,6 @@
 -- What stands between two neighbouring tokens.
-use Rattle.std.specs.Prelude.{Bool, true, false, not, ◌&&◌, ◌||◌, if◌then◌else◌}
-use Rattle.wgsl_tidy_model.specs.Roles.{Role, name, number, word, else_word, opening, closing, template_start, template_end, block_start, block_end, comma, semicolon, colon, period, at, minus, ampersand, prefix, binary, step, item_end, attribute, ends_operand, begins_operand, opens, closes}
+use Rattle.std.specs.Prelude.{Bool, not, ◌&&◌, ◌||◌, if◌then◌else◌}
+use Rattle.wgsl_tidy_model.specs.Roles.{Role, name, number, word, else_word, opening, template_start, template_end, block_start, block_end, comma, period, at, minus, ampersand, binary, step, item_end, attribute, is, ends_operand, begins_operand, wants_operand, is_tight, opens, closes}
 
 pub data Joint : Type 0 where
   -- a line end
@@ -10,86 +10,51 @@ pub data Joint : Type 0 where
   -- the same, or the line end that the author put there
   nothing_or_line space_or_line : Joint
 
--- nothing stands before `,` `;` `:` `)` `]`
-abbrev pub is_tight : Role → Bool
-is_tight comma = true
-is_tight semicolon = true
-is_tight colon = true
-is_tight closing = true
-is_tight role = false
+-- `- -`, `& &` and `-- -` stay apart, since there are `--` and `&&`, and for the eye
+abbrev pub stay_apart : Role → Role → Bool
+stay_apart left right = (is right minus && (is left minus || is left step)) || (is left ampersand && is right ampersand)
 
--- behind `(`, `[` and `@`, and where a template list begins
+-- nothing stands behind `(`, `[` and `@`, between `.` and a name, and where an operand comes next
 abbrev pub tight_behind : Role → Role → Bool
-tight_behind opening right = true
-tight_behind at right = true
-tight_behind template_start right = begins_operand right
--- behind an operator before its operand; but `- -` and `& &` are no `--` and `&&`
-tight_behind minus minus = false
-tight_behind minus right = begins_operand right
-tight_behind ampersand ampersand = false
-tight_behind ampersand right = begins_operand right
-tight_behind prefix right = begins_operand right
--- behind `++` and `--`; between operands, `--` is two operators in one, and stands apart from a third
-tight_behind step minus = false
-tight_behind step right = begins_operand right
--- behind `.`
-tight_behind period name = true
-tight_behind left right = false
+tight_behind left right =
+    (is left opening || is left at) || ((is left period && is right name) || (wants_operand left && (begins_operand right && not (stay_apart left right))))
 
--- before arguments, an index, a template list and its end, `.`, `++` and `--`; but a number would go on with these last
-abbrev pub tight_before : Role → Role → Bool
-tight_before attribute opening = true
-tight_before left opening = ends_operand left
-tight_before name template_start = true
-tight_before word template_start = true
-tight_before comma template_end = true
-tight_before left template_end = ends_operand left
-tight_before number period = false
-tight_before number step = false
-tight_before left period = ends_operand left
-tight_before left step = ends_operand left
-tight_before left right = false
+-- nothing stands before the `(` of arguments and the `[` of an index
+abbrev pub is_applied : Role → Role → Bool
+is_applied left right = is right opening && (ends_operand left || is left attribute)
+
+-- nor before the brackets of a template list
+abbrev pub is_template : Role → Role → Bool
+is_template left right = (is right template_start && (is left name || is left word)) || (is right template_end && (ends_operand left || is left comma))
+
+-- nor before `.`, `++` and `--`, but behind a number, which would go on with them
+abbrev pub is_continued : Role → Role → Bool
+is_continued left right = (is right period || is right step) && (ends_operand left && not (is left number))
 
 -- two neighbours are closed up
 abbrev pub closed_up : Role → Role → Bool
-closed_up left right = is_tight right || tight_behind left right || tight_before left right
+closed_up left right = (is_tight right || tight_behind left right) || (is_applied left right || (is_template left right || is_continued left right))
 
--- an operator between operands
-abbrev pub is_binary : Role → Bool
-is_binary binary = true
-is_binary role = false
+-- where two are closed up: in brackets a line end may stay behind the opening one or before the closing one, unless nothing stands between these
+abbrev pub close_joint : Bool → Role → Role → Joint
+close_joint in_brackets left right =
+    if in_brackets && ((opens left && not (closes right)) || (closes right && not (opens left))) then nothing_or_line else nothing
 
--- a line end that the author put between the two stays, outside brackets: around an operator, behind `,` and behind an attribute
+-- elsewhere a line end of the author's stays around an operator between operands, behind `,` and behind an attribute
 abbrev pub goes_on : Role → Role → Bool
-goes_on comma right = true
-goes_on attribute right = true
-goes_on left right = is_binary left || is_binary right
+goes_on left right = (is left binary || is right binary) || (is left comma || is left attribute)
 
 -- behind `}`
 abbrev pub behind_block : Role → Joint
-behind_block else_word = space
-behind_block right = if is_tight right then nothing else line
-
--- where two are closed up; a line end may stay behind an opening bracket or before a closing one, unless nothing stands between these
-abbrev pub close_joint : Bool → Role → Role → Joint
-close_joint true left right = if opens left then if closes right then nothing else nothing_or_line else if closes right then nothing_or_line else nothing
-close_joint false left right = nothing
-
--- where a space stands between two
-abbrev pub open_joint : Bool → Role → Role → Joint
-open_joint true left right = space_or_line
-open_joint false left right = if goes_on left right then space_or_line else space
-
--- between tokens of which none is `{` or `}` and none ends a statement
-abbrev pub joint_within : Bool → Role → Role → Joint
-joint_within in_brackets left right = if closed_up left right then close_joint in_brackets left right else open_joint in_brackets left right
+behind_block right = if is right else_word then space else if is_tight right then nothing else line
 
 -- what stands between two neighbours, in brackets or not; `{` stands in the line of what it belongs to
 abbrev pub joint : Bool → Role → Role → Joint
-joint in_brackets block_start block_end = nothing
-joint in_brackets block_start right = line
-joint in_brackets left block_end = line
-joint in_brackets item_end right = line
-joint in_brackets block_end right = behind_block right
-joint in_brackets left block_start = space
-joint in_brackets left right = joint_within in_brackets left right
+joint in_brackets left right =
+    if is left block_start then (if is right block_end then nothing else line)
+    else if is right block_end || is left item_end then line
+    else if is left block_end then behind_block right
+    else if is right block_start then space
+    else if closed_up left right then close_joint in_brackets left right
+    else if in_brackets || goes_on left right then space_or_line
+    else space

@@ -1,11 +1,9 @@
 -- The laid-out text of pieces: each piece as it stands, and before it nothing, a space, or a line end, an empty line at most, and the blank space of the line's depth.
 use Rattle.std.specs.Prelude.{ℕ, zero, suc, Bool, true, false, not, ◌&&◌, ◌||◌, ◌==◌, nat_lt, if◌then◌else◌, List, [], ◌∷◌, ◌++◌, codes}
 use Rattle.wgsl_model.specs.Classes.{LineComment, BlockComment}
-use Rattle.wgsl_model.specs.Pattern.{is_empty}
-use Rattle.wgsl_model.specs.Trivia.{after_trivia, outside}
-use Rattle.wgsl_tidy_model.specs.Pieces.{Piece}
-use Rattle.wgsl_tidy_model.specs.Roles.{Role, beginning, opening, template_start, template_end, opens, closes}
-use Rattle.wgsl_tidy_model.specs.Joints.{Joint, line, nothing, space, nothing_or_line, space_or_line, is_tight, joint}
+use Rattle.wgsl_tidy_model.specs.Pieces.{Piece, OpenComment}
+use Rattle.wgsl_tidy_model.specs.Roles.{Role, beginning, opening, template_start, template_end, is, is_tight, opens, closes}
+use Rattle.wgsl_tidy_model.specs.Joints.{Joint, line, nothing, space, nothing_or_line, space_or_line, joint}
 use Rattle.wgsl_tidy_model.specs.Open.{State, start, in_brackets, depth_of, comment_depth, role_in, behind_token}
 
 -- nothing, a space, or a line end, with an empty line or without, and the blank space of a line so deep
@@ -13,9 +11,9 @@ pub data Gap : Type 0 where
   closed blank : Gap
   broken : Bool → ℕ → Gap
 
--- the last piece is a token, a line comment or a block comment; where there is none, it counts as a token
+-- the last piece is a token, a line comment, a block comment or one that is not closed; where there is none, it counts as a token
 pub data Last : Type 0 where
-  token line_comment block_comment : Last
+  token line_comment block_comment open_comment : Last
 
 -- the state behind the last token, and what the last piece is
 pub record Spot : Type 0 where
@@ -39,8 +37,7 @@ joint_gap space_or_line n break = kept n break blank
 
 -- what nothing stands before, behind a comment too
 abbrev pub closes_up : Role → Bool
-closes_up template_end = true
-closes_up right = is_tight right
+closes_up right = is_tight right || is right template_end
 
 -- between a block comment and a token, by what stands between that and the token before: a line end of the author's stays
 abbrev pub behind_comment : Joint → Role → Joint
@@ -49,19 +46,22 @@ behind_comment joint right = if closes_up right then nothing_or_line else space_
 
 -- before a token: what stands between it and the token before, by what they do
 abbrev pub token_gap : Bool → Last → Role → Role → ℕ → Gap → Gap
-token_gap in_brackets token beginning right n break = closed
-token_gap in_brackets token left right n break = joint_gap (joint in_brackets left right) n break
+token_gap in_brackets token left right n break = if is left beginning then closed else joint_gap (joint in_brackets left right) n break
 token_gap in_brackets line_comment left right n break = break
-token_gap in_brackets block_comment left right n break = joint_gap (behind_comment (joint in_brackets left right) right) n break
+token_gap in_brackets last left right n break = joint_gap (behind_comment (joint in_brackets left right) right) n break
 
--- before a comment: a space, but nothing behind an opening bracket, or a line end of the author's
+-- before a comment behind a token: a space, but nothing behind an opening bracket, or a line end of the author's
+abbrev pub comment_behind : Role → ℕ → Gap → Gap
+comment_behind left n break =
+    if is left beginning then closed
+    else if is left opening || is left template_start then kept n break closed
+    else kept n break blank
+
+-- before a comment
 abbrev pub comment_gap : Last → Role → ℕ → Gap → Gap
-comment_gap token beginning n break = closed
-comment_gap token opening n break = kept n break closed
-comment_gap token template_start n break = kept n break closed
-comment_gap token left n break = kept n break blank
+comment_gap token left n break = comment_behind left n break
 comment_gap line_comment left n break = break
-comment_gap block_comment left n break = kept n break blank
+comment_gap last left n break = kept n break blank
 
 -- the last piece is an opening bracket
 abbrev pub is_behind_opening : Last → Role → Bool
@@ -74,7 +74,7 @@ line_end last left right n depth = broken (nat_lt 1 n && not (is_behind_opening 
 
 -- a comment
 abbrev pub is_comment : ℕ → Bool
-is_comment class = class == LineComment || class == BlockComment
+is_comment class = class == LineComment || (class == BlockComment || class == OpenComment)
 
 -- what the first token of these pieces does, or nothing
 abbrev pub next_role : State → List Piece → Role
@@ -109,33 +109,29 @@ depth_behind gap before = before
 abbrev pub in_line_of : State → ℕ → State
 in_line_of state depth = record { opened = state.opened; line = depth; last = state.last; structure = state.structure }
 
--- behind a piece
-abbrev pub behind_piece : Spot → Role → Gap → Piece → Spot
-behind_piece spot right gap p =
-    if p.class == LineComment then record { state = in_line_of spot.state (depth_behind gap spot.state.line); last = line_comment }
-    else if p.class == BlockComment then record { state = in_line_of spot.state (depth_behind gap spot.state.line); last = block_comment }
-    else record { state = behind_token spot.state (depth_behind gap spot.state.line) p.class right; last = token }
+-- which comment stands last behind a comment of a class
+abbrev pub comment_last : ℕ → Last
+comment_last class = if class == LineComment then line_comment else if class == BlockComment then block_comment else open_comment
 
--- a block comment that is not closed: a token behind it would be a part of it
-abbrev pub is_unclosed : Piece → Bool
-is_unclosed p = p.class == BlockComment && is_empty (after_trivia outside (p.text ++ codes ";"))
+-- behind a piece in a line of this depth
+abbrev pub behind_piece : Spot → ℕ → Role → Piece → Spot
+behind_piece spot depth right p =
+    if is_comment p.class then record { state = in_line_of spot.state depth; last = comment_last p.class }
+    else record { state = behind_token spot.state depth p.class right; last = token }
 
--- what stands behind the last piece: a line end, but not where it would be a part of that
-abbrev pub end_behind : Piece → List ℕ
-end_behind p = if is_unclosed p then [] else codes "\n"
-
--- what stands behind a piece before the gap of the next: nothing, where there is one
-abbrev pub ending : Piece → List Piece → List ℕ
-ending p [] = end_behind p
-ending p (q ∷ ps) = []
+-- what stands behind the last piece: a line end, but not where a comment would go on with it, nor where there is no piece
+abbrev pub ending : Last → Role → List ℕ
+ending open_comment left = []
+ending token left = if is left beginning then [] else codes "\n"
+ending last left = codes "\n"
 
 -- pieces laid out behind a spot
 abbrev pub laid_from : Spot → List Piece → List ℕ
-laid_from spot [] = []
+laid_from spot [] = ending spot.last spot.state.last
 laid_from spot (p ∷ ps) =
     let right = next_role spot.state (p ∷ ps) in
     let gap = gap_before spot right p in
-    gap_text gap ++ (p.text ++ (ending p ps ++ laid_from (behind_piece spot right gap p) ps))
+    gap_text gap ++ (p.text ++ laid_from (behind_piece spot (depth_behind gap spot.state.line) right p) ps)
 
 -- the laid-out text of pieces
 abbrev pub laid_out : List Piece → List ℕ

@@ -8,6 +8,10 @@ use Rattle.wgsl_model.specs.Pattern.{is_empty}
 use Rattle.wgsl_model.specs.Places.{width}
 use Rattle.wgsl_model.specs.Trivia.{Place, outside, in_line, in_block, second, closed, first_or_zero}
 
+-- the class of a block comment that is not closed, behind which a text ends
+abbrev pub OpenComment : ℕ
+OpenComment = 84
+
 -- a token, a bracket of a template list or a comment: its class, its characters, and how many line ends stand before it
 pub record Piece : Type 0 where
   pub class : ℕ
@@ -45,12 +49,12 @@ comments behind in_line n [] = comment LineComment n ∷ behind 0
 comments behind in_line n (c ∷ cs) =
     if is_line_break c then comment LineComment n ∷ comments behind outside (line_ends_at c cs) cs
     else put_in_line c (comments behind in_line n cs)
-comments behind (in_block depth) n [] = comment BlockComment n ∷ behind 0
+comments behind (in_block depth) n [] = comment OpenComment n ∷ behind 0
 comments behind (in_block depth) n (c ∷ cs) =
     if c == 47 && first_or_zero cs == 42 then put c (comments behind (second (in_block (suc depth))) n cs)
     else if c == 42 && first_or_zero cs == 47 then put c (comments behind (second (closed depth)) n cs)
     else put c (comments behind (in_block depth) n cs)
-comments behind (second p) n [] = []
+comments behind (second p) n [] = comment OpenComment n ∷ behind 0
 comments behind (second outside) n (c ∷ cs) = put c (comment BlockComment n ∷ comments behind outside 0 cs)
 comments behind (second p) n (c ∷ cs) = put c (comments behind p n cs)
 

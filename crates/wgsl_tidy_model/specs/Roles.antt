@@ -25,6 +25,36 @@ pub data Role : Type 0 where
   -- behind it only: nothing; the end of a statement, a declaration or a member; the name of an attribute, or its arguments
   beginning item_end attribute : Role
 
+-- its place among the roles
+abbrev pub number_of : Role → ℕ
+number_of name = 0
+number_of number = 1
+number_of word = 2
+number_of else_word = 3
+number_of opening = 4
+number_of closing = 5
+number_of template_start = 6
+number_of template_end = 7
+number_of block_start = 8
+number_of block_end = 9
+number_of comma = 10
+number_of semicolon = 11
+number_of colon = 12
+number_of period = 13
+number_of at = 14
+number_of minus = 15
+number_of ampersand = 16
+number_of prefix = 17
+number_of binary = 18
+number_of step = 19
+number_of beginning = 20
+number_of item_end = 21
+number_of attribute = 22
+
+-- it is this one
+abbrev pub is : Role → Role → Bool
+is role other = number_of role == number_of other
+
 -- an operand can end with it
 abbrev pub ends_operand : Role → Bool
 ends_operand name = true
@@ -42,6 +72,23 @@ begins_operand minus = true
 begins_operand ampersand = true
 begins_operand prefix = true
 begins_operand role = false
+
+-- an operand comes next: behind the `<` of a template list, an operator before its operand, and a `--` between operands
+abbrev pub wants_operand : Role → Bool
+wants_operand template_start = true
+wants_operand minus = true
+wants_operand ampersand = true
+wants_operand prefix = true
+wants_operand step = true
+wants_operand role = false
+
+-- nothing stands before it: `,` `;` `:` `)` `]`
+abbrev pub is_tight : Role → Bool
+is_tight comma = true
+is_tight semicolon = true
+is_tight colon = true
+is_tight closing = true
+is_tight role = false
 
 -- it opens a bracket, a template list or a block
 abbrev pub opens : Role → Bool
