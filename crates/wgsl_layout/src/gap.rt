@@ -77,7 +77,13 @@ pub(crate) fn comment_gap(last: Last, left: Role, line_ends: usize, broken: Gap)
 
 /// A line end before what closes something or not: an empty line of the author's stays, but
 /// neither behind an opening bracket nor before a closing one.
-pub(crate) fn line_end(last: Last, left: Role, closes: bool, line_ends: usize, depth: usize) -> Gap {
+pub(crate) fn line_end(
+    last: Last,
+    left: Role,
+    closes: bool,
+    line_ends: usize,
+    depth: usize,
+) -> Gap {
     let opens = matches!(last, Last::Token) && left.opens();
     Gap::Broken {
         empty: line_ends > 1 && !opens && !closes,

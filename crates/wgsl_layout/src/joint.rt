@@ -75,9 +75,7 @@ fn closed_up(left: Role, right: Role) -> bool
 fn close_joint(in_brackets: bool, left: Role, right: Role) -> Joint
     ensures { joint_view result ≡ close_joint in_brackets (role_view left) (role_view right) }
 {
-    if in_brackets
-        && ((left.opens() && !right.closes()) || (right.closes() && !left.opens()))
-    {
+    if in_brackets && ((left.opens() && !right.closes()) || (right.closes() && !left.opens())) {
         Joint::NothingOrLine
     } else {
         Joint::Nothing

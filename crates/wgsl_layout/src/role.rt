@@ -146,12 +146,7 @@ impl Role {
     {
         matches!(
             self,
-            Role::Name
-                | Role::Number
-                | Role::Opening
-                | Role::Minus
-                | Role::Ampersand
-                | Role::Prefix
+            Role::Name | Role::Number | Role::Opening | Role::Minus | Role::Ampersand | Role::Prefix
         )
     }
 
@@ -195,11 +190,7 @@ impl Role {
     {
         matches!(
             self,
-            Role::Beginning
-                | Role::ItemEnd
-                | Role::BlockStart
-                | Role::BlockEnd
-                | Role::Attribute
+            Role::Beginning | Role::ItemEnd | Role::BlockStart | Role::BlockEnd | Role::Attribute
         )
     }
 }

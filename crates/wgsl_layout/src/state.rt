@@ -81,7 +81,11 @@ impl State {
     fn open_or_close(&mut self, right: Role) -> Result<(), AllocError> {
         match right {
             Role::BlockStart => {
-                let kind = if self.structure { Open::Members } else { Open::Block };
+                let kind = if self.structure {
+                    Open::Members
+                } else {
+                    Open::Block
+                };
                 let depth = self.opened.inner_depth();
                 self.opened.push(kind, depth)
             }

@@ -1,6 +1,5 @@
 //! All that a reader gives, and a text to a writer.
 
-
 use std::alloc::Global;
 use std::io;
 use std::io::{ErrorKind, Read, Write};
@@ -16,8 +15,7 @@ pub enum ReadError {
 }
 
 /// All that the reader gives. A read that fails is not tried again.
-pub fn read_all<R: Read>(alloc: Global, input: &mut R) -> Result<Vec<u8>, ReadError>
-{
+pub fn read_all<R: Read>(alloc: Global, input: &mut R) -> Result<Vec<u8>, ReadError> {
     let mut bytes = Vec::new(alloc);
     let mut buffer = [0u8; 8192];
     for _ in 0..u64::MAX {
@@ -35,8 +33,7 @@ pub fn read_all<R: Read>(alloc: Global, input: &mut R) -> Result<Vec<u8>, ReadEr
 }
 
 /// Writes the text and flushes the writer. A write that fails is not tried again.
-pub fn send<W: Write>(writer: &mut W, text: &[u8]) -> io::Result<()>
-{
+pub fn send<W: Write>(writer: &mut W, text: &[u8]) -> io::Result<()> {
     let mut sent = 0;
     while sent < text.len() {
         let count = writer.write(&text[sent..])?;
@@ -49,8 +46,7 @@ pub fn send<W: Write>(writer: &mut W, text: &[u8]) -> io::Result<()>
 }
 
 /// Sends the text and answers the status, or `FAILED`.
-pub fn tell<W: Write>(writer: &mut W, text: &[u8], status: u8) -> u8
-{
+pub fn tell<W: Write>(writer: &mut W, text: &[u8], status: u8) -> u8 {
     match send(writer, text) {
         Ok(()) => status,
         Err(_) => FAILED,
@@ -58,7 +54,6 @@ pub fn tell<W: Write>(writer: &mut W, text: &[u8], status: u8) -> u8
 }
 
 /// Tells that memory was refused: status 3, or 4 where the line could not be written.
-pub fn refuse_memory<E: Write>(errors: &mut E) -> u8
-{
+pub fn refuse_memory<E: Write>(errors: &mut E) -> u8 {
     tell(errors, b"out of memory\n", 3)
 }

@@ -2,8 +2,7 @@
 
 use crate::row::Row;
 use std::alloc::{AllocError, Global};
-use wgsl_parse::Error;
-use wgsl_parse::parse_str;
+use wgsl_parse::{Error, parse_str};
 use wgsl_tidy::tidy;
 
 /// What does not hold of a row, or an empty text.
@@ -28,7 +27,10 @@ pub fn report_of(alloc: Global, row: &Row<'_>) -> Result<String, AllocError> {
     };
     if words.as_str() != wanted.words || got.as_bytes() != wanted.value.as_slice() {
         let text = std::str::from_utf8(&wanted.value).unwrap_or("");
-        let line = format!(in alloc; "  wanted {} {:?}\n  got {} {:?}\n", wanted.words, text, words, got)?;
+        let line = format!(in alloc;
+            "  wanted {} {:?}\n  got {} {:?}\n",
+            wanted.words, text, words, got
+        )?;
         report.push_str(line.as_str())?;
     }
     Ok(report)
