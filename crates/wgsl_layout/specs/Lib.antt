@@ -1,1 +1,4 @@
 pub mod View
+pub mod Kinds
+pub mod States
+pub mod Gaps

@@ -1,7 +1,14 @@
 //! What is written before a piece.
 
+ghost use Rattle.std.specs.Prelude.{◌≡◌};
+ghost use Rattle.wgsl_tidy_model.specs.LaidOut as plain;
+ghost use Rattle.wgsl_tidy_model.specs.Roles.{closes};
+ghost use Rattle.wgsl_tidy_model.specs.Joints.{joint};
+ghost use Rattle.wgsl_layout.specs.View.{role_view, joint_view};
+ghost use Rattle.wgsl_layout.specs.Gaps.{gap_view, last_view};
+
 use crate::comment::CommentKind;
-use crate::joint::Joint;
+use crate::joint::{Joint, joint_of};
 use crate::role::Role;
 
 /// What is written before a piece.
@@ -22,12 +29,16 @@ pub(crate) enum Last {
 }
 
 /// The line end if the author put one there, else another gap.
-fn kept(line_ends: usize, broken: Gap, other: Gap) -> Gap {
+fn kept(line_ends: usize, broken: Gap, other: Gap) -> Gap
+    ensures { gap_view result ≡ plain.kept line_ends (gap_view broken) (gap_view other) }
+{
     if line_ends == 0 { other } else { broken }
 }
 
 /// The gap that a joint asks for.
-fn joint_gap(joint: Joint, line_ends: usize, broken: Gap) -> Gap {
+fn joint_gap(joint: Joint, line_ends: usize, broken: Gap) -> Gap
+    ensures { gap_view result ≡ plain.joint_gap (joint_view joint) line_ends (gap_view broken) }
+{
     match joint {
         Joint::Line => broken,
         Joint::Nothing => Gap::Closed,
@@ -37,56 +48,97 @@ fn joint_gap(joint: Joint, line_ends: usize, broken: Gap) -> Gap {
     }
 }
 
-/// What stands between a block comment and a token, by what stands between that and the token before.
-fn behind_comment(joint: Joint, right: Role) -> Joint {
-    match joint {
-        Joint::Line => Joint::Line,
-        _ if right.is_tight() || right.is(Role::TemplateEnd) => Joint::NothingOrLine,
-        _ => Joint::SpaceOrLine,
+/// Whether nothing stands before such a token, behind a comment too.
+fn closes_up(right: Role) -> bool
+    ensures { result ≡ plain.closes_up (role_view right) }
+{
+    right.is_tight() || right.is(Role::TemplateEnd)
+}
+
+/// What stands between a block comment and a token, by what stands between that and the token
+/// before.
+fn behind_comment(joint: Joint, right: Role) -> Joint
+    ensures { joint_view result ≡ plain.behind_comment (joint_view joint) (role_view right) }
+{
+    if let Joint::Line = joint {
+        return Joint::Line;
+    }
+    if closes_up(right) {
+        Joint::NothingOrLine
+    } else {
+        Joint::SpaceOrLine
     }
 }
 
-/// The gap before a token, by what stands between it and the token before.
+/// The gap before a token.
 pub(crate) fn token_gap(
+    in_brackets: bool,
     last: Last,
     left: Role,
     right: Role,
-    joint: Joint,
     line_ends: usize,
     broken: Gap,
-) -> Gap {
+) -> Gap
+    ensures { gap_view result ≡ plain.token_gap in_brackets (last_view last) (role_view left) (role_view right) line_ends (gap_view broken) }
+{
+    let joint = joint_of(in_brackets, left, right);
     match last {
-        Last::Token if left.is(Role::Beginning) => Gap::Closed,
-        Last::Token => joint_gap(joint, line_ends, broken),
+        Last::Token => {
+            if left.is(Role::Beginning) {
+                return Gap::Closed;
+            }
+            joint_gap(joint, line_ends, broken)
+        }
         Last::Comment(CommentKind::Line) => broken,
-        Last::Comment(_) => joint_gap(behind_comment(joint, right), line_ends, broken),
+        Last::Comment(CommentKind::Block | CommentKind::Open) => {
+            joint_gap(behind_comment(joint, right), line_ends, broken)
+        }
     }
+}
+
+/// The gap before a comment behind a token.
+fn comment_behind(left: Role, line_ends: usize, broken: Gap) -> Gap
+    ensures { gap_view result ≡ plain.comment_behind (role_view left) line_ends (gap_view broken) }
+{
+    if left.is(Role::Beginning) {
+        return Gap::Closed;
+    }
+    if left.is(Role::Opening) || left.is(Role::TemplateStart) {
+        return kept(line_ends, broken, Gap::Closed);
+    }
+    kept(line_ends, broken, Gap::Blank)
 }
 
 /// The gap before a comment.
-pub(crate) fn comment_gap(last: Last, left: Role, line_ends: usize, broken: Gap) -> Gap {
+pub(crate) fn comment_gap(last: Last, left: Role, line_ends: usize, broken: Gap) -> Gap
+    ensures { gap_view result ≡ plain.comment_gap (last_view last) (role_view left) line_ends (gap_view broken) }
+{
     match last {
-        Last::Token if left.is(Role::Beginning) => Gap::Closed,
-        Last::Token if left.is(Role::Opening) || left.is(Role::TemplateStart) => {
-            kept(line_ends, broken, Gap::Closed)
-        }
+        Last::Token => comment_behind(left, line_ends, broken),
         Last::Comment(CommentKind::Line) => broken,
-        Last::Token | Last::Comment(_) => kept(line_ends, broken, Gap::Blank),
+        Last::Comment(CommentKind::Block | CommentKind::Open) => {
+            kept(line_ends, broken, Gap::Blank)
+        }
     }
 }
 
-/// A line end before what closes something or not: an empty line of the author's stays, but
-/// neither behind an opening bracket nor before a closing one.
-pub(crate) fn line_end(
-    last: Last,
-    left: Role,
-    closes: bool,
-    line_ends: usize,
-    depth: usize,
-) -> Gap {
-    let opens = matches!(last, Last::Token) && left.opens();
+/// Whether the last piece is an opening bracket.
+fn is_behind_opening(last: Last, left: Role) -> bool
+    ensures { result ≡ plain.is_behind_opening (last_view last) (role_view left) }
+{
+    match last {
+        Last::Token => left.opens(),
+        Last::Comment(_) => false,
+    }
+}
+
+/// A line end before such a token: an empty line of the author's stays, but neither behind an
+/// opening bracket nor before a closing one.
+pub(crate) fn line_end(last: Last, left: Role, right: Role, line_ends: usize, depth: usize) -> Gap
+    ensures { gap_view result ≡ plain.line_end (last_view last) (role_view left) (role_view right) line_ends depth }
+{
     Gap::Broken {
-        empty: line_ends > 1 && !opens && !closes,
+        empty: 1 < line_ends && !(is_behind_opening(last, left) || right.closes()),
         depth,
     }
 }

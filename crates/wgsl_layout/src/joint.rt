@@ -106,7 +106,7 @@ fn behind_block(right: Role) -> Joint
 }
 
 /// What stands between two neighbours, in brackets or not.
-pub(crate) fn joint(in_brackets: bool, left: Role, right: Role) -> Joint
+pub(crate) fn joint_of(in_brackets: bool, left: Role, right: Role) -> Joint
     ensures { joint_view result ≡ joint in_brackets (role_view left) (role_view right) }
 {
     if left.is(Role::BlockStart) {

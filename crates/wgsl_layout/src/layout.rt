@@ -2,7 +2,6 @@
 
 use crate::comment::{Comment, CommentKind, comment_at, is_line_end};
 use crate::gap::{Gap, Last, comment_gap, line_end, token_gap};
-use crate::joint::joint;
 use crate::role::Role;
 use crate::state::State;
 use std::alloc::{AllocError, Global};
@@ -57,8 +56,8 @@ impl Layout {
         right: Role,
     ) -> Result<(), AllocError> {
         let left = self.state.last;
-        let depth = self.state.comment_depth(right);
-        let broken = line_end(self.last, left, false, line_ends, depth);
+        let depth = self.state.comment_depth(right)?;
+        let broken = line_end(self.last, left, Role::Beginning, line_ends, depth);
         self.write_gap(comment_gap(self.last, left, line_ends, broken))?;
         self.text.push_str(comment.text)?;
         self.last = Last::Comment(comment.kind);
@@ -97,10 +96,11 @@ impl Layout {
         line_ends: usize,
     ) -> Result<(), AllocError> {
         let left = self.state.last;
-        let depth = self.state.depth_of(right);
-        let broken = line_end(self.last, left, right.closes(), line_ends, depth);
-        let joint = joint(self.state.opened.in_brackets(), left, right);
-        self.write_gap(token_gap(self.last, left, right, joint, line_ends, broken))?;
+        let depth = self.state.depth_of(right)?;
+        let broken = line_end(self.last, left, right, line_ends, depth);
+        let in_brackets = self.state.opened.in_brackets();
+        let gap = token_gap(in_brackets, self.last, left, right, line_ends, broken);
+        self.write_gap(gap)?;
         self.text.push_str(text)?;
         self.last = Last::Token;
         self.state.take(kind, right)

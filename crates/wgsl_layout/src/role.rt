@@ -1,7 +1,7 @@
 //! What a token does where it stands.
 
 ghost use Rattle.std.specs.Prelude.{◌≡◌};
-ghost use Rattle.wgsl_tidy_model.specs.Roles.{role_of, is, ends_operand, begins_operand, wants_operand, is_tight, opens, closes, begins_item};
+ghost use Rattle.wgsl_tidy_model.specs.Roles.{role_of, sign_role, is, ends_operand, begins_operand, wants_operand, is_tight, opens, closes, begins_item};
 ghost use Rattle.wgsl_token.specs.View.{class_of_kind};
 ghost use Rattle.wgsl_layout.specs.View.{role_view};
 
@@ -48,7 +48,9 @@ pub(crate) enum Role {
 }
 
 /// `-`, `&` or `*`, behind an operand or not.
-fn sign_role(behind_operand: bool, kind: TokenKind) -> Role {
+fn sign_role(behind_operand: bool, kind: TokenKind) -> Role
+    ensures { role_view result ≡ sign_role behind_operand (class_of_kind kind) }
+{
     if behind_operand {
         return Role::Binary;
     }
@@ -125,14 +127,14 @@ pub(crate) fn role_of(behind_operand: bool, kind: TokenKind) -> Role
 impl Role {
     /// Whether it is this one.
     pub(crate) fn is(self, other: Role) -> bool
-        ensures { result ≡ is (role_view self.entry) (role_view other) }
+        ensures { result ≡ is (role_view self) (role_view other) }
     {
         self as u8 == other as u8
     }
 
     /// Whether an operand can end with it.
     pub(crate) fn ends_operand(self) -> bool
-        ensures { result ≡ ends_operand (role_view self.entry) }
+        ensures { result ≡ ends_operand (role_view self) }
     {
         matches!(
             self,
@@ -142,7 +144,7 @@ impl Role {
 
     /// Whether an operand can begin with it.
     pub(crate) fn begins_operand(self) -> bool
-        ensures { result ≡ begins_operand (role_view self.entry) }
+        ensures { result ≡ begins_operand (role_view self) }
     {
         matches!(
             self,
@@ -152,7 +154,7 @@ impl Role {
 
     /// Whether an operand comes next.
     pub(crate) fn wants_operand(self) -> bool
-        ensures { result ≡ wants_operand (role_view self.entry) }
+        ensures { result ≡ wants_operand (role_view self) }
     {
         matches!(
             self,
@@ -162,7 +164,7 @@ impl Role {
 
     /// Whether nothing stands before it.
     pub(crate) fn is_tight(self) -> bool
-        ensures { result ≡ is_tight (role_view self.entry) }
+        ensures { result ≡ is_tight (role_view self) }
     {
         matches!(
             self,
@@ -172,21 +174,21 @@ impl Role {
 
     /// Whether it opens a bracket, a template list or a block.
     pub(crate) fn opens(self) -> bool
-        ensures { result ≡ opens (role_view self.entry) }
+        ensures { result ≡ opens (role_view self) }
     {
         matches!(self, Role::Opening | Role::TemplateStart | Role::BlockStart)
     }
 
     /// Whether it closes one.
     pub(crate) fn closes(self) -> bool
-        ensures { result ≡ closes (role_view self.entry) }
+        ensures { result ≡ closes (role_view self) }
     {
         matches!(self, Role::Closing | Role::TemplateEnd | Role::BlockEnd)
     }
 
     /// Whether a statement, a declaration, a member or a clause can begin behind it.
     pub(crate) fn begins_item(self) -> bool
-        ensures { result ≡ begins_item (role_view self.entry) }
+        ensures { result ≡ begins_item (role_view self) }
     {
         matches!(
             self,

@@ -81,11 +81,19 @@ last_behind state right =
     else if is right semicolon && not (in_brackets state.opened) then item_end
     else right
 
+-- what a `{` opens
+abbrev pub block_opened : State → Open
+block_opened state = if state.structure then members else block
+
+-- what a `(` or a `[` opens
+abbrev pub bracket_opened : State → Open
+bracket_opened state = if is state.last attribute then arguments else bracket
+
 -- a block stands as deep as the statement or the declaration that it is part of, a bracket as deep as the line where it opens
 abbrev pub opened_behind : State → ℕ → Role → Opened
 opened_behind state line right =
-    if is right block_start then (if state.structure then members else block, inner_depth state.opened) ∷ state.opened
-    else if is right opening then (if is state.last attribute then arguments else bracket, line) ∷ state.opened
+    if is right block_start then (block_opened state, inner_depth state.opened) ∷ state.opened
+    else if is right opening then (bracket_opened state, line) ∷ state.opened
     else if is right template_start then (bracket, line) ∷ state.opened
     else if closes right then drop 1 state.opened
     else state.opened
@@ -95,7 +103,11 @@ abbrev pub structure_behind : State → ℕ → Role → Bool
 structure_behind state class right =
     if is right block_start then false else if class == KwStruct && not (is state.last at) then true else state.structure
 
+-- behind a closing bracket the line counts as deep as the line of the opening one
+abbrev pub line_behind : State → ℕ → Role → ℕ
+line_behind state line right = if closes right then outer_depth state.opened else line
+
 -- the state behind a token that does so, in a line of this depth
 abbrev pub behind_token : State → ℕ → ℕ → Role → State
 behind_token state line class right =
-    record { opened = opened_behind state line right; line = line; last = last_behind state right; structure = structure_behind state class right }
+    record { opened = opened_behind state line right; line = line_behind state line right; last = last_behind state right; structure = structure_behind state class right }
