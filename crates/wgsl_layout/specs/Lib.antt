@@ -2,3 +2,4 @@ pub mod View
 pub mod Kinds
 pub mod States
 pub mod Gaps
+pub mod Comments

@@ -1,107 +1,171 @@
 //! Comments at the front of a text.
 
-ghost use Rattle.std.specs.Prelude.{◌≡◌, ◌<◌, ◌≤◌, chars, length};
+ghost use Rattle.std.specs.Prelude.{◌≡◌, ◌==◌, ◌<◌, ◌≤◌, ⊤, ℕ, false, List, ◌∷◌, ◌++◌, chars, length, MatchOption};
+ghost use Rattle.wgsl_model.specs.Trivia.{first_or_zero};
+ghost use Rattle.wgsl_tidy_model.specs.Pieces.{line_ends_at};
+ghost use Rattle.wgsl_token_theory.proofs.Cuts.{EndsWith};
+ghost use Rattle.wgsl_layout.specs.Comments.{EndsSo, IsClosed, IsOpen, IsComment, IsNone};
 
 use wgsl_scanner::characters::{is_blank, is_line_break};
 use wgsl_scanner::text::split_first;
 
 /// Which comment it is.
 #[derive(Clone, Copy)]
-pub(crate) enum CommentKind {
+pub enum CommentKind {
     Line,
     Block,
     /// A block comment that is not closed.
     Open,
 }
 
-/// A comment as it stands, and the text behind it.
+/// A comment as it stands, without the blank space at the end of its line, and the text behind it.
 #[derive(Clone, Copy)]
-pub(crate) struct Comment<'s> {
-    pub(crate) kind: CommentKind,
-    pub(crate) text: &'s str,
-    pub(crate) rest: &'s str,
+pub struct Comment<'s> {
+    pub kind: CommentKind,
+    pub text: &'s str,
+    pub rest: &'s str,
 }
 
-/// Whether a character ends a line, where a text stands behind it; CR and LF are one line end.
-pub(crate) fn is_line_end(c: char, after: &str) -> bool {
-    if c == '\r' && matches!(split_first(after), Some(('\n', _))) {
-        return false;
+/// Where a line comment ends.
+#[derive(Clone, Copy)]
+pub struct LineEnd<'s> {
+    /// The text behind its last character that is not blank.
+    behind: &'s str,
+    /// The text from the end of the line on.
+    rest: &'s str,
+}
+
+/// How many lines end at a character that stands before a text; CR and LF are one line end.
+pub(crate) fn line_ends_at(c: char, after: &str) -> usize
+    ensures { result ≡ line_ends_at c (chars after.now) }
+{
+    if c == '\r' && behind('\n', after).is_some() {
+        return 0;
     }
-    is_line_break(c)
+    usize::from(is_line_break(c))
 }
 
-/// The text from the end of the line on.
-fn after_line(text: &str) -> &str {
+/// The text behind a character, if that begins the text.
+fn behind(c: char, text: &str) -> Option<&str>
+    requires { 0 < c }
+    ensures value { MatchOption result ((first_or_zero (chars text.now) == c) ≡ false) (λ rest. chars text.now ≡ c ∷ chars rest.now) }
+    ensures shorter { MatchOption result ⊤ (λ rest. length rest.now < length text.now) }
+{
+    let Some((first, rest)) = split_first(text) else {
+        return None;
+    };
+    if first != c {
+        return None;
+    }
+    Some(rest)
+}
+
+/// Where a line comment ends whose sign stands before a text.
+fn end_of_line(text: &str) -> LineEnd<'_>
+    ensures end { EndsSo (chars text.now) result }
+    ensures within { length result.rest.now ≤ length text.now }
+{
+    let mut behind = text;
     let mut rest = text;
-    while let Some((c, after)) = split_first(rest) {
+    'characters: while let Some((c, after)) = split_first(rest) {
         if is_line_break(c) {
-            return rest;
+            return LineEnd { behind, rest };
         }
+        if is_blank(c) {
+            rest = after;
+            continue;
+        }
+        behind = after;
         rest = after;
     }
-    rest
+    LineEnd { behind, rest }
 }
 
-/// The text behind the end of a block comment that is open, unless it is not closed.
-fn after_block(text: &str) -> Option<&str> {
+/// The text behind the block comment whose sign stands before a text, unless it is not closed.
+fn after_block(text: &str) -> Option<&str>
+    ensures value { MatchOption result (IsOpen (chars text.now)) (λ rest. IsClosed (chars text.now) (chars rest.now)) }
+    ensures shorter { MatchOption result ⊤ (λ rest. length rest.now < length text.now) }
+{
     let mut rest = text;
     let mut depth = 0usize;
-    while let Some((c, after)) = split_first(rest) {
-        rest = after;
-        match (c, split_first(after)) {
-            ('/', Some(('*', comment))) => {
-                depth += 1;
-                rest = comment;
-            }
-            ('*', Some(('/', comment))) => {
-                if depth == 0 {
-                    return Some(comment);
-                }
-                depth -= 1;
-                rest = comment;
-            }
-            _ => {}
+    'characters: while let Some((c, after)) = split_first(rest) {
+        if c == '/'
+            && let Some(inner) = behind('*', after)
+        {
+            depth += 1;
+            rest = inner;
+            continue;
         }
+        if c == '*'
+            && let Some(outer) = behind('/', after)
+        {
+            if depth == 0 {
+                return Some(outer);
+            }
+            depth -= 1;
+            rest = outer;
+            continue;
+        }
+        rest = after;
     }
     None
 }
 
 /// What stands before the rest of a text.
-fn before<'s>(text: &'s str, rest: &str) -> &'s str {
+fn before<'s>(text: &'s str, rest: &str) -> &'s str
+    requires { EndsWith (chars text.now) (chars rest.now) }
+    ensures { (front : List ℕ) → chars text.now ≡ front ++ chars rest.now → chars result.now ≡ front }
+{
     &text[..text.len() - rest.len()]
 }
 
-/// A text without the blank space at its end.
-fn trimmed(text: &str) -> &str {
-    text.trim_end_matches(is_blank)
+/// A line comment, which begins a text, and stands before another behind its sign.
+fn line_comment<'s>(text: &'s str, body: &'s str) -> Comment<'s>
+    requires sign { chars text.now ≡ 47 ∷ (47 ∷ chars body.now) }
+    ensures comment { IsComment (chars text.now) result }
+    ensures within { length result.rest.now ≤ length body.now }
+{
+    let end = end_of_line(body);
+    Comment {
+        kind: CommentKind::Line,
+        text: before(text, end.behind),
+        rest: end.rest,
+    }
+}
+
+/// A block comment, which begins a text, and stands before another behind its sign.
+fn block_comment<'s>(text: &'s str, body: &'s str) -> Comment<'s>
+    requires sign { chars text.now ≡ 47 ∷ (42 ∷ chars body.now) }
+    ensures comment { IsComment (chars text.now) result }
+    ensures within { length result.rest.now ≤ length body.now }
+{
+    let Some(rest) = after_block(body) else {
+        return Comment {
+            kind: CommentKind::Open,
+            text,
+            rest: "",
+        };
+    };
+    Comment {
+        kind: CommentKind::Block,
+        text: before(text, rest),
+        rest,
+    }
 }
 
 /// The comment at the front of a text, if one stands there.
-pub(crate) fn comment_at(text: &str) -> Option<Comment<'_>> {
-    let ('/', after) = split_first(text)? else {
+pub(crate) fn comment_at(text: &str) -> Option<Comment<'_>>
+    ensures value { MatchOption result (IsNone (chars text.now)) (λ comment. IsComment (chars text.now) comment) }
+    ensures shorter { MatchOption result ⊤ (λ comment. length comment.rest.now < length text.now) }
+{
+    let Some(after) = behind('/', text) else {
         return None;
     };
-    match split_first(after)? {
-        ('/', body) => {
-            let rest = after_line(body);
-            Some(Comment {
-                kind: CommentKind::Line,
-                text: trimmed(before(text, rest)),
-                rest,
-            })
-        }
-        ('*', body) => Some(match after_block(body) {
-            Some(rest) => Comment {
-                kind: CommentKind::Block,
-                text: before(text, rest),
-                rest,
-            },
-            None => Comment {
-                kind: CommentKind::Open,
-                text,
-                rest: "",
-            },
-        }),
-        _ => None,
+    if let Some(body) = behind('/', after) {
+        return Some(line_comment(text, body));
     }
+    if let Some(body) = behind('*', after) {
+        return Some(block_comment(text, body));
+    }
+    None
 }

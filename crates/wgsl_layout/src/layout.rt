@@ -1,6 +1,6 @@
 //! Laying a source out.
 
-use crate::comment::{Comment, CommentKind, comment_at, is_line_end};
+use crate::comment::{Comment, CommentKind, comment_at, line_ends_at};
 use crate::gap::{Gap, Last, comment_gap, line_end, token_gap};
 use crate::role::Role;
 use crate::state::State;
@@ -77,9 +77,7 @@ impl Layout {
                     rest = comment.rest;
                 }
                 None => {
-                    if is_line_end(c, after) {
-                        line_ends += 1;
-                    }
+                    line_ends += line_ends_at(c, after);
                     rest = after;
                 }
             }

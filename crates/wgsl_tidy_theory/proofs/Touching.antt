@@ -1,0 +1,255 @@
+-- Which tokens may stand behind one another with nothing between: those that the rules close up.
+use Rattle.std.proofs.Common.{◌≡◌, ℕ, ◌<◌, ◌==◌, ◌&&◌, ◌||◌, Bool, true, false, not, refl, sym, ap, subst, ◌∙◌, List, [], ◌∷◌, ◌++◌, lit<, arith}
+use Rattle.std.proofs.lemmas.Bool.{true≢false, eq-eqb, and_parts, eqb-true}
+use Rattle.unicode_ident.proofs.IdentLemmas.{is_xid_start-ascii, is_xid_continue-ascii}
+use Rattle.wgsl_model.specs.Pattern.{spells}
+use Rattle.wgsl_model.specs.Numbers.{number_spelling}
+use Rattle.wgsl_model.specs.Spelling.{identifier, spelling}
+use Rattle.wgsl_theory.proofs.Split.{Each, Each-last, differs, takes, lets_differs, goes_on_with, spelled_each, by_either, other_than}
+use Rattle.wgsl_theory.proofs.Fronts.{stands_alone, spelled_first}
+use Rattle.wgsl_theory.proofs.Spellings.{EndsAt, EndsBefore}
+use Rattle.wgsl_theory.proofs.Signs.{begins_name, begins_number, number_begins, one_of_three, sign_ends_before, goes_on}
+use Rattle.wgsl_theory.proofs.Ends.{name_no_number, name_no_symbol, number_ends_before}
+use Rattle.wgsl_tidy_model.specs.Roles.{Role, name, number, word, else_word, opening, closing, template_start, template_end, block_start, block_end, comma, semicolon, colon, period, at, minus, ampersand, prefix, binary, step, beginning, item_end, attribute}
+use Rattle.wgsl_tidy_model.specs.Joints.{closed_up}
+
+-- ---- characters that stand in no token but alone
+
+no_such : (d : ℕ) (xs z : List ℕ) → Each (differs d) (xs ++ (d ∷ z)) → ⊥
+no_such d xs z each = true≢false (sym (Each-last (differs d) xs (d ∷ z) each).0 ∙ ap not (eq-eqb d d refl))
+
+abbrev pub IsAlone : ℕ → Type 0
+IsAlone c = goes_on_with c spelling ≡ false
+
+alone : (c : ℕ) → c < 128 → IsAlone c → IsAlone c
+alone c low h = h
+
+-- no token goes on with one
+pub alone_ends : (c x : ℕ) (xs : List ℕ) → IsAlone c → EndsAt (x ∷ xs) c
+alone_ends c x [] a z h = no_such c (x ∷ []) z (stands_alone c spelling a x c z h)
+alone_ends c x (y ∷ ys) a z h = no_such c (x ∷ (y ∷ ys)) z (stands_alone c spelling a x y (ys ++ (c ∷ z)) h)
+
+-- and none begins with one and goes on
+pub alone_before : (c d : ℕ) → IsAlone c → EndsAt (c ∷ []) d
+alone_before c d a z h = no_such c [] (d ∷ z) (stands_alone c spelling a c d z h)
+
+-- blank space and line ends
+pub space_alone : IsAlone 32
+space_alone = rw (is_xid_start-ascii 32 (lit< tt), is_xid_continue-ascii 32 (lit< tt)) refl
+
+pub line_end_alone : IsAlone 10
+line_end_alone = rw (is_xid_start-ascii 10 (lit< tt), is_xid_continue-ascii 10 (lit< tt)) refl
+
+paren_left_alone : IsAlone 40
+paren_left_alone = rw (is_xid_start-ascii 40 (lit< tt), is_xid_continue-ascii 40 (lit< tt)) refl
+
+paren_right_alone : IsAlone 41
+paren_right_alone = rw (is_xid_start-ascii 41 (lit< tt), is_xid_continue-ascii 41 (lit< tt)) refl
+
+comma_alone : IsAlone 44
+comma_alone = rw (is_xid_start-ascii 44 (lit< tt), is_xid_continue-ascii 44 (lit< tt)) refl
+
+colon_alone : IsAlone 58
+colon_alone = rw (is_xid_start-ascii 58 (lit< tt), is_xid_continue-ascii 58 (lit< tt)) refl
+
+semicolon_alone : IsAlone 59
+semicolon_alone = rw (is_xid_start-ascii 59 (lit< tt), is_xid_continue-ascii 59 (lit< tt)) refl
+
+at_alone : IsAlone 64
+at_alone = rw (is_xid_start-ascii 64 (lit< tt), is_xid_continue-ascii 64 (lit< tt)) refl
+
+bracket_left_alone : IsAlone 91
+bracket_left_alone = rw (is_xid_start-ascii 91 (lit< tt), is_xid_continue-ascii 91 (lit< tt)) refl
+
+bracket_right_alone : IsAlone 93
+bracket_right_alone = rw (is_xid_start-ascii 93 (lit< tt), is_xid_continue-ascii 93 (lit< tt)) refl
+
+brace_left_alone : IsAlone 123
+brace_left_alone = rw (is_xid_start-ascii 123 (lit< tt), is_xid_continue-ascii 123 (lit< tt)) refl
+
+brace_right_alone : IsAlone 125
+brace_right_alone = rw (is_xid_start-ascii 125 (lit< tt), is_xid_continue-ascii 125 (lit< tt)) refl
+
+tilde_alone : IsAlone 126
+tilde_alone = rw (is_xid_start-ascii 126 (lit< tt), is_xid_continue-ascii 126 (lit< tt)) refl
+
+-- ---- with which character a token begins, by what it does
+
+abbrev pub starts : Role → ℕ → Bool
+starts name d = begins_name d
+starts number d = begins_number d
+starts word d = begins_name d || d == 45
+starts else_word d = begins_name d
+starts opening d = d == 40 || d == 91
+starts closing d = d == 41 || d == 93
+starts template_start d = d == 60
+starts template_end d = d == 62
+starts block_start d = d == 123
+starts block_end d = d == 125
+starts comma d = d == 44
+starts semicolon d = d == 59
+starts colon d = d == 58
+starts period d = d == 46
+starts at d = d == 64
+starts minus d = d == 45
+starts ampersand d = d == 38
+starts prefix d = d == 33 || (d == 126 || d == 42)
+starts step d = d == 43 || d == 45
+starts role d = true
+
+-- what holds of a character holds of one that is the same
+at_one : (P : ℕ → Type 0) (d c : ℕ) → (d == c) ≡ true → P c → P d
+at_one P d c e h = subst P (sym (eqb-true d c e)) h
+
+at_two : (P : ℕ → Type 0) (d a b : ℕ) → (d == a || d == b) ≡ true → P a → P b → P d
+at_two P d a b e h k = by_either (d == a) (d == b) e (λ f. at_one P d a f h) (λ f. at_one P d b f k)
+
+-- ---- behind a token of any kind: `,` `;` `:` `)` `]` `(` `[`
+
+pub tight_ends : (x : ℕ) (xs : List ℕ) (right : Role) (d : ℕ) → closed_up attribute right ≡ true → starts right d ≡ true → EndsAt (x ∷ xs) d
+tight_ends x xs comma d h s = at_one (EndsAt (x ∷ xs)) d 44 s (alone_ends 44 x xs comma_alone)
+tight_ends x xs semicolon d h s = at_one (EndsAt (x ∷ xs)) d 59 s (alone_ends 59 x xs semicolon_alone)
+tight_ends x xs colon d h s = at_one (EndsAt (x ∷ xs)) d 58 s (alone_ends 58 x xs colon_alone)
+tight_ends x xs closing d h s = at_two (EndsAt (x ∷ xs)) d 41 93 s (alone_ends 41 x xs paren_right_alone) (alone_ends 93 x xs bracket_right_alone)
+tight_ends x xs opening d h s = at_two (EndsAt (x ∷ xs)) d 40 91 s (alone_ends 40 x xs paren_left_alone) (alone_ends 91 x xs bracket_left_alone)
+tight_ends x xs right d h s = absurd (true≢false (sym h))
+
+-- ---- behind a name, a keyword or `_`
+
+name_ends : (x : ℕ) (xs : List ℕ) (d : ℕ) → begins_name x ≡ true → takes d identifier ≡ false → EndsAt (x ∷ xs) d
+name_ends x xs d b e z h =
+    one_of_three ((x ∷ xs) ++ (d ∷ z)) h
+    (λ k. no_such d (x ∷ xs) z (spelled_each (differs d) identifier (lets_differs d identifier e) ((x ∷ xs) ++ (d ∷ z)) k))
+    (λ k. name_no_number x b (spelled_first begins_number number_spelling number_begins x (xs ++ (d ∷ z)) k))
+    (λ k. name_no_symbol x xs d z b k)
+
+not_in_name : (d : ℕ) → d < 128 → takes d identifier ≡ false → takes d identifier ≡ false
+not_in_name d low h = h
+
+less_ends : takes 60 identifier ≡ false
+less_ends = rw (is_xid_start-ascii 60 (lit< tt), is_xid_continue-ascii 60 (lit< tt)) refl
+
+greater_ends : takes 62 identifier ≡ false
+greater_ends = rw (is_xid_start-ascii 62 (lit< tt), is_xid_continue-ascii 62 (lit< tt)) refl
+
+period_ends : takes 46 identifier ≡ false
+period_ends = rw (is_xid_start-ascii 46 (lit< tt), is_xid_continue-ascii 46 (lit< tt)) refl
+
+plus_ends : takes 43 identifier ≡ false
+plus_ends = rw (is_xid_start-ascii 43 (lit< tt), is_xid_continue-ascii 43 (lit< tt)) refl
+
+minus_ends : takes 45 identifier ≡ false
+minus_ends = rw (is_xid_start-ascii 45 (lit< tt), is_xid_continue-ascii 45 (lit< tt)) refl
+
+pub behind_name : (x : ℕ) (xs : List ℕ) → begins_name x ≡ true → (right : Role) (d : ℕ) → closed_up name right ≡ true → starts right d ≡ true → EndsAt (x ∷ xs) d
+behind_name x xs b comma d h s = tight_ends x xs comma d refl s
+behind_name x xs b semicolon d h s = tight_ends x xs semicolon d refl s
+behind_name x xs b colon d h s = tight_ends x xs colon d refl s
+behind_name x xs b closing d h s = tight_ends x xs closing d refl s
+behind_name x xs b opening d h s = tight_ends x xs opening d refl s
+behind_name x xs b template_start d h s = at_one (EndsAt (x ∷ xs)) d 60 s (name_ends x xs 60 b less_ends)
+behind_name x xs b template_end d h s = at_one (EndsAt (x ∷ xs)) d 62 s (name_ends x xs 62 b greater_ends)
+behind_name x xs b period d h s = at_one (EndsAt (x ∷ xs)) d 46 s (name_ends x xs 46 b period_ends)
+behind_name x xs b step d h s = at_two (EndsAt (x ∷ xs)) d 43 45 s (name_ends x xs 43 b plus_ends) (name_ends x xs 45 b minus_ends)
+behind_name x xs b right d h s = absurd (true≢false (sym h))
+
+-- another word: what stands closed up behind it does so behind a name
+pub word_is_closed_up : (right : Role) → closed_up word right ≡ true → closed_up name right ≡ true
+word_is_closed_up comma h = refl
+word_is_closed_up semicolon h = refl
+word_is_closed_up colon h = refl
+word_is_closed_up closing h = refl
+word_is_closed_up template_start h = refl
+word_is_closed_up right h = absurd (true≢false (sym h))
+
+pub else_is_closed_up : (right : Role) → closed_up else_word right ≡ true → closed_up name right ≡ true
+else_is_closed_up comma h = refl
+else_is_closed_up semicolon h = refl
+else_is_closed_up colon h = refl
+else_is_closed_up closing h = refl
+else_is_closed_up right h = absurd (true≢false (sym h))
+
+-- ---- behind a number
+
+pub behind_number : (x : ℕ) (xs : List ℕ) → begins_number x ≡ true → (right : Role) (d : ℕ) → closed_up number right ≡ true → starts right d ≡ true → EndsAt (x ∷ xs) d
+behind_number x xs b comma d h s = tight_ends x xs comma d refl s
+behind_number x xs b semicolon d h s = tight_ends x xs semicolon d refl s
+behind_number x xs b colon d h s = tight_ends x xs colon d refl s
+behind_number x xs b closing d h s = tight_ends x xs closing d refl s
+behind_number x xs b opening d h s = tight_ends x xs opening d refl s
+behind_number x xs b template_end d h s = at_one (EndsAt (x ∷ xs)) d 62 s (number_ends_before x xs (62 ∷ []) b refl)
+behind_number x xs b right d h s = absurd (true≢false (sym h))
+
+-- ---- behind a sign before an operand
+
+-- a character with which no name and no number begins is not the first of one
+pub not_first : (f : ℕ → Bool) (d k : ℕ) → f d ≡ true → f k ≡ false → (d == k) ≡ false
+not_first f d k h e = other_than f d h k e
+
+no_name : (k : ℕ) → k < 128 → begins_name k ≡ false → begins_name k ≡ false
+no_name k low h = h
+
+-- the signs that would go on: `=` `>` `<` `-` `&`
+abbrev is_joining : ℕ → Bool
+is_joining d = (d == 61 || d == 62) || (d == 60 || (d == 45 || d == 38))
+
+equal_no_name : begins_name 61 ≡ false
+equal_no_name = rw (is_xid_start-ascii 61 (lit< tt)) refl
+
+greater_no_name : begins_name 62 ≡ false
+greater_no_name = rw (is_xid_start-ascii 62 (lit< tt)) refl
+
+less_no_name : begins_name 60 ≡ false
+less_no_name = rw (is_xid_start-ascii 60 (lit< tt)) refl
+
+minus_no_name : begins_name 45 ≡ false
+minus_no_name = rw (is_xid_start-ascii 45 (lit< tt)) refl
+
+and_no_name : begins_name 38 ≡ false
+and_no_name = rw (is_xid_start-ascii 38 (lit< tt)) refl
+
+bang_no_name : begins_name 33 ≡ false
+bang_no_name = rw (is_xid_start-ascii 33 (lit< tt)) refl
+
+star_no_name : begins_name 42 ≡ false
+star_no_name = rw (is_xid_start-ascii 42 (lit< tt)) refl
+
+plus_no_name : begins_name 43 ≡ false
+plus_no_name = rw (is_xid_start-ascii 43 (lit< tt)) refl
+
+-- the first character of an operand joins no sign but `-` and `&`
+record JoinsNothing (d : ℕ) : Type 0 where
+  pub equal : (d == 61) ≡ false
+  pub greater : (d == 62) ≡ false
+  pub less : (d == 60) ≡ false
+
+name_joins : (d : ℕ) → begins_name d ≡ true → JoinsNothing d
+name_joins d h = record {
+  equal = not_first begins_name d 61 h equal_no_name;
+  greater = not_first begins_name d 62 h greater_no_name;
+  less = not_first begins_name d 60 h less_no_name;
+}
+
+test_joins : (f : ℕ → Bool) (d : ℕ) → f d ≡ true → f 61 ≡ false → f 62 ≡ false → f 60 ≡ false → JoinsNothing d
+test_joins f d h e g l = record { equal = not_first f d 61 h e; greater = not_first f d 62 h g; less = not_first f d 60 h l }
+
+less_touches : (d : ℕ) → JoinsNothing d → EndsAt (60 ∷ []) d
+less_touches d j = sign_ends_before 60 [] (d ∷ []) less_no_name refl (rw (j.equal, j.less) refl)
+
+minus_touches : (d : ℕ) → JoinsNothing d → (d == 45) ≡ false → EndsAt (45 ∷ []) d
+minus_touches d j m = sign_ends_before 45 [] (d ∷ []) minus_no_name refl (rw (j.equal, j.greater, m) refl)
+
+and_touches : (d : ℕ) → JoinsNothing d → (d == 38) ≡ false → EndsAt (38 ∷ []) d
+and_touches d j m = sign_ends_before 38 [] (d ∷ []) and_no_name refl (rw (j.equal, m) refl)
+
+bang_touches : (d : ℕ) → JoinsNothing d → EndsAt (33 ∷ []) d
+bang_touches d j = sign_ends_before 33 [] (d ∷ []) bang_no_name refl (rw j.equal refl)
+
+star_touches : (d : ℕ) → JoinsNothing d → EndsAt (42 ∷ []) d
+star_touches d j = sign_ends_before 42 [] (d ∷ []) star_no_name refl (rw j.equal refl)
+
+plus_plus_touches : (d : ℕ) → EndsAt (43 ∷ (43 ∷ [])) d
+plus_plus_touches d = sign_ends_before 43 (43 ∷ []) (d ∷ []) plus_no_name refl refl
+
+minus_minus_touches : (d : ℕ) → EndsAt (45 ∷ (45 ∷ [])) d
+minus_minus_touches d = sign_ends_before 45 (45 ∷ []) (d ∷ []) minus_no_name refl refl
