@@ -3,3 +3,4 @@ pub mod Kinds
 pub mod States
 pub mod Gaps
 pub mod Comments
+pub mod Layouts

@@ -20,6 +20,16 @@ pub(crate) enum Gap {
     Broken { empty: bool, depth: usize },
 }
 
+/// How deep a line is behind a gap, which was so deep before.
+pub(crate) fn depth_behind(gap: Gap, line: usize) -> usize
+    ensures { result ≡ plain.depth_behind (gap_view gap) line }
+{
+    match gap {
+        Gap::Closed | Gap::Blank => line,
+        Gap::Broken { depth, .. } => depth,
+    }
+}
+
 /// What the last piece is.
 #[derive(Clone, Copy)]
 pub(crate) enum Last {

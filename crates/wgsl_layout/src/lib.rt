@@ -8,5 +8,6 @@ mod layout;
 mod opened;
 mod role;
 mod state;
+mod text;
 
 pub use layout::laid_out;

@@ -1,16 +1,17 @@
 -- Which tokens may stand behind one another with nothing between: those that the rules close up.
 use Rattle.std.proofs.Common.{◌≡◌, ℕ, ◌<◌, ◌==◌, ◌&&◌, ◌||◌, Bool, true, false, not, refl, sym, ap, subst, ◌∙◌, List, [], ◌∷◌, ◌++◌, lit<, arith}
-use Rattle.std.proofs.lemmas.Bool.{true≢false, eq-eqb, and_parts, eqb-true}
+use Rattle.std.proofs.lemmas.Bool.{true≢false, false_from_ne_true, eq-eqb, eqb-true}
 use Rattle.unicode_ident.proofs.IdentLemmas.{is_xid_start-ascii, is_xid_continue-ascii}
-use Rattle.wgsl_model.specs.Pattern.{spells}
+use Rattle.std.specs.Char.{is_ascii_digit}
+use Rattle.wgsl_model.specs.Pattern.{begins, begins_any, spells}
 use Rattle.wgsl_model.specs.Numbers.{number_spelling}
 use Rattle.wgsl_model.specs.Spelling.{identifier, spelling}
 use Rattle.wgsl_theory.proofs.Split.{Each, Each-last, differs, takes, lets_differs, goes_on_with, spelled_each, by_either, other_than}
 use Rattle.wgsl_theory.proofs.Fronts.{stands_alone, spelled_first}
 use Rattle.wgsl_theory.proofs.Spellings.{EndsAt, EndsBefore}
-use Rattle.wgsl_theory.proofs.Signs.{begins_name, begins_number, number_begins, one_of_three, sign_ends_before, goes_on}
+use Rattle.wgsl_theory.proofs.Signs.{begins_name, begins_number, identifier_begins, number_begins, no_longer_symbol, one_of_three, sign_ends_before}
 use Rattle.wgsl_theory.proofs.Ends.{name_no_number, name_no_symbol, number_ends_before}
-use Rattle.wgsl_tidy_model.specs.Roles.{Role, name, number, word, else_word, opening, closing, template_start, template_end, block_start, block_end, comma, semicolon, colon, period, at, minus, ampersand, prefix, binary, step, beginning, item_end, attribute}
+use Rattle.wgsl_tidy_model.specs.Roles.{Role, begins_operand, wants_operand, name, number, word, else_word, opening, closing, template_start, template_end, block_start, block_end, comma, semicolon, colon, period, at, minus, ampersand, prefix, binary, step, beginning, item_end, attribute}
 use Rattle.wgsl_tidy_model.specs.Joints.{closed_up}
 
 -- ---- characters that stand in no token but alone
@@ -20,9 +21,6 @@ no_such d xs z each = true≢false (sym (Each-last (differs d) xs (d ∷ z) each
 
 abbrev pub IsAlone : ℕ → Type 0
 IsAlone c = goes_on_with c spelling ≡ false
-
-alone : (c : ℕ) → c < 128 → IsAlone c → IsAlone c
-alone c low h = h
 
 -- no token goes on with one
 pub alone_ends : (c x : ℕ) (xs : List ℕ) → IsAlone c → EndsAt (x ∷ xs) c
@@ -123,9 +121,6 @@ name_ends x xs d b e z h =
     (λ k. name_no_number x b (spelled_first begins_number number_spelling number_begins x (xs ++ (d ∷ z)) k))
     (λ k. name_no_symbol x xs d z b k)
 
-not_in_name : (d : ℕ) → d < 128 → takes d identifier ≡ false → takes d identifier ≡ false
-not_in_name d low h = h
-
 less_ends : takes 60 identifier ≡ false
 less_ends = rw (is_xid_start-ascii 60 (lit< tt), is_xid_continue-ascii 60 (lit< tt)) refl
 
@@ -185,13 +180,6 @@ behind_number x xs b right d h s = absurd (true≢false (sym h))
 -- a character with which no name and no number begins is not the first of one
 pub not_first : (f : ℕ → Bool) (d k : ℕ) → f d ≡ true → f k ≡ false → (d == k) ≡ false
 not_first f d k h e = other_than f d h k e
-
-no_name : (k : ℕ) → k < 128 → begins_name k ≡ false → begins_name k ≡ false
-no_name k low h = h
-
--- the signs that would go on: `=` `>` `<` `-` `&`
-abbrev is_joining : ℕ → Bool
-is_joining d = (d == 61 || d == 62) || (d == 60 || (d == 45 || d == 38))
 
 equal_no_name : begins_name 61 ≡ false
 equal_no_name = rw (is_xid_start-ascii 61 (lit< tt)) refl
@@ -253,3 +241,211 @@ plus_plus_touches d = sign_ends_before 43 (43 ∷ []) (d ∷ []) plus_no_name re
 
 minus_minus_touches : (d : ℕ) → EndsAt (45 ∷ (45 ∷ [])) d
 minus_minus_touches d = sign_ends_before 45 (45 ∷ []) (d ∷ []) minus_no_name refl refl
+
+-- ---- behind each role
+
+-- the first character of an operand
+joins : (right : Role) (d : ℕ) → begins_operand right ≡ true → starts right d ≡ true → JoinsNothing d
+joins name d h s = name_joins d s
+joins number d h s = test_joins begins_number d s refl refl refl
+joins opening d h s = test_joins (λ x. x == 40 || x == 91) d s refl refl refl
+joins minus d h s = test_joins (λ x. x == 45) d s refl refl refl
+joins ampersand d h s = test_joins (λ x. x == 38) d s refl refl refl
+joins prefix d h s = test_joins (λ x. x == 33 || (x == 126 || x == 42)) d s refl refl refl
+joins right d h s = absurd (true≢false (sym h))
+
+-- that of one that does not begin with `-`
+no_minus : (right : Role) (d : ℕ) → closed_up minus right ≡ true → starts right d ≡ true → (d == 45) ≡ false
+no_minus name d h s = not_first begins_name d 45 s minus_no_name
+no_minus number d h s = not_first begins_number d 45 s refl
+no_minus opening d h s = not_first (λ x. x == 40 || x == 91) d 45 s refl
+no_minus ampersand d h s = not_first (λ x. x == 38) d 45 s refl
+no_minus prefix d h s = not_first (λ x. x == 33 || (x == 126 || x == 42)) d 45 s refl
+no_minus comma d h s = not_first (λ x. x == 44) d 45 s refl
+no_minus semicolon d h s = not_first (λ x. x == 59) d 45 s refl
+no_minus colon d h s = not_first (λ x. x == 58) d 45 s refl
+no_minus closing d h s = not_first (λ x. x == 41 || x == 93) d 45 s refl
+no_minus right d h s = absurd (true≢false (sym h))
+
+-- that of one that does not begin with `&`
+no_and : (right : Role) (d : ℕ) → closed_up ampersand right ≡ true → starts right d ≡ true → (d == 38) ≡ false
+no_and name d h s = not_first begins_name d 38 s and_no_name
+no_and number d h s = not_first begins_number d 38 s refl
+no_and opening d h s = not_first (λ x. x == 40 || x == 91) d 38 s refl
+no_and minus d h s = not_first (λ x. x == 45) d 38 s refl
+no_and prefix d h s = not_first (λ x. x == 33 || (x == 126 || x == 42)) d 38 s refl
+no_and comma d h s = not_first (λ x. x == 44) d 38 s refl
+no_and semicolon d h s = not_first (λ x. x == 59) d 38 s refl
+no_and colon d h s = not_first (λ x. x == 58) d 38 s refl
+no_and closing d h s = not_first (λ x. x == 41 || x == 93) d 38 s refl
+no_and right d h s = absurd (true≢false (sym h))
+
+-- an operand, or what nothing stands before
+data Follows (right : Role) : Type 0 where
+  operand : begins_operand right ≡ true → Follows right
+  tight : closed_up attribute right ≡ true → Follows right
+
+behind_sign : (left right : Role) → wants_operand left ≡ true → closed_up left right ≡ true → Follows right
+behind_sign left comma w h = tight refl
+behind_sign left semicolon w h = tight refl
+behind_sign left colon w h = tight refl
+behind_sign left closing w h = tight refl
+behind_sign left name w h = operand refl
+behind_sign left number w h = operand refl
+behind_sign left opening w h = operand refl
+behind_sign left minus w h = operand refl
+behind_sign left ampersand w h = operand refl
+behind_sign left prefix w h = operand refl
+behind_sign template_start right w h = absurd (true≢false (sym h))
+behind_sign minus right w h = absurd (true≢false (sym h))
+behind_sign ampersand right w h = absurd (true≢false (sym h))
+behind_sign prefix right w h = absurd (true≢false (sym h))
+behind_sign step right w h = absurd (true≢false (sym h))
+behind_sign left right w h = absurd (true≢false (sym w))
+
+by_follows : (x : ℕ) (xs : List ℕ) (right : Role) (d : ℕ) → starts right d ≡ true → Follows right → (JoinsNothing d → EndsAt (x ∷ xs) d) → EndsAt (x ∷ xs) d
+by_follows x xs right d s (operand o) f = f (joins right d o s)
+by_follows x xs right d s (tight t) f = tight_ends x xs right d t s
+
+pub behind_less : (right : Role) (d : ℕ) → closed_up template_start right ≡ true → starts right d ≡ true → EndsAt (60 ∷ []) d
+behind_less right d h s = by_follows 60 [] right d s (behind_sign template_start right refl h) (less_touches d)
+
+pub behind_minus : (right : Role) (d : ℕ) → closed_up minus right ≡ true → starts right d ≡ true → EndsAt (45 ∷ []) d
+behind_minus right d h s = by_follows 45 [] right d s (behind_sign minus right refl h) (λ j. minus_touches d j (no_minus right d h s))
+
+pub behind_and : (right : Role) (d : ℕ) → closed_up ampersand right ≡ true → starts right d ≡ true → EndsAt (38 ∷ []) d
+behind_and right d h s = by_follows 38 [] right d s (behind_sign ampersand right refl h) (λ j. and_touches d j (no_and right d h s))
+
+pub behind_bang : (right : Role) (d : ℕ) → closed_up prefix right ≡ true → starts right d ≡ true → EndsAt (33 ∷ []) d
+behind_bang right d h s = by_follows 33 [] right d s (behind_sign prefix right refl h) (bang_touches d)
+
+pub behind_star : (right : Role) (d : ℕ) → closed_up prefix right ≡ true → starts right d ≡ true → EndsAt (42 ∷ []) d
+behind_star right d h s = by_follows 42 [] right d s (behind_sign prefix right refl h) (star_touches d)
+
+pub behind_tilde : (d : ℕ) → EndsAt (126 ∷ []) d
+behind_tilde d = alone_before 126 d tilde_alone
+
+pub behind_plus_plus : (d : ℕ) → EndsAt (43 ∷ (43 ∷ [])) d
+behind_plus_plus d = plus_plus_touches d
+
+pub behind_minus_minus : (d : ℕ) → EndsAt (45 ∷ (45 ∷ [])) d
+behind_minus_minus d = minus_minus_touches d
+
+-- behind brackets, `@`, `,` and `;`, whatever follows
+pub behind_alone : (c d : ℕ) → IsAlone c → EndsAt (c ∷ []) d
+behind_alone c d a = alone_before c d a
+
+-- `.` before a name
+point_number : (c : ℕ) (z : List ℕ) → is_ascii_digit c ≡ false → spells number_spelling (46 ∷ (c ∷ z)) ≡ false
+unfolding begins begins_any
+point_number c z h = rw h refl
+
+no_digit : (c : ℕ) → begins_name c ≡ true → is_ascii_digit c ≡ false
+no_digit c b = false_from_ne_true (is_ascii_digit c) (λ d. name_no_number c b (rw d refl))
+
+point_ends : (c : ℕ) → begins_name c ≡ true → EndsAt (46 ∷ []) c
+point_ends c b z h =
+    one_of_three (46 ∷ (c ∷ z)) h
+    (λ k. true≢false (sym (spelled_first begins_name identifier identifier_begins 46 (c ∷ z) k) ∙ rw (is_xid_start-ascii 46 (lit< tt)) refl))
+    (λ k. true≢false (sym k ∙ point_number c z (no_digit c b)))
+    (λ k. no_longer_symbol (46 ∷ []) c refl z k)
+
+pub behind_period : (right : Role) (d : ℕ) → closed_up period right ≡ true → starts right d ≡ true → EndsAt (46 ∷ []) d
+behind_period name d h s = point_ends d s
+behind_period comma d h s = tight_ends 46 [] comma d refl s
+behind_period semicolon d h s = tight_ends 46 [] semicolon d refl s
+behind_period colon d h s = tight_ends 46 [] colon d refl s
+behind_period closing d h s = tight_ends 46 [] closing d refl s
+behind_period right d h s = absurd (true≢false (sym h))
+
+arrow_touches : (d : ℕ) → EndsAt (45 ∷ (62 ∷ [])) d
+arrow_touches d = sign_ends_before 45 (62 ∷ []) (d ∷ []) minus_no_name refl refl
+
+-- ---- all of it
+
+-- before what nothing stands, and arguments, alone
+abbrev pub TightOnly : Role → Type 0
+TightOnly left = (right : Role) → closed_up left right ≡ true → closed_up attribute right ≡ true
+
+-- the characters of a token that does so; the `>` of a template list is none, since whatever token it begins, it ends the list
+pub data Shaped : Role → List ℕ → Type 0 where
+  is_name : (x : ℕ) (xs : List ℕ) → begins_name x ≡ true → Shaped name (x ∷ xs)
+  is_word : (x : ℕ) (xs : List ℕ) → begins_name x ≡ true → Shaped word (x ∷ xs)
+  is_arrow : Shaped word (45 ∷ (62 ∷ []))
+  is_else : (x : ℕ) (xs : List ℕ) → begins_name x ≡ true → Shaped else_word (x ∷ xs)
+  is_number : (x : ℕ) (xs : List ℕ) → begins_number x ≡ true → Shaped number (x ∷ xs)
+  is_opening : (c : ℕ) → IsAlone c → Shaped opening (c ∷ [])
+  is_closing : (c : ℕ) → IsAlone c → Shaped closing (c ∷ [])
+  is_comma : Shaped comma (44 ∷ [])
+  is_at : Shaped at (64 ∷ [])
+  is_less : Shaped template_start (60 ∷ [])
+  is_minus : Shaped minus (45 ∷ [])
+  is_and : Shaped ampersand (38 ∷ [])
+  is_bang : Shaped prefix (33 ∷ [])
+  is_star : Shaped prefix (42 ∷ [])
+  is_tilde : Shaped prefix (126 ∷ [])
+  is_plus_plus : Shaped step (43 ∷ (43 ∷ []))
+  is_minus_minus : Shaped step (45 ∷ (45 ∷ []))
+  is_period : Shaped period (46 ∷ [])
+  is_other : (left : Role) (x : ℕ) (xs : List ℕ) → TightOnly left → Shaped left (x ∷ xs)
+
+-- No token begins with a token and the first character of another that is closed up behind it.
+pub touches : (left right : Role) (w : List ℕ) (d : ℕ) → Shaped left w → closed_up left right ≡ true → starts right d ≡ true → EndsAt w d
+touches left right w d (is_name x xs b) h s = behind_name x xs b right d h s
+touches left right w d (is_word x xs b) h s = behind_name x xs b right d (word_is_closed_up right h) s
+touches left right w d (is_arrow) h s = arrow_touches d
+touches left right w d (is_else x xs b) h s = behind_name x xs b right d (else_is_closed_up right h) s
+touches left right w d (is_number x xs b) h s = behind_number x xs b right d h s
+touches left right w d (is_opening c a) h s = alone_before c d a
+touches left right w d (is_closing c a) h s = alone_before c d a
+touches left right w d (is_comma) h s = alone_before 44 d comma_alone
+touches left right w d (is_at) h s = alone_before 64 d at_alone
+touches left right w d (is_less) h s = behind_less right d h s
+touches left right w d (is_minus) h s = behind_minus right d h s
+touches left right w d (is_and) h s = behind_and right d h s
+touches left right w d (is_bang) h s = behind_bang right d h s
+touches left right w d (is_star) h s = behind_star right d h s
+touches left right w d (is_tilde) h s = behind_tilde d
+touches left right w d (is_plus_plus) h s = plus_plus_touches d
+touches left right w d (is_minus_minus) h s = minus_minus_touches d
+touches left right w d (is_period) h s = behind_period right d h s
+touches left right w d (is_other r x xs t) h s = tight_ends x xs right d (t right h) s
+
+-- binary operators, brackets of blocks, the ends of attributes, statements and members, `;` and `:`
+pub binary_tight : TightOnly binary
+binary_tight comma h = refl
+binary_tight semicolon h = refl
+binary_tight colon h = refl
+binary_tight closing h = refl
+binary_tight right h = absurd (true≢false (sym h))
+
+pub attribute_tight : TightOnly attribute
+attribute_tight right h = h
+
+pub item_end_tight : TightOnly item_end
+item_end_tight comma h = refl
+item_end_tight semicolon h = refl
+item_end_tight colon h = refl
+item_end_tight closing h = refl
+item_end_tight right h = absurd (true≢false (sym h))
+
+pub semicolon_tight : TightOnly semicolon
+semicolon_tight comma h = refl
+semicolon_tight semicolon h = refl
+semicolon_tight colon h = refl
+semicolon_tight closing h = refl
+semicolon_tight right h = absurd (true≢false (sym h))
+
+pub colon_tight : TightOnly colon
+colon_tight comma h = refl
+colon_tight semicolon h = refl
+colon_tight colon h = refl
+colon_tight closing h = refl
+colon_tight right h = absurd (true≢false (sym h))
+
+pub block_end_tight : TightOnly block_end
+block_end_tight comma h = refl
+block_end_tight semicolon h = refl
+block_end_tight colon h = refl
+block_end_tight closing h = refl
+block_end_tight right h = absurd (true≢false (sym h))
