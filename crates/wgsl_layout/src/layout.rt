@@ -83,7 +83,7 @@ impl Layout {
         line_ends: usize,
         right: Role,
     ) -> Result<(), AllocError>
-        ensures laid { IfOk result (λ _. Writes self.old (piece (comment_class comment.kind) (chars comment.text.now) line_ends) (role_view right) self.new) }
+        ensures laid { IfOk result (λ _. Writes self.old (piece (comment_class comment.entry.kind) (chars comment.entry.text.now) line_ends) (role_view right) self.new) }
         ensures state { IfOk result (λ _. StaysBehind self.old self.new) }
     {
         let gap = self.gap_before_comment(line_ends, right)?;
@@ -137,7 +137,7 @@ impl Layout {
 
     /// Writes what stands behind the last piece.
     fn end(self) -> Result<String, AllocError>
-        ensures { IfOk result (λ text. chars (string_bytes text) ≡ with_left self.entry []) }
+        ensures { IfOk result (λ text. chars (string_bytes text) ≡ with_left self []) }
     {
         let mut text = self.text;
         if ends_line(self.last, self.state.last) {
