@@ -4,7 +4,7 @@ ghost use Rattle.std.specs.Prelude.{◌≡◌, ◌==◌, ◌<◌, ◌≤◌, ⊤
 ghost use Rattle.wgsl_model.specs.Trivia.{first_or_zero};
 ghost use Rattle.wgsl_tidy_model.specs.Pieces.{line_ends_at};
 ghost use Rattle.wgsl_token_theory.proofs.Cuts.{EndsWith};
-ghost use Rattle.wgsl_layout.specs.Comments.{EndsSo, IsClosed, IsOpen, IsComment, IsNone};
+ghost use Rattle.wgsl_layout.specs.Comments.{EndsSo, IsClosed, IsOpen, IsComment, IsNone, IsStep, IsShorter};
 
 use wgsl_scanner::characters::{is_blank, is_line_break};
 use wgsl_scanner::text::split_first;
@@ -33,6 +33,17 @@ pub struct LineEnd<'s> {
     behind: &'s str,
     /// The text from the end of the line on.
     rest: &'s str,
+}
+
+/// What the front of a text does that stands in a block comment, and the text behind it.
+#[derive(Clone, Copy)]
+enum Step<'s> {
+    /// There is none.
+    Ends,
+    /// Leaves open as many comments as before.
+    Goes(&'s str),
+    Opens(&'s str),
+    Closes(&'s str),
 }
 
 /// How many lines end at a character that stands before a text; CR and LF are one line end.
@@ -81,6 +92,29 @@ fn end_of_line(text: &str) -> LineEnd<'_>
     LineEnd { behind, rest }
 }
 
+/// The step at the front of a text that stands in a block comment.
+fn next_step(text: &str) -> Step<'_>
+    ensures value { IsStep (chars text.now) result }
+    ensures shorter { IsShorter (length text.now) result }
+{
+    let Some((c, after)) = split_first(text) else {
+        return Step::Ends;
+    };
+    if c == '/' {
+        return match behind('*', after) {
+            Some(inner) => Step::Opens(inner),
+            None => Step::Goes(after),
+        };
+    }
+    if c == '*' {
+        return match behind('/', after) {
+            Some(outer) => Step::Closes(outer),
+            None => Step::Goes(after),
+        };
+    }
+    Step::Goes(after)
+}
+
 /// The text behind the block comment whose sign stands before a text, unless it is not closed.
 fn after_block(text: &str) -> Option<&str>
     ensures value { MatchOption result (IsOpen (chars text.now)) (λ rest. IsClosed (chars text.now) (chars rest.now)) }
@@ -88,27 +122,23 @@ fn after_block(text: &str) -> Option<&str>
 {
     let mut rest = text;
     let mut depth = 0usize;
-    'characters: while let Some((c, after)) = split_first(rest) {
-        if c == '/'
-            && let Some(inner) = behind('*', after)
-        {
-            depth += 1;
-            rest = inner;
-            continue;
-        }
-        if c == '*'
-            && let Some(outer) = behind('/', after)
-        {
-            if depth == 0 {
-                return Some(outer);
+    'steps: loop {
+        match next_step(rest) {
+            Step::Ends => return None,
+            Step::Goes(after) => rest = after,
+            Step::Opens(inner) => {
+                depth += 1;
+                rest = inner;
             }
-            depth -= 1;
-            rest = outer;
-            continue;
+            Step::Closes(outer) => {
+                if depth == 0 {
+                    return Some(outer);
+                }
+                depth -= 1;
+                rest = outer;
+            }
         }
-        rest = after;
     }
-    None
 }
 
 /// What stands before the rest of a text.

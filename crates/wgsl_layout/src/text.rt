@@ -10,7 +10,8 @@ use std::alloc::AllocError;
 pub(crate) fn put(text: &mut String, piece: &str) -> Result<(), AllocError>
     ensures { IfOk result (λ _. chars (string_bytes text.new) ≡ chars (string_bytes text.old) ++ chars piece.now) }
 {
-    text.push_str(piece)
+    text.push_str(piece)?;
+    Ok(())
 }
 
 /// Writes four spaces for each level.

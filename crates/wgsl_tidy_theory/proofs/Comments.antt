@@ -226,3 +226,28 @@ whole_block b n class body front ps e = rw e refl
 pub nothing_left : (b : ℕ → List Piece) (n : ℕ) → comments b outside n [] ≡ b n
 unfolding comments
 nothing_left b n = refl
+
+-- ---- what a loop over a block comment does at a step
+
+-- a test of two characters fails where the second does
+and_false : (b : Bool) → (b && false) ≡ false
+and_false true = refl
+and_false false = refl
+
+-- no comment begins with another character than `/`
+pub no_slash : (b : ℕ → List Piece) (n c : ℕ) (cs : List ℕ) → (c == 47) ≡ false → comments b outside n (c ∷ cs) ≡ comments b outside (n + line_ends_at c cs) cs
+no_slash b n c cs h = no_comment b n c cs (rw h refl) (rw h refl)
+
+-- nor with one that is no sign
+pub no_sign : (b : ℕ → List Piece) (n c : ℕ) (cs : List ℕ) → (first_or_zero cs == 47) ≡ false → (first_or_zero cs == 42) ≡ false → comments b outside n (c ∷ cs) ≡ comments b outside (n + line_ends_at c cs) cs
+no_sign b n c cs h k = no_comment b n c cs (rw h (and_false (c == 47))) (rw k (and_false (c == 47)))
+
+-- nothing opens or closes behind `/`, behind `*` and behind another character
+pub slash_goes : (text : List ℕ) (depth : ℕ) (cs : List ℕ) → Passed text depth (47 ∷ cs) → (first_or_zero cs == 42) ≡ false → Passed text depth cs
+slash_goes text depth cs p h = pass_other text depth 47 cs p (rw h refl) refl
+
+pub star_goes : (text : List ℕ) (depth : ℕ) (cs : List ℕ) → Passed text depth (42 ∷ cs) → (first_or_zero cs == 47) ≡ false → Passed text depth cs
+star_goes text depth cs p h = pass_other text depth 42 cs p refl (rw h refl)
+
+pub other_goes : (text : List ℕ) (depth c : ℕ) (cs : List ℕ) → Passed text depth (c ∷ cs) → (c == 47) ≡ false → (c == 42) ≡ false → Passed text depth cs
+other_goes text depth c cs p h k = pass_other text depth c cs p (rw h refl) (rw k refl)
