@@ -2,9 +2,8 @@
 use Rattle.std.specs.Prelude.{◌≡◌, ℕ, List, ◌∷◌, ◌++◌, chars, string_bytes}
 use Rattle.wgsl_model.specs.Trivia.{outside}
 use Rattle.wgsl_tidy_model.specs.Pieces.{Piece, comments}
-use Rattle.wgsl_tidy_model.specs.Roles.{Role, beginning}
-use Rattle.wgsl_tidy_model.specs.Open.{in_brackets, comment_depth, depth_of}
-use Rattle.wgsl_tidy_model.specs.LaidOut.{Spot, Gap, comment_gap, token_gap, line_end, laid_from, next_role, in_line_of}
+use Rattle.wgsl_tidy_model.specs.Roles.{Role}
+use Rattle.wgsl_tidy_model.specs.LaidOut.{Spot, laid_from, next_role, in_line_of}
 use Rattle.wgsl_layout.specs.States.{state_view}
 use Rattle.wgsl_layout.specs.Gaps.{last_view}
 use Rattle.wgsl_layout.specs.declared.layout.Layout.{Layout}
@@ -12,13 +11,6 @@ use Rattle.wgsl_layout.specs.declared.layout.Layout.{Layout}
 -- the state behind the last token, and what the last piece is
 abbrev pub spot_of : Layout → Spot
 spot_of l = record { state = state_view l.state; last = last_view l.last }
-
--- the gap before a comment and before a token, behind so many line ends; the next token does so
-abbrev pub comment_gap_of : Spot → Role → ℕ → Gap
-comment_gap_of spot right n = comment_gap spot.last spot.state.last n (line_end spot.last spot.state.last beginning n (comment_depth spot.state right))
-
-abbrev pub token_gap_of : Spot → Role → ℕ → Gap
-token_gap_of spot right n = token_gap (in_brackets spot.state.opened) spot.last spot.state.last right n (line_end spot.last spot.state.last right n (depth_of spot.state right))
 
 -- what is written, and behind it these pieces laid out
 abbrev pub with_left : Layout → List Piece → List ℕ

@@ -8,11 +8,12 @@ ghost use Rattle.wgsl_tidy_model.specs.Pieces as plain;
 ghost use Rattle.wgsl_tidy_model.specs.Open.{role_in};
 ghost use Rattle.wgsl_tidy_model.specs.LaidOut as model;
 ghost use Rattle.wgsl_tidy_theory.proofs.Comments.{piece};
+ghost use Rattle.wgsl_tidy_theory.proofs.Laid.{comment_gap_of, token_gap_of};
 ghost use Rattle.wgsl_token.specs.View.{class_of_kind};
 ghost use Rattle.wgsl_layout.specs.View.{role_view};
 ghost use Rattle.wgsl_layout.specs.States.{state_view};
 ghost use Rattle.wgsl_layout.specs.Gaps.{comment_class, gap_view, last_view};
-ghost use Rattle.wgsl_layout.specs.Layouts.{comment_gap_of, token_gap_of, spot_of, with_left, Writes, WritesComments, StaysBehind};
+ghost use Rattle.wgsl_layout.specs.Layouts.{spot_of, with_left, Writes, WritesComments, StaysBehind};
 
 use crate::comment::{Comment, CommentKind, comment_at, line_ends_at};
 use crate::gap::{Gap, Last, comment_gap, depth_behind, line_end, token_gap};
