@@ -4,7 +4,7 @@ use Rattle.wgsl_tidy_theory.proofs.Laid.{comment_written}
 use Rattle.wgsl_layout.specs.View.{role_view}
 use Rattle.wgsl_layout.specs.Gaps.{gap_view, comment_class, comment_view}
 use Rattle.wgsl_layout.specs.Layouts.{spot_of}
-use Rattle.wgsl_layout.proofs.Kinds.{classed}
+use Rattle.wgsl_layout.proofs.CommentKinds.{classed}
 use Rattle.wgsl_layout.proofs.layout.Layout.write_comment.Goals as goal
 
 pub returns-clause-laid : goal.returns-clause-laid
