@@ -1,5 +1,15 @@
 //! Trees by their text form.
 
+ghost use Rattle.std.specs.Prelude.{◌≡◌, ◌≤◌, ◌<◌, ◌⊎◌, chars, length, IfOk, IfErr};
+ghost use Rattle.std.specs.Str.{IsUtf8, IsValidUpTo};
+ghost use Rattle.grammar.specs.Tokens.{Fault};
+ghost use Rattle.wgsl_model.specs.Symbols.{Value, Symbol.unit, Symbol.global_directive, Symbol.global_declaration, Symbol.statement, Symbol.expression};
+ghost use Rattle.wgsl_error.specs.View.{fault_view};
+ghost use Rattle.wgsl_answer.specs.Answers.{IsOutOfMemory};
+ghost use Rattle.wgsl_parser.specs.Sources.{IsTreeOf, IsFaultIn};
+ghost use Rattle.wgsl_c.specs.Answers.{Tells};
+ghost use Rattle.wgsl_c.specs.Trees.{symbol_of};
+
 use crate::answer::{Answer, NOT_UTF8, UNKNOWN, tell_text, text_of};
 use crate::fault::tell_error;
 use std::alloc::{AllocError, Global};
@@ -24,23 +34,38 @@ macro_rules! tree_text {
     }};
 }
 
-pub(crate) fn unit_text(alloc: Global, source: &str) -> Result<String, Error> {
+pub(crate) fn unit_text(alloc: Global, source: &str) -> Result<String, Error>
+    ensures accepted { IfOk result (λ _. (v : Value unit) × IsTreeOf unit (chars source.now) v) }
+    ensures refused { IfErr result (λ e. IsOutOfMemory e ⊎ IsFaultIn unit (chars source.now) (fault_view e)) }
+{
     tree_text!(TranslationUnit, write_unit, alloc, source)
 }
 
-fn directive_text(alloc: Global, source: &str) -> Result<String, Error> {
+fn directive_text(alloc: Global, source: &str) -> Result<String, Error>
+    ensures accepted { IfOk result (λ _. (v : Value global_directive) × IsTreeOf global_directive (chars source.now) v) }
+    ensures refused { IfErr result (λ e. IsOutOfMemory e ⊎ IsFaultIn global_directive (chars source.now) (fault_view e)) }
+{
     tree_text!(GlobalDirective, write_directive, alloc, source)
 }
 
-fn declaration_text(alloc: Global, source: &str) -> Result<String, Error> {
+fn declaration_text(alloc: Global, source: &str) -> Result<String, Error>
+    ensures accepted { IfOk result (λ _. (v : Value global_declaration) × IsTreeOf global_declaration (chars source.now) v) }
+    ensures refused { IfErr result (λ e. IsOutOfMemory e ⊎ IsFaultIn global_declaration (chars source.now) (fault_view e)) }
+{
     tree_text!(GlobalDeclaration, write_declaration, alloc, source)
 }
 
-fn statement_text(alloc: Global, source: &str) -> Result<String, Error> {
+fn statement_text(alloc: Global, source: &str) -> Result<String, Error>
+    ensures accepted { IfOk result (λ _. (v : Value statement) × IsTreeOf statement (chars source.now) v) }
+    ensures refused { IfErr result (λ e. IsOutOfMemory e ⊎ IsFaultIn statement (chars source.now) (fault_view e)) }
+{
     tree_text!(Statement, write_statement, alloc, source)
 }
 
-fn expression_text(alloc: Global, source: &str) -> Result<String, Error> {
+fn expression_text(alloc: Global, source: &str) -> Result<String, Error>
+    ensures accepted { IfOk result (λ _. (v : Value expression) × IsTreeOf expression (chars source.now) v) }
+    ensures refused { IfErr result (λ e. IsOutOfMemory e ⊎ IsFaultIn expression (chars source.now) (fault_view e)) }
+{
     tree_text!(Expression, write_expression, alloc, source)
 }
 
@@ -53,7 +78,14 @@ pub extern "C" fn wgsl_c_tree(
     text: &[u8],
     room: &mut [u8],
     answer: &mut Answer,
-) -> u32 {
+) -> u32
+    ensures accepted { result ≡ 0 → (v : Value (symbol_of what)) × IsTreeOf (symbol_of what) (chars text.now) v }
+    ensures refused { result ≡ 1 → (x : Fault) × IsFaultIn (symbol_of what) (chars text.now) x × Tells x answer.new }
+    ensures not_utf8 { result ≡ 2 → ¬ (IsUtf8 text.now) × IsValidUpTo text.now answer.new.start }
+    ensures small { result ≡ 4 → length room.new < answer.new.size }
+    ensures unknown { result ≡ 5 → 4 < what }
+    ensures status { result ≤ 5 }
+{
     let Some(source) = text_of(text, answer) else {
         return NOT_UTF8;
     };
