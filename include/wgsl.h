@@ -20,8 +20,8 @@
  * until the call returns; the room and the answer can be written, whatever they hold; the text, the
  * room and the answer lie apart; and there is stack enough. A text nests as deep as its brackets,
  * blocks, template lists and prefix operators do, and each takes stack while the text is read: as
- * measured, at most 3,600 bytes for a block and 2,300 for each other; the text form of a tree takes
- * at most as much. wgsl_nesting tells beforehand how deep a text nests, and takes no such stack.
+ * measured of the program, at most 3,600 bytes for a block and 2,300 for each other. wgsl_nesting
+ * tells beforehand how deep a text nests, and takes no such stack.
  *
  * Memory. While it runs, a call takes memory by the program's malloc, realloc and free, and gives all
  * of it back before it returns. Where they refuse, the status is WGSL_OUT_OF_MEMORY. The three belong

@@ -88,18 +88,6 @@ fn write_statement_node<W: fmt::Write>(node: &StatementNode, out: &mut W) -> fmt
     out.write_str("}")
 }
 
-/// Writes a statement and its span, or `null`.
-#[cycle(statements)]
-fn write_optional_statement<W: fmt::Write>(
-    statement: &Option<StatementNode>,
-    out: &mut W,
-) -> fmt::Result {
-    match statement {
-        None => out.write_str("null"),
-        Some(node) => write_statement_node(node, out),
-    }
-}
-
 #[cycle(statements)]
 pub fn write_block<W: fmt::Write>(block: &CompoundStatement, out: &mut W) -> fmt::Result {
     write_fields!(
@@ -118,7 +106,7 @@ fn write_if<W: fmt::Write>(inner: &IfStatement, out: &mut W) -> fmt::Result {
         "else_if_clauses": write_items!(out, &inner.else_if_clauses, clause => {
             write_else_if(clause, out)
         }),
-        "else_clause": write_else(&inner.else_clause, out),
+        "else_clause": write_optional!(out, &inner.else_clause, clause => write_else(clause, out)),
     )
 }
 
@@ -142,14 +130,11 @@ fn write_else_if<W: fmt::Write>(clause: &ElseIfClause, out: &mut W) -> fmt::Resu
 }
 
 #[cycle(statements)]
-fn write_else<W: fmt::Write>(clause: &Option<ElseClause>, out: &mut W) -> fmt::Result {
-    let Some(inner) = clause else {
-        return out.write_str("null");
-    };
+fn write_else<W: fmt::Write>(clause: &ElseClause, out: &mut W) -> fmt::Result {
     write_fields!(
         out,
-        "attributes": write_attributes(&inner.attributes, out),
-        "body": write_block(&inner.body, out),
+        "attributes": write_attributes(&clause.attributes, out),
+        "body": write_block(&clause.body, out),
     )
 }
 
@@ -180,18 +165,14 @@ fn write_loop<W: fmt::Write>(inner: &LoopStatement, out: &mut W) -> fmt::Result 
         out,
         "attributes": write_attributes(&inner.attributes, out),
         "body": write_block(&inner.body, out),
-        "continuing": write_continuing(&inner.continuing, out),
+        "continuing": write_optional!(out, &inner.continuing, continuing => {
+            write_continuing(continuing, out)
+        }),
     )
 }
 
 #[cycle(statements)]
-fn write_continuing<W: fmt::Write>(
-    continuing: &Option<ContinuingStatement>,
-    out: &mut W,
-) -> fmt::Result {
-    let Some(inner) = continuing else {
-        return out.write_str("null");
-    };
+fn write_continuing<W: fmt::Write>(inner: &ContinuingStatement, out: &mut W) -> fmt::Result {
     write_fields!(
         out,
         "attributes": write_attributes(&inner.attributes, out),
@@ -211,9 +192,11 @@ fn write_for<W: fmt::Write>(inner: &ForStatement, out: &mut W) -> fmt::Result {
     write_fields!(
         out,
         "attributes": write_attributes(&inner.attributes, out),
-        "initializer": write_optional_statement(&inner.initializer, out),
+        "initializer": write_optional!(out, &inner.initializer, node => {
+            write_statement_node(node, out)
+        }),
         "condition": write_optional_expression(&inner.condition, out),
-        "update": write_optional_statement(&inner.update, out),
+        "update": write_optional!(out, &inner.update, node => write_statement_node(node, out)),
         "body": write_block(&inner.body, out),
     )
 }
