@@ -7,6 +7,7 @@ ghost use Rattle.grammar.specs.Tokens.{Fault, last_end};
 ghost use Rattle.grammar.specs.Faults.{Ending.finished, Ending.carried};
 ghost use Rattle.wgsl_model.specs.TokenList.{IsTokenList};
 ghost use Rattle.wgsl_c.specs.Answers.{Tells};
+ghost use Rattle.wgsl_c.specs.Tokens.{HoldsTokens};
 ghost use Rattle.wgsl_lexer.specs.TextTokens.{tokens_left};
 
 use crate::answer::{Answer, DONE, NOT_UTF8, REFUSED, TOO_SMALL, refuse_memory, text_of};
@@ -30,7 +31,9 @@ struct Counted {
 
 /// Writes the tokens that are left, as many as fit.
 fn fill(left: TextTokens, room: &mut [PlacedKind]) -> Counted
-    ensures { result.end ≡ last_end 0 (tokens_left left.entry) }
+    ensures end { result.end ≡ last_end 0 (tokens_left left.entry) }
+    ensures length { length room.new ≡ length room.old }
+    ensures held { result.count ≤ length room.new → HoldsTokens (tokens_left left.entry) room.new result.count }
 {
     let mut left = left;
     let mut count = 0;
@@ -59,8 +62,8 @@ pub extern "C" fn wgsl_c_tokens(
     room: &mut [PlacedKind],
     answer: &mut Answer,
 ) -> u32
-    ensures all { result ≡ 0 → (ts : List grammar.Token) × IsTokenList (chars text.now) ts finished }
-    ensures refused { result ≡ 1 → (ts : List grammar.Token) × (x : Fault) × IsTokenList (chars text.now) ts (carried x) × Tells x answer.new }
+    ensures all { result ≡ 0 → (ts : List grammar.Token) × IsTokenList (chars text.now) ts finished × HoldsTokens ts room.new answer.new.size }
+    ensures refused { result ≡ 1 → (ts : List grammar.Token) × (x : Fault) × IsTokenList (chars text.now) ts (carried x) × Tells x answer.new × HoldsTokens ts room.new answer.new.size }
     ensures not_utf8 { result ≡ 2 → ¬ (IsUtf8 text.now) × IsValidUpTo text.now answer.new.start }
     ensures small { result ≡ 4 → length room.new < answer.new.size }
     ensures fits { result ≤ 1 → answer.new.size ≤ length room.new }
