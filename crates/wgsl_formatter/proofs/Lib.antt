@@ -1,4 +1,2 @@
-pub mod Told
-pub mod Endings
 pub mod Reports
 pub mod Reprinted

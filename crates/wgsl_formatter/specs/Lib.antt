@@ -1,3 +1,1 @@
 pub mod Ending
-pub mod Told
-pub mod Report

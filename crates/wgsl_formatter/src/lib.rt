@@ -2,19 +2,19 @@
 #![tactic(auto)]
 
 mod report;
-mod streams;
 
 ghost use Rattle.std.specs.Prelude.{◌≡◌, ◌⊎◌, ◌≤◌, ◌<◌, ℕ, List};
 ghost use Rattle.std.specs.Io.KnownBytes.{Appends, IsAtEnd};
-ghost use Rattle.wgsl_model.specs.Program.{Outcome};
-ghost use Rattle.wgsl_formatter.specs.Ending.{IsInput, Ends, GoesOut, IsReprinted, no_arguments};
+ghost use Rattle.wgsl_model.specs.Program.{Outcome, Formats};
+ghost use Rattle.wgsl_streams.specs.Ending.{IsInput, Ends, GoesOut};
+ghost use Rattle.wgsl_formatter.specs.Ending.{IsReprinted, no_arguments};
 
 pub use report::Report;
-use report::{deliver, report_of};
+use report::report_of;
 use std::alloc::Global;
 use std::io::{Read, Write};
-pub use streams::refuse_memory;
-use streams::{read_all, tell};
+pub use wgsl_streams::refuse_memory;
+use wgsl_streams::{deliver, read_all, tell};
 
 /// Reads all of the input, then writes what it asks for to the output or to the errors, and flushes
 /// that one. Where a read failed, nothing is written.
@@ -25,7 +25,7 @@ pub fn run<R: Read, W: Write, E: Write>(
     errors: &mut E,
 ) -> u8
     ensures status { result ≤ 4 }
-    ensures ends { (end : Outcome) × Ends (R.remaining input.old) (R.remaining input.new) end × (result ≡ end.status)
+    ensures ends { (end : Outcome) × Ends Formats (R.remaining input.old) (R.remaining input.new) end × (result ≡ end.status)
         × Appends (W.contents output.old) (W.contents output.new) end.output
         × Appends (E.contents errors.old) (E.contents errors.new) end.errors }
     ensures all_read { result < 3 → IsAtEnd (R.remaining input.new) }
@@ -49,7 +49,7 @@ pub fn start<R: Read, W: Write, E: Write>(
     // With no arguments, all that `run` ensures.
     ensures status { arguments ≡ 0 → result ≤ 4 }
     ensures ends { arguments ≡ 0 → (end : Outcome)
-        × Ends (R.remaining input.old) (R.remaining input.new) end × (result ≡ end.status)
+        × Ends Formats (R.remaining input.old) (R.remaining input.new) end × (result ≡ end.status)
         × Appends (W.contents output.old) (W.contents output.new) end.output
         × Appends (E.contents errors.old) (E.contents errors.new) end.errors }
     ensures all_read { arguments ≡ 0 → result < 3 → IsAtEnd (R.remaining input.new) }
@@ -79,7 +79,7 @@ pub fn start_keeping<R: Read, W: Write, E: Write>(
     // With no arguments, all that `run` ensures.
     ensures status { arguments ≡ 0 → result.0 ≤ 4 }
     ensures ends { arguments ≡ 0 → (end : Outcome)
-        × Ends (R.remaining input.old) (R.remaining input.new) end × (result.0 ≡ end.status)
+        × Ends Formats (R.remaining input.old) (R.remaining input.new) end × (result.0 ≡ end.status)
         × Appends (W.contents output.old) (W.contents output.new) end.output
         × Appends (E.contents errors.old) (E.contents errors.new) end.errors }
     ensures all_read { arguments ≡ 0 → result.0 < 3 → IsAtEnd (R.remaining input.new) }

@@ -16,11 +16,11 @@ use Rattle.wgsl_theory.proofs.Signs.{sign_stands}
 -- ---- the `>` of a template list
 
 -- a token that begins with the `>` before a text
-record Greater (text : List ℕ) : Type 0 where
-  kind : Kind
-  after : List ℕ
-  is_token : raw (62 ∷ text) ≡ token kind (62 ∷ text) after
-  greater : begins_with_greater kind.class ≡ true
+pub record Greater (text : List ℕ) : Type 0 where
+  pub kind : Kind
+  pub after : List ℕ
+  pub is_token : raw (62 ∷ text) ≡ token kind (62 ∷ text) after
+  pub greater : begins_with_greater kind.class ≡ true
 
 equal_stands : (rest : List ℕ) → Stands (62 ∷ (61 ∷ [])) (plain SymGreaterThanEqual) rest
 equal_stands [] = sign_stands 62 (61 ∷ []) SymGreaterThanEqual [] refl refl tt
@@ -40,7 +40,7 @@ behind_two (c ∷ cs) = go (c == 61) refl
     go false e = record { kind = plain SymShiftRight; after = c ∷ cs; is_token = sign_stands 62 (62 ∷ []) SymShiftRight (c ∷ cs) refl refl (rw e refl); greater = refl }
 
 -- whatever follows
-behind_one : (text : List ℕ) → Greater text
+pub behind_one : (text : List ℕ) → Greater text
 behind_one [] = record { kind = plain SymGreaterThan; after = []; is_token = sign_stands 62 [] SymGreaterThan [] refl refl tt; greater = refl }
 behind_one (c ∷ cs) = go (c == 61) (c == 62) refl refl
   where

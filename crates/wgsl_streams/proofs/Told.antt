@@ -3,8 +3,8 @@ use Rattle.std.proofs.Common.{◌≡◌, inl, inr, ℕ, zero, suc, List, [], tak
 use Rattle.std.proofs.KnownBytes.{Appends-nil}
 use Rattle.std.specs.Io.KnownBytes.{Appends}
 use Rattle.wgsl_model.specs.Program.{Outcome, complaint, out_of_memory}
-use Rattle.wgsl_formatter.specs.Ending.{GoesOut, cut}
-use Rattle.wgsl_formatter.specs.Told.{IsTold}
+use Rattle.wgsl_streams.specs.Ending.{GoesOut, cut}
+use Rattle.wgsl_streams.specs.Told.{IsTold}
 
 -- nothing is the beginning of nothing
 take-none : (n : ℕ) → take {A = ℕ} n [] ≡ []

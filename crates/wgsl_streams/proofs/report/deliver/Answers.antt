@@ -2,13 +2,13 @@ use Rattle.std.proofs.Common.{◌≡◌, true, [], inl, refl}
 use Rattle.std.proofs.KnownBytes.{Appends-nil}
 use Rattle.std.specs.Str.{is_utf8}
 use Rattle.std.proofs.lemmas.Str.{is_utf8-from_IsUtf8}
-use Rattle.wgsl_formatter.specs.Ending.{nothing_read}
-use Rattle.wgsl_formatter.proofs.Told.{goes_to_errors, goes_to_output, memory_told}
-use Rattle.wgsl_formatter.proofs.report.deliver.Goals as goal
+use Rattle.wgsl_streams.specs.Ending.{nothing_read}
+use Rattle.wgsl_streams.proofs.Told.{goes_to_errors, goes_to_output, memory_told}
+use Rattle.wgsl_streams.proofs.report.deliver.Goals as goal
 
-pub returns-in-Printed-clause-sent : goal.returns-in-Printed-clause-sent
-returns-in-Printed-clause-sent g c =
-    rw (c.in-Printed.is, ← c.as_str.ensures.value, ← c.as_bytes.ensures.value) (goes_to_output _ _ _ _ _ _ _ c.tell.ensures.1 c.tell.ensures.2)
+pub returns-in-Written-clause-sent : goal.returns-in-Written-clause-sent
+returns-in-Written-clause-sent g c =
+    rw (c.in-Written.is, ← c.as_str.ensures.value, ← c.as_bytes.ensures.value) (goes_to_output _ _ _ _ _ _ _ c.tell.ensures.1 c.tell.ensures.2)
 
 pub returns-in-Refused-clause-sent : goal.returns-in-Refused-clause-sent
 returns-in-Refused-clause-sent g c =
@@ -29,8 +29,8 @@ returns-in-Unread-clause-sent g c = rw c.in-Unread.is (nothing_read, inl refl, r
 nothing_is_text : is_utf8 [] ≡ true
 nothing_is_text = is_utf8-from_IsUtf8 [] ([], (refl, refl))
 
-pub returns-in-Printed-clause-valid : goal.returns-in-Printed-clause-valid
-returns-in-Printed-clause-valid g c = rw (c.in-Printed.is, ← c.as_str.ensures.value) (is_utf8-from_IsUtf8 _ c.as_str.utf8)
+pub returns-in-Written-clause-valid : goal.returns-in-Written-clause-valid
+returns-in-Written-clause-valid g c = rw (c.in-Written.is, ← c.as_str.ensures.value) (is_utf8-from_IsUtf8 _ c.as_str.utf8)
 
 pub returns-in-Refused-clause-valid : goal.returns-in-Refused-clause-valid
 returns-in-Refused-clause-valid g c = rw c.in-Refused.is nothing_is_text

@@ -3,8 +3,8 @@
 ghost use Rattle.std.specs.Prelude.{◌≡◌, ℕ, List, take, IfOk, OnOk};
 ghost use Rattle.std.specs.Io.KnownBytes.{Appends, IsAtEnd};
 ghost use Rattle.wgsl_model.specs.Program.{Outcome, out_of_memory};
-ghost use Rattle.wgsl_formatter.specs.Ending.{IsInput, GoesOut};
-ghost use Rattle.wgsl_formatter.specs.Told.{IsTold};
+ghost use Rattle.wgsl_streams.specs.Ending.{IsInput, GoesOut};
+ghost use Rattle.wgsl_streams.specs.Told.{IsTold};
 
 use std::alloc::Global;
 use std::io;

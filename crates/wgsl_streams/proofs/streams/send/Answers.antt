@@ -1,7 +1,7 @@
 use Rattle.std.proofs.Common.{take-add, arith}
 use Rattle.std.proofs.KnownBytes.{Appends-trans}
 use Rattle.std.proofs.lemmas.List.{take_rest, length-drop}
-use Rattle.wgsl_formatter.proofs.streams.send.Goals as goal
+use Rattle.wgsl_streams.proofs.streams.send.Goals as goal
 
 pub loop-sent-preserved : goal.loop-sent-preserved
 loop-sent-preserved g c =
