@@ -1,0 +1,8 @@
+-- The definitions, in the order in which they are read.
+pub mod Pieces
+pub mod Roles
+pub mod Joints
+pub mod Open
+pub mod LaidOut
+pub mod Kept
+pub mod Tidied
