@@ -1,0 +1,2 @@
+//! What tokens derive does not hang on where they stand.
+#![tactic(auto)]
