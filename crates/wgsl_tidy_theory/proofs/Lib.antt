@@ -1,0 +1,4 @@
+pub mod Comments
+pub mod Written
+pub mod Laid
+pub mod NextRoles
