@@ -1,0 +1,4 @@
+pub mod CommentKinds
+pub mod TokenClasses
+pub mod TokensCut
+pub mod SourcesLaid

@@ -1,0 +1,22 @@
+use Rattle.std.proofs.Common.{◌≡◌, ◌≤◌, ◌+◌, ℕ, List, chars, length}
+use denote.Text.{Utf8}
+use denote.Shadow.{shadow}
+use Rattle.wgsl_model.specs.Trivia.{outside}
+use Rattle.wgsl_tidy_model.specs.Pieces.{Piece, comments}
+use Rattle.wgsl_tidy_model.specs.LaidOut.{next_role}
+use Rattle.wgsl_layout.specs.View.{role_view}
+use Rattle.wgsl_layout.specs.States.{state_view}
+use Rattle.wgsl_layout.specs.Layouts.{with_left, StaysBehind}
+use Rattle.wgsl_layout.proofs.layout.Layout.write_comments.Given as goal
+
+abbrev pub invariant-pieces : goal.invariant-pieces
+invariant-pieces l = record {
+  text : shadow (Utf8 l.rest);
+  laid : (behind : ℕ → List Piece) → ((m : ℕ) → next_role (state_view l.fn.self.state) (behind m) ≡ role_view l.right)
+      → with_left l.fn.self (comments behind outside 0 (chars l.text)) ≡ with_left l.self (comments behind outside l.line_ends (chars l.rest));
+  stays : StaysBehind l.fn.self l.self;
+  within : l.line_ends + length l.rest ≤ length l.text;
+}
+
+abbrev pub decreases-pieces : goal.decreases-pieces
+decreases-pieces l = length l.rest

@@ -1,0 +1,6 @@
+pub mod View
+pub mod Kinds
+pub mod States
+pub mod Gaps
+pub mod Comments
+pub mod Layouts
