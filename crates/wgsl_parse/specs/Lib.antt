@@ -110,3 +110,11 @@ pub use Rattle.wgsl_path.specs.Equality as PathEquality
 pub mod Hashes
 -- the tokens that are written from a tree
 pub use Rattle.wgsl_canonical_theory.specs.CanonicalUnits
+-- modules laid out
+pub use Rattle.wgsl_tidy_model.specs.Pieces as TextPieces
+pub use Rattle.wgsl_tidy_model.specs.Roles as TokenRoles
+pub use Rattle.wgsl_tidy_model.specs.Joints as TokenJoints
+pub use Rattle.wgsl_tidy_model.specs.Open as OpenBrackets
+pub use Rattle.wgsl_tidy_model.specs.LaidOut
+pub use Rattle.wgsl_tidy_model.specs.Kept as KeptPieces
+pub use Rattle.wgsl_tidy_model.specs.Tidied

@@ -81,9 +81,15 @@ pub mod parser {
     };
 }
 
+/// Laying modules out for people: comments and the author's line breaks stay.
+pub mod tidy {
+    pub use wgsl_tidy::tidy;
+}
+
 /// What holds of all texts and trees, as contracts of functions that do nothing.
 pub mod laws {
     pub use wgsl_grammar_laws::{checked_is_full, no_less_derived, one_fault, one_name, one_tree};
+    pub use wgsl_kept_theory::laid_out_keeps;
     pub use wgsl_laws::{
         canonical_parse, print_twice, printed_parse, printed_tokens, unit_or_fault,
     };
