@@ -7,25 +7,27 @@ man = $(DESTDIR)$(PREFIX)/share/man/man1
 .PHONY: help demo build test install uninstall clean
 
 help:
-	@echo "make demo       formats a shader with wgslfmt in about a minute, without any proof"
-	@echo "make build      proves wgslfmt and what it stands on, and leaves it at build/wgslfmt"
-	@echo "make install    puts build/wgslfmt and its man page below PREFIX, which is $(PREFIX)"
+	@echo "make demo       lays a shader out with wgsltidy and prints it with wgslfmt, without any proof"
+	@echo "make build      proves wgsltidy, wgslfmt and what they stand on, and leaves them in build/"
+	@echo "make install    puts the two and their man pages below PREFIX, which is $(PREFIX)"
 	@echo "make uninstall  removes them"
 	@echo "make test       runs everything: proofs, edits that must be refused, tests, programs"
 	@echo "make clean      removes build/ and what rt keeps in crates/*/out"
 
 demo:
-	@echo "Formatting examples/waves.wgsl, in about a minute:"
-	@{ said=$$(cd crates/wgslfmt && rt try < ../../examples/waves.wgsl 2>&1 >&3); } 3>&1 \
-	    || { echo "$$said" >&2; exit 1; }
-	@echo "This was wgslfmt unproved: \`make build\` proves it."
+	@for program in wgsltidy wgslfmt; do \
+	    echo "examples/commented/waves.wgsl by $$program, in about a minute:"; \
+	    { said=$$(cd crates/$$program && rt try < ../../examples/commented/waves.wgsl 2>&1 >&3); } 3>&1 \
+	        || { echo "$$said" >&2; exit 1; }; \
+	done
+	@echo "These were the programs unproved: \`make build\` proves them."
 
 build:
 	@tools/build
 
 # What rt ci runs; each shader of examples/ has to print as examples/printed/ has it, and what is
-# there as it stands; the built program is run on made texts; and each request for memory of each
-# call is refused.
+# there as it stands; the built programs are run on made texts, wgsltidy on its worked texts too; and
+# each request for memory of each call is refused.
 test:
 	@test "$$(cat HANDLES)" = "Handles allowed: none." \
 	    || { echo "Failed: the file HANDLES."; exit 1; }
@@ -36,19 +38,25 @@ test:
 	done
 	@tools/fuzz --program crates/wgslfmt/out/wgslfmt \
 	    || { echo "Failed: tools/fuzz, as the lines above say."; exit 1; }
+	@tools/tidy_texts --program crates/wgsltidy/out/wgsltidy --printer crates/wgslfmt/out/wgslfmt \
+	    || { echo "Failed: tools/tidy_texts, as the lines above say."; exit 1; }
 	@tools/refused_memory || { echo "Failed: tools/refused_memory, as above."; exit 1; }
 	@echo "All passed."
 
 install:
-	@test -x build/wgslfmt \
-	    || { echo "build/wgslfmt is not there: run \`make build\` first."; exit 1; }
+	@for program in wgsltidy wgslfmt; do \
+	    test -x build/$$program \
+	        || { echo "build/$$program is not there: run \`make build\` first."; exit 1; }; \
+	done
 	@install -d "$(bin)" "$(man)"
-	@install -m 755 build/wgslfmt "$(bin)/wgslfmt"
-	@install -m 644 man/wgslfmt.1 "$(man)/wgslfmt.1"
-	@echo "Installed $(bin)/wgslfmt and $(man)/wgslfmt.1."
+	@for program in wgsltidy wgslfmt; do \
+	    install -m 755 build/$$program "$(bin)/$$program" \
+	        && install -m 644 man/$$program.1 "$(man)/$$program.1" || exit 1; \
+	    echo "Installed $(bin)/$$program and $(man)/$$program.1."; \
+	done
 
 uninstall:
-	@rm -f "$(bin)/wgslfmt" "$(man)/wgslfmt.1"
+	@rm -f "$(bin)/wgsltidy" "$(man)/wgsltidy.1" "$(bin)/wgslfmt" "$(man)/wgslfmt.1"
 
 clean:
 	@rm -rf build crates/*/out

@@ -13,6 +13,7 @@ use wgsl_parse::parser::{
 use wgsl_parse::syntax::{
     Expression, GlobalDeclaration, GlobalDirective, ModulePath, Statement, TranslationUnit,
 };
+use wgsl_parse::tidy::tidy;
 use wgsl_parse::{FromSource, lexer, parse_str, parser, recognize_str};
 
 /// Makes a call that reads a text, and tells whether there is one with this name.
@@ -31,6 +32,7 @@ pub fn make_call<R: Print + AllocGlobal>(rt: &R, call: &str, text: &str) -> io::
         "Expression::from_str" => tell(rt, || Expression::from_str(alloc, text))?,
         "ModulePath::from_str" => tell(rt, || ModulePath::from_str(alloc, text))?,
         "run" => tell_run(rt, text)?,
+        "tidy" => tell(rt, || tidy(alloc, text))?,
         _ => return parse_tokens(rt, call, text),
     }
     Ok(true)

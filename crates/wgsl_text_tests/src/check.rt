@@ -4,9 +4,11 @@ use crate::discovered::see_lists;
 use crate::facts::Facts;
 use crate::nodes::expressions::see_literal;
 use crate::paths::see_path;
+use crate::programs::Program;
 use crate::row::Row;
 use crate::snippets::see_snippet;
 use crate::streams::{see_program, see_run};
+use crate::tidied::{see_module_tidied, see_tidied};
 use crate::tokens::{see_list, see_template_list, see_tokens};
 use crate::tree::{see_fault, see_tree};
 use std::alloc::{AllocError, Global};
@@ -58,8 +60,8 @@ pub fn facts_of(alloc: Global, row: &Row<'_>) -> Result<Facts, AllocError> {
         return Ok(facts);
     };
     let (word, argument) = read.words.split_once(' ').unwrap_or((read.words, ""));
-    if word == "wgslfmt" {
-        see_run(&read.value, argument, &mut facts)?;
+    if let Some(program) = Program::named(word) {
+        see_run(program, &read.value, argument, &mut facts)?;
         return Ok(facts);
     }
     match std::str::from_utf8(&read.value) {
@@ -79,7 +81,8 @@ fn see_text(word: &str, text: &str, facts: &mut Facts) -> Result<(), AllocError>
     match word {
         "unit" => {
             see_tree::<TranslationUnit>(text, facts)?;
-            see_program(text, facts)
+            see_program(text, facts)?;
+            see_module_tidied(text, facts)
         }
         "directive" => see_tree::<GlobalDirective>(text, facts),
         "declaration" => see_tree::<GlobalDeclaration>(text, facts),
@@ -88,6 +91,7 @@ fn see_text(word: &str, text: &str, facts: &mut Facts) -> Result<(), AllocError>
         "literal" => see_literal_of(text, facts),
         "template" => see_template_list(text, facts),
         "list" => see_list(text, facts),
+        "tidy" => see_tidied(text, facts),
         "tokens" => see_tokens(text, facts),
         "dialect" => see_dialect(text, facts),
         "nesting" => see_nesting(text, facts),

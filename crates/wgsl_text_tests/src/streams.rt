@@ -1,9 +1,9 @@
-//! The formatter over a reader and writers in memory.
+//! The programs over a reader and writers in memory.
 
 use crate::facts::Facts;
 use crate::failing::{Calls, Failure, Sink, Source};
+use crate::programs::Program;
 use std::alloc::{AllocError, Global};
-use wgsl_formatter::{run, start};
 use wgsl_parse::parse_str;
 
 /// Up to how many bytes a text goes byte by byte through streams of which each call fails in turn.
@@ -20,11 +20,11 @@ struct Answer {
     errors: Vec<u8>,
 }
 
-fn answer_of_run(alloc: Global, source: &[u8]) -> Answer {
+fn answer_of_run(program: Program, alloc: Global, source: &[u8]) -> Answer {
     let mut input = source;
     let mut output = Vec::new(alloc);
     let mut errors = Vec::new(alloc);
-    let status = run(alloc, &mut input, &mut output, &mut errors);
+    let status = program.run(alloc, &mut input, &mut output, &mut errors);
     Answer {
         status,
         output,
@@ -32,11 +32,11 @@ fn answer_of_run(alloc: Global, source: &[u8]) -> Answer {
     }
 }
 
-fn answer_of_start(alloc: Global, arguments: usize, source: &[u8]) -> Answer {
+fn answer_of_start(program: Program, alloc: Global, arguments: usize, source: &[u8]) -> Answer {
     let mut input = source;
     let mut output = Vec::new(alloc);
     let mut errors = Vec::new(alloc);
-    let status = start(alloc, arguments, &mut input, &mut output, &mut errors);
+    let status = program.start(alloc, arguments, &mut input, &mut output, &mut errors);
     Answer {
         status,
         output,
@@ -56,6 +56,7 @@ fn see_written(word: &str, written: &[u8], facts: &mut Facts) -> Result<(), Allo
 /// A call of the program, and what it answers where nothing fails.
 #[derive(Clone, Copy)]
 struct Case<'c> {
+    program: Program,
     alloc: Global,
     is_run: bool,
     arguments: usize,
@@ -111,9 +112,10 @@ impl<'c> Case<'c> {
 
     fn status(self, input: &mut Source<'_>, output: &mut Sink<'_>, errors: &mut Sink<'_>) -> u8 {
         if self.is_run {
-            run(self.alloc, input, output, errors)
+            self.program.run(self.alloc, input, output, errors)
         } else {
-            start(self.alloc, self.arguments, input, output, errors)
+            self.program
+                .start(self.alloc, self.arguments, input, output, errors)
         }
     }
 
@@ -187,12 +189,18 @@ impl<'c> Case<'c> {
     }
 }
 
-/// What the program answers and writes, with so many arguments; without any, what `run` does.
-pub fn see_run(source: &[u8], arguments: &str, facts: &mut Facts) -> Result<(), AllocError> {
+/// What a program answers and writes, with so many arguments; without any, what `run` does.
+pub fn see_run(
+    program: Program,
+    source: &[u8],
+    arguments: &str,
+    facts: &mut Facts,
+) -> Result<(), AllocError> {
     let alloc = facts.alloc;
     let arguments = arguments.parse::<usize>().unwrap_or(0);
-    let answer = answer_of_start(alloc, arguments, source);
+    let answer = answer_of_start(program, alloc, arguments, source);
     let case = Case {
+        program,
         alloc,
         is_run: false,
         arguments,
@@ -201,7 +209,7 @@ pub fn see_run(source: &[u8], arguments: &str, facts: &mut Facts) -> Result<(), 
     };
     case.check(facts)?;
     if arguments == 0 {
-        let is_alike = answer_of_run(alloc, source) == answer;
+        let is_alike = answer_of_run(program, alloc, source) == answer;
         facts.expect(is_alike, "`run` and `start` answer alike", "")?;
         let case = Case {
             is_run: true,
@@ -215,7 +223,7 @@ pub fn see_run(source: &[u8], arguments: &str, facts: &mut Facts) -> Result<(), 
     see_written("errors", &answer.errors, facts)
 }
 
-/// The program prints a text as its tree prints, or tells what is wrong with it.
+/// `wgslfmt` prints a text as its tree prints, or tells what is wrong with it.
 pub fn see_program(text: &str, facts: &mut Facts) -> Result<(), AllocError> {
     let alloc = facts.alloc;
     let (status, output, errors) = match parse_str(alloc, text) {
@@ -225,7 +233,7 @@ pub fn see_program(text: &str, facts: &mut Facts) -> Result<(), AllocError> {
             (1, String::new(alloc), line)
         }
     };
-    let answer = answer_of_run(alloc, text.as_bytes());
+    let answer = answer_of_run(Program::Wgslfmt, alloc, text.as_bytes());
     let is_alike = answer.status == status
         && answer.output.as_slice() == output.as_bytes()
         && answer.errors.as_slice() == errors.as_bytes();
