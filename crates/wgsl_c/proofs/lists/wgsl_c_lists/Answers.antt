@@ -1,0 +1,24 @@
+use Rattle.std.proofs.Common.{rules, ◌≡◌, ℕ, List, chars, length, subst, ap, ◌∙◌, arith}
+use Rattle.wgsl_model.specs.Places.{width}
+use Rattle.wgsl_templates.specs.Lists.{AreLists}
+use Rattle.wgsl_c.specs.Answers.{counted}
+use Rattle.wgsl_c.specs.Items.{lists_before, ArePlaces}
+use Rattle.wgsl_c.proofs.Written.{all_places}
+use Rattle.wgsl_c.proofs.lists.wgsl_c_lists.Goals as goal
+
+pub returns-then-room-count-clause-small : goal.returns-then-room-count-clause-small
+returns-then-room-count-clause-small c =
+    let text = c.args.text.now in
+    let spans = c.in-Ok.templates.lists.spans.items in
+    let are : ArePlaces (chars text) (lists_before spans (length text)) =
+    all_places text spans c.in-Some.ensures.1 (subst (λ s. AreLists (width (chars s)) spans (chars s)) c.in-Some.ensures.0 c.in-Ok.ensures.lists) in
+    λ _. (lists_before spans (length text), are, c.fill-count.ensures.held, omega (arith, c.fill-count.ensures.count, c.if-room-count.true), c.of_size.ensures ∙ ap counted c.fill-count.ensures.count)
+
+pub returns-clause-all : goal.returns-clause-all
+returns-clause-all c =
+    let text = c.args.text.now in
+    let spans = c.in-Ok.templates.lists.spans.items in
+    let are : ArePlaces (chars text) (lists_before spans (length text)) =
+    all_places text spans c.in-Some.ensures.1 (subst (λ s. AreLists (width (chars s)) spans (chars s)) c.in-Some.ensures.0 c.in-Ok.ensures.lists) in
+    let count : c.fill-count.result ≡ length (lists_before spans (length text)) = omega (arith, c.fill-count.ensures.count, c.if-room-count.false) in
+    λ _. (lists_before spans (length text), are, c.fill-count.ensures.held, omega (arith, count, c.if-room-count.false), c.of_size.ensures ∙ ap counted count)
