@@ -4,11 +4,12 @@ PREFIX = /usr/local
 bin = $(DESTDIR)$(PREFIX)/bin
 man = $(DESTDIR)$(PREFIX)/share/man/man1
 
-.PHONY: help demo build test install uninstall clean
+.PHONY: help demo build lib test install uninstall clean
 
 help:
 	@echo "make demo       lays a shader out with wgsltidy and prints it with wgslfmt, without any proof"
 	@echo "make build      proves wgsltidy, wgslfmt and what they stand on, and leaves them in build/"
+	@echo "make lib        proves the library for C and Rust, and leaves it at build/libwgsl.a"
 	@echo "make install    puts the two and their man pages below PREFIX, which is $(PREFIX)"
 	@echo "make uninstall  removes them"
 	@echo "make test       runs everything: proofs, edits that must be refused, tests, programs"
@@ -25,9 +26,13 @@ demo:
 build:
 	@tools/build
 
+lib:
+	@tools/build lib
+
 # What rt ci runs; each shader of examples/ has to print as examples/printed/ has it, and what is
-# there as it stands; the built programs are run on made texts, wgsltidy on its worked texts too; and
-# each request for memory of each call is refused.
+# there as it stands; the built programs are run on made texts, wgsltidy on its worked texts too;
+# each request for memory of each call is refused; and the library is tried from C, and from Rust
+# where there is cargo.
 test:
 	@test "$$(cat HANDLES)" = "Handles allowed: none." \
 	    || { echo "Failed: the file HANDLES."; exit 1; }
@@ -41,6 +46,8 @@ test:
 	@tools/tidy_texts --program crates/wgsltidy/out/wgsltidy --printer crates/wgslfmt/out/wgslfmt \
 	    || { echo "Failed: tools/tidy_texts, as the lines above say."; exit 1; }
 	@tools/refused_memory || { echo "Failed: tools/refused_memory, as above."; exit 1; }
+	@tools/build lib || { echo "Failed: tools/build lib, as above."; exit 1; }
+	@tools/library_tests || { echo "Failed: tools/library_tests, as above."; exit 1; }
 	@echo "All passed."
 
 install:

@@ -1,0 +1,332 @@
+/* WGSL, the shading language of WebGPU: read, checked and printed by a library of which every
+ * function is proved to be safe, to return on every input, and to meet its contract.
+ *
+ *     cc -Iinclude program.c build/libwgsl.a
+ *
+ * `make lib` makes build/libwgsl.a. docs/USE.md has a whole program, examples/c/format.c.
+ *
+ * Texts. A text is bytes and their number; no byte 0 ends it. Bytes that are no UTF-8 are answered
+ * by WGSL_NOT_UTF8. Places are offsets in bytes, from 0; what ends at a place ends before it.
+ *
+ * Room. What a call has to give it writes into memory of the caller's, the room. Where that is too
+ * small the status is WGSL_TOO_SMALL, `size` of the answer says how much is needed, and the call is
+ * made again; a room of no bytes only asks for the size. The library keeps nothing between calls,
+ * so there is nothing to release.
+ *
+ * Null. Each pointer may be null where its number is 0. A null pointer with another number, a null
+ * answer and a number that no memory has are answered by WGSL_BAD_ARGUMENT, and nothing is written.
+ *
+ * What a caller owes, since no call can test it: the bytes of a text can be read, and stay as they
+ * are until the call returns; the room and the answer can be written, whatever they hold; the text,
+ * the room and the answer lie apart; and there is stack enough. A text nests as deep as its
+ * brackets, blocks, template lists and prefix operators do, and each takes stack while the text is
+ * read: as measured, at most 2,750 bytes for a block and 1,450 for each other.
+ * wgsl_nesting tells beforehand how deep a text nests, and takes no such stack.
+ *
+ * Memory. While it runs, a call takes memory by the program's malloc, realloc and free, and gives
+ * all of it back before it returns. Where they refuse, the status is WGSL_OUT_OF_MEMORY. The three
+ * belong to one allocator, and align a block to each power of two up to 16 that divides its size.
+ *
+ * Threads. Any thread may make any call, at the same time as others. No call is made from a signal
+ * handler, nor in the forked child of a program with threads.
+ */
+#ifndef WGSL_H
+#define WGSL_H
+
+#include <stddef.h>
+#include <stdint.h>
+
+#ifdef __cplusplus
+extern "C" {
+#endif
+
+/* What a call answers. */
+enum wgsl_status {
+    /* The call did what it is for. */
+    WGSL_DONE = 0,
+    /* The text is refused. The answer has the kind and the place of the fault. Where its texts fit
+     * into the room, as they do if `size` is at most the size of the room, they stand there: the
+     * message and then each text of what was expected, a byte 0 behind each; else the room is as it
+     * was. wgsl_tokens gives no texts. */
+    WGSL_REFUSED = 1,
+    /* The bytes are no UTF-8: `start` is where they stop being it. */
+    WGSL_NOT_UTF8 = 2,
+    WGSL_OUT_OF_MEMORY = 3,
+    /* The room is too small for what `size` says is needed. A room of bytes is as it was. */
+    WGSL_TOO_SMALL = 4,
+    /* No tree has the number that was asked for. */
+    WGSL_UNKNOWN = 5,
+    /* A null pointer where memory is wanted, or a number that no memory has. */
+    WGSL_BAD_ARGUMENT = 6
+};
+
+/* The kinds of faults. */
+enum wgsl_fault {
+    /* Text that begins no token, or a whole number out of range. */
+    WGSL_INVALID_TOKEN = 1,
+    /* A reserved word where a name is wanted. */
+    WGSL_RESERVED_WORD_USED = 2,
+    /* A token that cannot stand where it stands. */
+    WGSL_UNEXPECTED_TOKEN = 3,
+    /* The text ends too early: from the end of its last token to one byte behind. */
+    WGSL_UNEXPECTED_END = 4,
+    /* A severity that is none. */
+    WGSL_DIAGNOSTIC_SEVERITY = 6,
+    /* An attribute whose arguments do not fit. */
+    WGSL_ATTRIBUTE = 7,
+    /* A `var` template whose arguments do not fit. */
+    WGSL_VAR_TEMPLATE = 8
+};
+
+/* What a call answers beside its status. A number that does not go with the status is 0. */
+struct wgsl_answer {
+    /* How many bytes or items there are to give, or the number that was asked for. */
+    size_t size;
+    /* Where a fault starts and ends. */
+    size_t start;
+    size_t end;
+    /* The kind of a fault: one of enum wgsl_fault. */
+    size_t kind;
+    /* How many texts were expected. */
+    size_t expected;
+};
+
+/* A token: one of enum wgsl_token_kind, and where it starts and ends. */
+struct wgsl_token {
+    size_t kind;
+    size_t start;
+    size_t end;
+};
+
+/* Where something starts and ends. */
+struct wgsl_place {
+    size_t start;
+    size_t end;
+};
+
+/* What a text may be the tree of. */
+enum wgsl_tree_kind {
+    WGSL_UNIT = 0,
+    WGSL_DIRECTIVE = 1,
+    WGSL_DECLARATION = 2,
+    WGSL_STATEMENT = 3,
+    WGSL_EXPRESSION = 4
+};
+
+/* The kinds of tokens. No call gives a comment. */
+enum wgsl_token_kind {
+    WGSL_SYM_AND = 0,
+    WGSL_SYM_AND_AND = 1,
+    WGSL_SYM_ARROW = 2,
+    WGSL_SYM_ATTR = 3,
+    WGSL_SYM_FORWARD_SLASH = 4,
+    WGSL_SYM_BANG = 5,
+    WGSL_SYM_BRACKET_LEFT = 6,
+    WGSL_SYM_BRACKET_RIGHT = 7,
+    WGSL_SYM_BRACE_LEFT = 8,
+    WGSL_SYM_BRACE_RIGHT = 9,
+    WGSL_SYM_COLON = 10,
+    WGSL_SYM_COMMA = 11,
+    WGSL_SYM_EQUAL = 12,
+    WGSL_SYM_EQUAL_EQUAL = 13,
+    WGSL_SYM_NOT_EQUAL = 14,
+    WGSL_SYM_GREATER_THAN = 15,
+    WGSL_SYM_GREATER_THAN_EQUAL = 16,
+    WGSL_SYM_SHIFT_RIGHT = 17,
+    WGSL_SYM_LESS_THAN = 18,
+    WGSL_SYM_LESS_THAN_EQUAL = 19,
+    WGSL_SYM_SHIFT_LEFT = 20,
+    WGSL_SYM_MODULO = 21,
+    WGSL_SYM_MINUS = 22,
+    WGSL_SYM_MINUS_MINUS = 23,
+    WGSL_SYM_PERIOD = 24,
+    WGSL_SYM_PLUS = 25,
+    WGSL_SYM_PLUS_PLUS = 26,
+    WGSL_SYM_OR = 27,
+    WGSL_SYM_OR_OR = 28,
+    WGSL_SYM_PAREN_LEFT = 29,
+    WGSL_SYM_PAREN_RIGHT = 30,
+    WGSL_SYM_SEMICOLON = 31,
+    WGSL_SYM_STAR = 32,
+    WGSL_SYM_TILDE = 33,
+    WGSL_SYM_UNDERSCORE = 34,
+    WGSL_SYM_XOR = 35,
+    WGSL_SYM_PLUS_EQUAL = 36,
+    WGSL_SYM_MINUS_EQUAL = 37,
+    WGSL_SYM_TIMES_EQUAL = 38,
+    WGSL_SYM_DIVISION_EQUAL = 39,
+    WGSL_SYM_MODULO_EQUAL = 40,
+    WGSL_SYM_AND_EQUAL = 41,
+    WGSL_SYM_OR_EQUAL = 42,
+    WGSL_SYM_XOR_EQUAL = 43,
+    WGSL_SYM_SHIFT_RIGHT_ASSIGN = 44,
+    WGSL_SYM_SHIFT_LEFT_ASSIGN = 45,
+    WGSL_KW_ALIAS = 46,
+    WGSL_KW_BREAK = 47,
+    WGSL_KW_CASE = 48,
+    WGSL_KW_CONST = 49,
+    WGSL_KW_CONST_ASSERT = 50,
+    WGSL_KW_CONTINUE = 51,
+    WGSL_KW_CONTINUING = 52,
+    WGSL_KW_DEFAULT = 53,
+    WGSL_KW_DIAGNOSTIC = 54,
+    WGSL_KW_DISCARD = 55,
+    WGSL_KW_ELSE = 56,
+    WGSL_KW_ENABLE = 57,
+    WGSL_KW_FALSE = 58,
+    WGSL_KW_FN = 59,
+    WGSL_KW_FOR = 60,
+    WGSL_KW_IF = 61,
+    WGSL_KW_LET = 62,
+    WGSL_KW_LOOP = 63,
+    WGSL_KW_OVERRIDE = 64,
+    WGSL_KW_REQUIRES = 65,
+    WGSL_KW_RETURN = 66,
+    WGSL_KW_STRUCT = 67,
+    WGSL_KW_SWITCH = 68,
+    WGSL_KW_TRUE = 69,
+    WGSL_KW_VAR = 70,
+    WGSL_KW_WHILE = 71,
+    WGSL_IDENT = 72,
+    WGSL_RESERVED_WORD = 73,
+    WGSL_ABSTRACT_INT = 74,
+    WGSL_I32 = 75,
+    WGSL_U32 = 76,
+    WGSL_ABSTRACT_FLOAT = 77,
+    WGSL_F32 = 78,
+    WGSL_F16 = 79,
+    WGSL_TEMPLATE_ARGS_START = 80,
+    WGSL_TEMPLATE_ARGS_END = 81,
+    WGSL_LINE_COMMENT = 82,
+    WGSL_BLOCK_COMMENT = 83
+};
+
+/* The exports of the library, which the functions below call. They are for languages that read no
+ * header. They test no pointer and no number: none of theirs may be null, even with the number 0,
+ * and what is counted has at most WGSL_GREATEST bytes. */
+uint32_t wgsl_c_format(const uint8_t *text, size_t size, uint8_t *room, size_t room_size,
+                       struct wgsl_answer *answer);
+uint32_t wgsl_c_check(const uint8_t *text, size_t size, uint8_t *room, size_t room_size,
+                      struct wgsl_answer *answer);
+uint32_t wgsl_c_recognize(const uint8_t *text, size_t size, uint8_t *room, size_t room_size,
+                          struct wgsl_answer *answer);
+uint32_t wgsl_c_tree(uint32_t kind, const uint8_t *text, size_t size, uint8_t *room,
+                     size_t room_size, struct wgsl_answer *answer);
+uint32_t wgsl_c_tokens(const uint8_t *text, size_t size, struct wgsl_token *room, size_t room_size,
+                       struct wgsl_answer *answer);
+uint32_t wgsl_c_lists(const uint8_t *text, size_t size, struct wgsl_place *room, size_t room_size,
+                      struct wgsl_answer *answer);
+uint32_t wgsl_c_begins_with_list(const uint8_t *text, size_t size, struct wgsl_answer *answer);
+uint32_t wgsl_c_nesting(const uint8_t *text, size_t size, struct wgsl_answer *answer);
+
+/* The most bytes that memory has. */
+#define WGSL_GREATEST (SIZE_MAX / 2)
+
+/* Whether a pointer and a number of items of a size are memory: some other than null, unless the
+ * number is 0, and not too much. */
+static inline int wgsl_is_memory(const void *at, size_t count, size_t item) {
+    return (at != NULL || count == 0) && count <= WGSL_GREATEST / item;
+}
+
+/* A pointer that is not null, for memory of no bytes too. It is aligned as every item needs. */
+static inline void *wgsl_at(const void *at) {
+    static size_t nothing;
+    return at != NULL ? (void *)(uintptr_t)at : (void *)&nothing;
+}
+
+/* The canonical text of a module, into the room: without comments, blank lines and the author's
+ * line breaks, and with no byte 0 behind it. Most texts fit where the room is half as large again
+ * as the text. */
+static inline uint32_t wgsl_format(const char *text, size_t size, char *room, size_t room_size,
+                                   struct wgsl_answer *answer) {
+    if (!wgsl_is_memory(text, size, 1) || !wgsl_is_memory(room, room_size, 1) || answer == NULL) {
+        return WGSL_BAD_ARGUMENT;
+    }
+    return wgsl_c_format((const uint8_t *)wgsl_at(text), size, (uint8_t *)wgsl_at(room), room_size,
+                         answer);
+}
+
+/* Whether a text is a module: WGSL_DONE with the size 0, or WGSL_REFUSED. The room is for the texts
+ * of the fault. */
+static inline uint32_t wgsl_check(const char *text, size_t size, char *room, size_t room_size,
+                                  struct wgsl_answer *answer) {
+    if (!wgsl_is_memory(text, size, 1) || !wgsl_is_memory(room, room_size, 1) || answer == NULL) {
+        return WGSL_BAD_ARGUMENT;
+    }
+    return wgsl_c_check((const uint8_t *)wgsl_at(text), size, (uint8_t *)wgsl_at(room), room_size,
+                        answer);
+}
+
+/* Whether a text is a module of the smaller dialect in which names are identifiers alone and
+ * nothing is checked: as wgsl_check. */
+static inline uint32_t wgsl_recognize(const char *text, size_t size, char *room, size_t room_size,
+                                      struct wgsl_answer *answer) {
+    if (!wgsl_is_memory(text, size, 1) || !wgsl_is_memory(room, room_size, 1) || answer == NULL) {
+        return WGSL_BAD_ARGUMENT;
+    }
+    return wgsl_c_recognize((const uint8_t *)wgsl_at(text), size, (uint8_t *)wgsl_at(room),
+                            room_size, answer);
+}
+
+/* The tree of a kind (enum wgsl_tree_kind) that a text is, by its text form into the room: JSON,
+ * with each field of each node and its place, as docs/TREE.md says, and no byte 0 behind it.
+ * WGSL_UNKNOWN where the kind is none. */
+static inline uint32_t wgsl_tree(uint32_t kind, const char *text, size_t size, char *room,
+                                 size_t room_size, struct wgsl_answer *answer) {
+    if (!wgsl_is_memory(text, size, 1) || !wgsl_is_memory(room, room_size, 1) || answer == NULL) {
+        return WGSL_BAD_ARGUMENT;
+    }
+    return wgsl_c_tree(kind, (const uint8_t *)wgsl_at(text), size, (uint8_t *)wgsl_at(room),
+                       room_size, answer);
+}
+
+/* The tokens of a text, into a room of so many tokens. WGSL_REFUSED where text that is no token
+ * ends them: the answer has its place, and the tokens before it are in the room, `size` of them.
+ * Where the room is too small it holds the first ones. */
+static inline uint32_t wgsl_tokens(const char *text, size_t size, struct wgsl_token *room,
+                                   size_t room_size, struct wgsl_answer *answer) {
+    if (!wgsl_is_memory(text, size, 1) || !wgsl_is_memory(room, room_size, sizeof *room)
+        || answer == NULL) {
+        return WGSL_BAD_ARGUMENT;
+    }
+    return wgsl_c_tokens((const uint8_t *)wgsl_at(text), size,
+                         (struct wgsl_token *)wgsl_at(room), room_size, answer);
+}
+
+/* The template lists of a text, into a room of so many places: each from its `<` to behind its `>`,
+ * in the order of their starts. They are found in comments too. Where the room is too small it
+ * holds the first ones. */
+static inline uint32_t wgsl_template_lists(const char *text, size_t size, struct wgsl_place *room,
+                                           size_t room_size, struct wgsl_answer *answer) {
+    if (!wgsl_is_memory(text, size, 1) || !wgsl_is_memory(room, room_size, sizeof *room)
+        || answer == NULL) {
+        return WGSL_BAD_ARGUMENT;
+    }
+    return wgsl_c_lists((const uint8_t *)wgsl_at(text), size, (struct wgsl_place *)wgsl_at(room),
+                        room_size, answer);
+}
+
+/* Whether a text begins with a template list, behind blank space and comments: `size` is 1 where it
+ * does, and else 0. */
+static inline uint32_t wgsl_begins_with_template_list(const char *text, size_t size,
+                                                      struct wgsl_answer *answer) {
+    if (!wgsl_is_memory(text, size, 1) || answer == NULL) {
+        return WGSL_BAD_ARGUMENT;
+    }
+    return wgsl_c_begins_with_list((const uint8_t *)wgsl_at(text), size, answer);
+}
+
+/* The greatest number of brackets, blocks, template lists and prefix operators that are open at one
+ * place of a text, up to its first invalid token: `size`. */
+static inline uint32_t wgsl_nesting(const char *text, size_t size, struct wgsl_answer *answer) {
+    if (!wgsl_is_memory(text, size, 1) || answer == NULL) {
+        return WGSL_BAD_ARGUMENT;
+    }
+    return wgsl_c_nesting((const uint8_t *)wgsl_at(text), size, answer);
+}
+
+#ifdef __cplusplus
+}
+#endif
+
+#endif

@@ -1,0 +1,144 @@
+/* Calls the functions of wgsl.h with what a caller may get wrong, and exits with the line of the
+   first check that fails, or 0. */
+#include <string.h>
+
+#include "wgsl.h"
+
+#define CHECK(holds) \
+    do {             \
+        if (!(holds)) return __LINE__ % 256 + (__LINE__ % 256 == 0); \
+    } while (0)
+
+static struct wgsl_answer answer;
+
+static int is_answer(size_t size, size_t start, size_t end, size_t kind, size_t expected) {
+    return answer.size == size && answer.start == start && answer.end == end && answer.kind == kind
+        && answer.expected == expected;
+}
+
+/* The calls that read a text and write bytes. */
+typedef uint32_t text_call(const char *, size_t, char *, size_t, struct wgsl_answer *);
+
+static uint32_t tree(const char *text, size_t size, char *room, size_t room_size,
+                     struct wgsl_answer *said) {
+    return wgsl_tree(WGSL_UNIT, text, size, room, room_size, said);
+}
+
+static text_call *const text_calls[] = {wgsl_format, wgsl_check, wgsl_recognize, tree};
+
+/* Whether a room is as it was filled: with one byte again and again. */
+static int is_filled(const char *room, size_t size) {
+    while (size > 0 && room[size - 1] == '#') size--;
+    return size == 0;
+}
+
+/* What each of them answers of arguments that are none, and of bytes that are no text. */
+static int check_text_calls(void) {
+    char room[256];
+    size_t at;
+    for (at = 0; at < sizeof text_calls / sizeof *text_calls; at++) {
+        text_call *call = text_calls[at];
+        memset(room, '#', sizeof room);
+        CHECK(call(NULL, 1, room, sizeof room, &answer) == WGSL_BAD_ARGUMENT);
+        CHECK(call("", SIZE_MAX, room, sizeof room, &answer) == WGSL_BAD_ARGUMENT);
+        CHECK(call("", 0, NULL, 1, &answer) == WGSL_BAD_ARGUMENT);
+        CHECK(call("", 0, room, WGSL_GREATEST + 1, &answer) == WGSL_BAD_ARGUMENT);
+        CHECK(call("", 0, room, sizeof room, NULL) == WGSL_BAD_ARGUMENT);
+        CHECK(call(";//\xff", 4, room, sizeof room, &answer) == WGSL_NOT_UTF8);
+        CHECK(is_answer(0, 3, 3, 0, 0) && is_filled(room, sizeof room));
+        CHECK(call("const", 5, NULL, 0, &answer) == WGSL_REFUSED);
+        CHECK(answer.kind == WGSL_UNEXPECTED_END && answer.start == 5 && answer.end == 6);
+        CHECK(answer.expected > 0 && answer.size > 0 && answer.size <= sizeof room);
+        CHECK(call("const", 5, room, answer.size - 1, &answer) == WGSL_REFUSED);
+        CHECK(is_filled(room, sizeof room));
+        CHECK(call("const", 5, room, answer.size, &answer) == WGSL_REFUSED && room[0] == 'u');
+        CHECK(room[answer.size - 1] == 0);
+        CHECK(is_filled(room + answer.size, sizeof room - answer.size));
+    }
+    return 0;
+}
+
+/* The same of the calls that write items, or nothing. */
+static int check_other_calls(void) {
+    struct wgsl_token tokens[2];
+    struct wgsl_place lists[2];
+    CHECK(wgsl_tokens(NULL, 1, tokens, 2, &answer) == WGSL_BAD_ARGUMENT);
+    CHECK(wgsl_tokens("", SIZE_MAX, tokens, 2, &answer) == WGSL_BAD_ARGUMENT);
+    CHECK(wgsl_tokens("a", 1, NULL, 1, &answer) == WGSL_BAD_ARGUMENT);
+    CHECK(wgsl_tokens("a", 1, tokens, WGSL_GREATEST, &answer) == WGSL_BAD_ARGUMENT);
+    CHECK(wgsl_tokens("a", 1, tokens, 2, NULL) == WGSL_BAD_ARGUMENT);
+    CHECK(wgsl_tokens("\xc3", 1, tokens, 2, &answer) == WGSL_NOT_UTF8 && is_answer(0, 0, 0, 0, 0));
+    CHECK(wgsl_template_lists(NULL, 1, lists, 2, &answer) == WGSL_BAD_ARGUMENT);
+    CHECK(wgsl_template_lists("", SIZE_MAX, lists, 2, &answer) == WGSL_BAD_ARGUMENT);
+    CHECK(wgsl_template_lists("a", 1, NULL, 1, &answer) == WGSL_BAD_ARGUMENT);
+    CHECK(wgsl_template_lists("a", 1, lists, WGSL_GREATEST, &answer) == WGSL_BAD_ARGUMENT);
+    CHECK(wgsl_template_lists("a", 1, lists, 2, NULL) == WGSL_BAD_ARGUMENT);
+    CHECK(wgsl_template_lists("a\xc3", 2, lists, 2, &answer) == WGSL_NOT_UTF8);
+    CHECK(is_answer(0, 1, 1, 0, 0));
+    CHECK(wgsl_begins_with_template_list(NULL, 1, &answer) == WGSL_BAD_ARGUMENT);
+    CHECK(wgsl_begins_with_template_list("", SIZE_MAX, &answer) == WGSL_BAD_ARGUMENT);
+    CHECK(wgsl_begins_with_template_list("", 0, NULL) == WGSL_BAD_ARGUMENT);
+    CHECK(wgsl_begins_with_template_list("\xff", 1, &answer) == WGSL_NOT_UTF8);
+    CHECK(wgsl_nesting(NULL, 1, &answer) == WGSL_BAD_ARGUMENT);
+    CHECK(wgsl_nesting("", SIZE_MAX, &answer) == WGSL_BAD_ARGUMENT);
+    CHECK(wgsl_nesting("", 0, NULL) == WGSL_BAD_ARGUMENT);
+    CHECK(wgsl_nesting("\xff", 1, &answer) == WGSL_NOT_UTF8);
+    return 0;
+}
+
+int main(void) {
+    char room[256];
+    struct wgsl_token tokens[8];
+    struct wgsl_place lists[2];
+    int failed = check_text_calls();
+    if (failed == 0) failed = check_other_calls();
+    if (failed != 0) return failed;
+
+    /* a text of no bytes, at null and elsewhere, is the empty module, which prints as a line end */
+    CHECK(wgsl_format(NULL, 0, NULL, 0, &answer) == WGSL_TOO_SMALL && is_answer(1, 0, 0, 0, 0));
+    CHECK(wgsl_format(NULL, 0, room, 1, &answer) == WGSL_DONE && is_answer(1, 0, 0, 0, 0));
+    CHECK(wgsl_format("", 0, room, 1, &answer) == WGSL_DONE && room[0] == '\n');
+    CHECK(wgsl_check(NULL, 0, NULL, 0, &answer) == WGSL_DONE);
+    CHECK(wgsl_recognize(NULL, 0, NULL, 0, &answer) == WGSL_DONE);
+    CHECK(wgsl_tokens(NULL, 0, NULL, 0, &answer) == WGSL_DONE && answer.size == 0);
+    CHECK(wgsl_template_lists(NULL, 0, NULL, 0, &answer) == WGSL_DONE && answer.size == 0);
+    CHECK(wgsl_begins_with_template_list(NULL, 0, &answer) == WGSL_DONE && answer.size == 0);
+    CHECK(wgsl_nesting(NULL, 0, &answer) == WGSL_DONE && answer.size == 0);
+
+    /* a room that is too small is left alone, and the size is told */
+    memset(room, '#', sizeof room);
+    CHECK(wgsl_format("const N=1;", 10, NULL, 0, &answer) == WGSL_TOO_SMALL);
+    CHECK(is_answer(13, 0, 0, 0, 0));
+    CHECK(wgsl_format("const N=1;", 10, room, 12, &answer) == WGSL_TOO_SMALL);
+    CHECK(is_answer(13, 0, 0, 0, 0) && is_filled(room, sizeof room));
+    CHECK(wgsl_format("const N=1;", 10, room, 13, &answer) == WGSL_DONE);
+    CHECK(memcmp(room, "const N = 1;\n", 13) == 0 && is_filled(room + 13, sizeof room - 13));
+
+    /* a fault has its place with and without room for its texts */
+    CHECK(wgsl_check("const = 1;", 10, NULL, 0, &answer) == WGSL_REFUSED);
+    CHECK(is_answer(55, 6, 7, WGSL_UNEXPECTED_TOKEN, 1));
+    CHECK(wgsl_check("const = 1;", 10, room, sizeof room, &answer) == WGSL_REFUSED);
+    CHECK(strcmp(room, "unexpected token `=`, expected `identifier`") == 0);
+    CHECK(strcmp(room + strlen(room) + 1, "identifier") == 0);
+
+    /* tokens, the first ones where not all fit */
+    CHECK(wgsl_tokens("a<b>", 4, tokens, 2, &answer) == WGSL_TOO_SMALL && answer.size == 4);
+    CHECK(wgsl_tokens("a<b>", 4, tokens, 8, &answer) == WGSL_DONE && answer.size == 4);
+    CHECK(tokens[0].kind == WGSL_IDENT && tokens[1].kind == WGSL_TEMPLATE_ARGS_START);
+    CHECK(tokens[3].kind == WGSL_TEMPLATE_ARGS_END && tokens[3].start == 3 && tokens[3].end == 4);
+    CHECK(wgsl_tokens("a #", 3, tokens, 8, &answer) == WGSL_REFUSED);
+    CHECK(is_answer(1, 2, 3, WGSL_INVALID_TOKEN, 0));
+    CHECK(wgsl_tokens("a #", 3, tokens, 0, &answer) == WGSL_TOO_SMALL && is_answer(1, 0, 0, 0, 0));
+
+    /* lists, trees, and what begins with a list */
+    CHECK(wgsl_template_lists("a<b<c>>", 7, lists, 2, &answer) == WGSL_DONE && answer.size == 2);
+    CHECK(lists[0].start == 1 && lists[0].end == 7 && lists[1].start == 3 && lists[1].end == 6);
+    CHECK(wgsl_begins_with_template_list(" <a>", 4, &answer) == WGSL_DONE && answer.size == 1);
+    CHECK(wgsl_nesting("const a = ((1));", 16, &answer) == WGSL_DONE && answer.size == 2);
+    CHECK(wgsl_tree(WGSL_STATEMENT, ";", 1, room, sizeof room, &answer) == WGSL_DONE);
+    CHECK(answer.size == 6 && memcmp(room, "\"Void\"", 6) == 0);
+    memset(room, '#', sizeof room);
+    CHECK(wgsl_tree(5, ";", 1, room, sizeof room, &answer) == WGSL_UNKNOWN);
+    CHECK(is_answer(0, 0, 0, 0, 0) && is_filled(room, sizeof room));
+    return 0;
+}

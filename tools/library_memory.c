@@ -1,0 +1,125 @@
+/* Makes each call of wgsl.h on a few texts with one request for memory refused, the first, the
+   second, and so on, and exits with the line of the first check that fails, or 0. Each call has to
+   answer that memory was refused, or what it answers undisturbed, and to give back all it took. It
+   is linked with --wrap of malloc, realloc and free. */
+#include <stdlib.h>
+#include <string.h>
+
+#include "wgsl.h"
+
+#define CHECK(holds) \
+    do {             \
+        if (!(holds)) return __LINE__ % 256 + (__LINE__ % 256 == 0); \
+    } while (0)
+
+void *__real_malloc(size_t size);
+void *__real_realloc(void *block, size_t size);
+void __real_free(void *block);
+void *__wrap_malloc(size_t size);
+void *__wrap_realloc(void *block, size_t size);
+void __wrap_free(void *block);
+
+/* How many requests were made, which of them is refused, and how many blocks are out. */
+static size_t requests, refused, blocks;
+
+void *__wrap_malloc(size_t size) {
+    void *block = requests++ == refused ? NULL : __real_malloc(size);
+    blocks += block != NULL;
+    return block;
+}
+
+void *__wrap_realloc(void *block, size_t size) {
+    void *grown = requests++ == refused ? NULL : __real_realloc(block, size);
+    blocks += block == NULL && grown != NULL;
+    return grown;
+}
+
+void __wrap_free(void *block) {
+    blocks -= block != NULL;
+    __real_free(block);
+}
+
+/* What a call answers. */
+struct said {
+    uint32_t status;
+    struct wgsl_answer answer;
+    size_t room[4096];
+};
+
+enum { FORMAT, CHECKED, RECOGNIZED, TREE, TOKENS, LISTS, BEGINS, NESTING, CALLS };
+
+static uint32_t make(int call, const char *text, size_t size, struct said *said) {
+    char *room = (char *)said->room;
+    size_t room_size = sizeof said->room;
+    struct wgsl_token *tokens = (struct wgsl_token *)said->room;
+    struct wgsl_place *places = (struct wgsl_place *)said->room;
+    switch (call) {
+    case FORMAT:
+        return wgsl_format(text, size, room, room_size, &said->answer);
+    case CHECKED:
+        return wgsl_check(text, size, room, room_size, &said->answer);
+    case RECOGNIZED:
+        return wgsl_recognize(text, size, room, room_size, &said->answer);
+    case TREE:
+        return wgsl_tree(WGSL_UNIT, text, size, room, room_size, &said->answer);
+    case TOKENS:
+        return wgsl_tokens(text, size, tokens, room_size / sizeof *tokens, &said->answer);
+    case LISTS:
+        return wgsl_template_lists(text, size, places, room_size / sizeof *places, &said->answer);
+    case BEGINS:
+        return wgsl_begins_with_template_list(text, size, &said->answer);
+    default:
+        return wgsl_nesting(text, size, &said->answer);
+    }
+}
+
+/* Makes a call with one request refused, and counts the requests. */
+static void ask(int call, const char *text, size_t which, struct said *said) {
+    memset(said, 0, sizeof *said);
+    requests = 0;
+    refused = which;
+    said->status = make(call, text, strlen(text), said);
+}
+
+static int is_same(const struct said *one, const struct said *other) {
+    return one->status == other->status
+        && memcmp(&one->answer, &other->answer, sizeof one->answer) == 0
+        && memcmp(one->room, other->room, sizeof one->room) == 0;
+}
+
+static const char *const texts[] = {
+    "",
+    "alias A = B;",
+    "<a, b>(c) a < b",
+    "const N = array<f32, 2>(1, 2)[i];",
+    "struct S { @align(16) x: vec4<f32>, } @fragment fn f() -> @location(0) i32 { return 1; }",
+    "fn f() { if a { x += 1; } else { loop { break; } } switch x { case 1, default: { } } }",
+    "enable f16; fn f(a: array<array<f32, 2>, 3>) { let b = -!a[0].x + g(1, 2, 3); }",
+    "const = 1;",
+    "const x = 1 #;",
+    "fn f() { return",
+};
+
+int main(void) {
+    static struct said undisturbed, said;
+    static const struct wgsl_answer nothing;
+    size_t at, which, count;
+    int call;
+    for (at = 0; at < sizeof texts / sizeof *texts; at++) {
+        for (call = 0; call < CALLS; call++) {
+            ask(call, texts[at], SIZE_MAX, &undisturbed);
+            CHECK(undisturbed.status <= WGSL_REFUSED && blocks == 0);
+            count = requests;
+            for (which = 0; which < count; which++) {
+                ask(call, texts[at], which, &said);
+                CHECK(blocks == 0);
+                if (said.status == WGSL_OUT_OF_MEMORY) {
+                    CHECK(memcmp(&said.answer, &nothing, sizeof nothing) == 0);
+                } else {
+                    CHECK(is_same(&said, &undisturbed));
+                }
+            }
+        }
+    }
+    return 0;
+}
