@@ -1,0 +1,254 @@
+//! What can be asked of a text.
+
+use crate::fault::Fault;
+use crate::ffi::{
+    begins_with_list_call, lists_call, nesting_call, text_call, tokens_call, Call, Place,
+    PlacedKind, Said,
+};
+use crate::kind::TokenKind;
+use crate::syntax::{Span, TranslationUnit};
+
+/// `WGSL_DONE` of `wgsl.h`.
+pub(crate) const DONE: u32 = 0;
+
+/// `WGSL_REFUSED` of `wgsl.h`.
+pub(crate) const REFUSED: u32 = 1;
+
+/// `WGSL_TOO_SMALL` of `wgsl.h`.
+pub(crate) const TOO_SMALL: u32 = 4;
+
+/// How much room a fault's texts have at first.
+const FAULT_ROOM: usize = 1024;
+
+/// Makes a call that writes bytes, with so much room at first, and again where that was too small.
+fn text_of(call: Call, text: &str, first: usize) -> Result<String, Fault> {
+    let mut room = vec![0; first.max(FAULT_ROOM)];
+    loop {
+        let Said { status, answer } = text_call(call, text, &mut room);
+        let fits = answer.size <= room.len();
+        match status {
+            DONE => {
+                room.truncate(answer.size);
+                return Ok(String::from_utf8(room).expect("the library writes UTF-8"));
+            }
+            REFUSED if fits => return Err(Fault::told(text, &answer, &room[..answer.size])),
+            REFUSED | TOO_SMALL => room = vec![0; answer.size],
+            _ => return Err(Fault::out_of_memory()),
+        }
+    }
+}
+
+/// The canonical text of a module: without comments, blank lines and the author's line breaks.
+///
+/// # Errors
+///
+/// The fault of the text, or want of memory.
+///
+/// # Examples
+///
+/// ```
+/// let text = centrelilac::format("fn f(){/* nothing */return;}")?;
+/// assert_eq!(text, "fn f() {\n    return;\n}\n");
+/// # Ok::<(), centrelilac::Fault>(())
+/// ```
+pub fn format(text: &str) -> Result<String, Fault> {
+    text_of(Call::Format, text, text.len() + text.len() / 2)
+}
+
+/// Whether a text is a module.
+///
+/// # Errors
+///
+/// The fault of the text, or want of memory.
+///
+/// # Examples
+///
+/// ```
+/// let fault = centrelilac::check("const a = 1;\nconst b 2;").unwrap_err();
+/// assert_eq!((fault.line, fault.column), (2, 9));
+/// assert!(fault.expected.contains(&"=".to_string()));
+/// ```
+pub fn check(text: &str) -> Result<(), Fault> {
+    text_of(Call::Check, text, 0).map(drop)
+}
+
+/// Whether a text is a module of the smaller dialect in which nothing is checked.
+///
+/// # Errors
+///
+/// The fault of the text, or want of memory.
+///
+/// # Examples
+///
+/// ```
+/// assert!(centrelilac::check("@align fn f() {}").is_err());
+/// assert!(centrelilac::recognize("@align fn f() {}").is_ok());
+/// assert!(centrelilac::recognize("const a").is_err());
+/// ```
+pub fn recognize(text: &str) -> Result<(), Fault> {
+    text_of(Call::Recognize, text, 0).map(drop)
+}
+
+/// The tree of a module. A directive, a declaration, a statement or an expression is read by
+/// `str::parse`, as `text.parse::<Expression>()`.
+///
+/// # Errors
+///
+/// The fault of the text, or want of memory. A tree whose text form has more than 4,000 objects
+/// and lists in one another is refused by the kind [`TooDeep`](crate::FaultKind::TooDeep): one of
+/// 1,300 parentheses, operators, components or indices, of 990 blocks or of 600 `if` statements
+/// still passes.
+///
+/// # Examples
+///
+/// ```
+/// use centrelilac::syntax::GlobalDeclaration;
+///
+/// let unit = centrelilac::parse("alias A = B;")?;
+/// let GlobalDeclaration::TypeAlias(alias) = &*unit.global_declarations[0] else {
+///     panic!("no alias");
+/// };
+/// assert_eq!(alias.ident.name, "A");
+/// # Ok::<(), centrelilac::Fault>(())
+/// ```
+pub fn parse(text: &str) -> Result<TranslationUnit, Fault> {
+    text.parse()
+}
+
+/// A token of a text: what it is, and where it stands in bytes.
+#[derive(Clone, Copy, Debug, PartialEq, Eq, Hash)]
+pub struct Token {
+    /// Which token it is.
+    pub kind: TokenKind,
+    /// Where it stands.
+    pub span: Span,
+}
+
+/// The tokens of a text, without its comments.
+///
+/// # Errors
+///
+/// The first invalid token, or want of memory.
+///
+/// # Examples
+///
+/// ```
+/// use centrelilac::TokenKind;
+///
+/// let tokens = centrelilac::tokens("a<b>")?;
+/// assert_eq!(tokens[1].kind, TokenKind::TemplateArgsStart);
+/// assert_eq!(tokens[1].span.start, 1);
+/// # Ok::<(), centrelilac::Fault>(())
+/// ```
+pub fn tokens(text: &str) -> Result<Vec<Token>, Fault> {
+    let mut room = vec![PlacedKind::default(); text.len() / 3 + 16];
+    loop {
+        let Said { status, answer } = tokens_call(text, &mut room);
+        match status {
+            DONE => {
+                let found = &room[..answer.size];
+                return Ok(found.iter().map(Token::from_placed).collect());
+            }
+            TOO_SMALL => room = vec![PlacedKind::default(); answer.size],
+            REFUSED => return Err(Fault::told(text, &answer, b"invalid token")),
+            _ => return Err(Fault::out_of_memory()),
+        }
+    }
+}
+
+impl Token {
+    /// The token that the library wrote.
+    fn from_placed(placed: &PlacedKind) -> Token {
+        Token {
+            kind: TokenKind::ALL[placed.kind],
+            span: span(placed.start, placed.end),
+        }
+    }
+}
+
+/// A part of a text.
+fn span(start: usize, end: usize) -> Span {
+    Span { start, end }
+}
+
+/// Where each template list of a text stands, from its `<` to behind its `>`, in the order of
+/// their starts. They are found in comments too.
+///
+/// # Errors
+///
+/// Want of memory alone.
+///
+/// # Examples
+///
+/// ```
+/// let lists = centrelilac::template_lists("a<b<c>> < d")?;
+/// assert_eq!(lists.len(), 2);
+/// assert_eq!(lists[0].range(), 1..7);
+/// assert_eq!(lists[1].range(), 3..6);
+/// # Ok::<(), centrelilac::Fault>(())
+/// ```
+pub fn template_lists(text: &str) -> Result<Vec<Span>, Fault> {
+    let mut room = vec![Place::default(); 64];
+    loop {
+        let Said { status, answer } = lists_call(text, &mut room);
+        match status {
+            DONE => {
+                let found = &room[..answer.size];
+                return Ok(found
+                    .iter()
+                    .map(|list| span(list.start, list.end))
+                    .collect());
+            }
+            TOO_SMALL => room = vec![Place::default(); answer.size],
+            _ => return Err(Fault::out_of_memory()),
+        }
+    }
+}
+
+/// Whether a text begins with a template list, behind blank space and comments.
+///
+/// # Errors
+///
+/// Want of memory alone.
+///
+/// # Examples
+///
+/// ```
+/// assert!(centrelilac::begins_with_template_list("<a, b>(c)")?);
+/// assert!(!centrelilac::begins_with_template_list("< a")?);
+/// # Ok::<(), centrelilac::Fault>(())
+/// ```
+pub fn begins_with_template_list(text: &str) -> Result<bool, Fault> {
+    Ok(number(begins_with_list_call(text))? == 1)
+}
+
+/// The greatest number of brackets, blocks, template lists and prefix operators that are open at
+/// one place. What reads, prints and drops a text takes stack for each: in the library at most
+/// 1,450 bytes for a bracket, a template list or an operator, and 2,750 for a block.
+///
+/// # Errors
+///
+/// Want of memory alone.
+///
+/// # Examples
+///
+/// ```
+/// assert_eq!(centrelilac::nesting("const a = ((1));")?, 2);
+/// # Ok::<(), centrelilac::Fault>(())
+/// ```
+pub fn nesting(text: &str) -> Result<usize, Fault> {
+    number(nesting_call(text))
+}
+
+/// The number that a call answers, unless memory was refused.
+fn number(said: Said) -> Result<usize, Fault> {
+    match said.status {
+        DONE => Ok(said.answer.size),
+        _ => Err(Fault::out_of_memory()),
+    }
+}
+
+/// The tree with a number, by its text form.
+pub(crate) fn form_of(what: u32, text: &str) -> Result<String, Fault> {
+    text_of(Call::Tree(what), text, text.len() * 32)
+}

@@ -1,0 +1,183 @@
+//! The calls of the static library, made safe. No other file has `unsafe`.
+//!
+//! What a call is owed, as `wgsl.h` says, is what Rust's references give: memory that can be read
+//! or written, lies apart and stays as it is for the call. Of the stack, each level of nesting
+//! takes at most 2,750 bytes as measured, so that a text which nests too deep meets the guard
+//! page behind a stack, as a recursion of Rust's does, and ends the process.
+
+/// What a call answers beside its status: `struct wgsl_answer` of `wgsl.h`.
+#[repr(C)]
+#[derive(Clone, Copy, Debug, Default)]
+pub struct Answer {
+    /// How many bytes or items there are to give.
+    pub size: usize,
+    /// Where a fault starts, in bytes.
+    pub start: usize,
+    /// Where it ends.
+    pub end: usize,
+    /// The number of its kind.
+    pub kind: usize,
+    /// How many texts were expected.
+    pub expected: usize,
+}
+
+/// `struct wgsl_token` of `wgsl.h`.
+#[repr(C)]
+#[derive(Clone, Copy, Debug, Default)]
+pub struct PlacedKind {
+    /// The number of its kind.
+    pub kind: usize,
+    /// Where it starts, in bytes.
+    pub start: usize,
+    /// Where it ends.
+    pub end: usize,
+}
+
+/// `struct wgsl_place` of `wgsl.h`.
+#[repr(C)]
+#[derive(Clone, Copy, Debug, Default)]
+pub struct Place {
+    /// Where it starts, in bytes.
+    pub start: usize,
+    /// Where it ends.
+    pub end: usize,
+}
+
+// The exports of the crate `wgsl_c`, of which a slice is a pointer and a length here.
+extern "C" {
+    fn wgsl_c_format(
+        text: *const u8,
+        size: usize,
+        room: *mut u8,
+        room_size: usize,
+        answer: *mut Answer,
+    ) -> u32;
+    fn wgsl_c_check(
+        text: *const u8,
+        size: usize,
+        room: *mut u8,
+        room_size: usize,
+        answer: *mut Answer,
+    ) -> u32;
+    fn wgsl_c_recognize(
+        text: *const u8,
+        size: usize,
+        room: *mut u8,
+        room_size: usize,
+        answer: *mut Answer,
+    ) -> u32;
+    fn wgsl_c_tree(
+        what: u32,
+        text: *const u8,
+        size: usize,
+        room: *mut u8,
+        room_size: usize,
+        answer: *mut Answer,
+    ) -> u32;
+    fn wgsl_c_tokens(
+        text: *const u8,
+        size: usize,
+        room: *mut PlacedKind,
+        room_size: usize,
+        answer: *mut Answer,
+    ) -> u32;
+    fn wgsl_c_lists(
+        text: *const u8,
+        size: usize,
+        room: *mut Place,
+        room_size: usize,
+        answer: *mut Answer,
+    ) -> u32;
+    fn wgsl_c_begins_with_list(text: *const u8, size: usize, answer: *mut Answer) -> u32;
+    fn wgsl_c_nesting(text: *const u8, size: usize, answer: *mut Answer) -> u32;
+}
+
+/// What a call said: its status and the rest.
+#[derive(Clone, Copy, Debug)]
+pub struct Said {
+    /// The status: one of the constants of `wgsl.h`.
+    pub status: u32,
+    /// The rest.
+    pub answer: Answer,
+}
+
+/// A call that reads a text and writes bytes.
+#[derive(Clone, Copy, Debug)]
+pub enum Call {
+    /// The printed text.
+    Format,
+    /// Whether it is a module.
+    Check,
+    /// Whether it is a module of the dialect.
+    Recognize,
+    /// The text form of the tree with this number.
+    Tree(u32),
+}
+
+/// Makes a call, which writes into the room.
+pub fn text_call(call: Call, text: &str, room: &mut [u8]) -> Said {
+    let mut answer = Answer::default();
+    let (at, size) = (text.as_ptr(), text.len());
+    let (to, room_size) = (room.as_mut_ptr(), room.len());
+    // SAFETY: the declarations above are those of the exports. The text and the room are those of
+    // one `&str` and one `&mut [u8]`, which are never null, are apart from each other and from
+    // the answer, and are borrowed for the call, and no slice of Rust's is longer than the
+    // exports take. An export requires nothing else, and writes nowhere else.
+    let status = unsafe {
+        match call {
+            Call::Format => wgsl_c_format(at, size, to, room_size, &mut answer),
+            Call::Check => wgsl_c_check(at, size, to, room_size, &mut answer),
+            Call::Recognize => wgsl_c_recognize(at, size, to, room_size, &mut answer),
+            Call::Tree(what) => wgsl_c_tree(what, at, size, to, room_size, &mut answer),
+        }
+    };
+    Said { status, answer }
+}
+
+/// The tokens of a text, as many as fit into the room.
+pub fn tokens_call(text: &str, room: &mut [PlacedKind]) -> Said {
+    let mut answer = Answer::default();
+    // SAFETY: as in `text_call`; `PlacedKind` has the layout of the struct that the export writes.
+    let status = unsafe {
+        wgsl_c_tokens(
+            text.as_ptr(),
+            text.len(),
+            room.as_mut_ptr(),
+            room.len(),
+            &mut answer,
+        )
+    };
+    Said { status, answer }
+}
+
+/// The places of the template lists of a text, as many as fit into the room.
+pub fn lists_call(text: &str, room: &mut [Place]) -> Said {
+    let mut answer = Answer::default();
+    // SAFETY: as in `text_call`; `Place` has the layout of the struct that the export writes.
+    let status = unsafe {
+        wgsl_c_lists(
+            text.as_ptr(),
+            text.len(),
+            room.as_mut_ptr(),
+            room.len(),
+            &mut answer,
+        )
+    };
+    Said { status, answer }
+}
+
+/// Whether a text begins with a template list: the size is 1 where it does.
+pub fn begins_with_list_call(text: &str) -> Said {
+    let mut answer = Answer::default();
+    // SAFETY: as in `text_call`; there is no room.
+    let status = unsafe { wgsl_c_begins_with_list(text.as_ptr(), text.len(), &mut answer) };
+    Said { status, answer }
+}
+
+/// How deep a text nests, as the size.
+pub fn nesting_call(text: &str) -> Said {
+    let mut answer = Answer::default();
+    // SAFETY: as in `text_call`; there is no room.
+    let status = unsafe { wgsl_c_nesting(text.as_ptr(), text.len(), &mut answer) };
+    Said { status, answer }
+}

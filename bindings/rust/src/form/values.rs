@@ -1,0 +1,135 @@
+//! The forms of what the fields of nodes hold: numbers, texts, lists, and what may be left out.
+
+use super::sealed::Written;
+use super::{FormError, Reader};
+use std::fmt::Write;
+
+impl Written for bool {
+    fn write(&self, out: &mut String) {
+        out.push_str(if *self { "true" } else { "false" });
+    }
+
+    fn read(from: &mut Reader<'_>) -> Result<Self, FormError> {
+        if from.takes("true") {
+            return Ok(true);
+        }
+        from.expect("false")?;
+        Ok(false)
+    }
+}
+
+/// Whole numbers.
+macro_rules! numbers {
+    ($($number:ty)*) => {$(
+        impl Written for $number {
+            fn write(&self, out: &mut String) {
+                let _ = write!(out, "{self}");
+            }
+
+            fn read(from: &mut Reader<'_>) -> Result<Self, FormError> {
+                let digits = from.take_while(|c| c == '-' || c.is_ascii_digit());
+                digits.parse().map_err(|_| FormError::Malformed)
+            }
+        }
+    )*};
+}
+
+numbers!(i32 u32 i64 usize);
+
+/// Writes a text in quotes.
+pub fn write_text(text: &str, out: &mut String) {
+    out.push('"');
+    for c in text.chars() {
+        match c {
+            '"' => out.push_str("\\\""),
+            '\\' => out.push_str("\\\\"),
+            '\0'..='\u{1f}' => {
+                let _ = write!(out, "\\u{:04x}", u32::from(c));
+            }
+            _ => out.push(c),
+        }
+    }
+    out.push('"');
+}
+
+impl Written for String {
+    fn write(&self, out: &mut String) {
+        write_text(self, out);
+    }
+
+    fn read(from: &mut Reader<'_>) -> Result<Self, FormError> {
+        from.expect("\"")?;
+        let mut text = String::new();
+        loop {
+            text.push_str(from.take_while(|c| c != '"' && c != '\\'));
+            if from.takes("\"") {
+                return Ok(text);
+            }
+            from.expect("\\")?;
+            text.push(from.escaped()?);
+        }
+    }
+}
+
+impl<T: Written> Written for Option<T> {
+    fn write(&self, out: &mut String) {
+        match self {
+            None => out.push_str("null"),
+            Some(value) => value.write(out),
+        }
+    }
+
+    fn read(from: &mut Reader<'_>) -> Result<Self, FormError> {
+        if from.takes("null") {
+            return Ok(None);
+        }
+        Ok(Some(T::read(from)?))
+    }
+}
+
+impl<T: Written> Written for Vec<T> {
+    fn write(&self, out: &mut String) {
+        out.push('[');
+        for (index, item) in self.iter().enumerate() {
+            if index > 0 {
+                out.push(',');
+            }
+            item.write(out);
+        }
+        out.push(']');
+    }
+
+    fn read(from: &mut Reader<'_>) -> Result<Self, FormError> {
+        from.expect("[")?;
+        let mut items = Vec::new();
+        if from.takes("]") {
+            return Ok(items);
+        }
+        loop {
+            items.push(T::read(from)?);
+            if from.takes("]") {
+                return Ok(items);
+            }
+            from.expect(",")?;
+        }
+    }
+}
+
+impl<A: Written, B: Written> Written for (A, B) {
+    fn write(&self, out: &mut String) {
+        out.push('[');
+        self.0.write(out);
+        out.push(',');
+        self.1.write(out);
+        out.push(']');
+    }
+
+    fn read(from: &mut Reader<'_>) -> Result<Self, FormError> {
+        from.expect("[")?;
+        let first = A::read(from)?;
+        from.expect(",")?;
+        let second = B::read(from)?;
+        from.expect("]")?;
+        Ok((first, second))
+    }
+}

@@ -1,0 +1,78 @@
+//! That the numbers here are those of `wgsl.h`.
+
+use crate::calls::{DONE, REFUSED, TOO_SMALL};
+use crate::fault::FaultKind;
+use crate::form::sealed::Numbered;
+use crate::kind::TokenKind;
+use crate::syntax::{Expression, GlobalDeclaration, GlobalDirective, Statement, TranslationUnit};
+
+const HEADER: &str = include_str!("../../../include/wgsl.h");
+
+/// The names of an enum of the header, each with its number, without `WGSL_`.
+fn numbers(name: &str) -> Vec<(&'static str, usize)> {
+    let (_, inside) = HEADER
+        .split_once(&format!("enum {name} {{\n"))
+        .expect("the enum stands in the header");
+    let (inside, _) = inside.split_once("};").expect("the enum ends");
+    let lines = inside.lines().map(|line| line.trim().trim_end_matches(','));
+    let pairs = lines.filter_map(|line| line.strip_prefix("WGSL_")?.split_once(" = "));
+    pairs
+        .map(|(name, number)| (name, number.parse().expect("a number")))
+        .collect()
+}
+
+/// The name of a kind, as the header writes it.
+fn header_name(kind: TokenKind) -> String {
+    let mut name = String::new();
+    for c in format!("{kind:?}").chars() {
+        if c.is_ascii_uppercase() && !name.is_empty() {
+            name.push('_');
+        }
+        name.push(c.to_ascii_uppercase());
+    }
+    name
+}
+
+#[test]
+fn tokens_have_the_numbers_of_the_header() {
+    let here: Vec<_> = TokenKind::ALL.iter().copied().map(header_name).collect();
+    let there = numbers("wgsl_token_kind");
+    assert_eq!(there.len(), 84);
+    let in_order = there
+        .iter()
+        .enumerate()
+        .all(|(at, (_, number))| at == *number);
+    assert!(in_order);
+    let there: Vec<_> = there.iter().map(|(name, _)| *name).collect();
+    assert_eq!(here, there);
+}
+
+#[test]
+fn trees_have_the_numbers_of_the_header() {
+    let here = [
+        ("UNIT", TranslationUnit::NUMBER),
+        ("DIRECTIVE", GlobalDirective::NUMBER),
+        ("DECLARATION", GlobalDeclaration::NUMBER),
+        ("STATEMENT", Statement::NUMBER),
+        ("EXPRESSION", Expression::NUMBER),
+    ];
+    let here = here.map(|(name, number)| (name, number as usize));
+    assert_eq!(numbers("wgsl_tree_kind"), here);
+}
+
+#[test]
+fn statuses_and_faults_have_the_numbers_of_the_header() {
+    let statuses = numbers("wgsl_status");
+    for (name, number) in [
+        ("DONE", DONE),
+        ("REFUSED", REFUSED),
+        ("TOO_SMALL", TOO_SMALL),
+    ] {
+        assert!(statuses.contains(&(name, number as usize)), "{name}");
+    }
+    let faults: Vec<_> = numbers("wgsl_fault")
+        .into_iter()
+        .map(|(_, it)| it)
+        .collect();
+    assert_eq!(faults, FaultKind::NUMBERED.map(|(number, _)| number));
+}
