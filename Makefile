@@ -4,7 +4,7 @@ PREFIX = /usr/local
 bin = $(DESTDIR)$(PREFIX)/bin
 man = $(DESTDIR)$(PREFIX)/share/man/man1
 
-.PHONY: help demo build lib test install uninstall clean
+.PHONY: help demo build lib tables test install uninstall clean
 
 help:
 	@echo "make demo       lays a shader out with wgsltidy and prints it with wgslfmt, without any proof"
@@ -12,6 +12,7 @@ help:
 	@echo "make lib        proves the library for C and Rust, and leaves it at build/libwgsl.a"
 	@echo "make install    puts the two and their man pages below PREFIX, which is $(PREFIX)"
 	@echo "make uninstall  removes them"
+	@echo "make tables     writes again what tools write from the definitions"
 	@echo "make test       runs everything: proofs, edits that must be refused, tests, programs"
 	@echo "make clean      removes build/ and what rt keeps in crates/*/out"
 
@@ -29,13 +30,19 @@ build:
 lib:
 	@tools/build lib
 
-# What rt ci runs; each shader of examples/ has to print as examples/printed/ has it, and what is
-# there as it stands; the built programs are run on made texts, wgsltidy on its worked texts too;
-# each request for memory of each call is refused; and the library is tried from C, and from Rust
-# where there is cargo.
+tables:
+	@tools/make_tables
+
+# What README.md and CALLING.md quote has to stand in the sources, and what tools write from the
+# definitions has to be what they would write again; what rt ci runs; each shader of examples/ has to
+# print as examples/printed/ has it, and what is there as it stands; the built programs are run on
+# made texts, wgsltidy on its worked texts too; each request for memory of each call is refused; and
+# the library is tried from C, and from Rust where there is cargo.
 test:
 	@test "$$(cat HANDLES)" = "Handles allowed: none." \
 	    || { echo "Failed: the file HANDLES."; exit 1; }
+	@tools/snippets || { echo "Failed: tools/snippets, as the lines above say."; exit 1; }
+	@tools/make_tables --check || { echo "Failed: run \`make tables\`."; exit 1; }
 	@rt ci || { echo "Failed: rt ci, as the lines above say."; exit 1; }
 	@cd examples && for shader in *.wgsl printed/*.wgsl; do \
 	    ../crates/wgslfmt/out/wgslfmt < $$shader | cmp - printed/$${shader##*/} \
