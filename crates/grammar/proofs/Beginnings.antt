@@ -2,7 +2,7 @@
 use Rattle.std.proofs.Common.{◌≡◌, ℕ, zero, suc, ◌<◌, Bool, true, false, cond, ◌&&◌, ◌||◌, List, [], ◌∷◌, ◌++◌, length, ◌⊎◌, inl, inr, refl, sym, ap, subst, ◌∙◌, arith}
 use Rattle.grammar.specs.Tokens.{Token, Span}
 use Rattle.grammar.specs.Grammar.{Grammar, Grammar.empty, Grammar.token, Grammar.sequence, Grammar.choice, Grammar.mapped, Grammar.node, Grammar.checked, Grammar.symbol, Grammar.left_chain, Mode, Chain, Chain.base, Chain.more, Means, Within}
-use Rattle.grammar.specs.Tables.{subset, Tables, nullable, first, goes_on, decides}
+use Rattle.grammar.specs.Tables.{subset, Tables, nullable, first, continuations, decides}
 use Rattle.grammar.specs.Reading.{chooses}
 use Rattle.grammar.proofs.Sets.{and_true, not_true, mem_left, mem_right, in_subset}
 
@@ -34,7 +34,7 @@ Begins n s xs ys = ((n ≡ true) × (xs ≡ ys)) ⊎ ((chooses s xs ≡ true) ×
 pub record Sane {N : Type 0} {Value : N → Type 0} (T : Tables N) (body : (n : N) → Grammar N Value (Value n)) : Type 0 where
   pub begins : (n : N) → subset (first T (body n)) (T.first n) ≡ true
   pub empty : (n : N) → nullable T (body n) ≡ T.empty n
-  pub more : (n : N) → subset (goes_on T (body n)) (T.more n) ≡ true
+  pub more : (n : N) → subset (continuations T (body n)) (T.more n) ≡ true
   pub one : (n : N) → decides T (body n) ≡ true
 
 pub chooses_left : (r s : List ℕ) (xs : List Token) → chooses r xs ≡ true → chooses (r ++ s) xs ≡ true

@@ -3,7 +3,7 @@ use Rattle.std.proofs.Common.{◌≡◌, ℕ, zero, suc, ◌<◌, ◌≤◌, Boo
 use Rattle.std.specs.Prelude.{Option}
 use Rattle.grammar.specs.Tokens.{Token, Span, Fault, span_between}
 use Rattle.grammar.specs.Grammar.{is_among, Grammar, Grammar.empty, Grammar.token, Grammar.sequence, Grammar.choice, Grammar.mapped, Grammar.node, Grammar.checked, Grammar.symbol, Grammar.left_chain, Mode, found, Chain, Chain.base, Chain.more, Means, Within, Part}
-use Rattle.grammar.specs.Tables.{disjoint, subset, Tables, nullable, first, goes_on, decides}
+use Rattle.grammar.specs.Tables.{disjoint, subset, Tables, nullable, first, continuations, decides}
 use Rattle.grammar.specs.Reading.{Outcome, Outcome.ok, Outcome.out, bind, judge, chooses, take_token, loop, run, read}
 use Rattle.grammar.proofs.Sets.{and_true, not_true, not_left, not_right, apart', not_subset}
 use Rattle.grammar.proofs.Beginnings.{pick_yes, pick_no, Begins, Sane, begins, begins_within}
@@ -99,27 +99,27 @@ token_complete s v ys e = pick_yes (is_among v.class s) _ _ e
 pub complete : {N : Type 0} {Value : N → Type 0} (T : Tables N) (M : Mode) (D : (n : N) → Value n → List Token → List Token → Type 0) (rec : (n : N) → List Token → Outcome (Value n))
     → ((n : N) (v : Value n) (xs ys : List Token) → D n v xs ys → Begins (T.empty n) (T.first n) xs ys)
     → ((n : N) → IsComplete (D n) (T.more n) (rec n))
-    → {A : Type 0} (g : Grammar N Value A) → decides T g ≡ true → IsComplete (Means M D g) (goes_on T g) (run T M rec g)
+    → {A : Type 0} (g : Grammar N Value A) → decides T g ≡ true → IsComplete (Means M D g) (continuations T g) (run T M rec g)
 complete T M D rec B H (empty a) e v xs ys d w = inl (ap₂ (λ x y. ok x y) d.0 d.1)
 complete T M D rec B H (token s) e v xs ys d w = inl (ap (λ (x : List Token). take_token s x) d.1 ∙ token_complete s v ys d.0)
 complete T M D rec B H (sequence {A} {B = C} g h) e v xs ys d w =
     let l = and_true _ _ e in let l' = and_true _ _ l.0 in
-    let wg : Stops (goes_on T g) d.0 = stops_before (nullable T h) (goes_on T g) (first T h) d.0 ys (begins T M D B h l'.1 v.1 d.0 ys d.2) l.1 (stops_right (goes_on T h) _ ys w) in
+    let wg : Stops (continuations T g) d.0 = stops_before (nullable T h) (continuations T g) (first T h) d.0 ys (begins T M D B h l'.1 v.1 d.0 ys d.2) l.1 (stops_right (continuations T h) _ ys w) in
     or_bind (run T M rec g xs) (λ a us. bind (run T M rec h us) (λ b vs. ok (a, b) vs)) v.0 d.0 v ys
     (complete T M D rec B H g l'.0 v.0 xs d.0 d.1 wg)
-    (or_bind (run T M rec h d.0) (λ b vs. ok (v.0, b) vs) v.1 ys v ys (complete T M D rec B H h l'.1 v.1 d.0 ys d.2 (stops_left (goes_on T h) _ ys w)) (inl refl))
+    (or_bind (run T M rec h d.0) (λ b vs. ok (v.0, b) vs) v.1 ys v ys (complete T M D rec B H h l'.1 v.1 d.0 ys d.2 (stops_left (continuations T h) _ ys w)) (inl refl))
 complete T M D rec B H (choice g h) e v xs ys (inl d) w =
     let l = and_true _ _ e in let l' = and_true _ _ l.0 in let m = and_true _ _ l.1 in
     let no : nullable T g ≡ false = not_true _ m.0 in
     let b = begun (first T g) xs ys (subst (λ (x : Bool). Begins x (first T g) xs ys) no (begins T M D B g l'.0 v xs ys d)) in
     or_same _ _ v ys (pick_yes (chooses (first T g) xs) (run T M rec g xs) (run T M rec h xs) b.0)
-    (complete T M D rec B H g l'.0 v xs ys d (stops_left (goes_on T g) _ ys w))
+    (complete T M D rec B H g l'.0 v xs ys d (stops_left (continuations T g) _ ys w))
 complete T M D rec B H (choice g h) e v xs ys (inr d) w =
     let l = and_true _ _ e in let l' = and_true _ _ l.0 in let m = and_true _ _ l.1 in
-    let wr = stops_right (goes_on T g) _ ys w in
+    let wr = stops_right (continuations T g) _ ys w in
     or_same _ _ v ys (pick_no (chooses (first T g) xs) (run T M rec g xs) (run T M rec h xs)
-    (stops_before (nullable T h) (first T g) (first T h) xs ys (begins T M D B h l'.1 v xs ys d) m.1 (stops_right (goes_on T h) _ ys wr)))
-    (complete T M D rec B H h l'.1 v xs ys d (stops_left (goes_on T h) _ ys wr))
+    (stops_before (nullable T h) (first T g) (first T h) xs ys (begins T M D B h l'.1 v xs ys d) m.1 (stops_right (continuations T h) _ ys wr)))
+    (complete T M D rec B H h l'.1 v xs ys d (stops_left (continuations T h) _ ys wr))
 complete T M D rec B H (mapped f g) e v xs ys d w =
     or_bind (run T M rec g xs) (λ a us. ok (f a) us) d.0 ys v ys (complete T M D rec B H g e d.0 xs ys d.2 w)
     (inl (ap (λ (x : _). ok x ys) d.1))
@@ -133,12 +133,12 @@ complete T M D rec B H (symbol n) e v xs ys d w = H n v xs ys d w
 complete T M D rec B H (left_chain f g h) e v xs ys d w =
     let l = and_true _ _ e in let l' = and_true _ _ l.0 in let m = and_true _ _ l.1 in let m' = and_true _ _ m.1 in
     let takes : nullable T h ≡ false = not_true (nullable T h) m.0 in
-    let wr = stops_right (first T h) (goes_on T h ++ goes_on T g) ys w in
-    looping_or f (first T h) (run T M rec g) (run T M rec h) xs v ys (stops_left (first T h) (goes_on T h ++ goes_on T g) ys w)
-    (reach f (first T h) (goes_on T g) (goes_on T h) (run T M rec g) (run T M rec h) (Means M D g) (Means M D h)
+    let wr = stops_right (first T h) (continuations T h ++ continuations T g) ys w in
+    looping_or f (first T h) (run T M rec g) (run T M rec h) xs v ys (stops_left (first T h) (continuations T h ++ continuations T g) ys w)
+    (reach f (first T h) (continuations T g) (continuations T h) (run T M rec g) (run T M rec h) (Means M D g) (Means M D h)
     (complete T M D rec B H g l'.0) (complete T M D rec B H h l'.1)
     (λ b us vs q. subst (λ (x : Bool). Begins x (first T h) us vs) takes (begins T M D B h l'.1 b us vs q)) m'.0 m'.1 xs v ys d
-    (stops_right (goes_on T h) (goes_on T g) ys wr) (stops_left (goes_on T h) (goes_on T g) ys wr))
+    (stops_right (continuations T h) (continuations T g) ys wr) (stops_left (continuations T h) (continuations T g) ys wr))
 
 -- derived within some depth, read with any fuel
 pub complete_within : {N : Type 0} {Value : N → Type 0} (T : Tables N) (M : Mode) (body : (n : N) → Grammar N Value (Value n)) → Sane T body

@@ -2,7 +2,7 @@
 use Rattle.std.proofs.Common.{◌≡◌, ℕ, zero, suc, ◌+◌, ◌<◌, ◌≤◌, Bool, true, false, not, ◌&&◌, List, [], ◌∷◌, ◌++◌, length, ◌⊎◌, inl, inr, refl, sym, ap, subst, ◌∙◌, arith, subst₂, ◌*◌, ap₂, le_refl}
 use Rattle.std.specs.Prelude.{Option, Some, None}
 use Rattle.grammar.specs.Tokens.{Token, Span, Fault, tokens_between, span_between}
-use Rattle.grammar.specs.Grammar.{is_among, Grammar, Grammar.empty, Grammar.token, Grammar.sequence, Grammar.choice, Grammar.mapped, Grammar.node, Grammar.checked, Grammar.symbol, Grammar.left_chain, Mode, Mode.full, Mode.unchecked, Means, Part, IsViable}
+use Rattle.grammar.specs.Grammar.{is_among, Grammar, Grammar.empty, Grammar.token, Grammar.sequence, Grammar.choice, Grammar.mapped, Grammar.node, Grammar.checked, Grammar.symbol, Grammar.left_chain, Mode, Mode.checking, Mode.unchecked, Means, Part, IsViable}
 use Rattle.grammar.specs.Faults.{head_check, last_class, IsFaulty, IsEnded, FaultIn}
 use Rattle.grammar.specs.Tables.{Tables, first, Passes}
 use Rattle.grammar.specs.Reading.{Outcome, Outcome.ok, Outcome.stuck, Outcome.bad, Outcome.out, bind, judge, chooses, loop, run, read, read_all}
@@ -124,13 +124,13 @@ ended_of T body s k n ts us v e t zs i h =
     (subst (λ (z : List Token). IsViable body n (z ++ (t ∷ []))) between h)
 
 head_fault : {N : Type 0} {Value : N → Type 0} (T : Tables N) (body : (n : N) → Grammar N Value (Value n)) (b : List ℕ) (rec rec' : (n : N) → List Token → Outcome (Value n)) (l : ℕ) (ts : List Token)
-    → ((B : Type 0) (g : Grammar N Value B) → keeps_apart b false g ≡ true → OfBad (Found body b l ts) (run T full rec g ts))
-    → ((B : Type 0) (g : Grammar N Value B) → OfOk (λ v us. Means unchecked (Part unchecked body) g v ts us) (run T full rec g ts))
-    → ((B : Type 0) (g : Grammar N Value B) → Follows (run T full rec g ts) (run T unchecked rec' g ts))
+    → ((B : Type 0) (g : Grammar N Value B) → keeps_apart b false g ≡ true → OfBad (Found body b l ts) (run T checking rec g ts))
+    → ((B : Type 0) (g : Grammar N Value B) → OfOk (λ v us. Means unchecked (Part unchecked body) g v ts us) (run T checking rec g ts))
+    → ((B : Type 0) (g : Grammar N Value B) → Follows (run T checking rec g ts) (run T unchecked rec' g ts))
     → {A : Type 0} (g0 : Grammar N Value A) → keeps_body_apart b g0 ≡ true
     → ((x : Fault) (v : A) (us : List Token) → head_check g0 v (span_between ts us) ≡ Some x → Means unchecked (Part unchecked body) g0 v ts us → run T unchecked rec' g0 ts ≡ ok v us → Found body b l ts x us)
-    → OfBad (Found body b l ts) (run T full rec g0 ts)
-head_fault T body b rec rec' l ts I S F (checked {A} f g) k W = go (run T full rec g ts) (I A g k) (S A g) (F A g)
+    → OfBad (Found body b l ts) (run T checking rec g0 ts)
+head_fault T body b rec rec' l ts I S F (checked {A} f g) k W = go (run T checking rec g ts) (I A g k) (S A g) (F A g)
   where
     judged : (x : Option Fault) (v : A) (us : List Token) → f v (span_between ts us) ≡ x → Means unchecked (Part unchecked body) g v ts us → bind (run T unchecked rec' g ts) (λ v us. ok v us) ≡ ok v us → OfBad (Found body b l ts) (judge x v us)
     judged None v us e m i = tt
@@ -152,14 +152,14 @@ head_fault T body b rec rec' l ts I S F (symbol m) k W = I _ (symbol m) k
 
 -- what is named is a fault of the list
 pub faults_read : {N : Type 0} {Value : N → Type 0} (T : Tables N) (body : (n : N) → Grammar N Value (Value n)) → Sane T body → (b : List ℕ) → KeepsApart body b
-    → (k : ℕ) (n : N) (l : ℕ) (ts : List Token) → is_among l b ≡ false → OfBad (Found body b l ts) (read T full body k n ts)
+    → (k : ℕ) (n : N) (l : ℕ) (ts : List Token) → is_among l b ≡ false → OfBad (Found body b l ts) (read T checking body k n ts)
 faults_read T body s b K zero n l ts c = tt
 faults_read {N} {Value} T body s b K (suc k) n l ts c =
-    head_fault T body b (read T full body k) (read T unchecked body k) l ts
-    (λ B g q. faults T full body b K (read T full body k) (sound_read T full body k) (faults_read T body s b K k) g false q l ts (λ z. c))
-    (λ B g. of_map (λ v us. Means full (Part full body) g v ts us) (λ v us. Means unchecked (Part unchecked body) g v ts us) (run T full (read T full body k) g ts) (sound T full (Part full body) (read T full body k) (sound_read T full body k) g ts)
-    (λ v us m. means_mono full unchecked (no_checks full) (Part full body) (Part unchecked body) (loosen full body) g v ts us m))
-    (λ B g. follows T full (read T full body k) (read T unchecked body k) (goes_read T unchecked body k) (follows_read T full body k) g ts)
+    head_fault T body b (read T checking body k) (read T unchecked body k) l ts
+    (λ B g q. faults T checking body b K (read T checking body k) (sound_read T checking body k) (faults_read T body s b K k) g false q l ts (λ z. c))
+    (λ B g. of_map (λ v us. Means checking (Part checking body) g v ts us) (λ v us. Means unchecked (Part unchecked body) g v ts us) (run T checking (read T checking body k) g ts) (sound T checking (Part checking body) (read T checking body k) (sound_read T checking body k) g ts)
+    (λ v us m. means_mono checking unchecked (no_checks checking) (Part checking body) (Part unchecked body) (loosen checking body) g v ts us m))
+    (λ B g. follows T checking (read T checking body k) (read T unchecked body k) (goes_read T unchecked body k) (follows_read T checking body k) g ts)
     (body n) (K n)
     (λ x v us e m r. (n, [], ts, refl, c, ended_of T body s (suc k) n ts us v r, (v, roll unchecked body n v ts us m, e)))
 
@@ -198,9 +198,9 @@ abbrev Named : {A : Type 0} → ℕ → Outcome A → Type 0
 Named l m = (x : Fault) × (r : List Token) × (m ≡ bad x r) × (l ≤ length r)
 
 head_named : {N : Type 0} {Value : N → Type 0} (T : Tables N) (rec rec' : (n : N) → List Token → Outcome (Value n)) (xs ys : List Token) (x : Fault)
-    → {A : Type 0} (g0 : Grammar N Value A) → ((B : Type 0) (g : Grammar N Value B) → Follows (run T full rec g xs) (run T unchecked rec' g xs))
-    → (v : A) → head_check g0 v (span_between xs ys) ≡ Some x → run T unchecked rec' g0 xs ≡ ok v ys → (run T full rec g0 xs ≡ out) ⊎ Named (length ys) (run T full rec g0 xs)
-head_named T rec rec' xs ys x (checked {A} f g) F v e u = go (run T full rec g xs) (run T unchecked rec' g xs) (F A g) u
+    → {A : Type 0} (g0 : Grammar N Value A) → ((B : Type 0) (g : Grammar N Value B) → Follows (run T checking rec g xs) (run T unchecked rec' g xs))
+    → (v : A) → head_check g0 v (span_between xs ys) ≡ Some x → run T unchecked rec' g0 xs ≡ ok v ys → (run T checking rec g0 xs ≡ out) ⊎ Named (length ys) (run T checking rec g0 xs)
+head_named T rec rec' xs ys x (checked {A} f g) F v e u = go (run T checking rec g xs) (run T unchecked rec' g xs) (F A g) u
   where
     go : (m m' : Outcome A) → Follows m m' → bind m' (λ v us. ok v us) ≡ ok v ys
         → (bind m (λ v us. judge (f v (span_between xs us)) v us) ≡ out) ⊎ Named (length ys) (bind m (λ v us. judge (f v (span_between xs us)) v us))
@@ -224,17 +224,17 @@ head_named T rec rec' xs ys x (symbol m) F v e u = absurd cc
 head_named T rec rec' xs ys x (left_chain f g h) F v e u = absurd cc
 
 faulty_named : {N : Type 0} {Value : N → Type 0} (T : Tables N) (body : (n : N) → Grammar N Value (Value n)) (R : ℕ) → Passes T body R → (apart : N → List ℕ) (n : N) → Guarded T body apart n
-    → (x : Fault) (xs ys : List Token) → IsFaulty body n x xs ys → IsEnded body n xs ys → Named (length ys) (read_all T full body R n xs)
+    → (x : Fault) (xs ys : List Token) → IsFaulty body n x xs ys → IsEnded body n xs ys → Named (length ys) (read_all T checking body R n xs)
 faulty_named T body R p apart n G x xs ys (v, d, e) i =
     let u : read_all T unchecked body R n xs ≡ ok v ys = elim (G.reads v xs ys d i (R * length xs + suc (T.rank n))) [
       | inl z ↦ z
       | inr z ↦ absurd (has_fuel T unchecked body R p (R * length xs + suc (T.rank n)) n xs (le_refl _) z)
     ] in
-    let s = step T full body R p n xs in
-    elim (head_named T (read_all T full body R) (read_all T unchecked body R) xs ys x (body n)
-    (λ B g. follows T full (read_all T full body R) (read_all T unchecked body R) (λ m ts. goes_read T unchecked body (R * length ts + suc (T.rank m)) m ts) (λ m ts. follows_read T full body (R * length ts + suc (T.rank m)) m ts) g xs)
+    let s = step T checking body R p n xs in
+    elim (head_named T (read_all T checking body R) (read_all T unchecked body R) xs ys x (body n)
+    (λ B g. follows T checking (read_all T checking body R) (read_all T unchecked body R) (λ m ts. goes_read T unchecked body (R * length ts + suc (T.rank m)) m ts) (λ m ts. follows_read T checking body (R * length ts + suc (T.rank m)) m ts) g xs)
     v e (sym (step T unchecked body R p n xs) ∙ u)) [
-      | inl z ↦ absurd (has_fuel T full body R p (R * length xs + suc (T.rank n)) n xs (le_refl _) (s ∙ z))
+      | inl z ↦ absurd (has_fuel T checking body R p (R * length xs + suc (T.rank n)) n xs (le_refl _) (s ∙ z))
       | inr z ↦ (z.0, z.1, s ∙ z.2, z.3)
     ]
 
@@ -261,13 +261,13 @@ consumed_less ys w (bad x us) l h = omega (arith, l, h)
 consumed_less ys w out l h = h
 
 pub named : {N : Type 0} {Value : N → Type 0} (T : Tables N) (body : (n : N) → Grammar N Value (Value n)) (R : ℕ) → Passes T body R → (apart : N → List ℕ) → IsGuarded T body apart
-    → (k : ℕ) (m : N) (ts : List Token) (x : Fault) (ys : List Token) → FaultIn body apart ts x ys → Consumed ys (read T full body k m ts) → Named (length ys) (read T full body k m ts)
+    → (k : ℕ) (m : N) (ts : List Token) (x : Fault) (ys : List Token) → FaultIn body apart ts x ys → Consumed ys (read T checking body k m ts) → Named (length ys) (read T checking body k m ts)
 named {N} {Value} T body R p apart Gs k m ts x ys f c = elim (Gs f.symbol_of) [
   | inl none ↦ absurd (let q = none f.faulty.0 (span_between f.from ys) in let q' = f.faulty.2 in cc)
   | inr G ↦ go G
 ]
   where
-    go : Guarded T body apart f.symbol_of → Named (length ys) (read T full body k m ts)
+    go : Guarded T body apart f.symbol_of → Named (length ys) (read T checking body k m ts)
     go G =
         let s = sane T body R p in
         let h = chosen_head G.anchor f.from (G.starts x f.from ys f.faulty) in
@@ -276,10 +276,10 @@ named {N} {Value} T body R p apart Gs k m ts x ys f c = elim (Gs f.symbol_of) [
           | inr z ↦ z.1
         ] in
         let l' : length ys ≤ length h.1 = (let e = ap length h.2 in omega (arith, l, e)) in
-        let w = met_read T full body G.anchor (apart f.symbol_of) f.symbol_of G.anchored k m 0 ts f.before h.0 h.1 (f.whole ∙ ap (λ (z : List Token). f.before ++ z) h.2) (λ q. absurd cc) h.3 f.not_after (consumed_less ys h.1 (read T full body k m ts) l' c) in
-        let e = subst (λ (z : List Token). Explains (read T full body w.0 f.symbol_of z) (read T full body k m ts)) (sym h.2) w.1 in
+        let w = met_read T checking body G.anchor (apart f.symbol_of) f.symbol_of G.anchored k m 0 ts f.before h.0 h.1 (f.whole ∙ ap (λ (z : List Token). f.before ++ z) h.2) (λ q. absurd cc) h.3 f.not_after (consumed_less ys h.1 (read T checking body k m ts) l' c) in
+        let e = subst (λ (z : List Token). Explains (read T checking body w.0 f.symbol_of z) (read T checking body k m ts)) (sym h.2) w.1 in
         let d = faulty_named T body R p apart f.symbol_of G x f.from ys f.faulty f.ended in
-        elim (below_all T full body R p w.0 f.symbol_of f.from) [
-          | inl z ↦ absurd (not_explained (read T full body w.0 f.symbol_of f.from) (read T full body k m ts) z e)
-          | inr z ↦ (d.0, d.1, explained (read T full body w.0 f.symbol_of f.from) (read T full body k m ts) d.0 d.1 (z ∙ d.2) e, d.3)
+        elim (below_all T checking body R p w.0 f.symbol_of f.from) [
+          | inl z ↦ absurd (not_explained (read T checking body w.0 f.symbol_of f.from) (read T checking body k m ts) z e)
+          | inr z ↦ (d.0, d.1, explained (read T checking body w.0 f.symbol_of f.from) (read T checking body k m ts) d.0 d.1 (z ∙ d.2) e, d.3)
         ]

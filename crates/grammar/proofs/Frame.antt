@@ -1,21 +1,21 @@
 -- A part does not depend on what comes behind it.
 use Rattle.std.proofs.Common.{◌≡◌, ℕ, zero, suc, ◌-◌, List, [], ◌∷◌, ◌++◌, length, inl, inr, refl, sym, ap, subst, ◌∙◌, append_assoc, append-nil, arith, length-append}
-use Rattle.grammar.specs.Tokens.{Token, Span, span_of, front, tokens_between, span_between}
+use Rattle.grammar.specs.Tokens.{Token, Span, span_of, first_tokens, tokens_between, span_between}
 use Rattle.grammar.specs.Grammar.{Grammar, Grammar.empty, Grammar.token, Grammar.sequence, Grammar.choice, Grammar.mapped, Grammar.node, Grammar.checked, Grammar.symbol, Grammar.left_chain, Mode, found, Chain, Chain.base, Chain.more, Means, Within, Part, Derives}
 
-pub front_append : (xs rest : List Token) → front (length xs) (xs ++ rest) ≡ xs
+pub front_append : (xs rest : List Token) → first_tokens (length xs) (xs ++ rest) ≡ xs
 front_append [] rest = refl
 front_append (x ∷ xs) rest = ap (λ (t : List Token). x ∷ t) (front_append xs rest)
 
 pub tokens_append : (xs rest : List Token) → tokens_between (xs ++ rest) rest ≡ xs
 tokens_append xs rest =
     let e : length (xs ++ rest) - length rest ≡ length xs = omega (arith, length-append xs rest) in
-    ap (λ (n : ℕ). front n (xs ++ rest)) e ∙ front_append xs rest
+    ap (λ (n : ℕ). first_tokens n (xs ++ rest)) e ∙ front_append xs rest
 
 pub span_append : (xs rest : List Token) → span_between (xs ++ rest) rest ≡ span_of xs
 span_append xs rest =
     let e : length (xs ++ rest) - length rest ≡ length xs = omega (arith, length-append xs rest) in
-    ap span_of (ap (λ (n : ℕ). front n (xs ++ rest)) e ∙ front_append xs rest)
+    ap span_of (ap (λ (n : ℕ). first_tokens n (xs ++ rest)) e ∙ front_append xs rest)
 
 -- a list of tokens that stands for v, whatever comes behind it
 abbrev pub Word : {A : Type 0} → (A → List Token → List Token → Type 0) → A → List Token → Type 0

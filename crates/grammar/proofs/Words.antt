@@ -1,5 +1,5 @@
 -- A sentence of each symbol, by a height of the symbols.
-use Rattle.std.proofs.Common.{◌≡◌, ℕ, zero, suc, ◌<◌, Bool, true, false, ◌&&◌, ◌||◌, ltb, List, [], ◌∷◌, ◌⊎◌, inl, inr, refl, arith, ltb-true}
+use Rattle.std.proofs.Common.{◌≡◌, ℕ, zero, suc, ◌<◌, Bool, true, false, ◌&&◌, ◌||◌, ltb, List, [], ◌∷◌, inl, inr, refl, arith, ltb-true}
 use Rattle.grammar.specs.Tokens.{Token, Payload.nothing, span_between}
 use Rattle.grammar.specs.Grammar.{Grammar, Grammar.empty, Grammar.token, Grammar.sequence, Grammar.choice, Grammar.mapped, Grammar.node, Grammar.checked, Grammar.symbol, Grammar.left_chain, Chain.base, Mode.unchecked, is_among, Means, Part}
 use Rattle.grammar.proofs.Sets.{and_true, either}

@@ -1,7 +1,7 @@
 -- The faults that the checks find in a list, and the one fault that is named.
 use Rattle.std.specs.Prelude.{◌≡◌, ℕ, suc, ◌≤◌, false, List, [], ◌∷◌, ◌++◌, length, Option, Some, None}
 use Rattle.grammar.specs.Tokens.{Token, Span, Fault, last_end, tokens_between, span_between}
-use Rattle.grammar.specs.Grammar.{Grammar, Grammar.empty, Grammar.token, Grammar.sequence, Grammar.choice, Grammar.mapped, Grammar.node, Grammar.checked, Grammar.symbol, Grammar.left_chain, Mode.full, Mode.unchecked, is_among, Part, Derives, IsSentence, IsViable}
+use Rattle.grammar.specs.Grammar.{Grammar, Grammar.empty, Grammar.token, Grammar.sequence, Grammar.choice, Grammar.mapped, Grammar.node, Grammar.checked, Grammar.symbol, Grammar.left_chain, Mode.checking, Mode.unchecked, is_among, Part, Derives, IsSentence, IsViable}
 
 -- what the check at the head of a right side says
 abbrev pub head_check : {N : Type 0} {Value : N → Type 0} {A : Type 0} → Grammar N Value A → A → Span → Option Fault
@@ -39,20 +39,20 @@ pub record FaultIn {N : Type 0} {Value : N → Type 0} (body : (n : N) → Gramm
   pub faulty : IsFaulty body symbol_of x from ys
 
 -- no fault of ts has so many tokens behind it, or more
-abbrev pub NoFaultBefore : {N : Type 0} {Value : N → Type 0} (body : (n : N) → Grammar N Value (Value n)) (apart : N → List ℕ) → List Token → ℕ → Type 0
-NoFaultBefore body apart ts k = (x : Fault) (ys : List Token) → FaultIn body apart ts x ys → k ≤ length ys → ⊥
+abbrev pub HasNoFaultBefore : {N : Type 0} {Value : N → Type 0} (body : (n : N) → Grammar N Value (Value n)) (apart : N → List ℕ) → List Token → ℕ → Type 0
+HasNoFaultBefore body apart ts k = (x : Fault) (ys : List Token) → FaultIn body apart ts x ys → k ≤ length ys → ⊥
 
 -- a fault x that ends, with us behind it, in tokens that begin a sentence, and no fault ends before it
 abbrev pub IsFirstFault : {N : Type 0} {Value : N → Type 0} (body : (n : N) → Grammar N Value (Value n)) (apart : N → List ℕ) (n : N) → List Token → Fault → List Token → Type 0
-IsFirstFault body apart n ts x us = (p : List Token) × (ts ≡ p ++ us) × IsViable body n p × FaultIn body apart ts x us × NoFaultBefore body apart ts (suc (length us))
+IsFirstFault body apart n ts x us = (p : List Token) × (ts ≡ p ++ us) × IsViable body n p × FaultIn body apart ts x us × HasNoFaultBefore body apart ts (suc (length us))
 
 -- t is the first token with which no sentence goes on, and no fault ends before it
 abbrev pub IsUnexpected : {N : Type 0} {Value : N → Type 0} (body : (n : N) → Grammar N Value (Value n)) (apart : N → List ℕ) (n : N) → List Token → Token → List Token → Type 0
-IsUnexpected body apart n ts t us = (p : List Token) × (ts ≡ p ++ (t ∷ us)) × IsViable body n p × (IsViable body n (p ++ (t ∷ [])) → ⊥) × NoFaultBefore body apart ts (suc (length us))
+IsUnexpected body apart n ts t us = (p : List Token) × (ts ≡ p ++ (t ∷ us)) × IsViable body n p × (IsViable body n (p ++ (t ∷ [])) → ⊥) × HasNoFaultBefore body apart ts (suc (length us))
 
 -- all tokens begin a sentence, and there is no checked fault
-abbrev pub IsOpen : {N : Type 0} {Value : N → Type 0} (body : (n : N) → Grammar N Value (Value n)) (apart : N → List ℕ) (n : N) → List Token → Type 0
-IsOpen body apart n ts = IsViable body n ts × NoFaultBefore body apart ts 0
+abbrev pub IsFaultless : {N : Type 0} {Value : N → Type 0} (body : (n : N) → Grammar N Value (Value n)) (apart : N → List ℕ) (n : N) → List Token → Type 0
+IsFaultless body apart n ts = IsViable body n ts × HasNoFaultBefore body apart ts 0
 
 -- how a list of tokens ended: of itself, or with a fault that it carried
 pub data Ending : Type 0 where
@@ -65,11 +65,11 @@ pub record Wording : Type 0 where
   pub missing : ℕ → Fault
 
 -- the fault that is named of a list of tokens and how it ended: the checked fault that ends first; or the first token with which no sentence goes on; or what the list carried; or that a token is missing
-pub data IsNamed {N : Type 0} {Value : N → Type 0} (body : (n : N) → Grammar N Value (Value n)) (apart : N → List ℕ) (wording : Wording) (n : N) (ts : List Token) (ending : Ending) (x : Fault) : Type 0 where
-  first_fault : (us : List Token) → IsFirstFault body apart n ts x us → IsNamed body apart wording n ts ending x
-  unexpected_token : (t : Token) (us : List Token) → IsUnexpected body apart n ts t us → x ≡ wording.unexpected t → IsNamed body apart wording n ts ending x
-  carried_fault : IsOpen body apart n ts → ending ≡ carried x → IsNamed body apart wording n ts ending x
-  missing_token : IsOpen body apart n ts → (IsSentence body n ts → ⊥) → ending ≡ finished → x ≡ wording.missing (last_end 0 ts) → IsNamed body apart wording n ts ending x
+pub data IsNamedBy {N : Type 0} {Value : N → Type 0} (body : (n : N) → Grammar N Value (Value n)) (apart : N → List ℕ) (wording : Wording) (n : N) (ts : List Token) (ending : Ending) (x : Fault) : Type 0 where
+  first_fault : (us : List Token) → IsFirstFault body apart n ts x us → IsNamedBy body apart wording n ts ending x
+  unexpected_token : (t : Token) (us : List Token) → IsUnexpected body apart n ts t us → x ≡ wording.unexpected t → IsNamedBy body apart wording n ts ending x
+  carried_fault : IsFaultless body apart n ts → ending ≡ carried x → IsNamedBy body apart wording n ts ending x
+  missing_token : IsFaultless body apart n ts → (IsSentence body n ts → ⊥) → ending ≡ finished → x ≡ wording.missing (last_end 0 ts) → IsNamedBy body apart wording n ts ending x
 
 -- a value, or a fault
 pub data Answer (A : Type 0) : Type 0 where
@@ -78,5 +78,5 @@ pub data Answer (A : Type 0) : Type 0 where
 
 -- what an answer says: the list ended of itself and derives the value, or the fault is the one that is named
 abbrev pub Answers : {N : Type 0} {Value : N → Type 0} (body : (n : N) → Grammar N Value (Value n)) (apart : N → List ℕ) (wording : Wording) (n : N) → List Token → Ending → Answer (Value n) → Type 0
-Answers body apart wording n ts ending (accepted v) = (ending ≡ finished) × Derives full body n v ts
-Answers body apart wording n ts ending (denied x) = IsNamed body apart wording n ts ending x
+Answers body apart wording n ts ending (accepted v) = (ending ≡ finished) × Derives checking body n v ts
+Answers body apart wording n ts ending (denied x) = IsNamedBy body apart wording n ts ending x

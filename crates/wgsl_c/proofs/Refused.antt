@@ -5,8 +5,8 @@ use Rattle.grammar.specs.Tokens.{Fault}
 use Rattle.wgsl_error.specs.declared.Error.{Error}
 use Rattle.wgsl_error.specs.declared.ErrorKind.TheVariants as kinds
 use Rattle.wgsl_error.specs.View.{fault_view}
-use Rattle.wgsl_answer.specs.Answers.{IsOutOfMemory}
-use Rattle.wgsl_answer.specs.Places.{StandsWithin}
+use Rattle.wgsl_read_cursor.specs.Answers.{IsOutOfMemory}
+use Rattle.wgsl_read_cursor.specs.Places.{StandsWithin}
 use Rattle.wgsl_c.specs.declared.answer.Answer.{Answer}
 use Rattle.wgsl_c.specs.Answers.{Tells, Refuses}
 

@@ -8,8 +8,8 @@ ghost use Rattle.wgsl_c.specs.Items.{count_of, HoldItems, start_and_end, lists_b
 
 use crate::answer::{Answer, DONE, NOT_UTF8, TOO_SMALL, refuse_memory, tell_number, text_of};
 use std::alloc::Global;
+use wgsl_lex_templates::{Templates, discover};
 use wgsl_lexer::recognize_template_list;
-use wgsl_templates::{Templates, discover};
 
 /// Where something starts and ends.
 #[repr(C)]

@@ -3,21 +3,22 @@
 ghost use Rattle.std.specs.Prelude.{ℕ, List, Result, chars};
 ghost use Rattle.wgsl_error.specs.declared.Error.{Error};
 ghost use Rattle.grammar.specs.Tokens.{Span};
-ghost use Rattle.wgsl_model.specs.Expressions.{ExpressionNode.expression_node};
-ghost use Rattle.wgsl_model.specs.Statements.{StatementNode.statement_node};
-ghost use Rattle.wgsl_model.specs.Spanned.{spanned};
-ghost use Rattle.wgsl_model.specs.Symbols.{Symbol.unit, Symbol.global_directive, Symbol.global_declaration, Symbol.statement, Symbol.expression};
-ghost use Rattle.wgsl_expression.specs.View.{expression_view};
-ghost use Rattle.wgsl_statement.specs.View.{statement_view};
-ghost use Rattle.wgsl_unit.specs.View.{unit_view, global_directive_view, global_declaration_view};
-ghost use Rattle.wgsl_parser.specs.Sources.{IsTreeOf, IsRead};
+ghost use Rattle.wgsl_model.specs.Trees.Expressions.{ExpressionNode.expression_node};
+ghost use Rattle.wgsl_model.specs.Trees.Statements.{StatementNode.statement_node};
+ghost use Rattle.wgsl_model.specs.Trees.Spanned.{spanned};
+ghost use Rattle.wgsl_model.specs.Grammar.Symbols.{Symbol.unit, Symbol.global_directive, Symbol.global_declaration, Symbol.statement, Symbol.expression};
+ghost use Rattle.wgsl_tree_expression.specs.View.{expression_view};
+ghost use Rattle.wgsl_tree_statement.specs.View.{statement_view};
+ghost use Rattle.wgsl_tree_unit.specs.View.{unit_view, global_directive_view, global_declaration_view};
+ghost use Rattle.wgsl_model.specs.SourceTrees.{IsTreeOf};
+ghost use Rattle.wgsl_parser.specs.Sources.{IsRead};
 
 use crate::source::{declaration_from, directive_from, expression_from, statement_from, unit_from};
 use std::alloc::Global;
 use wgsl_error::Error;
-use wgsl_expression::Expression;
-use wgsl_statement::Statement;
-use wgsl_unit::{GlobalDeclaration, GlobalDirective, TranslationUnit};
+use wgsl_tree_expression::Expression;
+use wgsl_tree_statement::Statement;
+use wgsl_tree_unit::{GlobalDeclaration, GlobalDirective, TranslationUnit};
 
 /// What can be read from a text, whole and by itself.
 pub trait FromSource: Sized {

@@ -1,0 +1,2 @@
+-- Lemmas on texts and tokens.
+pub mod Fronts
