@@ -3,7 +3,7 @@
 
 Run it at the top of the repository, and lay out what it wrote by `rt fmt`:
 
-    tools/dialect.py crates/wgsl_dialect
+    tools/dialect.py crates/wgsl_read_dialect
 
 It reads the rules from the definitions. Nothing rests on it: the prover checks every rule.
 """
@@ -13,7 +13,7 @@ from pathlib import Path
 
 from tables import MODEL, Tables, rules
 
-THEORY = Path("crates/wgsl_grammar_theory")
+THEORY = Path("crates/wgsl_theory_grammar")
 
 
 class Steps:
@@ -97,8 +97,8 @@ FURTHER = {
                    "braced_part", "returning_part", "local_part", "value_part", "phony_part", "simple_part", "ended_part",
                    "assert_part", "left_side_rest", "name_rest_statement", "parenthesized_statement", "plain_statement"],
 }
-SAYS = {"expressions": "The rules of names, expressions and templates.", "statements": "The rules of statements.",
-        "units": "The rules of attributes, declarations, directives and units."}
+SAYS = {"expressions": "The rules of names, expressions and templates", "statements": "The rules of statements",
+        "units": "The rules of attributes, declarations, directives and units"}
 
 
 def in_parts(order, needed):
@@ -183,15 +183,15 @@ class Writer:
         body = "\n\n".join(consts)
         used = [v for v in ("Choice", "Repeat", "Rule", "Token") if v + "(" in body]
         names = sorted(name for name in self.names.values() if re.search(rf"\b{name}\b", body))
-        lines = [f"//! {SAYS[part]}", ""]
+        lines = [f"//! {SAYS[part]}, written by tools/dialect.py.", ""]
         if names:
             lines.append(f"use crate::begins::{{{', '.join(names)}}};")
         lines += [f"use crate::step::Step::{{self, {', '.join(used)}}};", "use crate::symbol::Symbol;",
-                  "use wgsl_token::kind::TokenKind;", "", body, ""]
+                  "use wgsl_lex_token::kind::TokenKind;", "", body, ""]
         return "\n".join(lines)
 
     def begins(self):
-        lines = ["//! Kinds of tokens by which one of two ways is chosen.", "", "use wgsl_token::kind::TokenKind;", ""]
+        lines = ["//! Kinds of tokens by which one of two ways is chosen, written by tools/dialect.py.", "", "use wgsl_lex_token::kind::TokenKind;", ""]
         for classes, name in self.names.items():
             kinds = ", ".join(f"TokenKind::{c}" for c in classes)
             lines += [f"pub const {name}: &[TokenKind] = &[{kinds}];", ""]
@@ -199,7 +199,7 @@ class Writer:
 
 
 def symbols_text(order):
-    lines = ["//! The symbols of the grammar, in the form in which one token decides.", "",
+    lines = ["//! The symbols of the grammar in which one token decides, written by tools/dialect.py.", "",
              "/// A symbol: those of the written grammar, and behind them those that stand for a part of a rule.",
              "#[derive(Clone, Copy)]", "pub enum Symbol {"]
     lines += [f"    {camel(n)}," for n in order]
@@ -208,20 +208,20 @@ def symbols_text(order):
 
 def view_text(order):
     lines = ["-- The symbols of the code as those of the grammar, written by tools/dialect.py."]
-    lines += [f"use Rattle.wgsl_model.specs.Symbols.{{{', '.join('Symbol.' + n[1] for n in order if n[0] == 'of')}}}"]
-    lines += [f"use Rattle.wgsl_grammar_theory.specs.Factored.{{FactoredSymbol, FactoredSymbol.of, FactoredSymbol.further, {', '.join('Further.' + n[1] for n in order if n[0] == 'further')}}}"]
-    lines += ["use Rattle.wgsl_dialect.specs.declared.symbol.Symbol.{Symbol}",
-              "use Rattle.wgsl_dialect.specs.declared.symbol.Symbol.TheVariants as variant", "",
+    lines += [f"use Rattle.wgsl_model.specs.Grammar.Symbols.{{{', '.join('Symbol.' + n[1] for n in order if n[0] == 'of')}}}"]
+    lines += [f"use Rattle.wgsl_theory_grammar.specs.Factored.{{FactoredSymbol, FactoredSymbol.of, FactoredSymbol.further, {', '.join('Further.' + n[1] for n in order if n[0] == 'further')}}}"]
+    lines += ["use Rattle.wgsl_read_dialect.specs.declared.symbol.Symbol.{Symbol}",
+              "use Rattle.wgsl_read_dialect.specs.declared.symbol.Symbol.TheVariants as variant", "",
               "-- which symbol it is", "abbrev pub symbol_view : Symbol → FactoredSymbol"]
     lines += [f"symbol_view variant.{camel(n)} = {n[0]} {n[1]}" for n in order]
     return "\n".join(lines + [""])
 
 
 def right_sides(parts):
-    lines = ["//! The rules of the dialect, as steps over tokens.", "",
-             "ghost use Rattle.std.specs.Prelude.{◌≡◌};", "ghost use Rattle.wgsl_dialect.specs.Steps.{rule_steps};",
-             "ghost use Rattle.wgsl_dialect.specs.Symbols.{symbol_view};",
-             "ghost use Rattle.wgsl_dialect.specs.View.{steps_view};", ""]
+    lines = ["//! The rules of the dialect, as steps over tokens, written by tools/dialect.py.", "",
+             "ghost use Rattle.std.specs.Prelude.{◌≡◌};", "ghost use Rattle.wgsl_read_dialect.specs.Steps.{rule_steps};",
+             "ghost use Rattle.wgsl_read_dialect.specs.Symbols.{symbol_view};",
+             "ghost use Rattle.wgsl_read_dialect.specs.View.{steps_view};", ""]
     lines += [f"use crate::{part};" for part in parts]
     lines += ["use crate::step::Step;", "use crate::symbol::Symbol;", "",
               "/// The steps of a symbol.", "pub fn right_side(symbol: Symbol) -> &'static [Step]",
@@ -231,8 +231,8 @@ def right_sides(parts):
 
 
 def answers(found, parts):
-    lines = ["-- Each rule has the steps of its symbol, written by tools/dialect.py.", "use Rattle.wgsl_dialect.specs.Steps.{rule_steps}",
-             "use Rattle.wgsl_dialect.proofs.Views.{choice_is, repeat_is}", "use Rattle.wgsl_dialect.proofs.rules.right_side.Goals as goal"]
+    lines = ["-- Each rule has the steps of its symbol, written by tools/dialect.py.", "use Rattle.wgsl_read_dialect.specs.Steps.{rule_steps}",
+             "use Rattle.wgsl_read_dialect.proofs.Views.{choice_is, repeat_is}", "use Rattle.wgsl_read_dialect.proofs.rules.right_side.Goals as goal"]
     for n in (n for symbols in parts.values() for n in symbols):
         goal = f"returns-in-{camel(n)}"
         kinds = set(kinds_in(found[n]))
@@ -246,7 +246,7 @@ def answers(found, parts):
 
 
 def main(crate):
-    classes = re.findall(r"^(\w+) = \d+$", (MODEL / "Classes.antt").read_text(), re.M)
+    classes = re.findall(r"^(\w+) = \d+$", (MODEL / "Tokens" / "Classes.antt").read_text(), re.M)
     tables = Tables(rules(THEORY, "whole"))
     steps = Steps(tables, {c: i for i, c in enumerate(classes)})
     every = {n: steps.of(g) for n, g in rules(THEORY, "alone").items()}

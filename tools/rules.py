@@ -4,7 +4,7 @@ right side reads and the equation that the symbol reads just that.
 
 Run it at the top of the repository:
 
-    tools/rules.py crates/wgsl_grammar_theory
+    tools/rules.py crates/wgsl_theory_grammar
 
 It reads the names of the symbols from the definitions, and in all crates which are cited.
 Nothing rests on it: the prover checks every equation.
@@ -13,7 +13,7 @@ import re
 import sys
 from pathlib import Path
 
-SYMBOLS = Path("crates/wgsl_model/specs/Symbols.antt")
+SYMBOLS = Path("crates/wgsl_model/specs/Grammar/Symbols.antt")
 
 # the further symbols of expressions and of modules; the others are those of statements
 EXPRESSION_PARTS = """
@@ -76,10 +76,10 @@ def rules(what, symbols, parts):
     words = [(s, f"Value {s}", f"of {s}") for s in symbols] + [(p, f"FurtherValue {p}", f"further {p}") for p in parts]
     head = f"""-- What the symbols of {what} that are cited read by their right sides, each as a word of its own, which no computation opens; written by tools/rules.py.
 use Rattle.grammar.specs.States.{{State, Read, go}}
-use Rattle.wgsl_model.specs.Symbols.{{{listed(["Value"], names("Symbol.", symbols))}}}
-use Rattle.wgsl_grammar_theory.specs.Factored.{{{listed(factored(parts, "FurtherValue"), ["body"])}}}
-use Rattle.wgsl_grammar_theory.specs.Tables.{{tables}}
-use Rattle.wgsl_grammar_theory.specs.Reader.{{reader}}
+use Rattle.wgsl_model.specs.Grammar.Symbols.{{{listed(["Value"], names("Symbol.", symbols))}}}
+use Rattle.wgsl_theory_grammar.specs.Factored.{{{listed(factored(parts, "FurtherValue"), ["body"])}}}
+use Rattle.wgsl_theory_grammar.specs.Tables.{{tables}}
+use Rattle.wgsl_theory_grammar.specs.Reader.{{reader}}
 """
     return head + "".join(
         f"\nunfoldable pub {name}_at : State → Read ({value})\n{name}_at s = go tables reader (body ({symbol})) s\n"
@@ -91,11 +91,11 @@ def equations(group, what, symbols, parts):
     head = f"""-- Each symbol of {what} that is cited reads what its right side reads; written by tools/rules.py.
 use Rattle.std.proofs.Common.{{◌≡◌}}
 use Rattle.grammar.specs.States.{{State}}
-use Rattle.wgsl_model.specs.Symbols.{{{listed(names("Symbol.", symbols))}}}
-use Rattle.wgsl_grammar_theory.specs.Factored.{{{listed(factored(parts))}}}
-use Rattle.wgsl_grammar_theory.specs.Reader.{{reader}}
-use Rattle.wgsl_grammar_theory.specs.{group}Rules.{{{", ".join(name + "_at" for name, _ in words)}}}
-use Rattle.wgsl_grammar_theory.proofs.Reader.{{step}}
+use Rattle.wgsl_model.specs.Grammar.Symbols.{{{listed(names("Symbol.", symbols))}}}
+use Rattle.wgsl_theory_grammar.specs.Factored.{{{listed(factored(parts))}}}
+use Rattle.wgsl_theory_grammar.specs.Reader.{{reader}}
+use Rattle.wgsl_theory_grammar.specs.{group}Rules.{{{", ".join(name + "_at" for name, _ in words)}}}
+use Rattle.wgsl_theory_grammar.proofs.Reader.{{step}}
 """
     return head + "".join(
         f"\npub {name}_is : (s : State) → reader ({symbol}) s ≡ {name}_at s\nunfolding {name}_at\n{name}_is s = step ({symbol}) s\n"

@@ -4,7 +4,7 @@ can be empty, what could go on behind it, its rank and its height.
 
 Run it at the top of the repository:
 
-    tools/tables.py crates/wgsl_grammar_theory
+    tools/tables.py crates/wgsl_theory_grammar
 
 It reads the rules from the definitions, and names each place where one token does not
 decide. Nothing rests on it: the prover checks every entry.
@@ -246,8 +246,8 @@ class Rules:
 def rules(theory, dialect):
     """The right side of each symbol in a dialect, in the order of the symbols."""
     factored = theory / "specs/Factored.antt"
-    classes = set(re.findall(r"^(\w+) = \d+$", (MODEL / "Classes.antt").read_text(), re.M))
-    found = definitions([MODEL / f"{part}.antt" for part in PARTS] + [factored])
+    classes = set(re.findall(r"^(\w+) = \d+$", (MODEL / "Tokens" / "Classes.antt").read_text(), re.M))
+    found = definitions([MODEL / "Grammar" / f"{part}.antt" for part in PARTS] + [factored])
     reader = Rules(found, classes, dialect)
     own = {}
     for pattern, body in reader.clauses("factored"):
@@ -257,7 +257,7 @@ def rules(theory, dialect):
         own["further", pattern[1]] = body
     for pattern, body in reader.clauses("rules"):
         own.setdefault(("of", pattern[1]), body)
-    order = [("of", n) for n in constructors(MODEL / "Symbols.antt", "Symbol")]
+    order = [("of", n) for n in constructors(MODEL / "Grammar" / "Symbols.antt", "Symbol")]
     order += [("further", x) for x in constructors(factored, "Further")]
     missing = [n for n in order if n not in own]
     assert not missing, f"no rule for {missing}"
@@ -435,8 +435,8 @@ class Writer:
             "-- The tables of the factored grammar, written by tools/tables.py.",
             "use Rattle.std.specs.Prelude.{ℕ, Bool, true, false, List, [], ◌∷◌}",
             "use Rattle.grammar.specs.Tables.{Tables}",
-            f"use Rattle.wgsl_model.specs.Classes.{{{used}}}",
-            f"use Rattle.wgsl_model.specs.Symbols.{{{symbols}}}",
+            f"use Rattle.wgsl_model.specs.Tokens.Classes.{{{used}}}",
+            f"use Rattle.wgsl_model.specs.Grammar.Symbols.{{{symbols}}}",
             f"use Rattle.{self.crate}.specs.Factored.{{FactoredSymbol, FactoredSymbol.of, FactoredSymbol.further, {further}}}",
         ]) + "\n" + body
 
@@ -452,7 +452,7 @@ def main():
         print(f"{n[1]}: derives no list of tokens")
     if found or bare:
         sys.exit(1)
-    classes = re.findall(r"^(\w+) = \d+$", (MODEL / "Classes.antt").read_text(), re.M)
+    classes = re.findall(r"^(\w+) = \d+$", (MODEL / "Tokens" / "Classes.antt").read_text(), re.M)
     writer = Writer(tables, classes)
     writer.crate = theory.name
     (theory / "specs/Tables.antt").write_text(writer.text())

@@ -2,7 +2,7 @@
 """Writes the table of keywords and reserved words of the scanner, and the two tables of bytes that
 lead from a word to the only place in it where the word can stand.
 
-Run it at the top of the repository, and `rt fmt` in crates/wgsl_scanner behind it:
+Run it at the top of the repository, and `rt fmt` in crates/wgsl_lex_scanner behind it:
 
     tools/word_table.py
 
@@ -13,8 +13,8 @@ import re
 from collections import defaultdict
 from pathlib import Path
 
-DEFINED = Path("crates/wgsl_model/specs/Words.antt")
-WRITTEN = Path("crates/wgsl_scanner/src/word_table.rt")
+DEFINED = Path("crates/wgsl_model/specs/Tokens/Words.antt")
+WRITTEN = Path("crates/wgsl_lex_scanner/src/word_table.rt")
 
 # what is written begins and ends before these lines
 BEGIN = "/// The keywords and the reserved words"

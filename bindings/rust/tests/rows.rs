@@ -1,4 +1,4 @@
-//! The rows of texts with what is wanted of them, which `crates/wgsl_text_tests` checks too.
+//! The rows of texts with what is wanted of them, which `crates/wgsl_test_texts` checks too.
 
 mod text;
 
@@ -66,7 +66,7 @@ fn rows_of(name: &str, data: &str) -> Vec<Row> {
 /// All rows.
 fn rows() -> Vec<Row> {
     let folder =
-        PathBuf::from(env!("CARGO_MANIFEST_DIR")).join("../../crates/wgsl_text_tests/data");
+        PathBuf::from(env!("CARGO_MANIFEST_DIR")).join("../../crates/wgsl_test_texts/data");
     let mut names: Vec<_> = fs::read_dir(folder)
         .expect("the rows are there")
         .map(|entry| entry.expect("a file").path())

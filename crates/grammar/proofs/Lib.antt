@@ -1,22 +1,7 @@
-pub mod Sets
-pub mod Beginnings
-pub mod Sound
-pub mod Complete
-pub mod Depth
-pub mod Enough
-pub mod Frame
-pub mod Step
-pub mod Near
-pub mod Viable
-pub mod Exact
-pub mod Anchors
+pub mod Reading
 pub mod Faults
-pub mod First
-pub mod Outcomes
 pub mod Binding
 pub mod States
 pub mod Lists
-pub mod Named
 pub mod Words
-pub mod Guards
 mod Samples

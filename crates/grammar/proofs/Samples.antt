@@ -2,19 +2,20 @@
 use Rattle.std.proofs.Common.{◌≡◌, ℕ, ◌+◌, Bool, true, false, cond, eqb, List, [], ◌∷◌, ◌++◌, inl, inr, refl, sym, subst, arith}
 use Rattle.std.specs.Prelude.{Option, Some, None}
 use Rattle.grammar.specs.Tokens.{Payload.nothing, Token, Span, Fault, span_between}
-use Rattle.grammar.specs.Grammar.{Grammar, Grammar.token, Grammar.symbol, Mode.full, Mode.unchecked}
+use Rattle.grammar.specs.Grammar.{Grammar, Grammar.token, Grammar.symbol, Mode.checking, Mode.unchecked}
 use Rattle.grammar.specs.Notation.{one_token, ◌then◌, ◌or◌, ◌gives◌, ◌makes◌, ◌with_check◌, ◌▹◌, ◌◃◌, many}
-use Rattle.grammar.specs.Faults.{IsFaulty, Ending, Wording, Answers}
+use Rattle.grammar.specs.Endings.{Ending, Wording}
+use Rattle.grammar.specs.Faults.{IsFaulty, Answers}
 use Rattle.grammar.specs.Tables.{Tables, Passes}
 use Rattle.grammar.specs.Reading.{Outcome.ok, Outcome.stuck, Outcome.bad, chooses, read_all}
 use Rattle.grammar.specs.States.{State, Read, Read.done, ◌>>=◌, is_at, take, start_state, reads, answer}
-use Rattle.grammar.proofs.Sets.{cases}
-use Rattle.grammar.proofs.Beginnings.{cond_yes, cond_no}
-use Rattle.grammar.proofs.Depth.{unroll}
-use Rattle.grammar.proofs.Guards.{guarded_alone}
+use Rattle.grammar.proofs.Reading.Sets.{cases}
+use Rattle.grammar.proofs.Reading.Beginnings.{cond_yes, cond_no}
+use Rattle.grammar.proofs.Reading.Depth.{unroll}
+use Rattle.grammar.proofs.Faults.Guards.{guarded_alone}
 use Rattle.grammar.proofs.Lists.{separated}
-use Rattle.grammar.proofs.Named.{answers}
-use Rattle.grammar.proofs.Outcomes.{IsTested}
+use Rattle.grammar.proofs.Faults.Named.{answers}
+use Rattle.grammar.proofs.Faults.Outcomes.{IsTested}
 use Rattle.grammar.proofs.States.{reads_is}
 use Rattle.grammar.proofs.Words.{all_sentences}
 
@@ -155,18 +156,18 @@ abbrev at : ℕ → ℕ → Token
 at c place = record { class = c; payload = nothing; start = place; end = place + 1 }
 
 -- `alias a = b; list (a, b);`, with the spans of both
-units_are_read : read_all tables full body 2 unit
+units_are_read : read_all tables checking body 2 unit
     (at Alias 0 ∷ at Word 1 ∷ at Equal 2 ∷ at Word 3 ∷ at Semicolon 4 ∷ at Enumerate 5 ∷ at Open 6 ∷ at Word 7 ∷ at Comma 8 ∷ at Word 9 ∷ at Close 10 ∷ at Semicolon 11 ∷ [])
     ≡ ok (record { names = at Word 1 ∷ at Word 3 ∷ []; span = record { start = 0; end = 5 } } ∷ record { names = at Word 7 ∷ at Word 9 ∷ []; span = record { start = 5; end = 12 } } ∷ []) []
 units_are_read = refl
 
 -- of `alias a = r = b` the reserved word r is named, which ends before the second `=`
-faults_are_read : read_all tables full body 2 unit (at Alias 0 ∷ at Word 1 ∷ at Equal 2 ∷ at Reserved 3 ∷ at Equal 4 ∷ at Word 5 ∷ [])
+faults_are_read : read_all tables checking body 2 unit (at Alias 0 ∷ at Word 1 ∷ at Equal 2 ∷ at Reserved 3 ∷ at Equal 4 ∷ at Word 5 ∷ [])
     ≡ bad (reserved_fault (record { start = 3; end = 4 })) (at Equal 4 ∷ at Word 5 ∷ [])
 faults_are_read = refl
 
 -- and of `alias a b r` the b
-tokens_are_refused : read_all tables full body 2 unit (at Alias 0 ∷ at Word 1 ∷ at Word 2 ∷ at Reserved 3 ∷ []) ≡ stuck (at Word 2 ∷ at Reserved 3 ∷ [])
+tokens_are_refused : read_all tables checking body 2 unit (at Alias 0 ∷ at Word 1 ∷ at Word 2 ∷ at Reserved 3 ∷ []) ≡ stuck (at Word 2 ∷ at Reserved 3 ∷ [])
 tokens_are_refused = refl
 
 -- what is answered is true, however the list ended

@@ -1,10 +1,10 @@
 -- A sentence of each symbol, by a height of the symbols.
-use Rattle.std.proofs.Common.{◌≡◌, ℕ, zero, suc, ◌<◌, Bool, true, false, ◌&&◌, ◌||◌, ltb, List, [], ◌∷◌, ◌⊎◌, inl, inr, refl, arith, ltb-true}
+use Rattle.std.proofs.Common.{◌≡◌, ℕ, zero, suc, ◌<◌, Bool, true, false, ◌&&◌, ◌||◌, ltb, List, [], ◌∷◌, inl, inr, refl, arith, ltb-true}
 use Rattle.grammar.specs.Tokens.{Token, Payload.nothing, span_between}
 use Rattle.grammar.specs.Grammar.{Grammar, Grammar.empty, Grammar.token, Grammar.sequence, Grammar.choice, Grammar.mapped, Grammar.node, Grammar.checked, Grammar.symbol, Grammar.left_chain, Chain.base, Mode.unchecked, is_among, Means, Part}
-use Rattle.grammar.proofs.Sets.{and_true, either}
-use Rattle.grammar.proofs.Depth.{roll}
-use Rattle.grammar.proofs.Viable.{HasSentences}
+use Rattle.grammar.proofs.Reading.Sets.{and_true, either}
+use Rattle.grammar.proofs.Reading.Depth.{roll}
+use Rattle.grammar.proofs.Reading.Viable.{HasSentences}
 
 -- a right side has a part, where each symbol below a height has one
 abbrev pub builds : {N : Type 0} {Value : N → Type 0} (height : N → ℕ) (h : ℕ) {A : Type 0} → Grammar N Value A → Bool

@@ -1,7 +1,8 @@
--- The faults that the checks find in a list, and the one fault that is named.
+-- The faults that the checks of any grammar find in a list, and the one fault that is named.
 use Rattle.std.specs.Prelude.{◌≡◌, ℕ, suc, ◌≤◌, false, List, [], ◌∷◌, ◌++◌, length, Option, Some, None}
 use Rattle.grammar.specs.Tokens.{Token, Span, Fault, last_end, tokens_between, span_between}
-use Rattle.grammar.specs.Grammar.{Grammar, Grammar.empty, Grammar.token, Grammar.sequence, Grammar.choice, Grammar.mapped, Grammar.node, Grammar.checked, Grammar.symbol, Grammar.left_chain, Mode.full, Mode.unchecked, is_among, Part, Derives, IsSentence, IsViable}
+use Rattle.grammar.specs.Grammar.{Grammar, Grammar.empty, Grammar.token, Grammar.sequence, Grammar.choice, Grammar.mapped, Grammar.node, Grammar.checked, Grammar.symbol, Grammar.left_chain, Mode.checking, Mode.unchecked, is_among, Part, Derives, IsSentence, IsViable}
+use Rattle.grammar.specs.Endings.{last_class, Ending, Ending.finished, Ending.carried, Wording, Answer, Answer.accepted, Answer.denied}
 
 -- what the check at the head of a right side says
 abbrev pub head_check : {N : Type 0} {Value : N → Type 0} {A : Type 0} → Grammar N Value A → A → Span → Option Fault
@@ -23,12 +24,7 @@ IsFaulty {Value} body n x xs ys = (v : Value n) × Part unchecked body n v xs ys
 abbrev pub IsEnded : {N : Type 0} {Value : N → Type 0} (body : (n : N) → Grammar N Value (Value n)) → N → List Token → List Token → Type 0
 IsEnded body n xs ys = (t : Token) (zs : List Token) → ys ≡ t ∷ zs → IsViable body n (tokens_between xs ys ++ (t ∷ [])) → ⊥
 
--- the class of the last token, or c where there is none; no class that a symbol stands apart from may be c
-abbrev pub last_class : ℕ → List Token → ℕ
-last_class c [] = c
-last_class c (t ∷ ts) = last_class t.class ts
-
--- a fault x of a list ts, with ys behind its last token: a faulty part of a symbol that goes no further, and does not stand directly after a token of the classes apart
+-- a fault x of a list ts, with ys behind its last token: a faulty part of a symbol that goes no further, and does not stand directly after a token of the classes apart, none of which is 0
 pub record FaultIn {N : Type 0} {Value : N → Type 0} (body : (n : N) → Grammar N Value (Value n)) (apart : N → List ℕ) (ts : List Token) (x : Fault) (ys : List Token) : Type 0 where
   pub symbol_of : N
   pub before : List Token
@@ -39,44 +35,29 @@ pub record FaultIn {N : Type 0} {Value : N → Type 0} (body : (n : N) → Gramm
   pub faulty : IsFaulty body symbol_of x from ys
 
 -- no fault of ts has so many tokens behind it, or more
-abbrev pub NoFaultBefore : {N : Type 0} {Value : N → Type 0} (body : (n : N) → Grammar N Value (Value n)) (apart : N → List ℕ) → List Token → ℕ → Type 0
-NoFaultBefore body apart ts k = (x : Fault) (ys : List Token) → FaultIn body apart ts x ys → k ≤ length ys → ⊥
+abbrev pub HasNoFaultBefore : {N : Type 0} {Value : N → Type 0} (body : (n : N) → Grammar N Value (Value n)) (apart : N → List ℕ) → List Token → ℕ → Type 0
+HasNoFaultBefore body apart ts k = (x : Fault) (ys : List Token) → FaultIn body apart ts x ys → k ≤ length ys → ⊥
 
 -- a fault x that ends, with us behind it, in tokens that begin a sentence, and no fault ends before it
 abbrev pub IsFirstFault : {N : Type 0} {Value : N → Type 0} (body : (n : N) → Grammar N Value (Value n)) (apart : N → List ℕ) (n : N) → List Token → Fault → List Token → Type 0
-IsFirstFault body apart n ts x us = (p : List Token) × (ts ≡ p ++ us) × IsViable body n p × FaultIn body apart ts x us × NoFaultBefore body apart ts (suc (length us))
+IsFirstFault body apart n ts x us = (p : List Token) × (ts ≡ p ++ us) × IsViable body n p × FaultIn body apart ts x us × HasNoFaultBefore body apart ts (suc (length us))
 
 -- t is the first token with which no sentence goes on, and no fault ends before it
 abbrev pub IsUnexpected : {N : Type 0} {Value : N → Type 0} (body : (n : N) → Grammar N Value (Value n)) (apart : N → List ℕ) (n : N) → List Token → Token → List Token → Type 0
-IsUnexpected body apart n ts t us = (p : List Token) × (ts ≡ p ++ (t ∷ us)) × IsViable body n p × (IsViable body n (p ++ (t ∷ [])) → ⊥) × NoFaultBefore body apart ts (suc (length us))
+IsUnexpected body apart n ts t us = (p : List Token) × (ts ≡ p ++ (t ∷ us)) × IsViable body n p × (IsViable body n (p ++ (t ∷ [])) → ⊥) × HasNoFaultBefore body apart ts (suc (length us))
 
 -- all tokens begin a sentence, and there is no checked fault
-abbrev pub IsOpen : {N : Type 0} {Value : N → Type 0} (body : (n : N) → Grammar N Value (Value n)) (apart : N → List ℕ) (n : N) → List Token → Type 0
-IsOpen body apart n ts = IsViable body n ts × NoFaultBefore body apart ts 0
-
--- how a list of tokens ended: of itself, or with a fault that it carried
-pub data Ending : Type 0 where
-  finished : Ending
-  carried : Fault → Ending
-
--- how the faults are told that no check finds: a token that nothing goes on with, and a token missing behind the place where the last one ended
-pub record Wording : Type 0 where
-  pub unexpected : Token → Fault
-  pub missing : ℕ → Fault
+abbrev pub IsFaultless : {N : Type 0} {Value : N → Type 0} (body : (n : N) → Grammar N Value (Value n)) (apart : N → List ℕ) (n : N) → List Token → Type 0
+IsFaultless body apart n ts = IsViable body n ts × HasNoFaultBefore body apart ts 0
 
 -- the fault that is named of a list of tokens and how it ended: the checked fault that ends first; or the first token with which no sentence goes on; or what the list carried; or that a token is missing
-pub data IsNamed {N : Type 0} {Value : N → Type 0} (body : (n : N) → Grammar N Value (Value n)) (apart : N → List ℕ) (wording : Wording) (n : N) (ts : List Token) (ending : Ending) (x : Fault) : Type 0 where
-  first_fault : (us : List Token) → IsFirstFault body apart n ts x us → IsNamed body apart wording n ts ending x
-  unexpected_token : (t : Token) (us : List Token) → IsUnexpected body apart n ts t us → x ≡ wording.unexpected t → IsNamed body apart wording n ts ending x
-  carried_fault : IsOpen body apart n ts → ending ≡ carried x → IsNamed body apart wording n ts ending x
-  missing_token : IsOpen body apart n ts → (IsSentence body n ts → ⊥) → ending ≡ finished → x ≡ wording.missing (last_end 0 ts) → IsNamed body apart wording n ts ending x
-
--- a value, or a fault
-pub data Answer (A : Type 0) : Type 0 where
-  accepted : A → Answer A
-  denied : Fault → Answer A
+pub data IsNamedBy {N : Type 0} {Value : N → Type 0} (body : (n : N) → Grammar N Value (Value n)) (apart : N → List ℕ) (wording : Wording) (n : N) (ts : List Token) (ending : Ending) (x : Fault) : Type 0 where
+  first_fault : (us : List Token) → IsFirstFault body apart n ts x us → IsNamedBy body apart wording n ts ending x
+  unexpected_token : (t : Token) (us : List Token) → IsUnexpected body apart n ts t us → x ≡ wording.unexpected t → IsNamedBy body apart wording n ts ending x
+  carried_fault : IsFaultless body apart n ts → ending ≡ carried x → IsNamedBy body apart wording n ts ending x
+  missing_token : IsFaultless body apart n ts → (IsSentence body n ts → ⊥) → ending ≡ finished → x ≡ wording.missing (last_end 0 ts) → IsNamedBy body apart wording n ts ending x
 
 -- what an answer says: the list ended of itself and derives the value, or the fault is the one that is named
 abbrev pub Answers : {N : Type 0} {Value : N → Type 0} (body : (n : N) → Grammar N Value (Value n)) (apart : N → List ℕ) (wording : Wording) (n : N) → List Token → Ending → Answer (Value n) → Type 0
-Answers body apart wording n ts ending (accepted v) = (ending ≡ finished) × Derives full body n v ts
-Answers body apart wording n ts ending (denied x) = IsNamed body apart wording n ts ending x
+Answers body apart wording n ts ending (accepted v) = (ending ≡ finished) × Derives checking body n v ts
+Answers body apart wording n ts ending (denied x) = IsNamedBy body apart wording n ts ending x

@@ -16,12 +16,12 @@ pub data Grammar (N : Type 0) (Value : N → Type 0) : Type 0 → Type 1 where
 
 -- whether checks count
 pub data Mode : Type 0 where
-  full : Mode
+  checking : Mode
   unchecked : Mode
 
 -- what a check found, where checks count
 abbrev pub found : Mode → Option Fault → Option Fault
-found full x = x
+found checking x = x
 found unchecked x = None
 
 -- a class is one of a list

@@ -1,6 +1,7 @@
 pub mod Tokens
 pub mod Grammar
 pub mod Notation
+pub mod Endings
 pub mod Faults
 pub mod Tables
 pub mod Reading

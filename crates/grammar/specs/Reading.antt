@@ -1,8 +1,8 @@
 -- A reader with one token of lookahead, over lists of tokens.
 use Rattle.std.specs.Prelude.{ℕ, zero, suc, ◌+◌, ◌*◌, Bool, true, false, List, [], ◌∷◌, length, Option, Some, None}
 use Rattle.grammar.specs.Tokens.{Token, Span, Fault, span_between}
-use Rattle.grammar.specs.Grammar.{Grammar, Grammar.empty, Grammar.token, Grammar.sequence, Grammar.choice, Grammar.mapped, Grammar.node, Grammar.checked, Grammar.symbol, Grammar.left_chain, Mode, Mode.full, found, is_among, Derives, IsSentence, IsViable}
-use Rattle.grammar.specs.Faults.{NoFaultBefore, IsFirstFault, IsUnexpected}
+use Rattle.grammar.specs.Grammar.{Grammar, Grammar.empty, Grammar.token, Grammar.sequence, Grammar.choice, Grammar.mapped, Grammar.node, Grammar.checked, Grammar.symbol, Grammar.left_chain, Mode, Mode.checking, found, is_among, Derives, IsSentence, IsViable}
+use Rattle.grammar.specs.Faults.{HasNoFaultBefore, IsFirstFault, IsUnexpected}
 use Rattle.grammar.specs.Tables.{Tables, first}
 
 -- what a reader says: a value and the rest, where it is stuck, the fault of what ends there, or that its fuel was out
@@ -62,9 +62,9 @@ read_all T M body R n ts = read T M body (R * length ts + suc (T.rank n)) n ts
 
 -- what an outcome says of its list
 abbrev pub Says : {N : Type 0} {Value : N → Type 0} (body : (n : N) → Grammar N Value (Value n)) (apart : N → List ℕ) (n : N) → List Token → Outcome (Value n) → Type 0
-Says body apart n ts (ok v []) = Derives full body n v ts × NoFaultBefore body apart ts 0
+Says body apart n ts (ok v []) = Derives checking body n v ts × HasNoFaultBefore body apart ts 0
 Says body apart n ts (ok v (t ∷ us)) = IsUnexpected body apart n ts t us
 Says body apart n ts (stuck (t ∷ us)) = IsUnexpected body apart n ts t us
-Says body apart n ts (stuck []) = IsViable body n ts × (IsSentence body n ts → ⊥) × NoFaultBefore body apart ts 0
+Says body apart n ts (stuck []) = IsViable body n ts × (IsSentence body n ts → ⊥) × HasNoFaultBefore body apart ts 0
 Says body apart n ts (bad x us) = IsFirstFault body apart n ts x us
 Says body apart n ts out = ⊥

@@ -1,8 +1,8 @@
 -- The reader over states, in which the code reads: each state knows where the last token ended, so that no span needs a list.
 use Rattle.std.specs.Prelude.{ℕ, zero, suc, Bool, true, false, cond, eqb, List, [], ◌∷◌, length, Option, Some, None}
 use Rattle.grammar.specs.Tokens.{Payload.nothing, Token, Span, Fault, last_end, tokens_between}
-use Rattle.grammar.specs.Grammar.{Grammar, Grammar.empty, Grammar.token, Grammar.sequence, Grammar.choice, Grammar.mapped, Grammar.node, Grammar.checked, Grammar.symbol, Grammar.left_chain, Mode.full}
-use Rattle.grammar.specs.Faults.{Ending, Ending.finished, Ending.carried, Wording, Answer, Answer.accepted, Answer.denied}
+use Rattle.grammar.specs.Grammar.{Grammar, Grammar.empty, Grammar.token, Grammar.sequence, Grammar.choice, Grammar.mapped, Grammar.node, Grammar.checked, Grammar.symbol, Grammar.left_chain, Mode.checking}
+use Rattle.grammar.specs.Endings.{Ending, Ending.finished, Ending.carried, Wording, Answer, Answer.accepted, Answer.denied}
 use Rattle.grammar.specs.Tables.{Tables, first}
 use Rattle.grammar.specs.Reading.{Outcome, Outcome.ok, Outcome.stuck, Outcome.bad, Outcome.out, read_all}
 
@@ -59,8 +59,8 @@ first_start [] = 0
 first_start (t ∷ ts) = t.start
 
 -- where the next token starts
-unfoldable pub start_of : State → ℕ
-start_of s = first_start s.rest
+unfoldable pub next_start : State → ℕ
+next_start s = first_start s.rest
 
 -- the first token of a list
 abbrev pub head_of : List Token → Token
@@ -115,25 +115,25 @@ go T rec (token cs) s = take_any cs s
 go T rec (sequence g h) s = go T rec g s >>= λ a s'. go T rec h s' >>= λ b s''. done (a, b) s''
 go T rec (choice g h) s = cond (is_any (first T g) s) (go T rec g s) (go T rec h s)
 go T rec (mapped f g) s = go T rec g s >>= λ a s'. done (f a) s'
-go T rec (node f g) s = go T rec g s >>= λ a s'. done (f a (span_from (start_of s) s')) s'
-go T rec (checked f g) s = go T rec g s >>= λ a s'. judged (f a (span_from (start_of s) s')) a s'
+go T rec (node f g) s = go T rec g s >>= λ a s'. done (f a (span_from (next_start s) s')) s'
+go T rec (checked f g) s = go T rec g s >>= λ a s'. judged (f a (span_from (next_start s) s')) a s'
 go T rec (symbol n) s = rec n s
-go T rec (left_chain f g h) s = go T rec g s >>= λ a s'. turns f (first T h) (go T rec h) (start_of s) a s'
+go T rec (left_chain f g h) s = go T rec g s >>= λ a s'. turns f (first T h) (go T rec h) (next_start s) a s'
 
 -- the state of which the tokens before us were taken
-abbrev pub placed : State → List Token → State
-placed s us = record { end = last_end s.end (tokens_between s.rest us); rest = us }
+abbrev pub state_at : State → List Token → State
+state_at s us = record { end = last_end s.end (tokens_between s.rest us); rest = us }
 
 -- an outcome over the tokens that are left, as one over states
 abbrev pub tag : {A : Type 0} → State → Outcome A → Read A
-tag s (ok a us) = done a (placed s us)
+tag s (ok a us) = done a (state_at s us)
 tag s (stuck us) = refused us
 tag s (bad x us) = stop (faulty x)
 tag s out = stop never
 
 -- what a symbol reads
 unfoldable pub reads : {N : Type 0} {Value : N → Type 0} (T : Tables N) (body : (n : N) → Grammar N Value (Value n)) (R : ℕ) (n : N) → State → Read (Value n)
-reads T body R n s = tag s (read_all T full body R n s.rest)
+reads T body R n s = tag s (read_all T checking body R n s.rest)
 
 -- what is answered at the end of a list: what the list carried goes first
 abbrev pub at_end : {A : Type 0} → Ending → Answer A → Answer A

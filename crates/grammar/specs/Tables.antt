@@ -12,7 +12,7 @@ abbrev pub subset : List ℕ → List ℕ → Bool
 subset [] s = true
 subset (c ∷ r) s = cond (is_among c s) (subset r s) false
 
--- there is no class
+-- the list holds nothing
 abbrev pub is_empty : List ℕ → Bool
 is_empty [] = true
 is_empty (c ∷ s) = false
@@ -49,28 +49,28 @@ first T (symbol n) = T.first n
 first T (left_chain f g h) = first T g ++ cond (nullable T g) (first T h) []
 
 -- the classes with which a part could go on behind its end
-abbrev pub goes_on : {N : Type 0} {Value : N → Type 0} (T : Tables N) {A : Type 0} → Grammar N Value A → List ℕ
-goes_on T (empty a) = []
-goes_on T (token s) = []
-goes_on T (sequence g h) = goes_on T h ++ cond (nullable T h) (goes_on T g) []
-goes_on T (choice g h) = goes_on T g ++ (goes_on T h ++ cond (nullable T h) (first T g) [])
-goes_on T (mapped f g) = goes_on T g
-goes_on T (node f g) = goes_on T g
-goes_on T (checked f g) = goes_on T g
-goes_on T (symbol n) = T.more n
-goes_on T (left_chain f g h) = first T h ++ (goes_on T h ++ goes_on T g)
+abbrev pub continuations : {N : Type 0} {Value : N → Type 0} (T : Tables N) {A : Type 0} → Grammar N Value A → List ℕ
+continuations T (empty a) = []
+continuations T (token s) = []
+continuations T (sequence g h) = continuations T h ++ cond (nullable T h) (continuations T g) []
+continuations T (choice g h) = continuations T g ++ (continuations T h ++ cond (nullable T h) (first T g) [])
+continuations T (mapped f g) = continuations T g
+continuations T (node f g) = continuations T g
+continuations T (checked f g) = continuations T g
+continuations T (symbol n) = T.more n
+continuations T (left_chain f g h) = first T h ++ (continuations T h ++ continuations T g)
 
 -- one token of lookahead decides, and each token has a class
 abbrev pub decides : {N : Type 0} {Value : N → Type 0} (T : Tables N) {A : Type 0} → Grammar N Value A → Bool
 decides T (empty a) = true
 decides T (token s) = not (is_empty s)
-decides T (sequence g h) = (decides T g && decides T h) && disjoint (goes_on T g) (first T h)
+decides T (sequence g h) = (decides T g && decides T h) && disjoint (continuations T g) (first T h)
 decides T (choice g h) = (decides T g && decides T h) && (not (nullable T g) && disjoint (first T g) (first T h))
 decides T (mapped f g) = decides T g
 decides T (node f g) = decides T g
 decides T (checked f g) = decides T g
 decides T (symbol n) = true
-decides T (left_chain f g h) = (decides T g && decides T h) && (not (nullable T h) && (disjoint (goes_on T g) (first T h) && disjoint (goes_on T h) (first T h)))
+decides T (left_chain f g h) = (decides T g && decides T h) && (not (nullable T h) && (disjoint (continuations T g) (first T h) && disjoint (continuations T h) (first T h)))
 
 -- no span is of a part that can be empty
 abbrev pub spans_tokens : {N : Type 0} {Value : N → Type 0} (T : Tables N) {A : Type 0} → Grammar N Value A → Bool
@@ -112,7 +112,7 @@ all_ranks T (left_chain f g h) = max (all_ranks T g) (all_ranks T h)
 pub record Passes {N : Type 0} {Value : N → Type 0} (T : Tables N) (body : (n : N) → Grammar N Value (Value n)) (R : ℕ) : Type 0 where
   pub begins : (n : N) → subset (first T (body n)) (T.first n) ≡ true
   pub empty : (n : N) → nullable T (body n) ≡ T.empty n
-  pub more : (n : N) → subset (goes_on T (body n)) (T.more n) ≡ true
+  pub more : (n : N) → subset (continuations T (body n)) (T.more n) ≡ true
   pub one : (n : N) → decides T (body n) ≡ true
   pub spans : (n : N) → spans_tokens T (body n) ≡ true
   pub rank : (n : N) → left_rank T (body n) ≤ T.rank n

@@ -36,14 +36,14 @@ span_of [] = record { start = 0; end = 0 }
 span_of (t ∷ ts) = record { start = t.start; end = last_end t.end ts }
 
 -- the first tokens, so many
-abbrev pub front : ℕ → List Token → List Token
-front zero xs = []
-front (suc n) [] = []
-front (suc n) (t ∷ xs) = t ∷ front n xs
+abbrev pub first_tokens : ℕ → List Token → List Token
+first_tokens zero xs = []
+first_tokens (suc n) [] = []
+first_tokens (suc n) (t ∷ xs) = t ∷ first_tokens n xs
 
 -- the tokens of a list before another, which is an end of it
 abbrev pub tokens_between : List Token → List Token → List Token
-tokens_between xs ys = front (length xs - length ys) xs
+tokens_between xs ys = first_tokens (length xs - length ys) xs
 
 -- the span of the tokens before an end of the list
 abbrev pub span_between : List Token → List Token → Span

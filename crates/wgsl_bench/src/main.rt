@@ -1,4 +1,5 @@
-//! Measures how many megabytes of the standard input a second takes: `wgsl_bench WHAT TURNS`, where WHAT is `bytes`,
+//! Measures how many megabytes of the standard input a second takes: `wgsl_bench WHAT TURNS`, where
+//! WHAT is `bytes`,
 //! `lex`, `discover`, `expression`, `unit` or `print`. Without arguments it prints nothing.
 #![tactic(auto)]
 
@@ -46,8 +47,8 @@ impl Measured {
         }
     }
 
-    /// A number that depends on all that was done, so that none of it is left out; none where the text was refused.
-    /// The template lists that were looked for are left in `found`.
+    /// A number that depends on all that was done, so that none of it is left out; none where the
+    /// text was refused. The template lists that were looked for are left in `found`.
     fn turn(
         self,
         alloc: Global,
@@ -77,7 +78,8 @@ impl Measured {
     }
 }
 
-/// Prints how long a byte took, how many tokens were read for it, and how many template lists the text has.
+/// Prints how long a byte took, how many tokens were read for it, and how many template lists the
+/// text has.
 fn tell_lists<R: Print>(
     rt: &R,
     text: &str,

@@ -5,10 +5,10 @@ use Rattle.grammar.specs.Tokens.{Fault}
 use Rattle.wgsl_error.specs.declared.Error.{Error}
 use Rattle.wgsl_error.specs.declared.ErrorKind.TheVariants as kinds
 use Rattle.wgsl_error.specs.View.{fault_view}
-use Rattle.wgsl_answer.specs.Answers.{IsOutOfMemory}
-use Rattle.wgsl_answer.specs.Places.{StandsWithin}
+use Rattle.wgsl_read_cursor.specs.Answers.{IsOutOfMemory}
+use Rattle.wgsl_read_cursor.specs.Places.{StandsWithin}
 use Rattle.wgsl_c.specs.declared.answer.Answer.{Answer}
-use Rattle.wgsl_c.specs.Answers.{Tells, Refuses}
+use Rattle.wgsl_c.specs.Answers.{TellsError, Refuses}
 
 -- an error that is no want of memory is what else it may be
 other : {A : Type 0} (e : Error) → ¬ (e.error ≡ kinds.OutOfMemory) → IsOutOfMemory e ⊎ A → A
@@ -17,6 +17,6 @@ other e not (inr a) = a
 
 -- a text is refused where an error of it is told
 pub refused_by : (IsNamed : List ℕ → Fault → Type 0) (source text before room : List ℕ) (a : Answer) (e : Error) → source ≡ text → IsOutOfMemory e ⊎ IsNamed (chars source) (fault_view e) → StandsWithin e.span (length source)
-    → ¬ (e.error ≡ kinds.OutOfMemory) → Tells e before room a → Refuses IsNamed text before room a
+    → ¬ (e.error ≡ kinds.OutOfMemory) → TellsError e before room a → Refuses IsNamed text before room a
 refused_by IsNamed source text before room a e same named placed not told =
     (e, subst (λ s. IsNamed (chars s) (fault_view e)) same (other e not named), subst (λ s. StandsWithin e.span (length s)) same placed, told)

@@ -3,14 +3,14 @@ use Rattle.std.proofs.Common.{◌≡◌, ℕ, suc, ◌+◌, ◌-◌, ◌^◌, �
 use Rattle.std.proofs.lemmas.List.{take_all, take_more_set, map-append, append_assoc, append-nil, length-append, length-map, length-set, take-append-le}
 use Rattle.std.specs.Str.{IsUtf8, chars}
 use Rattle.grammar.specs.Tokens.{Token}
-use Rattle.wgsl_model.specs.Places.{width}
+use Rattle.wgsl_model.specs.Tokens.Places.{width}
+use Rattle.wgsl_theory_grammar.proofs.Tokens.Places.{bytes_width}
 use Rattle.wgsl_span.specs.declared.Span.{Span}
-use Rattle.wgsl_token.specs.declared.kind.TokenKind.{TokenKind}
-use Rattle.wgsl_token.specs.View.{class_of_kind}
-use Rattle.wgsl_templates.specs.Lists.{AreLists}
-use Rattle.wgsl_templates.specs.Spans.{end_from}
-use Rattle.wgsl_lexer.specs.TextTokens.{BeginWith, BeginAt}
-use Rattle.wgsl_answer.proofs.Places.{width_is}
+use Rattle.wgsl_lex_token.specs.declared.kind.TokenKind.{TokenKind}
+use Rattle.wgsl_lex_token.specs.View.{class_of_kind}
+use Rattle.wgsl_lex_templates.specs.Lists.{AreLists}
+use Rattle.wgsl_lex_templates.specs.Spans.{end_from}
+use Rattle.wgsl_lexer.specs.TextTokens.{StartWithKind, BeginAt}
 use Rattle.wgsl_c.specs.declared.lists.Place.{Place}
 use Rattle.wgsl_c.specs.declared.tokens.PlacedKind.{PlacedKind}
 use Rattle.wgsl_c.specs.Items.{count_of, HoldItems, kind_and_place, item_of_token, token_items, start_and_end, list_at, lists_before, ArePlaces}
@@ -60,7 +60,7 @@ pub none_written : (all : List Token) (room : List PlacedKind) → Written all a
 none_written all room = record { done = []; whole = refl; stored = none_stored kind_and_place room }
 
 -- one more token is stored
-pub token_more : (all left : List Token) (room : List PlacedKind) (n : ℕ) (kind : TokenKind) (span : Span) → BeginWith left kind → BeginAt left span → length room < 2 ^ 63 → n < length room
+pub token_more : (all left : List Token) (room : List PlacedKind) (n : ℕ) (kind : TokenKind) (span : Span) → StartWithKind left kind → BeginAt left span → length room < 2 ^ 63 → n < length room
     → Written all left room n → Written all (drop 1 left) (set room n (record { kind = class_of_kind kind; start = span.start; end = span.end })) (min (n + 1) (2 ^ 64 - 1))
 token_more all [] room n kind span first at bound fits w = absurd first
 token_more all (t ∷ ts) room n kind span first at bound fits w =
@@ -118,4 +118,10 @@ list_none spans start room n told s =
 
 -- the places that are listed before the end of a text are those of all its lists
 pub all_places : (text : List ℕ) (spans : List Span) → IsUtf8 text → AreLists (width (chars text)) spans (chars text) → ArePlaces (chars text) (lists_before spans (length text))
-all_places text spans valid lists = (spans, lists, ap (lists_before spans) (sym (width_is text valid)))
+all_places text spans valid lists = (spans, lists, ap (lists_before spans) (sym (bytes_width text valid)))
+
+-- the loop over template lists
+pub ruleset lists = (none_stored, list_more, list_beyond, list_none)
+
+-- the loop over tokens
+pub ruleset tokens = (token_more, token_beyond, none_written, all_written)

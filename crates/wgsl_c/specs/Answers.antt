@@ -6,7 +6,7 @@ use Rattle.wgsl_error.specs.declared.Error.{Error}
 use Rattle.wgsl_error.specs.declared.ErrorKind.{ErrorKind}
 use Rattle.wgsl_error.specs.View.{kind_number, expected_texts, fault_view}
 use Rattle.wgsl_error.specs.Printing.{print_error_kind}
-use Rattle.wgsl_answer.specs.Places.{StandsWithin}
+use Rattle.wgsl_read_cursor.specs.Places.{StandsWithin}
 use Rattle.wgsl_c.specs.declared.answer.Answer.{Answer}
 
 -- so many bytes or items, and nothing else
@@ -30,20 +30,20 @@ abbrev pub IsNoText : List ℕ → Answer → Type 0
 IsNoText bytes a = ¬ (IsUtf8 bytes) × IsValidUpTo bytes a.start × (a ≡ at_place a.start)
 
 -- a text with a byte 0 behind it
-abbrev pub ended : List ℕ → List ℕ
-ended text = text ++ (0 ∷ [])
+abbrev pub nul_terminated : List ℕ → List ℕ
+nul_terminated text = text ++ (0 ∷ [])
 
 -- the texts of a fault: its message, then each text that was expected
-abbrev pub texts_of : ErrorKind → List ℕ
-texts_of kind = ended (print_error_kind kind) ++ flat_map ended (expected_texts kind)
+abbrev pub fault_texts : ErrorKind → List ℕ
+fault_texts kind = nul_terminated (print_error_kind kind) ++ flat_map nul_terminated (expected_texts kind)
 
 -- the answer has the kind and the place of the error, and how many bytes its texts have; they stand at the front of the room if they fit, and else it stays as it was
-abbrev pub Tells : Error → List ℕ → List ℕ → Answer → Type 0
-Tells e before room a =
-    let texts = texts_of e.error in
+abbrev pub TellsError : Error → List ℕ → List ℕ → Answer → Type 0
+TellsError e before room a =
+    let texts = fault_texts e.error in
     (a ≡ record { size = length texts; start = e.span.start; end = e.span.end; kind = kind_number e.error; expected = length (expected_texts e.error) })
     × ((take (length texts) room ≡ texts) ⊎ ((length before < length texts) × (room ≡ before)))
 
 -- the text is refused: the answer tells an error that is a fault of it, which stands in the text or ends one byte past it
 abbrev pub Refuses : (List ℕ → Fault → Type 0) → List ℕ → List ℕ → List ℕ → Answer → Type 0
-Refuses IsNamed text before room a = (e : Error) × IsNamed (chars text) (fault_view e) × StandsWithin e.span (length text) × Tells e before room a
+Refuses IsNamed text before room a = (e : Error) × IsNamed (chars text) (fault_view e) × StandsWithin e.span (length text) × TellsError e before room a

@@ -1,11 +1,11 @@
 -- Tokens and places as they are written to a room.
 use Rattle.std.specs.Prelude.{◌≡◌, ℕ, zero, suc, ◌-◌, ◌^◌, min, List, [], ◌∷◌, ◌++◌, length, take, map, Option, Some, None}
 use Rattle.grammar.specs.Tokens.{Token, Span}
-use Rattle.wgsl_model.specs.Faults.{invalid_token_kind}
-use Rattle.wgsl_model.specs.Places.{width}
+use Rattle.wgsl_model.specs.Faults.Kinds.{invalid_token_kind}
+use Rattle.wgsl_model.specs.Tokens.Places.{width}
 use Rattle.wgsl_span.specs.declared.Span as span
-use Rattle.wgsl_templates.specs.Lists.{AreLists}
-use Rattle.wgsl_templates.specs.Spans.{end_from}
+use Rattle.wgsl_lex_templates.specs.Lists.{AreLists}
+use Rattle.wgsl_lex_templates.specs.Spans.{end_from}
 use Rattle.wgsl_c.specs.declared.answer.Answer.{Answer}
 use Rattle.wgsl_c.specs.declared.lists.Place.{Place}
 use Rattle.wgsl_c.specs.declared.tokens.PlacedKind.{PlacedKind}

@@ -1,8 +1,9 @@
 -- Which tree is asked for, and what a text is then.
 use Rattle.std.specs.Prelude.{ℕ, ◌==◌, if◌then◌else◌, List, Result, chars}
-use Rattle.wgsl_model.specs.Symbols.{Symbol, Value, Symbol.unit, Symbol.global_directive, Symbol.global_declaration, Symbol.statement, Symbol.expression}
+use Rattle.wgsl_model.specs.Grammar.Symbols.{Symbol, Value, Symbol.unit, Symbol.global_directive, Symbol.global_declaration, Symbol.statement, Symbol.expression}
 use Rattle.wgsl_error.specs.declared.Error.{Error}
-use Rattle.wgsl_parser.specs.Sources.{IsTreeOf, IsRead}
+use Rattle.wgsl_model.specs.SourceTrees.{IsTreeOf}
+use Rattle.wgsl_parser.specs.Sources.{IsRead}
 
 -- the symbol that has a number
 abbrev pub symbol_of : ℕ → Symbol

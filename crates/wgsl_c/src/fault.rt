@@ -3,7 +3,7 @@
 ghost use Rattle.std.specs.Prelude.{◌≡◌, ◌⊎◌, ◌++◌, IfOk, OnOk, map, flat_map, string_bytes};
 ghost use Rattle.wgsl_error.specs.View.{kind_number, expected_texts};
 ghost use Rattle.wgsl_error.specs.declared.ErrorKind.TheVariants as kinds;
-ghost use Rattle.wgsl_c.specs.Answers.{counted, ended, texts_of, Tells};
+ghost use Rattle.wgsl_c.specs.Answers.{counted, nul_terminated, fault_texts, TellsError};
 
 use crate::answer::{Answer, REFUSED, give, refuse_memory};
 use std::alloc::{AllocError, Global};
@@ -39,7 +39,7 @@ fn expected_of(kind: &ErrorKind) -> &[String]
 
 /// Adds texts, with a byte 0 behind each.
 fn push_texts(texts: &mut String, more: &[String]) -> Result<(), AllocError>
-    ensures { let added = flat_map ended (map string_bytes more.now) in
+    ensures { let added = flat_map nul_terminated (map string_bytes more.now) in
         OnOk result (string_bytes texts.new ≡ string_bytes texts.old ++ added) }
 {
     'texts: for text in more {
@@ -51,7 +51,7 @@ fn push_texts(texts: &mut String, more: &[String]) -> Result<(), AllocError>
 
 /// The message, then each text that was expected, with a byte 0 behind each.
 fn texts_of(alloc: Global, kind: &ErrorKind) -> Result<String, AllocError>
-    ensures { IfOk result (λ texts. string_bytes texts ≡ texts_of kind.now) }
+    ensures { IfOk result (λ texts. string_bytes texts ≡ fault_texts kind.now) }
 {
     let mut texts = format!(in alloc; "{kind}\0")?;
     push_texts(&mut texts, expected_of(kind))?;
@@ -60,7 +60,7 @@ fn texts_of(alloc: Global, kind: &ErrorKind) -> Result<String, AllocError>
 
 /// Answers with an error.
 pub fn tell_error(alloc: Global, error: Error, room: &mut [u8], answer: &mut Answer) -> u32
-    ensures refused { result ≡ 1 → Tells error room.old room.new answer.new }
+    ensures refused { result ≡ 1 → TellsError error room.old room.new answer.new }
     ensures named { result ≡ 1 → ¬ (error.error ≡ kinds.OutOfMemory) }
     ensures memory { result ≡ 3 → answer.new ≡ counted 0 }
     ensures status { (result ≡ 1) ⊎ (result ≡ 3) }

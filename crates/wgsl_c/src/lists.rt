@@ -8,8 +8,8 @@ ghost use Rattle.wgsl_c.specs.Items.{count_of, HoldItems, start_and_end, lists_b
 
 use crate::answer::{Answer, DONE, NOT_UTF8, TOO_SMALL, refuse_memory, tell_number, text_of};
 use std::alloc::Global;
+use wgsl_lex_templates::{Templates, discover};
 use wgsl_lexer::recognize_template_list;
-use wgsl_templates::{Templates, discover};
 
 /// Where something starts and ends.
 #[repr(C)]
@@ -40,7 +40,7 @@ pub extern "C" fn wgsl_c_begins_with_list(alloc: Global, text: &[u8], answer: &m
 }
 
 /// Writes the places of the lists of a text, as many as fit, and tells how many there are.
-#[tactic(auto, using(crate::proofs::Written::none_stored, crate::proofs::Written::list_more, crate::proofs::Written::list_beyond, crate::proofs::Written::list_none))]
+#[tactic(auto, using(crate::proofs::Written::lists))]
 fn fill(templates: &Templates, size: usize, room: &mut [Place]) -> usize
     ensures length { length room.new ≡ length room.old }
     ensures count { result ≡ count_of (length (lists_before templates.now.lists.spans.items size)) }

@@ -3,25 +3,25 @@
 ghost use Rattle.std.specs.Prelude.{◌≡◌, ◌⊎◌, ◌≤◌, chars, length, List, IfOk, IfErr, string_bytes};
 ghost use Rattle.std.specs.Str.{IsUtf8};
 ghost use Rattle.grammar.specs.Tokens as grammar;
-ghost use Rattle.grammar.specs.Faults.{Ending};
-ghost use Rattle.wgsl_model.specs.Units as model;
-ghost use Rattle.wgsl_model.specs.PrintedUnits.{print_unit};
+ghost use Rattle.grammar.specs.Endings.{Ending};
+ghost use Rattle.wgsl_model.specs.Trees.Units as model;
+ghost use Rattle.wgsl_model.specs.Printed.Units.{print_unit};
 ghost use Rattle.wgsl_model.specs.Program.{IsUnit, IsFaultOf};
-ghost use Rattle.wgsl_model.specs.TokenList.{IsTokenList};
+ghost use Rattle.wgsl_model.specs.Tokens.TokenList.{IsTokenList};
 ghost use Rattle.wgsl_error.specs.View.{fault_view};
-ghost use Rattle.wgsl_answer.specs.Answers.{IsOutOfMemory};
-ghost use Rattle.wgsl_answer.specs.Places.{StandsWithin};
-ghost use Rattle.wgsl_dialect.specs.Recognized.{IsRecognized, IsRefused};
-ghost use Rattle.wgsl_nesting.specs.Nesting.{nesting};
+ghost use Rattle.wgsl_read_cursor.specs.Answers.{IsOutOfMemory};
+ghost use Rattle.wgsl_read_cursor.specs.Places.{StandsWithin};
+ghost use Rattle.wgsl_read_dialect.specs.Recognized.{IsRecognized, IsRefused};
+ghost use Rattle.wgsl_read_nesting.specs.Nesting.{nesting};
 ghost use Rattle.wgsl_c.specs.Answers.{counted, Refuses, Holds, Lacks, IsNoText};
 
 use crate::answer::{Answer, NOT_UTF8, refuse_memory, tell_number, tell_text, text_of};
 use crate::fault::tell_error;
 use std::alloc::Global;
-use wgsl_dialect::recognize_str;
 use wgsl_error::Error;
-use wgsl_nesting::nesting;
 use wgsl_parser::parse_str;
+use wgsl_read_dialect::recognize_str;
+use wgsl_read_nesting::nesting;
 
 /// The text that a module is printed as.
 fn printed(alloc: Global, source: &str) -> Result<String, Error>

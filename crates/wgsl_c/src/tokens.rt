@@ -3,10 +3,10 @@
 ghost use Rattle.std.specs.Prelude.{◌≡◌, ◌≤◌, ◌<◌, chars, length, List};
 ghost use Rattle.std.specs.Str.{IsUtf8};
 ghost use Rattle.grammar.specs.Tokens as grammar;
-ghost use Rattle.grammar.specs.Tokens.{Fault, last_end};
-ghost use Rattle.grammar.specs.Faults.{Ending, Ending.finished, Ending.carried};
-ghost use Rattle.wgsl_model.specs.Faults.{invalid_token};
-ghost use Rattle.wgsl_model.specs.TokenList.{IsTokenList};
+ghost use Rattle.grammar.specs.Tokens.{last_end};
+ghost use Rattle.grammar.specs.Endings.{Ending, Ending.finished, Ending.carried};
+ghost use Rattle.wgsl_model.specs.Faults.Kinds.{invalid_token};
+ghost use Rattle.wgsl_model.specs.Tokens.TokenList.{IsTokenList};
 ghost use Rattle.wgsl_lexer.specs.TextTokens.{tokens_left};
 ghost use Rattle.wgsl_c.specs.Answers.{counted, IsNoText};
 ghost use Rattle.wgsl_c.specs.Items.{count_of, counted_to, HoldItems, kind_and_place, token_items};
@@ -31,7 +31,7 @@ struct Counted {
 }
 
 /// Writes the tokens that are left, as many as fit.
-#[tactic(auto, using(crate::proofs::Written::token_more, crate::proofs::Written::token_beyond, crate::proofs::Written::none_written, crate::proofs::Written::all_written))]
+#[tactic(auto, using(crate::proofs::Written::tokens))]
 fn fill(left: TextTokens, room: &mut [PlacedKind]) -> Counted
     ensures end { result.end ≡ last_end 0 (tokens_left left.entry) }
     ensures length { length room.new ≡ length room.old }

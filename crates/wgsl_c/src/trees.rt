@@ -2,8 +2,8 @@
 
 ghost use Rattle.std.specs.Prelude.{◌≡◌, ◌≤◌, ◌<◌, ◌⊎◌, ℕ, List, chars, MatchOption};
 ghost use Rattle.std.specs.Str.{IsUtf8};
-ghost use Rattle.wgsl_model.specs.Symbols.{Symbol.unit, Symbol.global_directive, Symbol.global_declaration, Symbol.statement, Symbol.expression};
-ghost use Rattle.wgsl_parser.specs.Sources.{IsFaultIn};
+ghost use Rattle.wgsl_model.specs.Grammar.Symbols.{Symbol.unit, Symbol.global_directive, Symbol.global_declaration, Symbol.statement, Symbol.expression};
+ghost use Rattle.wgsl_model.specs.SourceTrees.{IsFaultIn};
 ghost use Rattle.wgsl_c.specs.Answers.{counted, Refuses, Holds, Lacks, IsNoText};
 ghost use Rattle.wgsl_c.specs.Trees.{symbol_of, IsTree, IsReadTree};
 
@@ -11,13 +11,13 @@ use crate::answer::{Answer, NOT_UTF8, UNKNOWN, tell_text, text_of};
 use crate::fault::tell_error;
 use std::alloc::{AllocError, Global};
 use wgsl_error::Error;
-use wgsl_expression::Expression;
 use wgsl_parser::FromSource;
-use wgsl_statement::Statement;
+use wgsl_tree_expression::Expression;
+use wgsl_tree_statement::Statement;
 use wgsl_tree_text::{
     write_declaration, write_directive, write_expression, write_statement, write_unit,
 };
-use wgsl_unit::{GlobalDeclaration, GlobalDirective, TranslationUnit};
+use wgsl_tree_unit::{GlobalDeclaration, GlobalDirective, TranslationUnit};
 
 /// Reads a tree of a type from a text, and writes it by a call.
 macro_rules! tree_text {

@@ -10,7 +10,7 @@ use Rattle.std.specs.List.{slice_range}
 use Rattle.std.specs.Option.{UnwrapsOrElse}
 use Rattle.std.specs.Str.{chars, encode_utf8_all, IsUtf8, IsCharBoundary}
 use Rattle.std.specs.Str.Pattern.{GetsRange}
-use Rattle.wgsl_model.specs.Snippets.{characters_before}
+use Rattle.wgsl_model.specs.Faults.Snippets.{characters_before}
 
 -- the next character of the rest ends past the place
 abbrev EndsPast : List ℕ → ℕ → Type 0

@@ -9,7 +9,7 @@ use Rattle.std.proofs.lemmas.Str.Pattern.{drop_at_char}
 use Rattle.std.specs.List.{before_first, after_last, suffix_len}
 use Rattle.std.specs.Str.{chars, IsUtf8, IsCharBoundary, NonePass, NoCharPasses}
 use Rattle.std.specs.Str.Pattern.{HasCharAt, FindsChar, RFindsChar, SplitsAroundMatch}
-use Rattle.wgsl_model.specs.Snippets.{is_line_feed}
+use Rattle.wgsl_model.specs.Faults.Snippets.{is_line_feed}
 
 -- where no element passes, by index
 none_at : (p : ℕ → Bool) (cs : List ℕ) → NonePass p cs → (k : ℕ) → k < length cs → p (get_or cs k 0) ≡ false

@@ -7,14 +7,14 @@ use Rattle.wgsl_error.specs.declared.ParseError.{ParseError}
 use Rattle.wgsl_error.specs.declared.ParseError.TheVariants as parse
 
 -- text that begins no token is an invalid token, each other fault the kind of its name
-abbrev pub kind_of : ParseError → ErrorKind
-kind_of parse.LexerError = error.InvalidToken
-kind_of (parse.ReservedWord word) = error.ReservedWord word
-kind_of parse.DiagnosticSeverity = error.DiagnosticSeverity
-kind_of (parse.Attribute name problem) = error.Attribute name problem
-kind_of (parse.VarTemplate problem) = error.VarTemplate problem
-kind_of parse.OutOfMemory = error.OutOfMemory
+abbrev pub error_kind_of : ParseError → ErrorKind
+error_kind_of parse.LexerError = error.InvalidToken
+error_kind_of (parse.ReservedWord word) = error.ReservedWord word
+error_kind_of parse.DiagnosticSeverity = error.DiagnosticSeverity
+error_kind_of (parse.Attribute name problem) = error.Attribute name problem
+error_kind_of (parse.VarTemplate problem) = error.VarTemplate problem
+error_kind_of parse.OutOfMemory = error.OutOfMemory
 
 -- that kind, from a place up to another
 abbrev pub error_at : ParseError → ℕ → ℕ → Error
-error_at e start end = record { error = kind_of e; span = record { start = start; end = end } }
+error_at e start end = record { error = error_kind_of e; span = record { start = start; end = end } }

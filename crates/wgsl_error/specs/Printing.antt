@@ -3,9 +3,9 @@ use Rattle.std.specs.Prelude.{ℕ, List, ◌++◌, codes}
 use Rattle.std.specs.Fmt.{decimal}
 use Rattle.std.specs.Str.{chars}
 use Rattle.std.specs.Cow.{cow_str_bytes}
-use Rattle.wgsl_model.specs.Faults.{message, quoted}
-use Rattle.wgsl_model.specs.Joining.{joined}
-use Rattle.wgsl_model.specs.Snippets.{snippet}
+use Rattle.wgsl_model.specs.Faults.Kinds.{message, quoted}
+use Rattle.wgsl_model.specs.Printed.Joining.{joined}
+use Rattle.wgsl_model.specs.Faults.Snippets.{snippet}
 use Rattle.wgsl_span.specs.View.{span_view}
 use Rattle.wgsl_error.specs.declared.Error.{Error}
 use Rattle.wgsl_error.specs.declared.ErrorKind.{ErrorKind}

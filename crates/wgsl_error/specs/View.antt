@@ -1,13 +1,13 @@
 -- Errors as plain data.
 use Rattle.std.specs.Prelude.{ℕ, List, [], ◌∷◌, map, string_bytes}
 use Rattle.grammar.specs.Tokens as plain
-use Rattle.wgsl_model.specs.Faults.{invalid_token_kind, reserved_word_kind, unexpected_token_kind, unexpected_end_kind, extra_token_kind, diagnostic_severity_kind, attribute_kind, var_template_kind, out_of_memory_kind}
+use Rattle.wgsl_model.specs.Faults.Kinds.{invalid_token_kind, reserved_word_kind, unexpected_token_kind, unexpected_end_kind, extra_token_kind, diagnostic_severity_kind, attribute_kind, var_template_kind, out_of_memory_kind}
 use Rattle.wgsl_span.specs.View.{span_view}
 use Rattle.wgsl_error.specs.declared.Error.{Error}
 use Rattle.wgsl_error.specs.declared.ErrorKind.{ErrorKind}
 use Rattle.wgsl_error.specs.declared.ErrorKind.TheVariants as error
 use Rattle.wgsl_error.specs.declared.ParseError.{ParseError}
-use Rattle.wgsl_error.specs.Kinds.{kind_of}
+use Rattle.wgsl_error.specs.Kinds.{error_kind_of}
 
 -- the number of a kind
 abbrev pub kind_number : ErrorKind → ℕ
@@ -49,4 +49,4 @@ fault_view e = fault_at e.error (span_view e.span)
 
 -- a fault of a token list at a place
 abbrev pub parse_error_fault : ParseError → plain.Span → plain.Fault
-parse_error_fault e span = fault_at (kind_of e) span
+parse_error_fault e span = fault_at (error_kind_of e) span

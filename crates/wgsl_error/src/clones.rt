@@ -1,7 +1,7 @@
 //! Copies that ask for memory.
 
 ghost use Rattle.std.specs.Prelude.{◌≡◌, IfOk, map, string_bytes};
-ghost use Rattle.wgsl_error.specs.Kinds.{kind_of};
+ghost use Rattle.wgsl_error.specs.Kinds.{error_kind_of};
 ghost use Rattle.wgsl_error.specs.View.{kind_number, kind_texts, expected_texts};
 
 use crate::{Error, ErrorKind, ParseError};
@@ -36,8 +36,10 @@ impl ErrorKind {
 
 impl ParseError {
     pub fn clone(&self, alloc: Global) -> Result<Self, AllocError>
-        ensures number { IfOk result (λ copy. kind_number (kind_of copy) ≡ kind_number (kind_of self.now)) }
-        ensures texts { IfOk result (λ copy. kind_texts (kind_of copy) ≡ kind_texts (kind_of self.now)) }
+        ensures number { IfOk result (λ copy.
+            kind_number (error_kind_of copy) ≡ kind_number (error_kind_of self.now)) }
+        ensures texts { IfOk result (λ copy.
+            kind_texts (error_kind_of copy) ≡ kind_texts (error_kind_of self.now)) }
     {
         Ok(match self {
             ParseError::LexerError => ParseError::LexerError,
@@ -56,7 +58,8 @@ impl Error {
     pub fn clone(&self, alloc: Global) -> Result<Self, AllocError>
         ensures number { IfOk result (λ copy. kind_number copy.error ≡ kind_number self.now.error) }
         ensures texts { IfOk result (λ copy. kind_texts copy.error ≡ kind_texts self.now.error) }
-        ensures expected { IfOk result (λ copy. expected_texts copy.error ≡ expected_texts self.now.error) }
+        ensures expected { IfOk result (λ copy.
+            expected_texts copy.error ≡ expected_texts self.now.error) }
         ensures span { IfOk result (λ copy. copy.span ≡ self.now.span) }
     {
         Ok(Error {

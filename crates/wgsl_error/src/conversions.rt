@@ -1,7 +1,7 @@
 //! How other errors become these.
 
 ghost use Rattle.std.specs.Prelude.{◌≡◌};
-ghost use Rattle.wgsl_error.specs.Kinds.{kind_of, error_at};
+ghost use Rattle.wgsl_error.specs.Kinds.{error_kind_of, error_at};
 ghost use Rattle.wgsl_error.specs.declared.ErrorKind.TheVariants as error;
 ghost use Rattle.wgsl_error.specs.declared.ParseError.TheVariants as parse;
 
@@ -10,7 +10,7 @@ use std::alloc::{AllocError, AllocFailed};
 use wgsl_span::Span;
 
 impl From<ParseError> for ErrorKind {
-    ghost from_gives = { λ e kind. kind ≡ kind_of e };
+    ghost from_gives = { λ e kind. kind ≡ error_kind_of e };
 
     fn from(error: ParseError) -> Self {
         match error {

@@ -5,7 +5,7 @@ ghost use Rattle.std.specs.Str.{chars};
 ghost use Rattle.std.specs.List.{concat, before_first, after_last};
 ghost use Rattle.std.specs.Fmt.{DisplaysOnOk};
 ghost use Rattle.std.specs.Cow.{cow_str_bytes};
-ghost use Rattle.wgsl_model.specs.Snippets.{is_line_feed, text_before, text_within, text_from};
+ghost use Rattle.wgsl_model.specs.Faults.Snippets.{is_line_feed, text_before, text_within, text_from};
 ghost use Rattle.wgsl_span.specs.View.{span_view};
 ghost use Rattle.wgsl_error.specs.View.{kind_number, kind_texts, expected_texts};
 ghost use Rattle.wgsl_error.specs.Printing.{print_error_with_source};

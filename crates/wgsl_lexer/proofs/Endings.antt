@@ -5,16 +5,16 @@ use Rattle.std.specs.Str.{IsUtf8, IsCharBoundary}
 use Rattle.std.specs.Str.Pattern.{GetsRange}
 use Rattle.std.proofs.lemmas.Str.{IsCharBoundary-end}
 use Rattle.grammar.specs.Tokens.{Token, last_end}
-use Rattle.grammar.specs.Faults.{Ending, Ending.finished}
-use Rattle.wgsl_model.specs.Raw.{Raw, none_left, invalid, token, raw}
-use Rattle.wgsl_model.specs.Templates.{is_word}
-use Rattle.wgsl_model.specs.TokenList.{IsTokenList, place, width}
+use Rattle.grammar.specs.Endings.{Ending, Ending.finished}
+use Rattle.wgsl_model.specs.Tokens.Raw.{Raw, none_left, invalid, token, raw}
+use Rattle.wgsl_model.specs.Tokens.Templates.{is_word}
+use Rattle.wgsl_model.specs.Tokens.TokenList.{IsTokenList, place, width}
 use Rattle.wgsl_span.specs.declared.Span.{Span}
-use Rattle.wgsl_token_theory.proofs.Cuts.{EndsWith, cut_at, joined, behind_first, behind_token}
-use Rattle.wgsl_token_theory.proofs.Lists.{fault_at, token_list_unique}
-use Rattle.wgsl_token_theory.proofs.Places.{bytes_width, cut_end, gets_end}
-use Rattle.wgsl_left_theory.specs.Left.{LeftOf, left_nothing, left_fault, left_end, left_start, left_token}
-use Rattle.wgsl_left_theory.proofs.LeftTokens.{stream}
+use Rattle.wgsl_theory_grammar.proofs.Tokens.Cuts.{EndsWith, cut_at, joined, behind_first, behind_token}
+use Rattle.wgsl_theory_grammar.proofs.Tokens.Lists.{fault_at, token_list_unique}
+use Rattle.wgsl_theory_grammar.proofs.Tokens.Places.{bytes_width, cut_end, gets_end}
+use Rattle.wgsl_theory_templates.specs.Rest.Left.{LeftOf, left_nothing, left_fault, left_end, left_start, left_token}
+use Rattle.wgsl_theory_templates.proofs.Rest.LeftTokens.{stream}
 use Rattle.wgsl_lexer.specs.Endings.{ending_with, IsInvalidAt}
 
 -- how tokens end behind which a text begins so

@@ -1,15 +1,15 @@
 -- Tokens stand in order in their text, and so does the fault that ends them.
 use Rattle.std.proofs.Common.{◌≡◌, ℕ, ◌<◌, ◌≤◌, ◌++◌, Bool, false, subst, List, [], ◌∷◌, drop, arith}
 use Rattle.grammar.specs.Tokens.{Token, last_end}
-use Rattle.grammar.specs.Faults.{Ending, Ending.finished, Ending.carried}
-use Rattle.wgsl_model.specs.Raw.{Raw, invalid, token, raw}
-use Rattle.wgsl_model.specs.Templates.{is_word}
-use Rattle.wgsl_model.specs.TokenList.{IsTokenList, place, width}
+use Rattle.grammar.specs.Endings.{Ending, Ending.finished, Ending.carried}
+use Rattle.wgsl_model.specs.Tokens.Raw.{Raw, invalid, token, raw}
+use Rattle.wgsl_model.specs.Tokens.Templates.{is_word}
+use Rattle.wgsl_model.specs.Tokens.TokenList.{IsTokenList, place, width}
 use Rattle.wgsl_lexer.specs.Left.{LeftOf, left_nothing, left_fault, left_end, left_start, left_token}
 use Rattle.wgsl_lexer.specs.InOrder.{AreInOrder, IsFaultBehind}
-use Rattle.wgsl_token_theory.proofs.Cuts.{CutsIn, IsCut, raw-cuts, cut_at}
-use Rattle.wgsl_token_theory.proofs.Widths.{within, past, past_first}
-use Rattle.wgsl_left_theory.proofs.LeftTokens.{stream}
+use Rattle.wgsl_theory_grammar.proofs.Tokens.Cuts.{CutsIn, IsCut, raw-cuts, cut_at}
+use Rattle.wgsl_theory_grammar.proofs.Tokens.Widths.{within, past, past_first}
+use Rattle.wgsl_theory_templates.proofs.Rest.LeftTokens.{stream}
 
 -- where a token stands in a source of so many bytes that a text ends
 abbrev Stands : ℕ → List ℕ → List ℕ → List ℕ → Type 0

@@ -1,22 +1,21 @@
 -- What a lexer has left, by what its rest begins with.
-use Rattle.std.proofs.Common.{◌≡◌, ◌↔◌, ℕ, Bool, true, false, List, [], ◌∷◌, ◌++◌, Option, Some, None, Ok, Err, inl, inr, chars, drop, reverse, refl, sym, ap, ap₂, subst, ◌∙◌, arith}
+use Rattle.std.proofs.Common.{◌≡◌, ◌↔◌, ℕ, Bool, true, false, List, [], ◌∷◌, Option, Some, None, Ok, Err, inl, inr, chars, drop, refl, sym, ap, ap₂, subst, ◌∙◌, arith}
 use Rattle.std.proofs.lemmas.Str.{chars-nil}
-use Rattle.std.proofs.lemmas.List.{reverse-append}
 use Rattle.grammar.specs.Tokens.{Token, Fault}
-use Rattle.grammar.specs.Faults.{Ending, Ending.finished, Ending.carried}
-use Rattle.wgsl_model.specs.Classes.{SymLessThan, TemplateArgsStart, TemplateArgsEnd}
-use Rattle.wgsl_model.specs.Kind.{Kind, plain, placed}
-use Rattle.wgsl_model.specs.Raw.{none_left, invalid, token, raw}
-use Rattle.wgsl_model.specs.Trivia.{after_trivia}
-use Rattle.wgsl_model.specs.Faults.{invalid_token}
-use Rattle.wgsl_model.specs.Templates.{is_word}
-use Rattle.wgsl_model.specs.TokenList.{IsTokenList, place, width}
+use Rattle.grammar.specs.Endings.{Ending, Ending.finished, Ending.carried}
+use Rattle.wgsl_model.specs.Tokens.Classes.{SymLessThan, TemplateArgsStart, TemplateArgsEnd}
+use Rattle.wgsl_model.specs.Tokens.Kind.{Kind, plain, placed}
+use Rattle.wgsl_model.specs.Tokens.Raw.{none_left, invalid, token, raw}
+use Rattle.wgsl_model.specs.Tokens.Trivia.{after_trivia}
+use Rattle.wgsl_model.specs.Faults.Kinds.{invalid_token}
+use Rattle.wgsl_model.specs.Tokens.Templates.{is_word}
+use Rattle.wgsl_model.specs.Tokens.TokenList.{IsTokenList, place, width}
 use Rattle.wgsl_lexer.specs.declared.lexer.Lexer.{Lexer}
-use Rattle.wgsl_template_theory.specs.Attempts.{EndsAt, HasNoEnd}
-use Rattle.wgsl_lexer.specs.Left.{IsBeforeEnd, LeftOf, left_nothing, left_fault, left_end, left_start, left_token, IsLeft, HasEnded, HasToken, Gives}
+use Rattle.wgsl_theory_templates.specs.Attempts.{EndsAt, HasNoEnd}
+use Rattle.wgsl_lexer.specs.Left.{IsBeforeEnd, LeftOf, left_nothing, left_fault, left_end, left_start, left_token, IsLeft, HasEnded, HasToken, GivesItem}
 use Rattle.wgsl_lexer.specs.Given.{TokenItem}
-use Rattle.wgsl_template_theory.proofs.Attempts.{none_begins}
-use Rattle.wgsl_left_theory.proofs.LeftTokens.{left_exists, left_unique, some_left, stream, unstream}
+use Rattle.wgsl_theory_templates.proofs.Swaps.Attempts.{none_begins}
+use Rattle.wgsl_theory_templates.proofs.Rest.LeftTokens.{left_exists, left_unique, some_left, stream, unstream}
 
 -- a text with nothing in it has no tokens
 empty_raw : raw [] ≡ none_left
@@ -70,10 +69,6 @@ end_left total ends outer word text from after rest kind start end ts e r o f s 
     (subst (λ (x : Token). LeftOf total (place total from ∷ outer) word text (x ∷ ts) e) (same_token total from (drop 1 from) (plain TemplateArgsEnd) start (plain TemplateArgsEnd) end s (d ∙ ap (place total) f) refl)
     (left_end outer word text from after kind ts e r (subst (λ x. LeftOf total outer false x ts e) f h)))
 
--- a list that grows and shrinks at its end, as it is seen
-pub last_first : (xs ys : List ℕ) (x : ℕ) → ys ≡ xs ++ x ∷ [] → reverse ys ≡ x ∷ reverse xs
-last_first xs ys x e = ap reverse e ∙ reverse-append xs (x ∷ [])
-
 -- where the innermost list does not end
 pub before_end_of : (total : ℕ) (ends from : List ℕ) (start : ℕ) → start ≡ place total from → ((outer : List ℕ) → ends ≡ start ∷ outer → ⊥) → IsBeforeEnd total ends from
 before_end_of total [] from start s n = tt
@@ -88,7 +83,7 @@ no_fault : (l : Lexer) (x : Fault) → HasEnded l → IsLeft l [] (carried x) �
 no_fault l x h k = let same = (left_unique l.total l.lists l.behind_word (chars l.rest.now) [] [] finished (carried x) h k).1 in cc
 
 -- where nothing is left, a call of `next` gives nothing and leaves nothing
-pub ended_gives : (old : Lexer) (item : Option TokenItem) (new : Lexer) → HasEnded old → Gives old item new → (item ≡ None) × HasEnded new
+pub ended_gives : (old : Lexer) (item : Option TokenItem) (new : Lexer) → HasEnded old → GivesItem old item new → (item ≡ None) × HasEnded new
 ended_gives old None new h g = (refl, g.1)
 ended_gives old (Some (Ok given)) new h g =
     let m = left_exists new.total new.lists new.behind_word (chars new.rest.now) in

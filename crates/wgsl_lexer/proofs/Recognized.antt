@@ -1,18 +1,18 @@
 -- Whether a source begins with a template list, by the lists of the source.
 use Rattle.std.proofs.Common.{◌≡◌, ◌↔◌, ◌∙◌, sym, ap, subst, ℕ, List, ◌++◌, drop, Option, Some, None, IsTrue, refl, arith}
 use Rattle.std.specs.Prelude.{is_some}
-use Rattle.wgsl_model.specs.Kind.{Kind}
-use Rattle.wgsl_model.specs.Raw.{token, raw}
-use Rattle.wgsl_model.specs.Templates.{Template}
-use Rattle.wgsl_model.specs.TokenList.{place, width}
+use Rattle.wgsl_model.specs.Tokens.Kind.{Kind}
+use Rattle.wgsl_model.specs.Tokens.Raw.{token, raw}
+use Rattle.wgsl_model.specs.Tokens.Templates.{Template}
+use Rattle.wgsl_model.specs.Tokens.TokenList.{place, width}
 use Rattle.wgsl_span.specs.declared.Span.{Span}
-use Rattle.wgsl_token_theory.proofs.Cuts.{cut_at}
-use Rattle.wgsl_token_theory.proofs.Unique.{marked}
-use Rattle.wgsl_templates.specs.Spans.{end_from}
-use Rattle.wgsl_templates.specs.Lists.{AreLists}
-use Rattle.wgsl_templates.proofs.Fronts.{raw_again, less_first}
-use Rattle.wgsl_token_theory.proofs.Places.{same_place}
-use Rattle.wgsl_template_theory.proofs.Attempts.{list_front, front_list}
+use Rattle.wgsl_theory_grammar.proofs.Tokens.Cuts.{cut_at}
+use Rattle.wgsl_theory_grammar.proofs.Tokens.Unique.{marked}
+use Rattle.wgsl_lex_templates.specs.Spans.{end_from}
+use Rattle.wgsl_lex_templates.specs.Lists.{AreLists}
+use Rattle.wgsl_lex_templates.proofs.TextLists.Fronts.{raw_again, less_first}
+use Rattle.wgsl_theory_grammar.proofs.Tokens.Places.{same_place}
+use Rattle.wgsl_theory_templates.proofs.Swaps.Attempts.{list_front, front_list}
 use Rattle.wgsl_lexer.specs.Left.{BeginsWithList}
 
 -- a list that starts where the first token does

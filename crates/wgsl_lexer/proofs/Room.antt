@@ -3,14 +3,14 @@ use Rattle.std.proofs.Common.{◌≡◌, ℕ, ◌-◌, ◌<◌, ◌≤◌, Bool,
 use Rattle.std.specs.Prelude.{◌==◌, Some}
 use Rattle.std.specs.Str.{IsUtf8}
 use Rattle.std.proofs.lemmas.Bool.Decides.{nat_tests}
-use Rattle.wgsl_model.specs.Kind.{Kind}
-use Rattle.wgsl_model.specs.Raw.{token, raw}
-use Rattle.wgsl_model.specs.TokenList.{place, width}
+use Rattle.wgsl_model.specs.Tokens.Kind.{Kind}
+use Rattle.wgsl_model.specs.Tokens.Raw.{token, raw}
+use Rattle.wgsl_model.specs.Tokens.TokenList.{place, width}
 use Rattle.wgsl_span.specs.declared.Span.{Span}
-use Rattle.wgsl_token_theory.proofs.Cuts.{cut_at}
-use Rattle.wgsl_token_theory.proofs.Widths.{past}
-use Rattle.wgsl_token_theory.proofs.Places.{bytes_width}
-use Rattle.wgsl_templates.specs.Spans.{end_from}
+use Rattle.wgsl_theory_grammar.proofs.Tokens.Cuts.{cut_at}
+use Rattle.wgsl_theory_grammar.proofs.Tokens.Widths.{past}
+use Rattle.wgsl_theory_grammar.proofs.Tokens.Places.{bytes_width}
+use Rattle.wgsl_lex_templates.specs.Spans.{end_from}
 use Rattle.wgsl_lexer.specs.Room.{starts_from}
 
 -- fewer start from a later place on

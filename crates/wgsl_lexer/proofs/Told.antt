@@ -1,18 +1,18 @@
 -- Whether a template list ends behind a `<`, by what the lists of the source tell.
 use Rattle.std.proofs.Common.{◌≡◌, ◌∙◌, ◌+◌, ◌≤◌, ℕ, List, Some, None, ap}
-use Rattle.wgsl_model.specs.Classes.{SymLessThan}
-use Rattle.wgsl_model.specs.Kind.{Kind}
-use Rattle.wgsl_model.specs.Raw.{token, raw}
-use Rattle.wgsl_model.specs.TokenList.{place, width}
+use Rattle.wgsl_model.specs.Tokens.Classes.{SymLessThan}
+use Rattle.wgsl_model.specs.Tokens.Kind.{Kind}
+use Rattle.wgsl_model.specs.Tokens.Raw.{token, raw}
+use Rattle.wgsl_model.specs.Tokens.TokenList.{place, width}
 use Rattle.wgsl_span.specs.declared.Span.{Span}
-use Rattle.wgsl_token_theory.proofs.Cuts.{cut_at}
-use Rattle.wgsl_templates.specs.Spans.{end_from}
-use Rattle.wgsl_templates.specs.Lists.{AreTold}
-use Rattle.wgsl_template_theory.specs.Attempts.{EndsAt, HasNoEnd}
-use Rattle.wgsl_templates.proofs.Fronts.{raw_again, less_first}
-use Rattle.wgsl_template_theory.proofs.Attempts.{list_front}
-use Rattle.wgsl_templates.proofs.Reached.{no_end_behind}
-use Rattle.wgsl_templates.proofs.Known.{known_end, known_some, known_none, end_place}
+use Rattle.wgsl_theory_grammar.proofs.Tokens.Cuts.{cut_at}
+use Rattle.wgsl_lex_templates.specs.Spans.{end_from}
+use Rattle.wgsl_lex_templates.specs.Lists.{AreTold}
+use Rattle.wgsl_theory_templates.specs.Attempts.{EndsAt, HasNoEnd}
+use Rattle.wgsl_lex_templates.proofs.TextLists.Fronts.{raw_again, less_first}
+use Rattle.wgsl_theory_templates.proofs.Swaps.Attempts.{list_front}
+use Rattle.wgsl_lex_templates.proofs.Readings.Reached.{no_end_behind}
+use Rattle.wgsl_lex_templates.proofs.TextLists.Known.{known_end, known_some, known_none, end_place}
 
 -- the end that is told is behind the `>` of the list
 pub end_told : (total : ℕ) (spans : List Span) (rest from after : List ℕ) (kind : Kind) (start end : ℕ) → raw rest ≡ token kind from after → AreTold total spans rest → width after ≤ total → kind.class ≡ SymLessThan → start ≡ place total from

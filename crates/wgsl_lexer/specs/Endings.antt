@@ -1,9 +1,9 @@
 -- How the tokens of a text end.
 use Rattle.std.specs.Prelude.{◌≡◌, ℕ, ⊤, Option, Some, None}
-use Rattle.grammar.specs.Faults.{Ending, Ending.finished, Ending.carried}
-use Rattle.wgsl_model.specs.Raw.{Raw, Raw.none_left, Raw.invalid, Raw.token}
-use Rattle.wgsl_model.specs.Faults.{invalid_token}
-use Rattle.wgsl_model.specs.TokenList.{place}
+use Rattle.grammar.specs.Endings.{Ending, Ending.finished, Ending.carried}
+use Rattle.wgsl_model.specs.Tokens.Raw.{Raw, Raw.none_left, Raw.invalid, Raw.token}
+use Rattle.wgsl_model.specs.Faults.Kinds.{invalid_token}
+use Rattle.wgsl_model.specs.Tokens.TokenList.{place}
 use Rattle.wgsl_span.specs.declared.Span.{Span}
 use Rattle.wgsl_span.specs.View.{span_view}
 

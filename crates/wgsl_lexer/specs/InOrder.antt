@@ -1,7 +1,7 @@
 -- Tokens and faults that stand in order in a text.
 use Rattle.std.specs.Prelude.{ℕ, ◌<◌, ◌≤◌, ⊤, List, [], ◌∷◌}
 use Rattle.grammar.specs.Tokens.{Token, last_end}
-use Rattle.grammar.specs.Faults.{Ending, Ending.finished, Ending.carried}
+use Rattle.grammar.specs.Endings.{Ending, Ending.finished, Ending.carried}
 
 -- the tokens stand behind one another, none of them empty, between two places
 abbrev pub AreInOrder : ℕ → List Token → ℕ → Type 0

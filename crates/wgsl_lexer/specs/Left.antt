@@ -1,15 +1,15 @@
 -- What a lexer has still to give.
 use Rattle.std.specs.Prelude.{◌≡◌, ◌⊎◌, ℕ, List, [], ◌∷◌, chars, length, Option, Some, None, Ok, Err}
 use Rattle.grammar.specs.Tokens.{Token}
-use Rattle.grammar.specs.Faults.{Ending, Ending.finished, Ending.carried}
-use Rattle.wgsl_model.specs.Templates.{Template}
-use Rattle.wgsl_model.specs.TokenList.{width}
-use Rattle.wgsl_token.specs.View.{token_view}
+use Rattle.grammar.specs.Endings.{Ending, Ending.finished, Ending.carried}
+use Rattle.wgsl_model.specs.Tokens.Templates.{Template}
+use Rattle.wgsl_model.specs.Tokens.TokenList.{width}
+use Rattle.wgsl_lex_token.specs.View.{token_view}
 use Rattle.wgsl_error.specs.declared.ParseError.TheVariants as parse
 use Rattle.wgsl_lexer.specs.declared.lexer.Lexer.{Lexer}
 use Rattle.wgsl_lexer.specs.Placed.{placed_fault}
 use Rattle.wgsl_lexer.specs.Given.{TokenItem}
-pub use Rattle.wgsl_left_theory.specs.Left.{IsBeforeEnd, LeftOf, left_nothing, left_fault, left_end, left_start, left_token}
+pub use Rattle.wgsl_theory_templates.specs.Rest.Left.{IsBeforeEnd, LeftOf, left_nothing, left_fault, left_end, left_start, left_token}
 
 -- these tokens are left, and this is how they end
 abbrev pub IsLeft : Lexer → List Token → Ending → Type 0
@@ -24,10 +24,10 @@ abbrev pub HasToken : Lexer → Type 0
 HasToken l = (t : Token) × (ts : List Token) × (e : Ending) × IsLeft l (t ∷ ts) e
 
 -- What a call of `next` gives: nothing where nothing is left; the first of the tokens that are left; the fault that is left, or that memory was refused for a token. Behind these last two nothing is left.
-abbrev pub Gives : Lexer → Option TokenItem → Lexer → Type 0
-Gives old None new = HasEnded old × HasEnded new
-Gives old (Some (Ok given)) new = (ts : List Token) (e : Ending) → IsLeft new ts e → IsLeft old (token_view given.0 given.1 given.2 ∷ ts) e
-Gives old (Some (Err x)) new = (IsLeft old [] (carried (placed_fault x)) ⊎ ((x.1 ≡ parse.OutOfMemory) × HasToken old)) × HasEnded new
+abbrev pub GivesItem : Lexer → Option TokenItem → Lexer → Type 0
+GivesItem old None new = HasEnded old × HasEnded new
+GivesItem old (Some (Ok given)) new = (ts : List Token) (e : Ending) → IsLeft new ts e → IsLeft old (token_view given.0 given.1 given.2 ∷ ts) e
+GivesItem old (Some (Err x)) new = (IsLeft old [] (carried (placed_fault x)) ⊎ ((x.1 ≡ parse.OutOfMemory) × HasToken old)) × HasEnded new
 
 -- how many bytes of the source are left
 abbrev pub bytes_left : Lexer → ℕ

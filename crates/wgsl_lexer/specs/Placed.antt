@@ -1,8 +1,8 @@
 -- Tokens and errors where they stand, as the definitions see them.
 use Rattle.std.specs.Prelude.{◌≡◌, ℕ, List, map, Option, Some, None, IsSomeAnd}
 use Rattle.grammar.specs.Tokens as plain
-use Rattle.grammar.specs.Faults.{Ending, Ending.finished, Ending.carried}
-use Rattle.wgsl_token.specs.Placed.{placed_view}
+use Rattle.grammar.specs.Endings.{Ending, Ending.finished, Ending.carried}
+use Rattle.wgsl_lex_token.specs.Placed.{placed_view}
 use Rattle.wgsl_error.specs.declared.ParseError.{ParseError}
 use Rattle.wgsl_error.specs.declared.ParseError.TheVariants as parse
 use Rattle.wgsl_error.specs.View.{parse_error_fault}

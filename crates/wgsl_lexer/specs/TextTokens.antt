@@ -1,30 +1,30 @@
 -- The tokens of a text that are left, where what stands next is known.
 use Rattle.std.specs.Prelude.{◌≡◌, ℕ, List, [], ◌∷◌, chars, reverse, Option, Some, None}
 use Rattle.grammar.specs.Tokens.{Token}
-use Rattle.grammar.specs.Faults.{Ending, Ending.finished, Ending.carried}
-use Rattle.wgsl_model.specs.Classes.{Ident}
-use Rattle.wgsl_model.specs.Kind.{named, placed}
-use Rattle.wgsl_model.specs.Faults.{invalid_token}
+use Rattle.grammar.specs.Endings.{Ending, Ending.finished, Ending.carried}
+use Rattle.wgsl_model.specs.Tokens.Classes.{Ident}
+use Rattle.wgsl_model.specs.Tokens.Kind.{named, placed}
+use Rattle.wgsl_model.specs.Faults.Kinds.{invalid_token}
 use Rattle.wgsl_span.specs.declared.Span.{Span}
 use Rattle.wgsl_span.specs.View.{span_view}
-use Rattle.wgsl_token.specs.declared.kind.TokenKind.{TokenKind}
-use Rattle.wgsl_token.specs.declared.placed.PlacedToken.{PlacedToken}
-use Rattle.wgsl_token.specs.Placed.{placed_view}
-use Rattle.wgsl_token.specs.View.{class_of_kind}
-use Rattle.wgsl_scanner.specs.View.{lexeme_view}
+use Rattle.wgsl_lex_token.specs.declared.kind.TokenKind.{TokenKind}
+use Rattle.wgsl_lex_token.specs.declared.placed.PlacedToken.{PlacedToken}
+use Rattle.wgsl_lex_token.specs.Placed.{placed_view}
+use Rattle.wgsl_lex_token.specs.View.{class_of_kind}
+use Rattle.wgsl_lex_scanner.specs.View.{lexeme_view}
 use Rattle.wgsl_lexer.specs.declared.text_tokens.TextTokens.{TextTokens}
 use Rattle.wgsl_lexer.specs.declared.text_tokens.Next.{Next}
 use Rattle.wgsl_lexer.specs.declared.text_tokens.Next.TheVariants as next
 use Rattle.wgsl_lexer.specs.Left.{LeftOf}
-use Rattle.wgsl_left_theory.proofs.LeftTokens.{HasLeft, left_exists}
+use Rattle.wgsl_theory_templates.proofs.Rest.LeftTokens.{HasLeft, left_exists}
 
 -- these tokens stand in the text behind what stands next, and this is how they end
 abbrev pub AreBehind : TextTokens → List Token → Ending → Type 0
 AreBehind t ts e = LeftOf t.total (reverse t.ends.items) t.behind_word (chars t.rest.now) ts e
 
 -- there is one such list
-abbrev pub behind : (t : TextTokens) → HasLeft t.total (reverse t.ends.items) t.behind_word (chars t.rest.now)
-behind t = left_exists t.total (reverse t.ends.items) t.behind_word (chars t.rest.now)
+abbrev pub has_left : (t : TextTokens) → HasLeft t.total (reverse t.ends.items) t.behind_word (chars t.rest.now)
+has_left t = left_exists t.total (reverse t.ends.items) t.behind_word (chars t.rest.now)
 
 -- what stands next and the tokens behind it
 abbrev pub from_next : Next → List Token → List Token
@@ -40,11 +40,11 @@ end_from_next next.NoneLeft e = finished
 
 -- the tokens that are left
 abbrev pub tokens_left : TextTokens → List Token
-tokens_left t = from_next t.next (behind t).0
+tokens_left t = from_next t.next (has_left t).0
 
 -- how they end
 abbrev pub ending_left : TextTokens → Ending
-ending_left t = end_from_next t.next (behind t).1
+ending_left t = end_from_next t.next (has_left t).1
 
 -- a token stands next
 abbrev pub IsToken : Next → Type 0
@@ -52,9 +52,9 @@ IsToken (next.Token lexeme span) = Unit {0}
 IsToken _ = ⊥
 
 -- the first of some tokens is of a kind
-abbrev pub BeginWith : List Token → TokenKind → Type 0
-BeginWith [] kind = ⊥
-BeginWith (t ∷ ts) kind = t.class ≡ class_of_kind kind
+abbrev pub StartWithKind : List Token → TokenKind → Type 0
+StartWithKind [] kind = ⊥
+StartWithKind (t ∷ ts) kind = t.class ≡ class_of_kind kind
 
 -- the first of some tokens stands at a span
 abbrev pub BeginAt : List Token → Span → Type 0

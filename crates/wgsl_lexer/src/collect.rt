@@ -7,8 +7,8 @@ use crate::token_iterator::TokenIterator;
 use std::alloc::{AllocError, Global};
 use std::collections::VecDeque;
 use wgsl_error::ParseError;
+use wgsl_lex_token::placed::PlacedToken;
 use wgsl_span::Span;
-use wgsl_token::placed::PlacedToken;
 
 /// Tokens, and the error that ended them if there was one, from its start to its end.
 #[derive(Debug, Drop)]
@@ -19,7 +19,8 @@ pub struct Collected {
 
 /// The tokens up to the first error, which is the last item that is asked for.
 pub fn collect_tokens<T: TokenIterator>(alloc: Global, tokens: T) -> Result<Collected, AllocError>
-    ensures { IfOk result (λ found. (it : T.IntoIter) × T.into_iter_gives tokens it × Gave T.IntoIter.next_gives it found) }
+    ensures { IfOk result (λ found.
+        (it : T.IntoIter) × T.into_iter_gives tokens it × Gave T.IntoIter.next_gives it found) }
 {
     let mut placed = VecDeque::new(alloc);
     for item in tokens {

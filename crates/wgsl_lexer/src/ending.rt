@@ -2,20 +2,21 @@
 
 ghost use Rattle.std.specs.Prelude.{◌≡◌, List, chars, IfOk};
 ghost use Rattle.grammar.specs.Tokens.{Token, last_end};
-ghost use Rattle.grammar.specs.Faults.{Ending};
-ghost use Rattle.wgsl_model.specs.Raw.{raw};
-ghost use Rattle.wgsl_model.specs.TokenList.{IsTokenList};
+ghost use Rattle.grammar.specs.Endings.{Ending};
+ghost use Rattle.wgsl_model.specs.Tokens.Raw.{raw};
+ghost use Rattle.wgsl_model.specs.Tokens.TokenList.{IsTokenList};
 ghost use Rattle.wgsl_lexer.specs.TextTokens.{tokens_left};
 ghost use Rattle.wgsl_lexer.specs.Endings.{IsInvalidAt, ending_with};
 
 use crate::text_tokens::TextTokens;
 use std::alloc::{AllocError, Global};
-use wgsl_scanner::scan::{Scanned, place, scan};
+use wgsl_lex_scanner::scan::{Scanned, place, scan};
 use wgsl_span::Span;
 
 /// Where the last token of a text ends, or 0 where there is none.
 pub fn end_of_tokens(alloc: Global, source: &str) -> Result<usize, AllocError>
-    ensures { IfOk result (λ place. (ts : List Token) (e : Ending) → IsTokenList (chars source.now) ts e → place ≡ last_end 0 ts) }
+    ensures { IfOk result (λ place. (ts : List Token) (e : Ending) →
+        IsTokenList (chars source.now) ts e → place ≡ last_end 0 ts) }
 {
     Ok(last_end(TextTokens::new(alloc, source)?))
 }
@@ -48,7 +49,8 @@ fn invalid_at(total: usize, text: &str) -> Option<Span>
 
 /// The invalid token that ends the tokens of a text, the last of which ends at a place.
 pub fn invalid_behind(source: &str, place: usize) -> Option<Span>
-    ensures { (ts : List Token) (e : Ending) → IsTokenList (chars source.now) ts e → place ≡ last_end 0 ts → e ≡ ending_with result }
+    ensures { (ts : List Token) (e : Ending) →
+        IsTokenList (chars source.now) ts e → place ≡ last_end 0 ts → e ≡ ending_with result }
 {
     match source.get(place..) {
         Some(text) => invalid_at(source.len(), text),

@@ -1,7 +1,7 @@
 //! Where the template lists end that a text stands in, the innermost last.
 
-ghost use Rattle.std.specs.Prelude.{◌≡◌, ◌+◌, ◌≤◌, ◌<◌, [], ◌∷◌, ◌++◌, reverse, vec_len, vec_capacity};
-ghost use Rattle.wgsl_lexer.specs.OpenLists.{Leaves};
+ghost use Rattle.std.specs.Prelude.{◌≡◌, ◌+◌, ◌≤◌, ◌<◌, ◌∷◌, reverse, vec_len, vec_capacity};
+ghost use Rattle.wgsl_lexer.specs.OpenLists.{LeavesEnds};
 
 /// Enters a list that ends at the place, for which there is room.
 pub(crate) fn enter(ends: &mut Vec<usize>, end: usize)
@@ -15,7 +15,7 @@ pub(crate) fn enter(ends: &mut Vec<usize>, end: usize)
 
 /// Leaves the innermost list if it ends at the place, and tells whether it does.
 pub(crate) fn leave(ends: &mut Vec<usize>, place: usize) -> bool
-    ensures value { Leaves place (reverse ends.old.items) result (reverse ends.new.items) }
+    ensures value { LeavesEnds place (reverse ends.old.items) result (reverse ends.new.items) }
     ensures len { vec_len ends.new ≤ vec_len ends.old }
     ensures capacity { vec_capacity ends.old ≤ vec_capacity ends.new }
 {

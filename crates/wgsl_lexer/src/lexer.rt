@@ -1,19 +1,19 @@
 //! The tokens of a text, one after the other.
 
 ghost use Rattle.std.specs.Prelude.{◌≤◌, chars, length};
-ghost use Rattle.wgsl_templates.specs.Lists.{AreTold};
+ghost use Rattle.wgsl_lex_templates.specs.Lists.{AreTold};
 
 use crate::open_lists::OpenLists;
 use crate::token_iterator::TokenItem;
 use std::alloc::{AllocError, Global};
 use wgsl_error::ParseError;
-use wgsl_scanner::lexeme::Lexeme;
-use wgsl_scanner::scan::{Scanned, place, scan};
-use wgsl_templates::roles::{is_less_than, is_word};
-use wgsl_templates::text::behind_first;
-use wgsl_templates::{Templates, discover};
-use wgsl_token::kind::TokenKind;
-use wgsl_token::token::Token;
+use wgsl_lex_scanner::lexeme::Lexeme;
+use wgsl_lex_scanner::scan::{Scanned, place, scan};
+use wgsl_lex_templates::roles::{is_less_than, is_word};
+use wgsl_lex_templates::text::behind_first;
+use wgsl_lex_templates::{Templates, discover};
+use wgsl_lex_token::kind::TokenKind;
+use wgsl_lex_token::token::Token;
 
 /// Gives the tokens of a text, and then the fault that ends them if there is one. Behind a fault it gives nothing more.
 #[derive(Drop)]
@@ -36,17 +36,18 @@ pub struct Lexer<'s> {
 impl<'s> Lexer<'s> {
     ghost use Rattle.std.specs.Prelude.{◌≡◌, ◌<◌, ◌↔◌, List, ◌∷◌, true, IfOk, MatchOption, Some, None};
     ghost use Rattle.grammar.specs.Tokens as grammar;
-    ghost use Rattle.grammar.specs.Faults.{Ending};
-    ghost use Rattle.wgsl_model.specs.Classes.{SymLessThan};
-    ghost use Rattle.wgsl_model.specs.Raw.{raw, Raw.token};
-    ghost use Rattle.wgsl_model.specs.TokenList.{IsTokenList};
-    ghost use Rattle.wgsl_token.specs.View.{class_of_kind, token_view};
-    ghost use Rattle.wgsl_scanner.specs.View.{lexeme_view};
-    ghost use Rattle.wgsl_templates.specs.Spans.{end_from};
+    ghost use Rattle.grammar.specs.Endings.{Ending};
+    ghost use Rattle.wgsl_model.specs.Tokens.Classes.{SymLessThan};
+    ghost use Rattle.wgsl_model.specs.Tokens.Raw.{raw, Raw.token};
+    ghost use Rattle.wgsl_model.specs.Tokens.TokenList.{IsTokenList};
+    ghost use Rattle.wgsl_lex_token.specs.View.{class_of_kind, token_view};
+    ghost use Rattle.wgsl_lex_scanner.specs.View.{lexeme_view};
+    ghost use Rattle.wgsl_lex_templates.specs.Spans.{end_from};
     ghost use Rattle.wgsl_lexer.specs.Left.{IsLeft};
 
     pub fn new(alloc: Global, source: &'s str) -> Result<Lexer<'s>, AllocError>
-        ensures { IfOk result (λ lexer. (ts : List grammar.Token) (e : Ending) → IsTokenList (chars source.now) ts e ↔ IsLeft lexer ts e) }
+        ensures { IfOk result (λ lexer. (ts : List grammar.Token) (e : Ending) →
+            IsTokenList (chars source.now) ts e ↔ IsLeft lexer ts e) }
     {
         let templates = discover(alloc, source)?;
         Ok(Lexer {
@@ -61,7 +62,8 @@ impl<'s> Lexer<'s> {
 
     /// A lexer that gives the items that are left.
     pub fn clone(&self, alloc: Global) -> Result<Self, AllocError>
-        ensures { IfOk result (λ copy. (ts : List grammar.Token) (e : Ending) → IsLeft self.now ts e ↔ IsLeft copy ts e) }
+        ensures { IfOk result (λ copy.
+            (ts : List grammar.Token) (e : Ending) → IsLeft self.now ts e ↔ IsLeft copy ts e) }
     {
         let lists = self.lists.clone(alloc)?;
         let templates = self.templates.clone(alloc)?;
@@ -77,7 +79,10 @@ impl<'s> Lexer<'s> {
 
     /// Where the text begins behind the list whose `<` is a token of a kind at the place.
     fn list_end(&self, kind: TokenKind, start: usize) -> Option<usize>
-        ensures { MatchOption result (self.now.behind_word ≡ true → class_of_kind kind ≡ SymLessThan → end_from self.now.templates.lists.spans.items start ≡ None) (λ end. (self.now.behind_word ≡ true) × (class_of_kind kind ≡ SymLessThan) × (end_from self.now.templates.lists.spans.items start ≡ Some end)) }
+        ensures { MatchOption result (self.now.behind_word ≡ true → class_of_kind kind
+            ≡ SymLessThan → end_from self.now.templates.lists.spans.items start ≡ None) (λ end.
+            (self.now.behind_word ≡ true) × (class_of_kind kind ≡ SymLessThan) ×
+            (end_from self.now.templates.lists.spans.items start ≡ Some end)) }
     {
         if self.behind_word && is_less_than(kind) {
             return self.templates.end_of(start);
@@ -92,12 +97,15 @@ impl<'s> Lexer<'s> {
         from: &'s str,
         after: &'s str,
     ) -> Result<(usize, Token, usize), AllocError>
-        requires front { raw (chars self.old.rest.now) ≡ token (lexeme_view lexeme) (chars from.now) (chars after.now) }
+        requires front { raw (chars self.old.rest.now)
+            ≡ token (lexeme_view lexeme) (chars from.now) (chars after.now) }
         requires from { length from.now ≤ length self.old.rest.now }
         requires after { length after.now < length self.old.rest.now }
-        ensures value { IfOk result (λ given. (ts : List grammar.Token) (e : Ending) → IsLeft self.new ts e → IsLeft self.old (token_view given.0 given.1 given.2 ∷ ts) e) }
+        ensures value { IfOk result (λ given. (ts : List grammar.Token) (e : Ending) →
+            IsLeft self.new ts e → IsLeft self.old (token_view given.0 given.1 given.2 ∷ ts) e) }
         ensures total { self.new.total ≡ self.old.total }
-        ensures shorter { IfOk result (λ given. length self.new.rest.now < length self.old.rest.now) }
+        ensures shorter { IfOk result (λ given.
+            length self.new.rest.now < length self.old.rest.now) }
     {
         let start = place(self.total, from);
         if self.lists.leave(start) {
@@ -124,9 +132,9 @@ impl<'s> Iterator for Lexer<'s> {
     type Item = TokenItem;
 
     ghost use Rattle.std.specs.Iterator.{at_most};
-    ghost use Rattle.wgsl_lexer.specs.Left.{Gives, bytes_left};
+    ghost use Rattle.wgsl_lexer.specs.Left.{GivesItem, bytes_left};
 
-    ghost next_gives = { Gives };
+    ghost next_gives = { GivesItem };
 
     ghost remaining = { λ l. at_most (bytes_left l) };
 

@@ -4,7 +4,6 @@
 mod collect;
 mod ending;
 mod ends;
-pub mod laws;
 mod lexer;
 mod open_lists;
 mod source;
@@ -17,4 +16,4 @@ pub use lexer::Lexer;
 pub use source::{lex, recognize_template_list};
 pub use text_tokens::TextTokens;
 pub use token_iterator::{FiniteTokens, TokenItem, TokenIterator};
-pub use wgsl_templates::{Templates, discover};
+pub use wgsl_lex_templates::{Templates, discover};

@@ -1,7 +1,7 @@
 //! The template lists that a text stands in.
 
 ghost use Rattle.std.specs.Prelude.{◌≡◌, ℕ, List, [], ◌∷◌, reverse, IfOk};
-ghost use Rattle.wgsl_lexer.specs.OpenLists.{Leaves};
+ghost use Rattle.wgsl_lexer.specs.OpenLists.{LeavesEnds};
 
 use std::alloc::{AllocError, Global};
 use std::marker::Model;
@@ -45,7 +45,7 @@ impl OpenLists {
 
     /// Leaves the innermost list if it ends at the place, and tells whether it does.
     pub(crate) fn leave(&mut self, place: usize) -> bool
-        ensures { Leaves place self.old result self.new }
+        ensures { LeavesEnds place self.old result self.new }
     {
         let Some(end) = self.ends.last() else {
             return false;

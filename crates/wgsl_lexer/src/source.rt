@@ -2,16 +2,16 @@
 
 ghost use Rattle.std.specs.Prelude.{◌⊎◌, ◌↔◌, List, ◌++◌, chars, IfOk, IsTrue};
 ghost use Rattle.grammar.specs.Tokens as grammar;
-ghost use Rattle.grammar.specs.Faults.{Ending};
-ghost use Rattle.wgsl_model.specs.TokenList.{IsTokenList};
+ghost use Rattle.grammar.specs.Endings.{Ending};
+ghost use Rattle.wgsl_model.specs.Tokens.TokenList.{IsTokenList};
 ghost use Rattle.wgsl_lexer.specs.Placed.{tokens_view, ending_view, IsOutOfMemory};
 ghost use Rattle.wgsl_lexer.specs.Left.{BeginsWithList};
 
 use crate::collect::{Collected, collect_tokens};
 use crate::lexer::Lexer;
 use std::alloc::{AllocError, Global};
-use wgsl_scanner::scan::{Scanned, place, scan};
-use wgsl_templates::discover;
+use wgsl_lex_scanner::scan::{Scanned, place, scan};
+use wgsl_lex_templates::discover;
 
 /// Whether the text, behind its trivia, begins with a template list.
 pub fn recognize_template_list(alloc: Global, source: &str) -> Result<bool, AllocError>
@@ -26,8 +26,10 @@ pub fn recognize_template_list(alloc: Global, source: &str) -> Result<bool, Allo
 
 /// The tokens of a text and the fault that ends them, or where memory was refused a beginning of them.
 pub fn lex(alloc: Global, source: &str) -> Result<Collected, AllocError>
-    ensures all { IfOk result (λ found. IsTokenList (chars source.now) (tokens_view found) (ending_view found.error) ⊎ IsOutOfMemory found.error) }
-    ensures beginning { IfOk result (λ found. (us : List grammar.Token) × (e : Ending) × IsTokenList (chars source.now) (tokens_view found ++ us) e) }
+    ensures all { IfOk result (λ found. IsTokenList (chars source.now)
+        (tokens_view found) (ending_view found.error) ⊎ IsOutOfMemory found.error) }
+    ensures beginning { IfOk result (λ found. (us : List grammar.Token) ×
+        (e : Ending) × IsTokenList (chars source.now) (tokens_view found ++ us) e) }
 {
     let lexer = Lexer::new(alloc, source)?;
     collect_tokens(alloc, lexer)

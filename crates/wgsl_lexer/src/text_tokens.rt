@@ -1,19 +1,19 @@
 //! The tokens of a text that are left, each made where it is taken.
 
 ghost use Rattle.std.specs.Prelude.{◌+◌, ◌-◌, ◌≤◌, chars, length, vec_len, vec_capacity};
-ghost use Rattle.wgsl_templates.specs.Lists.{AreTold};
+ghost use Rattle.wgsl_lex_templates.specs.Lists.{AreTold};
 ghost use Rattle.wgsl_lexer.specs.Room.{starts_from};
 
 use crate::ends::{enter, leave};
 use std::alloc::{AllocError, Global};
-use wgsl_scanner::lexeme::Lexeme;
-use wgsl_scanner::scan::{Scanned, place, scan};
+use wgsl_lex_scanner::lexeme::Lexeme;
+use wgsl_lex_scanner::scan::{Scanned, place, scan};
+use wgsl_lex_templates::roles::{is_less_than, is_word};
+use wgsl_lex_templates::text::behind_first;
+use wgsl_lex_templates::{Templates, discover};
+use wgsl_lex_token::kind::TokenKind;
+use wgsl_lex_token::placed::PlacedToken;
 use wgsl_span::Span;
-use wgsl_templates::roles::{is_less_than, is_word};
-use wgsl_templates::text::behind_first;
-use wgsl_templates::{Templates, discover};
-use wgsl_token::kind::TokenKind;
-use wgsl_token::placed::PlacedToken;
 
 /// What stands next in a text.
 #[derive(Clone, Copy)]
@@ -50,17 +50,18 @@ pub struct TextTokens<'s> {
 impl<'s> TextTokens<'s> {
     ghost use Rattle.std.specs.Prelude.{◌≡◌, ◌<◌, List, [], drop, true, IfOk, IfSome, MatchOption, Some, None};
     ghost use Rattle.grammar.specs.Tokens as grammar;
-    ghost use Rattle.grammar.specs.Faults.{Ending};
-    ghost use Rattle.wgsl_model.specs.Classes.{SymLessThan};
-    ghost use Rattle.wgsl_model.specs.Raw.{raw, Raw.token};
-    ghost use Rattle.wgsl_model.specs.TokenList.{IsTokenList, place};
-    ghost use Rattle.wgsl_token.specs.View.{class_of_kind};
-    ghost use Rattle.wgsl_scanner.specs.View.{lexeme_view};
-    ghost use Rattle.wgsl_templates.specs.Spans.{end_from};
-    ghost use Rattle.wgsl_lexer.specs.TextTokens.{AreBehind, behind, from_next, IsToken, tokens_left, ending_left, BeginWith, BeginAt, BeginWithName, IsTaken};
+    ghost use Rattle.grammar.specs.Endings.{Ending};
+    ghost use Rattle.wgsl_model.specs.Tokens.Classes.{SymLessThan};
+    ghost use Rattle.wgsl_model.specs.Tokens.Raw.{raw, Raw.token};
+    ghost use Rattle.wgsl_model.specs.Tokens.TokenList.{IsTokenList, place};
+    ghost use Rattle.wgsl_lex_token.specs.View.{class_of_kind};
+    ghost use Rattle.wgsl_lex_scanner.specs.View.{lexeme_view};
+    ghost use Rattle.wgsl_lex_templates.specs.Spans.{end_from};
+    ghost use Rattle.wgsl_lexer.specs.TextTokens.{AreBehind, has_left, from_next, IsToken, tokens_left, ending_left, StartWithKind, BeginAt, BeginWithName, IsTaken};
 
     pub fn new(alloc: Global, source: &'s str) -> Result<TextTokens<'s>, AllocError>
-        ensures { IfOk result (λ tokens. IsTokenList (chars source.now) (tokens_left tokens) (ending_left tokens)) }
+        ensures { IfOk result (λ tokens.
+            IsTokenList (chars source.now) (tokens_left tokens) (ending_left tokens)) }
     {
         let mut tokens = TextTokens::before(alloc, source)?;
         tokens.go_on();
@@ -69,7 +70,8 @@ impl<'s> TextTokens<'s> {
 
     /// Nothing stands next, and the whole source behind it.
     fn before(alloc: Global, source: &'s str) -> Result<TextTokens<'s>, AllocError>
-        ensures { IfOk result (λ tokens. (ts : List grammar.Token) (e : Ending) → AreBehind tokens ts e → IsTokenList (chars source.now) ts e) }
+        ensures { IfOk result (λ tokens. (ts : List grammar.Token) (e : Ending) →
+            AreBehind tokens ts e → IsTokenList (chars source.now) ts e) }
     {
         let templates = discover(alloc, source)?;
         let room = templates.attempts();
@@ -88,7 +90,8 @@ impl<'s> TextTokens<'s> {
 
     /// Which token stands next, if one does.
     pub fn kind(&self) -> Option<TokenKind>
-        ensures { MatchOption result (tokens_left self.now ≡ []) (BeginWith (tokens_left self.now)) }
+        ensures { MatchOption result
+            (tokens_left self.now ≡ []) (StartWithKind (tokens_left self.now)) }
     {
         match self.next {
             Next::Token { lexeme, .. } => Some(lexeme.kind()),
@@ -118,7 +121,8 @@ impl<'s> TextTokens<'s> {
 
     /// Takes the next token, if there is one.
     pub fn take(&mut self) -> Result<Option<PlacedToken>, AllocError>
-        ensures taken { IfOk result (λ taken. IsTaken (tokens_left self.old) taken (tokens_left self.new)) }
+        ensures taken { IfOk result (λ taken.
+            IsTaken (tokens_left self.old) taken (tokens_left self.new)) }
         ensures ending { IfOk result (λ _. ending_left self.new ≡ ending_left self.old) }
     {
         let Next::Token { lexeme, span } = self.next else {
@@ -141,8 +145,8 @@ impl<'s> TextTokens<'s> {
 
     /// Finds what stands next behind it.
     fn go_on(&mut self)
-        ensures left { tokens_left self.new ≡ (behind self.old).0 }
-        ensures ending { ending_left self.new ≡ (behind self.old).1 }
+        ensures left { tokens_left self.new ≡ (has_left self.old).0 }
+        ensures ending { ending_left self.new ≡ (has_left self.old).1 }
     {
         match scan(self.rest) {
             Scanned::NoneLeft => self.next = Next::NoneLeft,
@@ -170,7 +174,10 @@ impl<'s> TextTokens<'s> {
 
     /// Where the text begins behind the list whose `<` is a token of a kind at the place.
     fn list_end(&self, kind: TokenKind, start: usize) -> Option<usize>
-        ensures { MatchOption result (self.now.behind_word ≡ true → class_of_kind kind ≡ SymLessThan → end_from self.now.templates.lists.spans.items start ≡ None) (λ end. (self.now.behind_word ≡ true) × (class_of_kind kind ≡ SymLessThan) × (end_from self.now.templates.lists.spans.items start ≡ Some end)) }
+        ensures { MatchOption result (self.now.behind_word ≡ true → class_of_kind kind
+            ≡ SymLessThan → end_from self.now.templates.lists.spans.items start ≡ None) (λ end.
+            (self.now.behind_word ≡ true) × (class_of_kind kind ≡ SymLessThan) ×
+            (end_from self.now.templates.lists.spans.items start ≡ Some end)) }
     {
         if self.behind_word && is_less_than(kind) {
             return self.templates.end_of(start);
@@ -180,10 +187,12 @@ impl<'s> TextTokens<'s> {
 
     /// Goes behind the token at the front of the rest, which is what stands next then.
     fn found(&mut self, lexeme: Lexeme<'s>, from: &'s str, after: &'s str) -> Next<'s>
-        requires front { raw (chars self.old.rest.now) ≡ token (lexeme_view lexeme) (chars from.now) (chars after.now) }
+        requires front { raw (chars self.old.rest.now)
+            ≡ token (lexeme_view lexeme) (chars from.now) (chars after.now) }
         requires from { length from.now ≤ length self.old.rest.now }
         requires after { length after.now < length self.old.rest.now }
-        ensures value { (ts : List grammar.Token) (e : Ending) → AreBehind self.new ts e → AreBehind self.old (from_next result ts) e }
+        ensures value { (ts : List grammar.Token) (e : Ending) →
+            AreBehind self.new ts e → AreBehind self.old (from_next result ts) e }
         ensures some { IsToken result }
     {
         let span = self.span_of(from, after);

@@ -6,7 +6,7 @@ ghost use Rattle.std.proofs.Common.{rules};
 
 use crate::lexer::Lexer;
 use wgsl_error::ParseError;
-use wgsl_token::token::Token;
+use wgsl_lex_token::token::Token;
 
 /// A token, or what is wrong in its place; each with the byte where it starts and the byte where it ends.
 pub type TokenItem = Result<(usize, Token, usize), (usize, ParseError, usize)>;

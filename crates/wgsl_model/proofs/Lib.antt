@@ -1,4 +1,5 @@
-pub mod Fronts
-mod PrintedRows
-mod SnippetRows
-mod PathRows
+pub mod Tokens
+pub mod Trees
+pub mod Faults
+pub mod Printed
+pub mod Filled

@@ -4,53 +4,54 @@
 pub use Rattle.grammar.specs.Tokens
 pub use Rattle.grammar.specs.Grammar
 pub use Rattle.grammar.specs.Notation
-pub use Rattle.grammar.specs.Faults as GrammarFaults
+pub use Rattle.grammar.specs.Endings
 -- the definitions
-pub use Rattle.wgsl_model.specs.Classes
-pub use Rattle.wgsl_model.specs.Kind
-pub use Rattle.wgsl_model.specs.Words
-pub use Rattle.wgsl_model.specs.Characters
-pub use Rattle.wgsl_model.specs.Trivia
-pub use Rattle.wgsl_model.specs.Pattern
-pub use Rattle.wgsl_model.specs.Numbers
-pub use Rattle.wgsl_model.specs.Spelling
-pub use Rattle.wgsl_model.specs.Raw
-pub use Rattle.wgsl_model.specs.Texts
-pub use Rattle.wgsl_model.specs.Faults
-pub use Rattle.wgsl_model.specs.Places
-pub use Rattle.wgsl_model.specs.Operators
-pub use Rattle.wgsl_model.specs.NamedValues
-pub use Rattle.wgsl_model.specs.Spanned
-pub use Rattle.wgsl_model.specs.Expressions
-pub use Rattle.wgsl_model.specs.Attributes
-pub use Rattle.wgsl_model.specs.Attributed as AttributedNodes
-pub use Rattle.wgsl_model.specs.Statements
-pub use Rattle.wgsl_model.specs.Units
-pub use Rattle.wgsl_model.specs.TokenValues
-pub use Rattle.wgsl_model.specs.Checks
-pub use Rattle.wgsl_model.specs.Symbols
-pub use Rattle.wgsl_model.specs.ExpressionParts
-pub use Rattle.wgsl_model.specs.StatementParts
-pub use Rattle.wgsl_model.specs.UnitParts
-pub use Rattle.wgsl_model.specs.Written
-pub use Rattle.wgsl_model.specs.Templates
-pub use Rattle.wgsl_model.specs.TokenList
-pub use Rattle.wgsl_model.specs.Joining
-pub use Rattle.wgsl_model.specs.Indentation
-pub use Rattle.wgsl_model.specs.OperatorTexts
-pub use Rattle.wgsl_model.specs.PrintedExpressions
-pub use Rattle.wgsl_model.specs.PrintedAttributes
-pub use Rattle.wgsl_model.specs.PrintedDeclarations
-pub use Rattle.wgsl_model.specs.PrintedStatements
-pub use Rattle.wgsl_model.specs.PrintedUnits
-pub use Rattle.wgsl_model.specs.EmptyItems
-pub use Rattle.wgsl_model.specs.WithoutSpans
-pub use Rattle.wgsl_model.specs.StatementsWithoutSpans
-pub use Rattle.wgsl_model.specs.Small
-pub use Rattle.wgsl_model.specs.CheckedFaults
-pub use Rattle.wgsl_model.specs.Named
-pub use Rattle.wgsl_model.specs.Snippets
-pub use Rattle.wgsl_model.specs.Paths
+pub use Rattle.wgsl_model.specs.Tokens.Classes
+pub use Rattle.wgsl_model.specs.Tokens.Kind
+pub use Rattle.wgsl_model.specs.Tokens.Words
+pub use Rattle.wgsl_model.specs.Tokens.Characters
+pub use Rattle.wgsl_model.specs.Tokens.Trivia
+pub use Rattle.wgsl_model.specs.Tokens.Pattern
+pub use Rattle.wgsl_model.specs.Tokens.Numbers
+pub use Rattle.wgsl_model.specs.Tokens.Spelling
+pub use Rattle.wgsl_model.specs.Tokens.Raw
+pub use Rattle.wgsl_model.specs.Tokens.Texts
+pub use Rattle.wgsl_model.specs.Faults.Kinds as Faults
+pub use Rattle.wgsl_model.specs.Tokens.Places
+pub use Rattle.wgsl_model.specs.Trees.Operators
+pub use Rattle.wgsl_model.specs.Trees.NamedValues
+pub use Rattle.wgsl_model.specs.Trees.Spanned
+pub use Rattle.wgsl_model.specs.Trees.Expressions
+pub use Rattle.wgsl_model.specs.Trees.Attributes
+pub use Rattle.wgsl_model.specs.Trees.Attributed as AttributedNodes
+pub use Rattle.wgsl_model.specs.Trees.Statements
+pub use Rattle.wgsl_model.specs.Trees.Units
+pub use Rattle.wgsl_model.specs.Grammar.TokenValues
+pub use Rattle.wgsl_model.specs.Grammar.Checks
+pub use Rattle.wgsl_model.specs.Grammar.Symbols
+pub use Rattle.wgsl_model.specs.Grammar.ExpressionParts
+pub use Rattle.wgsl_model.specs.Grammar.StatementParts
+pub use Rattle.wgsl_model.specs.Grammar.UnitParts
+pub use Rattle.wgsl_model.specs.Grammar.Written
+pub use Rattle.wgsl_model.specs.Tokens.Templates
+pub use Rattle.wgsl_model.specs.Tokens.TokenList
+pub use Rattle.wgsl_model.specs.Printed.Joining
+pub use Rattle.wgsl_model.specs.Printed.Indentation
+pub use Rattle.wgsl_model.specs.Printed.Operators as OperatorTexts
+pub use Rattle.wgsl_model.specs.Printed.Expressions as PrintedExpressions
+pub use Rattle.wgsl_model.specs.Printed.Attributes as PrintedAttributes
+pub use Rattle.wgsl_model.specs.Printed.Declarations as PrintedDeclarations
+pub use Rattle.wgsl_model.specs.Printed.Statements as PrintedStatements
+pub use Rattle.wgsl_model.specs.Printed.Units as PrintedUnits
+pub use Rattle.wgsl_model.specs.Trees.EmptyItems
+pub use Rattle.wgsl_model.specs.Trees.WithoutSpans
+pub use Rattle.wgsl_model.specs.Trees.StatementsWithoutSpans
+pub use Rattle.wgsl_model.specs.Grammar.Small
+pub use Rattle.wgsl_model.specs.Faults.Checked as CheckedFaults
+pub use Rattle.wgsl_model.specs.Faults.NamedFault
+pub use Rattle.wgsl_model.specs.Faults.Snippets
+pub use Rattle.wgsl_model.specs.Trees.Paths
+pub use Rattle.wgsl_model.specs.SourceTrees
 pub use Rattle.wgsl_model.specs.Program
 -- values of the library as plain data
 pub use Rattle.wgsl_span.specs.View as SpanView
@@ -58,63 +59,64 @@ pub use Rattle.wgsl_span.specs.Spanned as SpannedValues
 pub use Rattle.wgsl_span.specs.Copies
 pub use Rattle.wgsl_span.specs.Lending as NodeLending
 pub use Rattle.wgsl_error.specs.View as ErrorView
-pub use Rattle.wgsl_token.specs.View as TokenView
-pub use Rattle.wgsl_token.specs.Placed as PlacedTokens
+pub use Rattle.wgsl_lex_token.specs.View as TokenView
+pub use Rattle.wgsl_lex_token.specs.Placed as PlacedTokens
 pub use Rattle.wgsl_lexer.specs.Placed as CollectedTokens
-pub use Rattle.wgsl_named_values.specs.View as NamedValueView
-pub use Rattle.wgsl_path.specs.View as PathView
-pub use Rattle.wgsl_expression.specs.View as ExpressionView
-pub use Rattle.wgsl_attribute.specs.View as AttributeView
-pub use Rattle.wgsl_simple_statement.specs.View as SimpleStatementView
-pub use Rattle.wgsl_statement.specs.View as StatementView
-pub use Rattle.wgsl_unit.specs.View as UnitView
+pub use Rattle.wgsl_tree_words.specs.View as NamedValueView
+pub use Rattle.wgsl_tree_path.specs.View as PathView
+pub use Rattle.wgsl_tree_expression.specs.View as ExpressionView
+pub use Rattle.wgsl_tree_attribute.specs.View as AttributeView
+pub use Rattle.wgsl_tree_simple.specs.View as SimpleStatementView
+pub use Rattle.wgsl_tree_statement.specs.View as StatementView
+pub use Rattle.wgsl_tree_unit.specs.View as UnitView
 -- which variant a value is
-pub use Rattle.wgsl_token.specs.Groups as TokenGroups
-pub use Rattle.wgsl_expression.specs.Variants as ExpressionVariants
-pub use Rattle.wgsl_attribute.specs.Variants as AttributeVariants
-pub use Rattle.wgsl_simple_statement.specs.Variants as SimpleStatementVariants
-pub use Rattle.wgsl_simple_statement.specs.Kinds as KindWords
-pub use Rattle.wgsl_statement.specs.Variants as StatementVariants
-pub use Rattle.wgsl_unit.specs.Variants as UnitVariants
+pub use Rattle.wgsl_lex_token.specs.Groups as TokenGroups
+pub use Rattle.wgsl_tree_expression.specs.Variants as ExpressionVariants
+pub use Rattle.wgsl_tree_attribute.specs.Variants as AttributeVariants
+pub use Rattle.wgsl_tree_simple.specs.Variants as SimpleStatementVariants
+pub use Rattle.wgsl_tree_simple.specs.Kinds as KindWords
+pub use Rattle.wgsl_tree_statement.specs.Variants as StatementVariants
+pub use Rattle.wgsl_tree_unit.specs.Variants as UnitVariants
 -- errors, and what is answered of texts and of the tokens of iterators
 pub use Rattle.wgsl_error.specs.Kinds as ErrorKinds
 pub use Rattle.wgsl_error.specs.Printing as PrintedErrors
-pub use Rattle.wgsl_answer.specs.Answers
-pub use Rattle.wgsl_answer.specs.Places as ErrorPlaces
+pub use Rattle.wgsl_read_cursor.specs.Answers
+pub use Rattle.wgsl_read_cursor.specs.Places as ErrorPlaces
 pub use Rattle.wgsl_parser.specs.Sources
 pub use Rattle.wgsl_parser.specs.Iterators
 pub use Rattle.wgsl_parser.specs.Spans as TemplateListSpans
-pub use Rattle.wgsl_dialect.specs.Recognized
+pub use Rattle.wgsl_read_dialect.specs.Recognized
+pub use Rattle.wgsl_read_nesting.specs.Nesting
 pub use Rattle.wgsl_lexer.specs.Given
 pub use Rattle.wgsl_lexer.specs.Left
 pub use Rattle.wgsl_lexer.specs.InOrder
 -- the template lists of a text
-pub use Rattle.wgsl_templates.specs.Lists as TemplateLists
-pub use Rattle.wgsl_templates.specs.Spans as FoundSpans
+pub use Rattle.wgsl_lex_templates.specs.Lists as TemplateLists
+pub use Rattle.wgsl_lex_templates.specs.Spans as FoundSpans
 -- nodes and their attributes
-pub use Rattle.wgsl_syntax_node.specs.Parts as NodeParts
-pub use Rattle.wgsl_syntax_node.specs.Keeps
-pub use Rattle.wgsl_syntax_node.specs.Lending as AttributeLending
-pub use Rattle.wgsl_unit.specs.Named as DeclaredNames
+pub use Rattle.wgsl_tree_node.specs.Parts as NodeParts
+pub use Rattle.wgsl_span.specs.Keeps
+pub use Rattle.wgsl_tree_node.specs.Lending as AttributeLending
+pub use Rattle.wgsl_tree_node.specs.DeclaredNames
 -- equality
-pub use Rattle.wgsl_equality.specs.Code as EqualityCode
-pub use Rattle.wgsl_equality.specs.Expressions as ExpressionCodes
-pub use Rattle.wgsl_equality.specs.Declarations as DeclarationCodes
-pub use Rattle.wgsl_equality.specs.Statements as StatementCodes
-pub use Rattle.wgsl_equality.specs.Units as UnitCodes
-pub use Rattle.wgsl_expression.specs.Equality as ExpressionEquality
-pub use Rattle.wgsl_attribute.specs.Equality as AttributeEquality
-pub use Rattle.wgsl_simple_statement.specs.Equality as SimpleStatementEquality
-pub use Rattle.wgsl_unit.specs.Equality as UnitEquality
-pub use Rattle.wgsl_path.specs.Equality as PathEquality
-pub mod Hashes
+pub use Rattle.wgsl_tree_equality.specs.Code as EqualityCode
+pub use Rattle.wgsl_tree_equality.specs.Expressions as ExpressionCodes
+pub use Rattle.wgsl_tree_equality.specs.Declarations as DeclarationCodes
+pub use Rattle.wgsl_tree_equality.specs.Statements as StatementCodes
+pub use Rattle.wgsl_tree_equality.specs.Units as UnitCodes
+pub use Rattle.wgsl_tree_expression.specs.Equality as ExpressionEquality
+pub use Rattle.wgsl_tree_attribute.specs.Equality as AttributeEquality
+pub use Rattle.wgsl_tree_simple.specs.Equality as SimpleStatementEquality
+pub use Rattle.wgsl_tree_unit.specs.Equality as UnitEquality
+pub use Rattle.wgsl_tree_path.specs.Equality as PathEquality
 -- the tokens that are written from a tree
-pub use Rattle.wgsl_canonical_theory.specs.CanonicalUnits
+pub use Rattle.wgsl_theory_reread.specs.CanonicalUnits
 -- modules laid out
-pub use Rattle.wgsl_tidy_model.specs.Pieces as TextPieces
-pub use Rattle.wgsl_tidy_model.specs.Roles as TokenRoles
-pub use Rattle.wgsl_tidy_model.specs.Joints as TokenJoints
-pub use Rattle.wgsl_tidy_model.specs.Open as OpenBrackets
-pub use Rattle.wgsl_tidy_model.specs.LaidOut
-pub use Rattle.wgsl_tidy_model.specs.Kept as KeptPieces
-pub use Rattle.wgsl_tidy_model.specs.Tidied
+pub use Rattle.wgsl_model_tidy.specs.Pieces as TextPieces
+pub use Rattle.wgsl_model_tidy.specs.Roles as TokenRoles
+pub use Rattle.wgsl_model_tidy.specs.Joints as TokenJoints
+pub use Rattle.wgsl_model_tidy.specs.Open as OpenBrackets
+pub use Rattle.wgsl_model_tidy.specs.LaidOut
+pub use Rattle.wgsl_model_tidy.specs.Kept as KeptPieces
+pub use Rattle.wgsl_model_tidy.specs.Tidied
+pub use Rattle.wgsl_laws.specs.Hashes

@@ -1,12 +1,11 @@
-//! WGSL, the shading language of WebGPU: tokens, trees, faults and printed text, under the names of the Rust crate `wgsl-parse`.
+//! WGSL, the shading language of WebGPU: tokens, trees, faults and printed text, under the names of
+//! the Rust crate `wgsl-parse`.
 #![tactic(auto)]
 
-mod name_laws;
-
-pub use wgsl_dialect::recognize_str;
 pub use wgsl_error::Error;
 pub use wgsl_parser::{FromSource, parse_str};
-pub use wgsl_syntax_node::SyntaxNode;
+pub use wgsl_read_dialect::recognize_str;
+pub use wgsl_tree_node::SyntaxNode;
 
 /// Places in a text, and nodes that carry them.
 pub mod span {
@@ -20,31 +19,27 @@ pub mod error {
 
 /// Tokens, and what gives them.
 pub mod lexer {
+    pub use wgsl_lex_token::kind::TokenKind;
+    pub use wgsl_lex_token::token::Token;
     pub use wgsl_lexer::{
         FiniteTokens, Lexer, Templates, TokenItem, TokenIterator, discover, recognize_template_list,
     };
-    pub use wgsl_token::kind::TokenKind;
-    pub use wgsl_token::token::Token;
 }
 
 /// The syntax trees, each with its text, its copy, its equality and what it is made of.
 pub mod syntax {
-    pub use wgsl_attribute::{
+    pub use wgsl_span::{Span, Spanned};
+    pub use wgsl_tree_attribute::{
         Attribute, AttributeNode, Attributes, CustomAttribute, DiagnosticAttribute,
         InterpolateAttribute, TypeConstraint, WorkgroupSizeAttribute,
     };
-    pub use wgsl_expression::{
+    pub use wgsl_tree_expression::{
         BinaryExpression, Expression, ExpressionNode, FunctionCall, FunctionCallExpression, Ident,
         IndexingExpression, LiteralExpression, NamedComponentExpression, ParenthesizedExpression,
         TemplateArg, TemplateArgs, TypeExpression, UnaryExpression,
     };
-    pub use wgsl_named_values::{
-        AccessMode, AddressSpace, AssignmentOperator, BinaryOperator, BuiltinValue,
-        DiagnosticSeverity, InterpolationSampling, InterpolationType, UnaryOperator,
-    };
-    pub use wgsl_path::{ModulePath, ModulePathParseError, PathOrigin};
-    pub use wgsl_span::{Span, Spanned};
-    pub use wgsl_statement::{
+    pub use wgsl_tree_path::{ModulePath, ModulePathParseError, PathOrigin};
+    pub use wgsl_tree_statement::{
         AssignmentStatement, BreakIfStatement, BreakStatement, CaseSelector, CompoundStatement,
         ConstAssert, ConstAssertStatement, ContinueStatement, ContinuingStatement, Declaration,
         DeclarationKind, DeclarationStatement, DecrementStatement, DiscardStatement, ElseClause,
@@ -52,59 +47,69 @@ pub mod syntax {
         IncrementStatement, LoopStatement, ReturnStatement, Statement, StatementNode, SwitchClause,
         SwitchStatement, WhileStatement,
     };
-    pub use wgsl_unit::{
+    pub use wgsl_tree_unit::{
         DiagnosticDirective, EnableDirective, FormalParameter, Function, GlobalDeclaration,
         GlobalDeclarationNode, GlobalDirective, RequiresDirective, Struct, StructMember,
         StructMemberNode, TranslationUnit, TypeAlias,
     };
-}
-
-/// What a node of a tree can do, and what makes a type of one's own a node: `NodeName` and `NodeAttributes`, in whose
-/// place `UnnamedNode` and `UnattributedNode` stand for a node without the one or the other, and `BareNode` for one
-/// without both. A node that has a span writes `SyntaxNode` itself, whose calls on a list of attributes are
-/// `has_attribute` and `retain_nodes`.
-pub mod syntax_node {
-    pub use wgsl_syntax_node::{
-        BareNode, NodeAttributes, NodeName, SyntaxNode, UnattributedNode, UnnamedNode,
-        has_attribute, no_attributes, retain_nodes,
+    pub use wgsl_tree_words::{
+        AccessMode, AddressSpace, AssignmentOperator, BinaryOperator, BuiltinValue,
+        DiagnosticSeverity, InterpolationSampling, InterpolationType, UnaryOperator,
     };
 }
 
-/// Reading modules, and the parts of modules that are read by themselves, from texts and from lists of tokens.
+/// What a node of a tree can do, and what makes a type of one's own a node: `NodeName` and
+/// `NodeAttributes`, in whose place `UnnamedNode` and `UnattributedNode` stand for a node without
+/// the one or the other, and `BareNode` for one without both. A node that has a span writes
+/// `SyntaxNode` itself, whose calls on a list of attributes are
+/// `has_attribute` and `retain_nodes`.
+pub mod syntax_node {
+    pub use wgsl_span::retain_nodes;
+    pub use wgsl_tree_node::{
+        BareNode, NodeAttributes, NodeName, SyntaxNode, UnattributedNode, UnnamedNode,
+        has_attribute, no_attributes,
+    };
+}
+
+/// Reading modules, and the parts of modules that are read by themselves, from texts and from lists
+/// of tokens.
 pub mod parser {
-    pub use wgsl_dialect::recognize_str;
-    pub use wgsl_nesting::nesting;
     pub use wgsl_parser::{
         ExpressionParser, FromSource, GlobalDeclParser, GlobalDirectiveParser, LiteralParser,
         StatementParser, TranslationUnitParser, TryTemplateListParser, parse_str,
         recognize_template_list,
     };
+    pub use wgsl_read_dialect::recognize_str;
+    pub use wgsl_read_nesting::nesting;
 }
 
 /// Laying modules out for people: comments and the author's line breaks stay.
 pub mod tidy {
-    pub use wgsl_tidy::tidy;
+    pub use wgsl_format_tidy::tidy;
 }
 
 /// What holds of all texts and trees, as contracts of functions that do nothing.
 pub mod laws {
-    pub use wgsl_grammar_laws::{checked_is_full, no_less_derived, one_fault, one_name, one_tree};
-    pub use wgsl_kept_theory::laid_out_keeps;
-    pub use wgsl_laws::{
+    pub use wgsl_laws::attributes::statement_attributes;
+    pub use wgsl_laws::grammar_laws::{
+        checked_is_whole, no_less_derived, one_fault, one_name, one_tree,
+    };
+    pub use wgsl_laws::laid_out::laid_out_keeps;
+    pub use wgsl_laws::paths::{join_laws, path_text, starts_with_laws};
+    pub use wgsl_laws::printed::{
         canonical_parse, print_twice, printed_parse, printed_tokens, unit_or_fault,
     };
-    pub use wgsl_lexer::laws::{
-        nothing_behind_the_end, one_list_left, one_token_list, tokens_in_order,
+    pub use wgsl_laws::spelling::longest_spelling;
+    pub use wgsl_laws::tokens::{
+        lists_within_lists, nothing_behind_the_end, one_list_left, one_token_list, tokens_in_order,
     };
-    pub use wgsl_path::laws::{join_laws, path_text, starts_with_laws};
-    pub use wgsl_scanner::laws::longest_spelling;
-    pub use wgsl_syntax_node::attribute_laws::statement_attributes;
-    pub use wgsl_tree_theory::{spans_unprinted, voids_twice};
+    pub use wgsl_laws::trees::{spans_unprinted, voids_twice};
 
-    /// That `==` of trees is an equivalence, and where two trees are equal: where they are one with their spans set
-    /// aside. The laws that stand here speak of plain trees; those of the nodes themselves stand in the modules below.
+    /// That `==` of trees is an equivalence, and where two trees are equal: where they are one with
+    /// their spans set aside. The laws that stand here speak of plain trees; those of the nodes
+    /// themselves stand in the modules below.
     pub mod equality {
-        pub use wgsl_equality::{
+        pub use wgsl_laws::equality::{
             branches, calls, declarations, directives, equivalence, expressions,
             global_declarations, literals, loops, nodes, simple_statements, statements, types,
             units,
@@ -112,13 +117,13 @@ pub mod laws {
 
         /// Of identifiers, whose hashes agree with it, and of literals.
         pub mod expression {
-            pub use crate::name_laws::ident_equality;
-            pub use wgsl_expression::equality_laws::{idents, literals};
+            pub use wgsl_laws::expression_equality::{idents, literals};
+            pub use wgsl_laws::name_equality::ident_equality;
         }
 
         /// Of attributes and what they hold.
         pub mod attribute {
-            pub use wgsl_attribute::equality_laws::{
+            pub use wgsl_laws::attribute_equality::{
                 attributes, customs, diagnostics, equivalence, interpolations, type_constraints,
                 workgroup_sizes,
             };
@@ -126,19 +131,19 @@ pub mod laws {
 
         /// Of the statements that hold no others.
         pub mod statement {
-            pub use wgsl_simple_statement::equality_laws::{declarations, simple_statements};
+            pub use wgsl_laws::simple_equality::{declarations, simple_statements};
         }
 
         /// Of modules, directives and declarations.
         pub mod unit {
-            pub use wgsl_unit::equality_laws::{
+            pub use wgsl_laws::unit_equality::{
                 directives, equivalence, global_declarations, units,
             };
         }
 
         /// Of module paths, whose hashes agree with it.
         pub mod path {
-            pub use wgsl_path::laws::{origin_equality, path_equality};
+            pub use wgsl_laws::paths::{origin_equality, path_equality};
         }
     }
 }

@@ -1,14 +1,14 @@
 -- What is answered of the tokens that an iterator gave.
 use Rattle.std.proofs.Common.{◌≡◌, inl, inr, subst}
 use Rattle.std.specs.Prelude.{Option, Result, Ok, Err}
-use Rattle.wgsl_model.specs.Symbols.{Symbol, Value}
-use Rattle.wgsl_grammar_theory.specs.Answers.{answer_of, IsAnswer}
-use Rattle.wgsl_grammar_theory.proofs.Answers.{answers_are_true}
+use Rattle.wgsl_model.specs.Grammar.Symbols.{Symbol, Value}
+use Rattle.wgsl_theory_grammar.specs.Answers.{answer_of, IsAnswer}
+use Rattle.wgsl_theory_grammar.proofs.Faults.Answers.{answers_are_true}
 use Rattle.wgsl_error.specs.declared.Error.{Error}
 use Rattle.wgsl_lexer.specs.declared.collect.Collected.{Collected}
 use Rattle.wgsl_lexer.specs.Given.{TokenItem, Gave}
 use Rattle.wgsl_lexer.specs.Placed.{tokens_view, ending_view}
-use Rattle.wgsl_answer.specs.Answers.{IsOutOfMemory, Answered}
+use Rattle.wgsl_read_cursor.specs.Answers.{Answered}
 use Rattle.wgsl_parser.specs.Iterators.{Derived, IsParsed}
 
 -- what is answered of the tokens that it gave
@@ -19,10 +19,6 @@ parsed_is n view starts steps it found (Ok v) h g a =
 parsed_is n view starts steps it found (Err e) h g (inl m) = record { accepted = tt; refused = inl m }
 parsed_is n view starts steps it found (Err e) h g (inr a) =
     record { accepted = tt; refused = inr (found, (it, h, g), subst (IsAnswer n (tokens_view found) (ending_view found.error)) a (answers_are_true n (tokens_view found) (ending_view found.error))) }
-
--- where memory was refused for the tokens
-pub unparsed_is : (n : Symbol) {X S : Type 0} (accepts : X → Collected → Type 0) (starts : S → Type 0) (steps : S → Option TokenItem → S → Type 0) (e : Error) → IsOutOfMemory e → IsParsed n accepts starts steps (Err e)
-unparsed_is n accepts starts steps e m = record { accepted = tt; refused = inl m }
 
 -- a refusal, where something else would be accepted
 pub refused_alike : (n : Symbol) {X Y S : Type 0} (accepts : X → Collected → Type 0) (takes : Y → Collected → Type 0) (starts : S → Type 0) (steps : S → Option TokenItem → S → Type 0) (read : Result X Error) (e : Error) → IsParsed n accepts starts steps read

@@ -2,18 +2,18 @@
 use Rattle.std.proofs.Common.{◌≡◌, ℕ, List, [], ◌∷◌, inl, inr, ap₂, subst, Ok, Err, Result}
 use Rattle.std.specs.Prelude.{Option}
 use Rattle.grammar.specs.Tokens.{Token, last_end}
-use Rattle.grammar.specs.Faults.{Ending}
+use Rattle.grammar.specs.Endings.{Ending}
 use Rattle.grammar.specs.States.{first_start}
-use Rattle.wgsl_model.specs.Expressions as plain
-use Rattle.wgsl_model.specs.Symbols.{Symbol.template_list}
-use Rattle.wgsl_grammar_theory.specs.Answers.{answer_of, IsAnswer}
-use Rattle.wgsl_grammar_theory.proofs.Answers.{answers_are_true}
+use Rattle.wgsl_model.specs.Trees.Expressions as plain
+use Rattle.wgsl_model.specs.Grammar.Symbols.{Symbol.template_list}
+use Rattle.wgsl_theory_grammar.specs.Answers.{answer_of, IsAnswer}
+use Rattle.wgsl_theory_grammar.proofs.Faults.Answers.{answers_are_true}
 use Rattle.wgsl_span.specs.declared.Span.{Span}
 use Rattle.wgsl_error.specs.declared.Error.{Error}
 use Rattle.wgsl_lexer.specs.declared.collect.Collected.{Collected}
 use Rattle.wgsl_lexer.specs.Given.{TokenItem, Gave}
 use Rattle.wgsl_lexer.specs.Placed.{tokens_view, ending_view}
-use Rattle.wgsl_answer.specs.Answers.{Answered}
+use Rattle.wgsl_read_cursor.specs.Answers.{Answered}
 use Rattle.wgsl_parser.specs.Iterators.{Derived, IsParsed}
 use Rattle.wgsl_parser.specs.Spans.{IsSpanOf, SpanAnswered}
 

@@ -1,15 +1,15 @@
 -- The span of a template list.
 use Rattle.std.specs.Prelude.{◌≡◌, ◌⊎◌, List, Result, Ok, Err}
 use Rattle.grammar.specs.Tokens.{Token, span_of}
-use Rattle.grammar.specs.Faults.{Ending, Answer.accepted, Answer.denied}
-use Rattle.wgsl_model.specs.Expressions.{ExpressionNode}
-use Rattle.wgsl_model.specs.Symbols.{Symbol.template_list}
-use Rattle.wgsl_grammar_theory.specs.Answers.{answer_of}
+use Rattle.grammar.specs.Endings.{Ending, Answer.accepted, Answer.denied}
+use Rattle.wgsl_model.specs.Trees.Expressions.{ExpressionNode}
+use Rattle.wgsl_model.specs.Grammar.Symbols.{Symbol.template_list}
+use Rattle.wgsl_theory_grammar.specs.Answers.{answer_of}
 use Rattle.wgsl_span.specs.declared.Span.{Span}
 use Rattle.wgsl_span.specs.View.{span_view}
 use Rattle.wgsl_error.specs.declared.Error.{Error}
 use Rattle.wgsl_error.specs.View.{fault_view}
-use Rattle.wgsl_answer.specs.Answers.{IsOutOfMemory}
+use Rattle.wgsl_read_cursor.specs.Answers.{IsOutOfMemory}
 
 -- a span runs from the first of some tokens to the last
 abbrev pub IsSpanOf : Span → List Token → Type 0

@@ -1,9 +1,9 @@
 //! What could stand behind a value, where a token is left.
 
-use wgsl_cursor::{Expected, Fault};
-use wgsl_statement::{Statement, StatementNode};
-use wgsl_token::kind::TokenKind;
-use wgsl_unit::TranslationUnit;
+use wgsl_lex_token::kind::TokenKind;
+use wgsl_read_cursor::{Expected, Fault};
+use wgsl_tree_statement::{Statement, StatementNode};
+use wgsl_tree_unit::TranslationUnit;
 
 /// Behind an expression: a component, an operator, the arguments of a call or a template list.
 pub(crate) const BEHIND_EXPRESSION: Expected = Expected::OneOf(&[

@@ -3,28 +3,30 @@
 ghost use Rattle.std.specs.Prelude.{ℕ, List, Result, chars};
 ghost use Rattle.wgsl_error.specs.declared.Error.{Error};
 ghost use Rattle.grammar.specs.Tokens.{Span};
-ghost use Rattle.wgsl_model.specs.Expressions.{ExpressionNode.expression_node};
-ghost use Rattle.wgsl_model.specs.Statements.{StatementNode.statement_node};
-ghost use Rattle.wgsl_model.specs.Spanned.{spanned};
-ghost use Rattle.wgsl_model.specs.Symbols.{Symbol.unit, Symbol.global_directive, Symbol.global_declaration, Symbol.statement, Symbol.expression};
-ghost use Rattle.wgsl_expression.specs.View.{expression_view};
-ghost use Rattle.wgsl_statement.specs.View.{statement_view};
-ghost use Rattle.wgsl_unit.specs.View.{unit_view, global_directive_view, global_declaration_view};
-ghost use Rattle.wgsl_parser.specs.Sources.{IsTreeOf, IsRead};
+ghost use Rattle.wgsl_model.specs.Trees.Expressions.{ExpressionNode.expression_node};
+ghost use Rattle.wgsl_model.specs.Trees.Statements.{StatementNode.statement_node};
+ghost use Rattle.wgsl_model.specs.Trees.Spanned.{spanned};
+ghost use Rattle.wgsl_model.specs.Grammar.Symbols.{Symbol.unit, Symbol.global_directive, Symbol.global_declaration, Symbol.statement, Symbol.expression};
+ghost use Rattle.wgsl_tree_expression.specs.View.{expression_view};
+ghost use Rattle.wgsl_tree_statement.specs.View.{statement_view};
+ghost use Rattle.wgsl_tree_unit.specs.View.{unit_view, global_directive_view, global_declaration_view};
+ghost use Rattle.wgsl_model.specs.SourceTrees.{IsTreeOf};
+ghost use Rattle.wgsl_parser.specs.Sources.{IsRead};
 
 use crate::source::{declaration_from, directive_from, expression_from, statement_from, unit_from};
 use std::alloc::Global;
 use wgsl_error::Error;
-use wgsl_expression::Expression;
-use wgsl_statement::Statement;
-use wgsl_unit::{GlobalDeclaration, GlobalDirective, TranslationUnit};
+use wgsl_tree_expression::Expression;
+use wgsl_tree_statement::Statement;
+use wgsl_tree_unit::{GlobalDeclaration, GlobalDirective, TranslationUnit};
 
 /// What can be read from a text, whole and by itself.
 pub trait FromSource: Sized {
     // What is answered of a source.
     ghost reads: { List ℕ → Result Self Error → Type 0 };
 
-    /// What the text is, or what is wrong with it. The span of a node is left out: it is that of all of its tokens.
+    /// What the text is, or what is wrong with it. The span of a node is left out: it is that of
+    /// all of its tokens.
     fn from_str(alloc: Global, source: &str) -> Result<Self, Error>
         ensures { reads source.now result };
 }
@@ -48,7 +50,7 @@ impl FromSource for GlobalDirective {
 impl FromSource for GlobalDeclaration {
     ghost reads = { λ source result. IsRead global_declaration (λ d. (s : Span) × IsTreeOf global_declaration (chars source) (spanned (global_declaration_view d) s)) source result };
 
-    #[tactic(auto, using(crate::proofs::Texts::refused_alike, crate::proofs::Texts::accepted_alike))]
+    #[tactic(auto, using(crate::proofs::Texts::alike))]
     fn from_str(alloc: Global, source: &str) -> Result<Self, Error> {
         Ok(declaration_from(alloc, source)?.into_inner())
     }
@@ -57,7 +59,7 @@ impl FromSource for GlobalDeclaration {
 impl FromSource for Statement {
     ghost reads = { λ source result. IsRead statement (λ s. (place : Span) × IsTreeOf statement (chars source) (statement_node (statement_view s) place)) source result };
 
-    #[tactic(auto, using(crate::proofs::Texts::refused_alike, crate::proofs::Texts::accepted_alike))]
+    #[tactic(auto, using(crate::proofs::Texts::alike))]
     fn from_str(alloc: Global, source: &str) -> Result<Self, Error> {
         Ok(statement_from(alloc, source)?.into_inner())
     }
@@ -66,7 +68,7 @@ impl FromSource for Statement {
 impl FromSource for Expression {
     ghost reads = { λ source result. IsRead expression (λ e. (s : Span) × IsTreeOf expression (chars source) (expression_node (expression_view e) s)) source result };
 
-    #[tactic(auto, using(crate::proofs::Texts::refused_alike, crate::proofs::Texts::accepted_alike))]
+    #[tactic(auto, using(crate::proofs::Texts::alike))]
     fn from_str(alloc: Global, source: &str) -> Result<Self, Error> {
         Ok(expression_from(alloc, source)?.into_inner())
     }

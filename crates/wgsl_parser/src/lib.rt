@@ -1,4 +1,5 @@
-//! Reading modules, and the parts of modules that are read by themselves, from texts and from lists of tokens.
+//! Reading modules, and the parts of modules that are read by themselves, from texts and from lists
+//! of tokens.
 #![tactic(auto)]
 
 mod expected;

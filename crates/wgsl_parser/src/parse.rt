@@ -3,21 +3,23 @@
 ghost use Rattle.std.specs.Prelude.{◌⊎◌, chars, length, IfOk, IfErr};
 ghost use Rattle.wgsl_model.specs.Program.{IsUnit, IsFaultOf};
 ghost use Rattle.wgsl_error.specs.View.{fault_view};
-ghost use Rattle.wgsl_unit.specs.View.{unit_view};
-ghost use Rattle.wgsl_answer.specs.Answers.{IsOutOfMemory};
-ghost use Rattle.wgsl_answer.specs.Places.{StandsWithin};
+ghost use Rattle.wgsl_tree_unit.specs.View.{unit_view};
+ghost use Rattle.wgsl_read_cursor.specs.Answers.{IsOutOfMemory};
+ghost use Rattle.wgsl_read_cursor.specs.Places.{StandsWithin};
 
 use crate::source::unit_from;
 use std::alloc::Global;
 use wgsl_error::Error;
-use wgsl_unit::TranslationUnit;
+use wgsl_tree_unit::TranslationUnit;
 
-/// The module that a text is, or what is wrong with it: the checked fault that ends first, as a reserved word in place
-/// of a name or an attribute whose arguments do not fit, if it ends before the first token that can't stand where it
-/// stands; else that token; else the text that is no token; else that the text ends too early.
+/// The module that a text is, or what is wrong with it: the checked fault that ends first, as a
+/// reserved word in place of a name or an attribute whose arguments do not fit, if it ends before
+/// the first token that can't stand where it stands; else that token; else the text that is no
+/// token; else that the text ends too early.
 pub fn parse_str(alloc: Global, source: &str) -> Result<TranslationUnit, Error>
     ensures accepted { IfOk result (λ unit. IsUnit (chars source.now) (unit_view unit)) }
-    ensures refused { IfErr result (λ e. IsOutOfMemory e ⊎ IsFaultOf (chars source.now) (fault_view e)) }
+    ensures refused { IfErr result (λ e.
+        IsOutOfMemory e ⊎ IsFaultOf (chars source.now) (fault_view e)) }
     ensures placed { IfErr result (λ e. StandsWithin e.span (length source.now)) }
 {
     unit_from(alloc, source)

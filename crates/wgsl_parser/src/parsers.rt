@@ -1,24 +1,24 @@
 //! Parsers of lists of tokens that iterators give.
 
 ghost use Rattle.grammar.specs.Tokens.{Span};
-ghost use Rattle.wgsl_model.specs.Expressions.{ExpressionNode.expression_node};
-ghost use Rattle.wgsl_model.specs.Statements.{StatementNode.statement_node};
-ghost use Rattle.wgsl_model.specs.Spanned.{spanned};
-ghost use Rattle.wgsl_model.specs.Symbols.{Symbol.unit, Symbol.global_directive, Symbol.global_declaration, Symbol.statement, Symbol.expression, Symbol.literal};
-ghost use Rattle.wgsl_expression.specs.View.{expression_view, literal_view};
-ghost use Rattle.wgsl_statement.specs.View.{statement_view};
-ghost use Rattle.wgsl_unit.specs.View.{unit_view, global_directive_view, global_declaration_view};
+ghost use Rattle.wgsl_model.specs.Trees.Expressions.{ExpressionNode.expression_node};
+ghost use Rattle.wgsl_model.specs.Trees.Statements.{StatementNode.statement_node};
+ghost use Rattle.wgsl_model.specs.Trees.Spanned.{spanned};
+ghost use Rattle.wgsl_model.specs.Grammar.Symbols.{Symbol.unit, Symbol.global_directive, Symbol.global_declaration, Symbol.statement, Symbol.expression, Symbol.literal};
+ghost use Rattle.wgsl_tree_expression.specs.View.{expression_view, literal_view};
+ghost use Rattle.wgsl_tree_statement.specs.View.{statement_view};
+ghost use Rattle.wgsl_tree_unit.specs.View.{unit_view, global_directive_view, global_declaration_view};
 ghost use Rattle.wgsl_parser.specs.Iterators.{Derived, IsParsed};
 
 use crate::from_tokens::{declaration_given, expression_given, statement_given};
 use crate::whole::{directive_of, literal_of, unit_of};
 use std::alloc::Global;
-use wgsl_answer::TokenSource;
 use wgsl_error::Error;
-use wgsl_expression::{Expression, LiteralExpression};
 use wgsl_lexer::{TokenIterator, collect_tokens};
-use wgsl_statement::Statement;
-use wgsl_unit::{GlobalDeclaration, GlobalDirective, TranslationUnit};
+use wgsl_read_cursor::TokenSource;
+use wgsl_tree_expression::{Expression, LiteralExpression};
+use wgsl_tree_statement::Statement;
+use wgsl_tree_unit::{GlobalDeclaration, GlobalDirective, TranslationUnit};
 
 /// Reads a module from all tokens of an iterator. It keeps nothing between calls.
 #[derive(Default, Drop)]
@@ -29,13 +29,15 @@ impl TranslationUnitParser {
         TranslationUnitParser
     }
 
-    /// What the tokens are, or what is wrong with them. Behind its first error the iterator is asked for nothing more.
+    /// What the tokens are, or what is wrong with them. Behind its first error the iterator is
+    /// asked for nothing more.
     pub fn parse<T: TokenIterator>(
         &self,
         alloc: Global,
         tokens: T,
     ) -> Result<TranslationUnit, Error>
-        ensures { IsParsed unit (λ v found. Derived unit (unit_view v) found) (T.into_iter_gives tokens) T.IntoIter.next_gives result }
+        ensures { IsParsed unit (λ v found. Derived unit (unit_view v) found)
+            (T.into_iter_gives tokens) T.IntoIter.next_gives result }
     {
         unit_of(alloc, TokenSource::new(collect_tokens(alloc, tokens)?)?)
     }
@@ -50,13 +52,16 @@ impl GlobalDirectiveParser {
         GlobalDirectiveParser
     }
 
-    /// What the tokens are, or what is wrong with them. Behind its first error the iterator is asked for nothing more.
+    /// What the tokens are, or what is wrong with them. Behind its first error the iterator is
+    /// asked for nothing more.
     pub fn parse<T: TokenIterator>(
         &self,
         alloc: Global,
         tokens: T,
     ) -> Result<GlobalDirective, Error>
-        ensures { IsParsed global_directive (λ v found. Derived global_directive (global_directive_view v) found) (T.into_iter_gives tokens) T.IntoIter.next_gives result }
+        ensures { IsParsed global_directive
+            (λ v found. Derived global_directive (global_directive_view v) found)
+            (T.into_iter_gives tokens) T.IntoIter.next_gives result }
     {
         directive_of(alloc, TokenSource::new(collect_tokens(alloc, tokens)?)?)
     }
@@ -71,14 +76,17 @@ impl GlobalDeclParser {
         GlobalDeclParser
     }
 
-    /// What the tokens are, or what is wrong with them. Behind its first error the iterator is asked for nothing more.
+    /// What the tokens are, or what is wrong with them. Behind its first error the iterator is
+    /// asked for nothing more.
     #[tactic(auto, using(crate::proofs::Given::refused_alike))]
     pub fn parse<T: TokenIterator>(
         &self,
         alloc: Global,
         tokens: T,
     ) -> Result<GlobalDeclaration, Error>
-        ensures { IsParsed global_declaration (λ d found. (s : Span) × Derived global_declaration (spanned (global_declaration_view d) s) found) (T.into_iter_gives tokens) T.IntoIter.next_gives result }
+        ensures { IsParsed global_declaration (λ d found. (s : Span) ×
+            Derived global_declaration (spanned (global_declaration_view d) s) found)
+            (T.into_iter_gives tokens) T.IntoIter.next_gives result }
     {
         Ok(declaration_given(alloc, tokens)?.into_inner())
     }
@@ -93,10 +101,13 @@ impl StatementParser {
         StatementParser
     }
 
-    /// What the tokens are, or what is wrong with them. Behind its first error the iterator is asked for nothing more.
+    /// What the tokens are, or what is wrong with them. Behind its first error the iterator is
+    /// asked for nothing more.
     #[tactic(auto, using(crate::proofs::Given::refused_alike))]
     pub fn parse<T: TokenIterator>(&self, alloc: Global, tokens: T) -> Result<Statement, Error>
-        ensures { IsParsed statement (λ s found. (place : Span) × Derived statement (statement_node (statement_view s) place) found) (T.into_iter_gives tokens) T.IntoIter.next_gives result }
+        ensures { IsParsed statement (λ s found. (place : Span) ×
+            Derived statement (statement_node (statement_view s) place) found)
+            (T.into_iter_gives tokens) T.IntoIter.next_gives result }
     {
         Ok(statement_given(alloc, tokens)?.into_inner())
     }
@@ -111,10 +122,12 @@ impl ExpressionParser {
         ExpressionParser
     }
 
-    /// What the tokens are, or what is wrong with them. Behind its first error the iterator is asked for nothing more.
+    /// What the tokens are, or what is wrong with them. Behind its first error the iterator is
+    /// asked for nothing more.
     #[tactic(auto, using(crate::proofs::Given::refused_alike))]
     pub fn parse<T: TokenIterator>(&self, alloc: Global, tokens: T) -> Result<Expression, Error>
-        ensures { IsParsed expression (λ e found. (s : Span) × Derived expression (expression_node (expression_view e) s) found) (T.into_iter_gives tokens) T.IntoIter.next_gives result }
+        ensures { IsParsed expression (λ e found. (s : Span) × Derived expression (expression_node
+            (expression_view e) s) found) (T.into_iter_gives tokens) T.IntoIter.next_gives result }
     {
         Ok(expression_given(alloc, tokens)?.into_inner())
     }
@@ -129,13 +142,15 @@ impl LiteralParser {
         LiteralParser
     }
 
-    /// What the tokens are, or what is wrong with them. Behind its first error the iterator is asked for nothing more.
+    /// What the tokens are, or what is wrong with them. Behind its first error the iterator is
+    /// asked for nothing more.
     pub fn parse<T: TokenIterator>(
         &self,
         alloc: Global,
         tokens: T,
     ) -> Result<LiteralExpression, Error>
-        ensures { IsParsed literal (λ v found. Derived literal (literal_view v) found) (T.into_iter_gives tokens) T.IntoIter.next_gives result }
+        ensures { IsParsed literal (λ v found. Derived literal (literal_view v) found)
+            (T.into_iter_gives tokens) T.IntoIter.next_gives result }
     {
         literal_of(alloc, TokenSource::new(collect_tokens(alloc, tokens)?)?)
     }

@@ -2,26 +2,25 @@
 
 ghost use Rattle.std.specs.Prelude.{◌≡◌, List, map};
 ghost use Rattle.grammar.specs.States.{first_start};
-ghost use Rattle.wgsl_model.specs.Expressions as plain;
-ghost use Rattle.wgsl_model.specs.Symbols.{Symbol.template_list};
-ghost use Rattle.wgsl_grammar_theory.specs.Answers.{answer_of};
-ghost use Rattle.wgsl_token.specs.Placed.{placed_view};
+ghost use Rattle.wgsl_model.specs.Trees.Expressions as plain;
+ghost use Rattle.wgsl_model.specs.Grammar.Symbols.{Symbol.template_list};
+ghost use Rattle.wgsl_theory_grammar.specs.Answers.{answer_of};
+ghost use Rattle.wgsl_lex_token.specs.Placed.{placed_view};
 ghost use Rattle.wgsl_lexer.specs.Placed.{tokens_view, ending_view};
-ghost use Rattle.wgsl_expression.specs.View.{template_arg_view};
-ghost use Rattle.wgsl_answer.specs.Answers.{Answered};
+ghost use Rattle.wgsl_tree_expression.specs.View.{template_arg_view};
+ghost use Rattle.wgsl_read_cursor.specs.Answers.{Answered};
 ghost use Rattle.wgsl_parser.specs.Iterators.{Derived, IsParsed};
 ghost use Rattle.wgsl_parser.specs.Spans.{IsSpanOf, SpanAnswered};
 
 use std::alloc::Global;
 use std::collections::VecDeque;
-use wgsl_answer::{TokenSource, last_end};
-use wgsl_cursor::Expected;
 use wgsl_error::Error;
-use wgsl_expression::TemplateArg;
-use wgsl_expression_reader::parse_template_list;
+use wgsl_lex_token::placed::PlacedToken;
 use wgsl_lexer::{Collected, TokenIterator, collect_tokens};
+use wgsl_read_cursor::{Expected, TokenSource, last_end};
+use wgsl_read_expression::parse_template_list;
 use wgsl_span::Span;
-use wgsl_token::placed::PlacedToken;
+use wgsl_tree_expression::TemplateArg;
 
 /// Where the first token starts, or 0 where there is none.
 fn first_start(tokens: &VecDeque<PlacedToken>) -> usize
@@ -45,9 +44,10 @@ fn span_of(found: &Collected) -> Span
 }
 
 /// The arguments of the template list that the tokens are.
-#[tactic(auto, using(wgsl_answer::proofs::Seen::source_seen))]
+#[tactic(auto, using(wgsl_read_cursor::proofs::Seen::source_seen))]
 fn template_args_of(alloc: Global, found: Collected) -> Result<Vec<TemplateArg>, Error>
-    ensures { Answered (λ args. map template_arg_view args.items) result (answer_of template_list (tokens_view found) (ending_view found.error)) }
+    ensures { Answered (λ args. map template_arg_view args.items) result
+        (answer_of template_list (tokens_view found) (ending_view found.error)) }
 {
     let mut source = TokenSource::new(found)?;
     let read = parse_template_list(alloc, &mut source.tokens);
@@ -72,18 +72,22 @@ impl TryTemplateListParser {
         TryTemplateListParser
     }
 
-    /// The span of the template list that the tokens are, from its start to its end, or what is wrong with them.
-    /// Behind its first error the iterator is asked for nothing more.
+    /// The span of the template list that the tokens are, from its start to its end, or what is
+    /// wrong with them. Behind its first error the iterator is asked for nothing more.
     pub fn parse<T: TokenIterator>(&self, alloc: Global, tokens: T) -> Result<Span, Error>
-        ensures { IsParsed template_list (λ span found. (es : List plain.ExpressionNode) × Derived template_list es found × IsSpanOf span (tokens_view found)) (T.into_iter_gives tokens) T.IntoIter.next_gives result }
+        ensures { IsParsed template_list (λ span found. (es : List plain.ExpressionNode) ×
+            Derived template_list es found × IsSpanOf span (tokens_view found))
+            (T.into_iter_gives tokens) T.IntoIter.next_gives result }
     {
         template_list_of(alloc, collect_tokens(alloc, tokens)?)
     }
 }
 
-/// Whether all tokens of an iterator are a template list: Ok where they are, or what is wrong with them.
+/// Whether all tokens of an iterator are a template list: Ok where they are, or what is wrong with
+/// them.
 pub fn recognize_template_list<T: TokenIterator>(alloc: Global, lexer: T) -> Result<(), Error>
-    ensures { IsParsed template_list (λ _ found. (es : List plain.ExpressionNode) × Derived template_list es found) (T.into_iter_gives lexer) T.IntoIter.next_gives result }
+    ensures { IsParsed template_list (λ _ found. (es : List plain.ExpressionNode) ×
+        Derived template_list es found) (T.into_iter_gives lexer) T.IntoIter.next_gives result }
 {
     TryTemplateListParser::new().parse(alloc, lexer)?;
     Ok(())

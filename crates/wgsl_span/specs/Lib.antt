@@ -2,3 +2,4 @@ pub mod Spanned
 pub mod Lending
 pub mod View
 pub mod Copies
+pub mod Keeps

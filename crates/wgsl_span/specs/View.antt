@@ -1,6 +1,6 @@
 -- Spans and spanned nodes as plain data.
 use Rattle.grammar.specs.Tokens as plain
-use Rattle.wgsl_model.specs.Spanned as plain_tree
+use Rattle.wgsl_model.specs.Trees.Spanned as plain_tree
 use Rattle.wgsl_span.specs.declared.Span.{Span}
 use Rattle.wgsl_span.specs.declared.Spanned.{Spanned}
 use Rattle.wgsl_span.specs.Spanned.{spanned_node, spanned_span}

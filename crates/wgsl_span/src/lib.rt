@@ -1,15 +1,17 @@
 //! Places in a text, and nodes that carry them.
 #![tactic(auto)]
 
+mod clones;
+mod retain;
+
 ghost use Rattle.std.specs.Prelude.{◌≡◌, IfOk};
 ghost use Rattle.std.specs.Borrow.{sem};
 ghost use Rattle.std.specs.Cmp.{on_per};
 ghost use Rattle.wgsl_span.specs.Spanned.{spanned_node, spanned_span};
 ghost use Rattle.wgsl_span.specs.Lending.{LendsNode};
 
-mod clones;
-
 pub use clones::CloneWith;
+pub use retain::retain_nodes;
 use std::alloc::{AllocError, Global};
 use std::fmt;
 use std::ops::Range;

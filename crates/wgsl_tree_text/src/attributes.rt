@@ -4,11 +4,11 @@ use crate::expressions::{write_expression_node, write_type};
 use crate::texts::{write_ident, write_place, write_text, write_word};
 use std::fmt;
 use std::fmt::Write;
-use wgsl_attribute::{
+use wgsl_tree_attribute::{
     Attribute, Attributes, CustomAttribute, DiagnosticAttribute, InterpolateAttribute,
     TypeConstraint, WorkgroupSizeAttribute,
 };
-use wgsl_expression::ExpressionNode;
+use wgsl_tree_expression::ExpressionNode;
 
 /// Writes a list of attributes with their spans.
 pub fn write_attributes<W: fmt::Write>(attributes: &Attributes, out: &mut W) -> fmt::Result {

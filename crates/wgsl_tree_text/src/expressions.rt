@@ -1,12 +1,12 @@
 //! Expressions and types.
 
 ghost use Rattle.std.specs.Prelude.{◌<◌, IfSome};
-ghost use Rattle.wgsl_expression.specs.declared.expression.Expression.TheViews.{size-Expression};
+ghost use Rattle.wgsl_tree_expression.specs.declared.expression.Expression.TheViews.{size-Expression};
 
 use crate::texts::{write_ident, write_place, write_text, write_word};
 use std::fmt;
 use std::fmt::Write;
-use wgsl_expression::{
+use wgsl_tree_expression::{
     BinaryExpression, Expression, ExpressionNode, FunctionCall, IndexingExpression,
     LiteralExpression, NamedComponentExpression, TemplateArg, TypeExpression, UnaryExpression,
 };

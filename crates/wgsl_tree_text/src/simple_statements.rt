@@ -5,12 +5,12 @@ use crate::expressions::{write_call, write_expression_node, write_type};
 use crate::texts::{write_ident, write_word};
 use std::fmt;
 use std::fmt::Write;
-use wgsl_attribute::Attributes;
-use wgsl_expression::{ExpressionNode, TypeExpression};
-use wgsl_named_values::{AccessMode, AddressSpace};
-use wgsl_statement::{
+use wgsl_tree_attribute::Attributes;
+use wgsl_tree_expression::{ExpressionNode, TypeExpression};
+use wgsl_tree_statement::{
     AssignmentStatement, CaseSelector, Declaration, DeclarationKind, FunctionCallStatement,
 };
+use wgsl_tree_words::{AccessMode, AddressSpace};
 
 /// Writes an expression with its span, or `null`.
 pub fn write_optional_expression<W: fmt::Write>(

@@ -9,7 +9,7 @@ use crate::simple_statements::{
 use crate::texts::write_place;
 use std::fmt;
 use std::fmt::Write;
-use wgsl_statement::{
+use wgsl_tree_statement::{
     BreakIfStatement, CompoundStatement, ContinuingStatement, ElseClause, ElseIfClause,
     ForStatement, IfClause, IfStatement, LoopStatement, Statement, StatementNode, SwitchClause,
     SwitchStatement, WhileStatement,

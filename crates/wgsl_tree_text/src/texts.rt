@@ -2,8 +2,8 @@
 
 use std::fmt;
 use std::fmt::Write;
-use wgsl_expression::Ident;
 use wgsl_span::Span;
+use wgsl_tree_expression::Ident;
 
 /// Writes a text in quotes.
 pub fn write_text<W: fmt::Write>(text: &str, out: &mut W) -> fmt::Result {

@@ -7,9 +7,9 @@ use crate::statements::write_block;
 use crate::texts::{write_ident, write_place, write_text, write_texts, write_word};
 use std::fmt;
 use std::fmt::Write;
-use wgsl_attribute::Attributes;
-use wgsl_expression::{Ident, TypeExpression};
-use wgsl_unit::{
+use wgsl_tree_attribute::Attributes;
+use wgsl_tree_expression::{Ident, TypeExpression};
+use wgsl_tree_unit::{
     DiagnosticDirective, FormalParameter, Function, GlobalDeclaration, GlobalDirective, Struct,
     StructMemberNode, TranslationUnit,
 };

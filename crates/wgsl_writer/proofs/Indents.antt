@@ -3,7 +3,7 @@ use Rattle.std.proofs.Common.{ℕ, suc, ◌<◌, ◌≡◌, refl, sym, ◌∙◌
 use Rattle.std.proofs.lemmas.List.{append_assoc, take_more, get_or-take, length-take-le}
 use Rattle.std.proofs.lemmas.Bool.Decides.{eqb_tells}
 use Rattle.std.specs.List.{slice_range}
-use Rattle.wgsl_model.specs.Indentation.{after_line_ends}
+use Rattle.wgsl_model.specs.Printed.Indentation.{after_line_ends}
 use Rattle.wgsl_writer.specs.LineEnds.{IsLineEnd, is_one_line}
 
 pub after_append : (gap xs ys : List ℕ) → after_line_ends gap (xs ++ ys) ≡ after_line_ends gap xs ++ after_line_ends gap ys
@@ -21,10 +21,6 @@ after_none gap (x ∷ xs) h = elim (eqb_tells x 10) [
   | inr e ↦ ap (λ t. if t then x ∷ (gap ++ after_line_ends gap xs) else x ∷ after_line_ends gap xs) e.0
       ∙ ap (λ u. x ∷ u) (after_none gap xs (λ i p. h (suc i) (omega (arith, p))))
 ]
-
-pub after_cut : (gap bs line rest : List ℕ) → bs ≡ line ++ (10 ∷ rest) → ((i : ℕ) → i < length line → get_or line i 0 ≢ 10) → line ++ ((10 ∷ []) ++ (gap ++ after_line_ends gap rest)) ≡ after_line_ends gap bs
-after_cut gap bs line rest e h =
-    sym (ap (after_line_ends gap) e ∙ after_append gap line (10 ∷ rest) ∙ ap (λ u. u ++ (10 ∷ (gap ++ after_line_ends gap rest))) (after_none gap line h))
 
 pub after_one_line : (gap bs : List ℕ) → is_one_line bs ≡ true → after_line_ends gap bs ≡ bs
 after_one_line gap [] h = refl

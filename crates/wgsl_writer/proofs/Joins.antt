@@ -6,7 +6,7 @@ use Rattle.std.specs.List.{flat_map, join_by}
 use Rattle.std.specs.Fmt.{◌++?◌, DisplaysOnOk}
 use Rattle.std.specs.declared.fmt.Formatter.{Formatter}
 use Rattle.std.specs.declared.fmt.Error.{Error}
-use Rattle.wgsl_model.specs.Joining.{joined}
+use Rattle.wgsl_model.specs.Printed.Joining.{joined}
 use Rattle.wgsl_writer.specs.Joined.{further_output, joined_output}
 
 -- what stands before the item at an index

@@ -6,7 +6,7 @@ use Rattle.std.specs.Result.{OnOk}
 use Rattle.std.specs.Fmt.{HasWritten, WritesText}
 use Rattle.std.specs.declared.fmt.Error.{Error}
 use Rattle.wgsl_writer.specs.declared.indented.Indented.{Indented}
-use Rattle.wgsl_model.specs.Indentation.{after_line_ends}
+use Rattle.wgsl_model.specs.Printed.Indentation.{after_line_ends}
 use Rattle.wgsl_writer.specs.Depth.{spaces}
 use Rattle.wgsl_writer.specs.Writing.{Wrote, WritesInto}
 use Rattle.wgsl_writer.proofs.Indents.{after_append}

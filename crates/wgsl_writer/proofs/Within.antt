@@ -7,7 +7,8 @@ use Rattle.std.specs.Fmt.{HasWritten, IsPlainFormatter, WritesOnOk}
 use Rattle.std.specs.declared.fmt.Formatter.{Formatter}
 use Rattle.std.specs.declared.fmt.Error.{Error}
 use denote.Ref.{MutBor}
-use Rattle.wgsl_model.specs.Indentation.{after_line_ends, indented}
+use Rattle.wgsl_model.specs.Printed.Indentation.{after_line_ends, indented}
+use Rattle.wgsl_model.proofs.Filled.{IsFilled}
 use Rattle.wgsl_writer.specs.declared.indented.Indented.{Indented}
 use Rattle.wgsl_writer.specs.Depth.{spaces}
 use Rattle.wgsl_writer.specs.Writing.{IsBack, IsDeeper, WritesInto, Wrote}
@@ -44,19 +45,6 @@ after_four gap (x ∷ xs) =
 abbrev pub begun : List ℕ → List ℕ
 begun [] = []
 begun (b ∷ bs) = codes "    " ++ (b ∷ bs)
-
--- it is not empty
-abbrev pub IsFilled : List ℕ → Type 0
-IsFilled [] = ⊥
-IsFilled (b ∷ bs) = Unit {0}
-
-pub left_filled : (xs ys : List ℕ) → IsFilled xs → IsFilled (xs ++ ys)
-left_filled [] ys h = absurd h
-left_filled (x ∷ xs) ys h = tt
-
-pub right_filled : (xs ys : List ℕ) → IsFilled ys → IsFilled (xs ++ ys)
-right_filled [] ys h = h
-right_filled (x ∷ xs) ys h = tt
 
 pub begun_filled : (text : List ℕ) → IsFilled text → codes "    " ++ text ≡ begun text
 begun_filled [] h = absurd h

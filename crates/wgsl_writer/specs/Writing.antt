@@ -2,7 +2,7 @@
 use Rattle.std.specs.Prelude.{ℕ, ◌+◌, ◌-◌, ◌≡◌, List, Result, IsOk}
 use Rattle.std.specs.Fmt.{HasWritten, IsPlainFormatter}
 use Rattle.std.specs.declared.fmt.Error.{Error}
-use Rattle.wgsl_model.specs.Indentation.{after_line_ends}
+use Rattle.wgsl_model.specs.Printed.Indentation.{after_line_ends}
 use Rattle.wgsl_writer.specs.declared.indented.Indented.{Indented}
 use Rattle.wgsl_writer.specs.Depth.{spaces}
 

@@ -79,7 +79,8 @@ impl<'a, W: fmt::Write> Indented<'a, W> {
 
     /// Writes a value.
     pub fn write_value<D: fmt::Display>(&mut self, value: &D) -> fmt::Result
-        ensures { IfSome (D.output value.now) (λ text. WritesInto W.write_str_gives self.old result text self.new) }
+        ensures { IfSome (D.output value.now) (λ text.
+            WritesInto W.write_str_gives self.old result text self.new) }
     {
         self.write(value)
     }
@@ -116,7 +117,8 @@ fn write_line<'a, W: fmt::Write>(
     out: &mut Indented<'_, W>,
 ) -> Result<&'a str, fmt::Error>
     requires { IsLineEnd text.now end }
-    ensures { IfOk result (λ rest. (text.now ≡ take (end + 1) text.now ++ rest.now) × Wrote W.write_str_gives out.old (take (end + 1) text.now) out.new) }
+    ensures { IfOk result (λ rest. (text.now ≡ take (end + 1) text.now ++ rest.now) ×
+        Wrote W.write_str_gives out.old (take (end + 1) text.now) out.new) }
 {
     out.to.write_str(&text[..end])?;
     out.write_line_end()?;
@@ -125,7 +127,8 @@ fn write_line<'a, W: fmt::Write>(
 
 /// Where the first line end of a text is.
 fn line_end(text: &str) -> Option<usize>
-    ensures { MatchOption result (IsOneLine text.now (length text.now)) (λ at. IsLineEnd text.now at) }
+    ensures { MatchOption result (IsOneLine text.now (length text.now)) (λ at.
+        IsLineEnd text.now at) }
 {
     let bytes = text.as_bytes();
     'bytes: for i in 0..bytes.len() {

@@ -16,7 +16,8 @@ pub fn write_joined<T: fmt::Display, W: fmt::Write>(
     separator: &str,
     f: &mut fmt::Formatter<W>,
 ) -> fmt::Result
-    ensures { DisplaysOnOk W.write_str_gives f.old result (joined_output T.output separator.now items.now) f.new }
+    ensures { DisplaysOnOk W.write_str_gives f.old result
+        (joined_output T.output separator.now items.now) f.new }
 {
     let mut before = "";
     'items: for item in items {

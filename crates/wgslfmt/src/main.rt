@@ -3,7 +3,7 @@
 
 use std::mem::forget;
 use std::process::ExitCode;
-use wgsl_formatter::{refuse_memory, start_keeping};
+use wgsl_format_print::{refuse_memory, start_keeping};
 
 fn main(rt: HostRuntime) -> ExitCode {
     let Ok(arguments) = std::env::args(&rt) else {

@@ -2,7 +2,7 @@
 #![tactic(auto)]
 
 use std::process::ExitCode;
-use wgsl_tidy::{refuse_memory, start};
+use wgsl_format_tidy::{refuse_memory, start};
 
 fn main(rt: HostRuntime) -> ExitCode {
     let Ok(arguments) = std::env::args(&rt) else {

@@ -158,11 +158,11 @@ fn declared(source: &str, kind: &str) -> Kinds {
 #[test]
 fn the_trees_are_those_of_the_library() {
     let source = sources(&[
-        "wgsl_expression",
-        "wgsl_attribute",
-        "wgsl_simple_statement",
-        "wgsl_statement",
-        "wgsl_unit",
+        "wgsl_tree_expression",
+        "wgsl_tree_attribute",
+        "wgsl_tree_simple",
+        "wgsl_tree_statement",
+        "wgsl_tree_unit",
     ]);
     assert_eq!(named(structs(), false), declared(&source, "struct"));
     assert_eq!(named(enums(), true), declared(&source, "enum"));
@@ -171,7 +171,7 @@ fn the_trees_are_those_of_the_library() {
 
 #[test]
 fn the_words_are_those_of_the_library() {
-    let source = sources(&["wgsl_named_values"]);
+    let source = sources(&["wgsl_tree_words"]);
     let mut there = Kinds::new();
     for line in source.lines() {
         let Some((value, word)) = line.trim().split_once(" => \"") else {

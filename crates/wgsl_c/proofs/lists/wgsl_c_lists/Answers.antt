@@ -1,6 +1,6 @@
-use Rattle.std.proofs.Common.{rules, ◌≡◌, ℕ, List, chars, length, subst, ap, ◌∙◌, arith}
-use Rattle.wgsl_model.specs.Places.{width}
-use Rattle.wgsl_templates.specs.Lists.{AreLists}
+use Rattle.std.proofs.Common.{◌≡◌, chars, length, subst, ap, ◌∙◌, arith}
+use Rattle.wgsl_model.specs.Tokens.Places.{width}
+use Rattle.wgsl_lex_templates.specs.Lists.{AreLists}
 use Rattle.wgsl_c.specs.Answers.{counted}
 use Rattle.wgsl_c.specs.Items.{lists_before, ArePlaces}
 use Rattle.wgsl_c.proofs.Written.{all_places}

@@ -1,4 +1,4 @@
-use Rattle.wgsl_dialect.specs.Recognized.{IsRefused}
+use Rattle.wgsl_read_dialect.specs.Recognized.{IsRefused}
 use Rattle.wgsl_c.proofs.Refused.{refused_by}
 use Rattle.wgsl_c.proofs.modules.wgsl_c_recognize.Goals as goal
 

@@ -1,7 +1,7 @@
 use Rattle.std.proofs.Common.{rules, refl, ap, codes, map, string_bytes}
 use Rattle.std.proofs.Output.{has_written_append, has_written_of_eq}
 use Rattle.std.proofs.lemmas.List.{map-id}
-use Rattle.wgsl_model.specs.Joining.{joined}
+use Rattle.wgsl_model.specs.Printed.Joining.{joined}
 use Rattle.wgsl_writer.proofs.Joins.{displays_joined}
 use Rattle.wgsl_error.proofs.display.write_expected.Goals as goal
 

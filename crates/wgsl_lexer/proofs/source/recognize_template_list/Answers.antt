@@ -1,8 +1,8 @@
 use Rattle.std.proofs.Common.{sym, ap, ◌∙◌, chars}
 use Rattle.std.specs.Prelude.{◌-◌, is_some}
-use Rattle.wgsl_model.specs.TokenList.{width}
-use Rattle.wgsl_scanner.specs.View.{lexeme_view}
-use Rattle.wgsl_token_theory.proofs.Places.{bytes_width}
+use Rattle.wgsl_model.specs.Tokens.TokenList.{width}
+use Rattle.wgsl_lex_scanner.specs.View.{lexeme_view}
+use Rattle.wgsl_theory_grammar.proofs.Tokens.Places.{bytes_width}
 use Rattle.wgsl_lexer.proofs.Recognized.{recognized}
 use Rattle.wgsl_lexer.proofs.source.recognize_template_list.Goals as goal
 

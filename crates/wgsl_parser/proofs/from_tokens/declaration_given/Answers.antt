@@ -1,6 +1,6 @@
-use Rattle.wgsl_model.specs.Symbols.{Symbol.global_declaration}
+use Rattle.wgsl_model.specs.Grammar.Symbols.{Symbol.global_declaration}
 use Rattle.wgsl_span.specs.View.{spanned_view}
-use Rattle.wgsl_unit.specs.View.{global_declaration_view}
+use Rattle.wgsl_tree_unit.specs.View.{global_declaration_view}
 use Rattle.wgsl_lexer.specs.Placed.{tokens_view, ending_view}
 use Rattle.wgsl_parser.proofs.Given.{parsed_is}
 use Rattle.wgsl_parser.proofs.from_tokens.declaration_given.Goals as goal

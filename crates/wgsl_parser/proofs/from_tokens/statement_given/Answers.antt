@@ -1,5 +1,5 @@
-use Rattle.wgsl_model.specs.Symbols.{Symbol.statement}
-use Rattle.wgsl_statement.specs.View.{statement_node_view}
+use Rattle.wgsl_model.specs.Grammar.Symbols.{Symbol.statement}
+use Rattle.wgsl_tree_statement.specs.View.{statement_node_view}
 use Rattle.wgsl_lexer.specs.Placed.{tokens_view, ending_view}
 use Rattle.wgsl_parser.proofs.Given.{parsed_is}
 use Rattle.wgsl_parser.proofs.from_tokens.statement_given.Goals as goal

@@ -1,6 +1,6 @@
-use Rattle.wgsl_model.specs.Symbols.{Symbol.global_declaration}
+use Rattle.wgsl_model.specs.Grammar.Symbols.{Symbol.global_declaration}
 use Rattle.wgsl_span.specs.View.{spanned_view}
-use Rattle.wgsl_unit.specs.View.{global_declaration_view}
+use Rattle.wgsl_tree_unit.specs.View.{global_declaration_view}
 use Rattle.wgsl_parser.proofs.Texts.{read_is}
 use Rattle.wgsl_parser.proofs.source.declaration_from.Goals as goal
 

@@ -1,5 +1,5 @@
-use Rattle.wgsl_model.specs.Symbols.{Symbol.global_directive}
-use Rattle.wgsl_unit.specs.View.{global_directive_view}
+use Rattle.wgsl_model.specs.Grammar.Symbols.{Symbol.global_directive}
+use Rattle.wgsl_tree_unit.specs.View.{global_directive_view}
 use Rattle.wgsl_parser.proofs.Texts.{read_is}
 use Rattle.wgsl_parser.proofs.source.directive_from.Goals as goal
 

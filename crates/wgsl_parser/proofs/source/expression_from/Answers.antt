@@ -1,5 +1,5 @@
-use Rattle.wgsl_model.specs.Symbols.{Symbol.expression}
-use Rattle.wgsl_expression.specs.View.{expression_node_view}
+use Rattle.wgsl_model.specs.Grammar.Symbols.{Symbol.expression}
+use Rattle.wgsl_tree_expression.specs.View.{expression_node_view}
 use Rattle.wgsl_parser.proofs.Texts.{read_is}
 use Rattle.wgsl_parser.proofs.source.expression_from.Goals as goal
 

@@ -1,6 +1,6 @@
 use Rattle.std.proofs.Common.{List}
-use Rattle.wgsl_model.specs.Expressions as plain
-use Rattle.wgsl_model.specs.Symbols.{Symbol.template_list}
+use Rattle.wgsl_model.specs.Trees.Expressions as plain
+use Rattle.wgsl_model.specs.Grammar.Symbols.{Symbol.template_list}
 use Rattle.wgsl_lexer.specs.Placed.{tokens_view}
 use Rattle.wgsl_parser.specs.Iterators.{Derived}
 use Rattle.wgsl_parser.specs.Spans.{IsSpanOf}

@@ -1,5 +1,5 @@
 use Rattle.std.proofs.Common.{map}
-use Rattle.wgsl_expression.specs.View.{template_arg_view}
+use Rattle.wgsl_tree_expression.specs.View.{template_arg_view}
 use Rattle.wgsl_lexer.specs.Placed.{tokens_view, ending_view}
 use Rattle.wgsl_parser.proofs.Spans.{span_answered}
 use Rattle.wgsl_parser.proofs.template_list.template_list_of.Goals as goal

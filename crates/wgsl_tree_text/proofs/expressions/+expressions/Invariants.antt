@@ -1,7 +1,7 @@
 use Rattle.std.proofs.Common.{◌≤◌}
 use denote.Text.{Utf8}
 use denote.Shadow.{shadow}
-use Rattle.wgsl_expression.specs.declared.expression.Expression.TheViews.{size-Expression}
+use Rattle.wgsl_tree_expression.specs.declared.expression.Expression.TheViews.{size-Expression}
 use Rattle.wgsl_tree_text.proofs.expressions.+expressions.Given as goal
 
 abbrev pub invariant-write_expression_node-chain : goal.invariant-write_expression_node-chain

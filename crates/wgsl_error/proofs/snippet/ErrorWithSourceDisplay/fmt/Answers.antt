@@ -5,7 +5,7 @@ use Rattle.std.specs.Fmt.{decimal}
 use Rattle.std.specs.List.{concat, before_first, after_last}
 use Rattle.std.specs.Str.{chars, encode_utf8_all, IsUtf8}
 use Rattle.grammar.specs.Tokens.{Span}
-use Rattle.wgsl_model.specs.Snippets.{is_line_feed, text_from, line_number, line_front, line_text, mark_count, snippet}
+use Rattle.wgsl_model.specs.Faults.Snippets.{is_line_feed, text_from, line_number, line_front, line_text, mark_count, snippet}
 use Rattle.wgsl_span.specs.View.{span_view}
 use Rattle.wgsl_error.specs.Printing.{print_error_kind, print_error_with_source}
 use Rattle.wgsl_error.proofs.snippet.ErrorWithSourceDisplay.fmt.Goals as goal

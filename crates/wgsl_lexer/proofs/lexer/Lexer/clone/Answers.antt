@@ -1,6 +1,6 @@
 use Rattle.std.proofs.Common.{List, chars, sym, subst}
 use Rattle.wgsl_span.specs.declared.Span.{Span}
-use Rattle.wgsl_templates.specs.Lists.{AreTold}
+use Rattle.wgsl_lex_templates.specs.Lists.{AreTold}
 use Rattle.wgsl_lexer.proofs.lexer.Lexer.clone.Goals as goal
 
 pub invariant_of-result : goal.invariant_of-result

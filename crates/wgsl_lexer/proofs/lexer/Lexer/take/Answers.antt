@@ -1,13 +1,13 @@
 use Rattle.std.proofs.Common.{◌≡◌, ◌∷◌, ◌∙◌, ◌-◌, ◌≤◌, sym, ap, ap₂, subst, false, drop, chars, arith}
-use Rattle.wgsl_model.specs.Templates.{is_word}
-use Rattle.wgsl_model.specs.TokenList.{place, width}
-use Rattle.wgsl_token.specs.View.{kind_view}
-use Rattle.wgsl_scanner.specs.View.{lexeme_view}
-use Rattle.wgsl_token_theory.proofs.Cuts.{cut_at, joined, behind_first, behind_token}
-use Rattle.wgsl_token_theory.proofs.Places.{bytes_width}
-use Rattle.wgsl_templates.proofs.Known.{known_end}
-use Rattle.wgsl_templates.specs.Lists.{AreTold}
-use Rattle.wgsl_lexer.specs.OpenLists.{Leaves}
+use Rattle.wgsl_model.specs.Tokens.Templates.{is_word}
+use Rattle.wgsl_model.specs.Tokens.TokenList.{place, width}
+use Rattle.wgsl_lex_token.specs.View.{kind_view}
+use Rattle.wgsl_lex_scanner.specs.View.{lexeme_view}
+use Rattle.wgsl_theory_grammar.proofs.Tokens.Cuts.{cut_at, joined, behind_first, behind_token}
+use Rattle.wgsl_theory_grammar.proofs.Tokens.Places.{bytes_width}
+use Rattle.wgsl_lex_templates.proofs.TextLists.Known.{known_end}
+use Rattle.wgsl_lex_templates.specs.Lists.{AreTold}
+use Rattle.wgsl_lexer.specs.OpenLists.{LeavesEnds}
 use Rattle.wgsl_lexer.specs.Left.{LeftOf}
 use Rattle.wgsl_lexer.proofs.Told.{end_told, no_end_told}
 use Rattle.wgsl_lexer.proofs.Lefts.{token_left, start_left, end_left, before_end_of}
@@ -16,7 +16,7 @@ use Rattle.wgsl_lexer.proofs.lexer.Lexer.take.Goals as goal
 pub returns-then-leave-clause-value : goal.returns-then-leave-clause-value
 returns-then-leave-clause-value c ts e h =
     let l = c.args.self.now in
-    let left = subst (λ b. Leaves c.place-start.result l.lists b c.leave.new.self) c.if-leave.true c.leave.ensures in
+    let left = subst (λ b. LeavesEnds c.place-start.result l.lists b c.leave.new.self) c.if-leave.true c.leave.ensures in
     end_left l.total l.lists c.leave.new.self l.behind_word (chars l.rest.now) (chars c.args.from.now) (chars c.args.after.now) (chars c.behind_first-rest.result.now) (lexeme_view c.args.lexeme) c.place-start.result c.place.result ts e
     c.requires.front left c.behind_first-rest.ensures.value c.place-start.ensures c.place.ensures h
 
@@ -53,7 +53,7 @@ overflow_sub-end c =
 pub returns-in-Some-clause-value : goal.returns-in-Some-clause-value
 returns-in-Some-clause-value c ts e h =
     let l = c.args.self.now in
-    let kept = subst (λ b. Leaves c.place-start.result l.lists b c.leave.new.self) c.if-leave.false c.leave.ensures in
+    let kept = subst (λ b. LeavesEnds c.place-start.result l.lists b c.leave.new.self) c.if-leave.false c.leave.ensures in
     let less = sym c.kind-kind.ensures ∙ c.in-Some.ensures.1 in
     let fits : width (chars c.args.after.now) ≤ l.total = omega (arith, bytes_width c.args.after.now c.utf8.after, l.within, c.requires.after) in
     let found = end_told l.total l.templates.lists.spans.items (chars l.rest.now) (chars c.args.from.now) (chars c.args.after.now) (lexeme_view c.args.lexeme) c.place-start.result c.in-Some.end c.requires.front l.told fits
@@ -67,7 +67,7 @@ returns-in-Some-clause-value c ts e h =
 pub returns-clause-value : goal.returns-clause-value
 returns-clause-value c ts e h =
     let l = c.args.self.now in
-    let kept = subst (λ b. Leaves c.place-start.result l.lists b c.leave.new.self) c.if-leave.false c.leave.ensures in
+    let kept = subst (λ b. LeavesEnds c.place-start.result l.lists b c.leave.new.self) c.if-leave.false c.leave.ensures in
     let word = c.is_word-self.ensures ∙ ap is_word c.kind-kind.ensures in
     token_left l.total l.lists l.behind_word (chars l.rest.now) (chars c.args.from.now) (chars c.args.after.now) (lexeme_view c.args.lexeme) c.place-start.result (kind_view c.in_ok-token.token) c.place-2.result ts e
     c.requires.front (before_end_of l.total l.lists (chars c.args.from.now) c.place-start.result c.place-start.ensures kept.1)

@@ -1,6 +1,6 @@
 use Rattle.std.proofs.Common.{sym, inl, inr, chars, [], arith}
 use Rattle.std.proofs.lemmas.Str.{chars-nil}
-use Rattle.wgsl_templates.proofs.Known.{nothing_known}
+use Rattle.wgsl_lex_templates.proofs.TextLists.Known.{nothing_known}
 use Rattle.wgsl_lexer.proofs.Lefts.{ended, nothing_left, fault_left, some_token}
 use Rattle.wgsl_lexer.proofs.lexer.LexerIterator.next.Goals as goal
 

@@ -1,7 +1,7 @@
 use Rattle.std.proofs.Common.{◌≡◌, ◌-◌, sym, ap, chars, length, reverse, arith}
 use Rattle.std.proofs.lemmas.Str.{encodes-chars}
-use Rattle.wgsl_model.specs.TokenList.{width}
-use Rattle.wgsl_templates.proofs.Known.{source_known}
+use Rattle.wgsl_model.specs.Tokens.TokenList.{width}
+use Rattle.wgsl_lex_templates.proofs.TextLists.Known.{source_known}
 use Rattle.wgsl_lexer.proofs.Lefts.{whole_left}
 use Rattle.wgsl_lexer.proofs.Room.{at_most_all}
 use Rattle.wgsl_lexer.proofs.text_tokens.TextTokens.before.Goals as goal

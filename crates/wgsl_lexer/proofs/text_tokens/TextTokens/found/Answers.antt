@@ -1,12 +1,12 @@
 use Rattle.std.proofs.Common.{◌≡◌, ◌∷◌, ◌∙◌, ◌-◌, ◌≤◌, refl, sym, ap, ap₂, subst, false, drop, chars, reverse, length, arith}
-use Rattle.wgsl_model.specs.Templates.{is_word}
-use Rattle.wgsl_model.specs.TokenList.{place, width}
-use Rattle.wgsl_scanner.specs.View.{lexeme_view}
-use Rattle.wgsl_token_theory.proofs.Cuts.{cut_at, joined, behind_first, behind_token}
-use Rattle.wgsl_token_theory.proofs.Places.{bytes_width}
-use Rattle.wgsl_templates.proofs.Known.{known_end}
-use Rattle.wgsl_templates.specs.Lists.{AreTold}
-use Rattle.wgsl_lexer.specs.OpenLists.{Leaves}
+use Rattle.wgsl_model.specs.Tokens.Templates.{is_word}
+use Rattle.wgsl_model.specs.Tokens.TokenList.{place, width}
+use Rattle.wgsl_lex_scanner.specs.View.{lexeme_view}
+use Rattle.wgsl_theory_grammar.proofs.Tokens.Cuts.{cut_at, joined, behind_first, behind_token}
+use Rattle.wgsl_theory_grammar.proofs.Tokens.Places.{bytes_width}
+use Rattle.wgsl_lex_templates.proofs.TextLists.Known.{known_end}
+use Rattle.wgsl_lex_templates.specs.Lists.{AreTold}
+use Rattle.wgsl_lexer.specs.OpenLists.{LeavesEnds}
 use Rattle.wgsl_lexer.specs.Left.{LeftOf}
 use Rattle.wgsl_lexer.proofs.Told.{end_told, no_end_told}
 use Rattle.wgsl_lexer.proofs.Lefts.{token_left, start_left, end_left, before_end_of}
@@ -29,7 +29,7 @@ invariant_of-self c =
 pub returns-then-leave-clause-value : goal.returns-then-leave-clause-value
 returns-then-leave-clause-value c ts e h =
     let l = c.args.self.now in
-    let left = subst (λ b. Leaves c.span_of-span.result.start (reverse l.ends.items) b (reverse c.leave.new.ends.items)) c.if-leave.true c.leave.ensures.value in
+    let left = subst (λ b. LeavesEnds c.span_of-span.result.start (reverse l.ends.items) b (reverse c.leave.new.ends.items)) c.if-leave.true c.leave.ensures.value in
     end_left l.total (reverse l.ends.items) (reverse c.leave.new.ends.items) l.behind_word (chars l.rest.now) (chars c.args.from.now) (chars c.args.after.now) (chars c.behind_first-rest.result.now) (lexeme_view c.args.lexeme)
     c.span_of.result.start c.span_of.result.end ts e c.requires.front (left ∙ ap (λ x. x ∷ reverse c.leave.new.ends.items) (c.span_of-span.ensures.start ∙ sym c.span_of.ensures.start)) c.behind_first-rest.ensures.value
     c.span_of.ensures.start c.span_of.ensures.end h
@@ -72,7 +72,7 @@ invariant_of-self-in-Some c =
 pub returns-in-Some-clause-value : goal.returns-in-Some-clause-value
 returns-in-Some-clause-value c ts e h =
     let l = c.args.self.now in
-    let kept = subst (λ b. Leaves c.span_of-span.result.start (reverse l.ends.items) b (reverse c.leave.new.ends.items)) c.if-leave.false c.leave.ensures.value in
+    let kept = subst (λ b. LeavesEnds c.span_of-span.result.start (reverse l.ends.items) b (reverse c.leave.new.ends.items)) c.if-leave.false c.leave.ensures.value in
     let less = sym c.kind-kind.ensures ∙ c.in-Some.ensures.1 in
     let fits : width (chars c.args.after.now) ≤ l.total = omega (arith, bytes_width c.args.after.now c.utf8.after, l.within, c.requires.after) in
     let found = end_told l.total l.templates.lists.spans.items (chars l.rest.now) (chars c.args.from.now) (chars c.args.after.now) (lexeme_view c.args.lexeme) c.span_of-span.result.start c.in-Some.end c.requires.front l.told fits
@@ -97,7 +97,7 @@ invariant_of-self-2 c =
 pub returns-clause-value : goal.returns-clause-value
 returns-clause-value c ts e h =
     let l = c.args.self.now in
-    let kept = subst (λ b. Leaves c.span_of-span.result.start (reverse l.ends.items) b (reverse c.leave.new.ends.items)) c.if-leave.false c.leave.ensures.value in
+    let kept = subst (λ b. LeavesEnds c.span_of-span.result.start (reverse l.ends.items) b (reverse c.leave.new.ends.items)) c.if-leave.false c.leave.ensures.value in
     let word = c.is_word-self.ensures ∙ ap is_word c.kind-kind.ensures in
     token_left l.total (reverse l.ends.items) l.behind_word (chars l.rest.now) (chars c.args.from.now) (chars c.args.after.now) (lexeme_view c.args.lexeme) c.span_of-span.result.start (lexeme_view c.args.lexeme) c.span_of-span.result.end ts e
     c.requires.front (before_end_of l.total (reverse l.ends.items) (chars c.args.from.now) c.span_of-span.result.start c.span_of-span.ensures.start kept.1)

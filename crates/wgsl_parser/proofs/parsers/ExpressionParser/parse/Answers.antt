@@ -1,9 +1,9 @@
 use Rattle.grammar.specs.Tokens.{Span}
-use Rattle.wgsl_model.specs.Expressions.ExpressionNode.{expression_node}
-use Rattle.wgsl_model.specs.Symbols.{Symbol.expression}
+use Rattle.wgsl_model.specs.Trees.Expressions.ExpressionNode.{expression_node}
+use Rattle.wgsl_model.specs.Grammar.Symbols.{Symbol.expression}
 use Rattle.wgsl_span.specs.Spanned.{spanned_span}
 use Rattle.wgsl_span.specs.View.{span_view}
-use Rattle.wgsl_expression.specs.View.{expression_view, expression_node_view}
+use Rattle.wgsl_tree_expression.specs.View.{expression_view, expression_node_view}
 use Rattle.wgsl_parser.specs.Iterators.{Derived}
 use Rattle.wgsl_parser.proofs.Given.{accepted_alike}
 use Rattle.wgsl_parser.proofs.parsers.ExpressionParser.parse.Goals as goal

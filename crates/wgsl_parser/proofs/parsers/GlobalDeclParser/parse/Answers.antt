@@ -1,9 +1,9 @@
 use Rattle.grammar.specs.Tokens.{Span}
-use Rattle.wgsl_model.specs.Spanned.{spanned}
-use Rattle.wgsl_model.specs.Symbols.{Symbol.global_declaration}
+use Rattle.wgsl_model.specs.Trees.Spanned.{spanned}
+use Rattle.wgsl_model.specs.Grammar.Symbols.{Symbol.global_declaration}
 use Rattle.wgsl_span.specs.Spanned.{spanned_span}
 use Rattle.wgsl_span.specs.View.{span_view, spanned_view}
-use Rattle.wgsl_unit.specs.View.{global_declaration_view}
+use Rattle.wgsl_tree_unit.specs.View.{global_declaration_view}
 use Rattle.wgsl_parser.specs.Iterators.{Derived}
 use Rattle.wgsl_parser.proofs.Given.{accepted_alike}
 use Rattle.wgsl_parser.proofs.parsers.GlobalDeclParser.parse.Goals as goal

@@ -1,5 +1,5 @@
-use Rattle.wgsl_model.specs.Symbols.{Symbol.literal}
-use Rattle.wgsl_expression.specs.View.{literal_view}
+use Rattle.wgsl_model.specs.Grammar.Symbols.{Symbol.literal}
+use Rattle.wgsl_tree_expression.specs.View.{literal_view}
 use Rattle.wgsl_lexer.specs.Placed.{tokens_view, ending_view}
 use Rattle.wgsl_parser.proofs.Given.{parsed_is}
 use Rattle.wgsl_parser.proofs.parsers.LiteralParser.parse.Goals as goal

@@ -1,9 +1,9 @@
 use Rattle.grammar.specs.Tokens.{Span}
-use Rattle.wgsl_model.specs.Statements.StatementNode.{statement_node}
-use Rattle.wgsl_model.specs.Symbols.{Symbol.statement}
+use Rattle.wgsl_model.specs.Trees.Statements.StatementNode.{statement_node}
+use Rattle.wgsl_model.specs.Grammar.Symbols.{Symbol.statement}
 use Rattle.wgsl_span.specs.Spanned.{spanned_span}
 use Rattle.wgsl_span.specs.View.{span_view}
-use Rattle.wgsl_statement.specs.View.{statement_view, statement_node_view}
+use Rattle.wgsl_tree_statement.specs.View.{statement_view, statement_node_view}
 use Rattle.wgsl_parser.specs.Iterators.{Derived}
 use Rattle.wgsl_parser.proofs.Given.{accepted_alike}
 use Rattle.wgsl_parser.proofs.parsers.StatementParser.parse.Goals as goal

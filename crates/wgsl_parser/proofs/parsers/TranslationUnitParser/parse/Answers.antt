@@ -1,5 +1,5 @@
-use Rattle.wgsl_model.specs.Symbols.{Symbol.unit}
-use Rattle.wgsl_unit.specs.View.{unit_view}
+use Rattle.wgsl_model.specs.Grammar.Symbols.{Symbol.unit}
+use Rattle.wgsl_tree_unit.specs.View.{unit_view}
 use Rattle.wgsl_lexer.specs.Placed.{tokens_view, ending_view}
 use Rattle.wgsl_parser.proofs.Given.{parsed_is}
 use Rattle.wgsl_parser.proofs.parsers.TranslationUnitParser.parse.Goals as goal

@@ -1,5 +1,0 @@
-pub mod Lasts
-pub mod Behind
-pub mod Origins
-pub mod Seen
-pub mod Places

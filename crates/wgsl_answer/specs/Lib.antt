@@ -1,4 +1,0 @@
-pub mod Sources
-pub mod Origins
-pub mod Answers
-pub mod Places

@@ -1,3 +1,0 @@
-mod Copies
-mod Lines
-pub mod Equalities

@@ -1,9 +1,0 @@
-pub mod BareWords
-pub mod Counts
-pub mod Equations
-pub mod Settled
-pub mod Templates
-pub mod Begun
-pub mod Classes
-pub mod Hints
-pub mod Variants

@@ -1,8 +1,0 @@
-use Rattle.std.proofs.Common.{rules, ap, ◌∙◌, option_map}
-use Rattle.wgsl_named_values.specs.View.{access_mode_view}
-use Rattle.wgsl_expression.specs.View.{expression_node_view}
-use Rattle.wgsl_attribute_reader.proofs.BareWords.{access_mode_named}
-use Rattle.wgsl_attribute_reader.proofs.bare.bare_access_mode.Goals as goal
-
-pub returns : goal.returns
-returns c = ap (option_map access_mode_view) c.ok.ensures.value ∙ access_mode_named (expression_node_view c.args.expression) c.in_ok-bare_name.field-0 (search rules) c.from_str.result (search rules)

@@ -1,8 +1,0 @@
-use Rattle.std.proofs.Common.{rules, ap, ◌∙◌, option_map}
-use Rattle.wgsl_named_values.specs.View.{interpolation_type_view}
-use Rattle.wgsl_expression.specs.View.{expression_node_view}
-use Rattle.wgsl_attribute_reader.proofs.BareWords.{interpolation_type_named}
-use Rattle.wgsl_attribute_reader.proofs.bare.bare_interpolation_type.Goals as goal
-
-pub returns : goal.returns
-returns c = ap (option_map interpolation_type_view) c.ok.ensures.value ∙ interpolation_type_named (expression_node_view c.args.expression) c.in_ok-bare_name.field-0 (search rules) c.from_str.result (search rules)

@@ -1,9 +1,0 @@
-pub mod VarKinds
-pub mod Known
-pub mod Counted
-pub mod Makes
-pub mod Settles
-pub mod Rules
-pub mod Initializers
-pub mod Behind
-pub mod Variants

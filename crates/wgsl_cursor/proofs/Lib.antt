@@ -1,6 +1,0 @@
-pub mod AttributeNames
-pub mod Hints
-pub mod First
-pub mod Names
-pub mod Refused
-pub mod Literals

@@ -1,3 +1,0 @@
-pub mod Tokens
-pub mod Reading
-pub mod Words

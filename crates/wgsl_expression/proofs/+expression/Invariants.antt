@@ -1,7 +1,0 @@
-use Rattle.std.proofs.Common.{◌≤◌}
-use Rattle.wgsl_expression.specs.declared.expression.Expression.TheViews.{size-Expression}
-use Rattle.wgsl_expression.proofs.+expression.Given as goal
-
-abbrev pub invariant-expression::drop_chain-loop-chain :
-    goal.invariant-expression::drop_chain-loop-chain
-invariant-expression::drop_chain-loop-chain l = size-Expression l.chain ≤ size-Expression l.fn.node.node.value

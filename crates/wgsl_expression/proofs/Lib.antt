@@ -1,6 +1,0 @@
-pub mod Chains
-mod Views
-mod Texts
-mod Copies
-mod Equalities
-mod DerivedEqualities

@@ -1,7 +1,0 @@
--- What grows by what is read behind it.
-use Rattle.grammar.specs.States.{State, Read, Read.done, ◌>>=◌}
-use Rattle.wgsl_model.specs.Expressions.{ExpressionNode}
-
--- what is read grows a first operand
-abbrev pub grown : ExpressionNode → (State → Read (ExpressionNode → ExpressionNode)) → State → Read ExpressionNode
-grown e growth s = growth s >>= λ f s'. done (f e) s'

@@ -1,0 +1,209 @@
+//! What is written before a piece.
+
+ghost use Rattle.std.specs.Prelude.{◌≡◌};
+ghost use Rattle.wgsl_model_tidy.specs.LaidOut as plain;
+ghost use Rattle.wgsl_model_tidy.specs.Roles.{closes};
+ghost use Rattle.wgsl_model_tidy.specs.Joints.{joint};
+ghost use Rattle.wgsl_format_layout.specs.View.{role_view, joint_view};
+ghost use Rattle.wgsl_format_layout.specs.Gaps.{comment_class, gap_view, last_view};
+
+use crate::comment::CommentKind;
+use crate::joint::{Joint, joint_of};
+use crate::role::Role;
+
+/// What is written before a piece.
+#[derive(Clone, Copy)]
+pub(crate) enum Gap {
+    Closed,
+    Blank,
+    /// A line end, with an empty line or without, and the blank space of a line so deep.
+    Broken { empty: bool, depth: usize },
+}
+
+/// How deep a line is behind a gap, which was so deep before.
+pub(crate) fn depth_behind(gap: Gap, line: usize) -> usize
+    ensures { result ≡ plain.depth_behind (gap_view gap) line }
+{
+    match gap {
+        Gap::Closed | Gap::Blank => line,
+        Gap::Broken { depth, .. } => depth,
+    }
+}
+
+/// What the last piece is.
+#[derive(Clone, Copy)]
+pub(crate) enum Last {
+    /// A token, or nothing.
+    Token,
+    /// A block comment before which nothing but such comments stands in its line.
+    Leading,
+    /// Another comment.
+    Comment(CommentKind),
+}
+
+/// The line end if the author put one there, else another gap.
+fn kept(line_ends: usize, broken: Gap, other: Gap) -> Gap
+    ensures { gap_view result ≡ plain.kept_gap line_ends (gap_view broken) (gap_view other) }
+{
+    if line_ends == 0 { other } else { broken }
+}
+
+/// The gap that a joint asks for.
+fn joint_gap(joint: Joint, line_ends: usize, broken: Gap) -> Gap
+    ensures { gap_view result ≡ plain.joint_gap (joint_view joint) line_ends (gap_view broken) }
+{
+    match joint {
+        Joint::Line => broken,
+        Joint::Nothing => Gap::Closed,
+        Joint::Space => Gap::Blank,
+        Joint::NothingOrLine => kept(line_ends, broken, Gap::Closed),
+        Joint::SpaceOrLine => kept(line_ends, broken, Gap::Blank),
+    }
+}
+
+/// Whether nothing stands before such a token, behind a comment too.
+fn closes_up(right: Role) -> bool
+    ensures { result ≡ plain.closes_up (role_view right) }
+{
+    right.is_tight() || right.is(Role::TemplateEnd)
+}
+
+/// What stands between a comment and a token where no line end has to stand.
+fn loose_joint(right: Role) -> Joint
+    ensures { joint_view result ≡ plain.loose_joint (role_view right) }
+{
+    if closes_up(right) {
+        Joint::NothingOrLine
+    } else {
+        Joint::SpaceOrLine
+    }
+}
+
+/// What stands between a block comment and a token, by what stands between that and the token
+/// before.
+fn behind_comment(joint: Joint, right: Role) -> Joint
+    ensures { joint_view result ≡ plain.behind_comment (joint_view joint) (role_view right) }
+{
+    if let Joint::Line = joint {
+        return Joint::Line;
+    }
+    loose_joint(right)
+}
+
+/// What stands between a comment that leads and a token.
+fn behind_leading(right: Role) -> Joint
+    ensures { joint_view result ≡ plain.behind_leading (role_view right) }
+{
+    if right.is(Role::BlockEnd) {
+        return Joint::Line;
+    }
+    loose_joint(right)
+}
+
+/// The gap before a token.
+pub(crate) fn token_gap(
+    in_brackets: bool,
+    last: Last,
+    left: Role,
+    right: Role,
+    line_ends: usize,
+    broken: Gap,
+) -> Gap
+    ensures { gap_view result ≡ plain.token_gap in_brackets
+        (last_view last) (role_view left) (role_view right) line_ends (gap_view broken) }
+{
+    let joint = joint_of(in_brackets, left, right);
+    match last {
+        Last::Token => {
+            if left.is(Role::Beginning) {
+                return Gap::Closed;
+            }
+            joint_gap(joint, line_ends, broken)
+        }
+        Last::Comment(CommentKind::Line) => broken,
+        Last::Leading => joint_gap(behind_leading(right), line_ends, broken),
+        Last::Comment(CommentKind::Block | CommentKind::Open) => {
+            joint_gap(behind_comment(joint, right), line_ends, broken)
+        }
+    }
+}
+
+/// The gap before a comment behind a token.
+fn comment_behind(left: Role, line_ends: usize, broken: Gap) -> Gap
+    ensures { gap_view result ≡ plain.comment_behind (role_view left) line_ends (gap_view broken) }
+{
+    if left.is(Role::Beginning) {
+        return Gap::Closed;
+    }
+    if left.is(Role::Opening) || left.is(Role::TemplateStart) {
+        return kept(line_ends, broken, Gap::Closed);
+    }
+    kept(line_ends, broken, Gap::Blank)
+}
+
+/// The gap before a comment.
+pub(crate) fn comment_gap(last: Last, left: Role, line_ends: usize, broken: Gap) -> Gap
+    ensures { gap_view result
+        ≡ plain.comment_gap (last_view last) (role_view left) line_ends (gap_view broken) }
+{
+    match last {
+        Last::Token => comment_behind(left, line_ends, broken),
+        Last::Comment(CommentKind::Line) => broken,
+        Last::Leading | Last::Comment(CommentKind::Block | CommentKind::Open) => {
+            kept(line_ends, broken, Gap::Blank)
+        }
+    }
+}
+
+/// Whether the last piece is an opening bracket.
+fn is_behind_opening(last: Last, left: Role) -> bool
+    ensures { result ≡ plain.is_behind_opening (last_view last) (role_view left) }
+{
+    match last {
+        Last::Token => left.opens(),
+        Last::Leading | Last::Comment(_) => false,
+    }
+}
+
+/// A line end before such a token: an empty line of the author's stays, but neither behind an
+/// opening bracket nor before a closing one.
+pub(crate) fn line_end(last: Last, left: Role, right: Role, line_ends: usize, depth: usize) -> Gap
+    ensures { gap_view result
+        ≡ plain.line_end (last_view last) (role_view left) (role_view right) line_ends depth }
+{
+    Gap::Broken {
+        empty: 1 < line_ends && !(is_behind_opening(last, left) || right.closes()),
+        depth,
+    }
+}
+
+/// Whether a comment behind a gap leads.
+fn leads(gap: Gap, last: Last, left: Role) -> bool
+    ensures { result ≡ plain.leads (gap_view gap) (last_view last) (role_view left) }
+{
+    if let Gap::Broken { .. } = gap {
+        return true;
+    }
+    match last {
+        Last::Token => left.is(Role::Beginning),
+        Last::Leading => true,
+        Last::Comment(_) => false,
+    }
+}
+
+/// What the last piece is behind a comment, which stands behind a gap.
+pub(crate) fn comment_last(gap: Gap, last: Last, left: Role, kind: CommentKind) -> Last
+    ensures { last_view result ≡ plain.comment_last
+        (comment_class kind) (plain.leads (gap_view gap) (last_view last) (role_view left)) }
+{
+    let leading = leads(gap, last, left);
+    match kind {
+        CommentKind::Block => {
+            if leading {
+                return Last::Leading;
+            }
+            Last::Comment(kind)
+        }
+        CommentKind::Line | CommentKind::Open => Last::Comment(kind),
+    }
+}

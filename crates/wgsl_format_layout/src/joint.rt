@@ -1,0 +1,131 @@
+//! What stands between two neighbouring tokens.
+
+ghost use Rattle.std.specs.Prelude.{◌≡◌};
+ghost use Rattle.wgsl_model_tidy.specs.Joints.{stay_apart, tight_behind, is_applied, is_template, is_continued, closed_up, close_joint, continues_line, behind_block, joint};
+ghost use Rattle.wgsl_format_layout.specs.View.{role_view, joint_view};
+
+use crate::role::Role;
+
+/// What stands between two neighbouring tokens.
+#[derive(Clone, Copy)]
+pub(crate) enum Joint {
+    Line,
+    Nothing,
+    Space,
+    /// Nothing, or the line end that the author put there.
+    NothingOrLine,
+    /// A space, or the line end that the author put there.
+    SpaceOrLine,
+}
+
+/// Whether two that could be closed up stay apart.
+fn stay_apart(left: Role, right: Role) -> bool
+    ensures { result ≡ stay_apart (role_view left) (role_view right) }
+{
+    (right.is(Role::Minus) && (left.is(Role::Minus) || left.is(Role::Step)))
+        || (left.is(Role::Ampersand) && right.is(Role::Ampersand))
+}
+
+/// Whether nothing stands behind the left one.
+fn tight_behind(left: Role, right: Role) -> bool
+    ensures { result ≡ tight_behind (role_view left) (role_view right) }
+{
+    left.is(Role::Opening)
+        || left.is(Role::At)
+        || (left.is(Role::Period) && right.is(Role::Name))
+        || (left.wants_operand() && right.begins_operand() && !stay_apart(left, right))
+}
+
+/// Whether the right one is the `(` of arguments or the `[` of an index.
+fn is_applied(left: Role, right: Role) -> bool
+    ensures { result ≡ is_applied (role_view left) (role_view right) }
+{
+    right.is(Role::Opening) && (left.ends_operand() || left.is(Role::Attribute))
+}
+
+/// Whether the right one is a bracket of a template list that belongs to the left one.
+fn is_template(left: Role, right: Role) -> bool
+    ensures { result ≡ is_template (role_view left) (role_view right) }
+{
+    (right.is(Role::TemplateStart) && (left.is(Role::Name) || left.is(Role::Word)))
+        || (right.is(Role::TemplateEnd) && (left.ends_operand() || left.is(Role::Comma)))
+}
+
+/// Whether the right one is `.`, `++` or `--` behind an operand other than a number.
+fn is_continued(left: Role, right: Role) -> bool
+    ensures { result ≡ is_continued (role_view left) (role_view right) }
+{
+    (right.is(Role::Period) || right.is(Role::Step))
+        && left.ends_operand()
+        && !left.is(Role::Number)
+}
+
+/// Whether two neighbours are closed up.
+fn closed_up(left: Role, right: Role) -> bool
+    ensures { result ≡ closed_up (role_view left) (role_view right) }
+{
+    right.is_tight()
+        || tight_behind(left, right)
+        || is_applied(left, right)
+        || is_template(left, right)
+        || is_continued(left, right)
+}
+
+/// What stands between two that are closed up.
+fn close_joint(in_brackets: bool, left: Role, right: Role) -> Joint
+    ensures { joint_view result ≡ close_joint in_brackets (role_view left) (role_view right) }
+{
+    if in_brackets && ((left.opens() && !right.closes()) || (right.closes() && !left.opens())) {
+        Joint::NothingOrLine
+    } else {
+        Joint::Nothing
+    }
+}
+
+/// Whether a line end of the author's stays between two that are not closed up.
+fn goes_on(left: Role, right: Role) -> bool
+    ensures { result ≡ continues_line (role_view left) (role_view right) }
+{
+    left.is(Role::Binary)
+        || right.is(Role::Binary)
+        || left.is(Role::Comma)
+        || left.is(Role::Attribute)
+}
+
+/// What stands behind `}`.
+fn behind_block(right: Role) -> Joint
+    ensures { joint_view result ≡ behind_block (role_view right) }
+{
+    if right.is(Role::ElseWord) {
+        Joint::Space
+    } else if right.is_tight() {
+        Joint::Nothing
+    } else {
+        Joint::Line
+    }
+}
+
+/// What stands between two neighbours, in brackets or not.
+pub(crate) fn joint_of(in_brackets: bool, left: Role, right: Role) -> Joint
+    ensures { joint_view result ≡ joint in_brackets (role_view left) (role_view right) }
+{
+    if left.is(Role::BlockStart) {
+        if right.is(Role::BlockEnd) {
+            Joint::Nothing
+        } else {
+            Joint::Line
+        }
+    } else if right.is(Role::BlockEnd) || left.is(Role::ItemEnd) {
+        Joint::Line
+    } else if left.is(Role::BlockEnd) {
+        behind_block(right)
+    } else if right.is(Role::BlockStart) {
+        Joint::Space
+    } else if closed_up(left, right) {
+        close_joint(in_brackets, left, right)
+    } else if in_brackets || goes_on(left, right) {
+        Joint::SpaceOrLine
+    } else {
+        Joint::Space
+    }
+}

@@ -1,0 +1,198 @@
+//! What a token does where it stands.
+
+ghost use Rattle.std.specs.Prelude.{◌≡◌};
+ghost use Rattle.wgsl_model_tidy.specs.Roles.{role_of, sign_role, is, ends_operand, begins_operand, wants_operand, is_tight, opens, closes, begins_item};
+ghost use Rattle.wgsl_lex_token.specs.View.{class_of_kind};
+ghost use Rattle.wgsl_format_layout.specs.View.{role_view};
+
+use wgsl_lex_token::kind::TokenKind;
+
+/// What a token does where it stands, or is to what follows it.
+#[derive(Clone, Copy)]
+pub(crate) enum Role {
+    /// A name, `true`, `false`, or the `diagnostic` of a directive.
+    Name,
+    Number,
+    /// Every other word but `else`, `_` and `->`.
+    Word,
+    ElseWord,
+    /// `(` or `[`.
+    Opening,
+    /// `)` or `]`.
+    Closing,
+    TemplateStart,
+    TemplateEnd,
+    BlockStart,
+    BlockEnd,
+    Comma,
+    Semicolon,
+    Colon,
+    Period,
+    At,
+    /// A `-` before its operand.
+    Minus,
+    /// A `&` before its operand.
+    Ampersand,
+    /// Another operator before its operand.
+    Prefix,
+    /// An operator between operands, or of an assignment.
+    Binary,
+    /// `++` or `--`.
+    Step,
+    /// Nothing stands before.
+    Beginning,
+    /// The end of a statement, a declaration or a member.
+    ItemEnd,
+    /// The name of an attribute, or its arguments.
+    Attribute,
+}
+
+/// `-`, `&` or `*`, behind an operand or not.
+fn sign_role(behind_operand: bool, kind: TokenKind) -> Role
+    ensures { role_view result ≡ sign_role behind_operand (class_of_kind kind) }
+{
+    if behind_operand {
+        return Role::Binary;
+    }
+    match kind {
+        TokenKind::SymMinus => Role::Minus,
+        TokenKind::SymAnd => Role::Ampersand,
+        _ => Role::Prefix,
+    }
+}
+
+/// What a kind of token does, behind an operand or not.
+pub(crate) fn role_of(behind_operand: bool, kind: TokenKind) -> Role
+    ensures { role_view result ≡ role_of behind_operand (class_of_kind kind) }
+{
+    match kind {
+        TokenKind::Ident
+        | TokenKind::ReservedWord
+        | TokenKind::KwTrue
+        | TokenKind::KwFalse
+        | TokenKind::KwDiagnostic => Role::Name,
+        TokenKind::AbstractInt
+        | TokenKind::I32
+        | TokenKind::U32
+        | TokenKind::AbstractFloat
+        | TokenKind::F32
+        | TokenKind::F16 => Role::Number,
+        TokenKind::KwElse => Role::ElseWord,
+        TokenKind::SymParenLeft | TokenKind::SymBracketLeft => Role::Opening,
+        TokenKind::SymParenRight | TokenKind::SymBracketRight => Role::Closing,
+        TokenKind::TemplateArgsStart => Role::TemplateStart,
+        TokenKind::TemplateArgsEnd => Role::TemplateEnd,
+        TokenKind::SymBraceLeft => Role::BlockStart,
+        TokenKind::SymBraceRight => Role::BlockEnd,
+        TokenKind::SymComma => Role::Comma,
+        TokenKind::SymSemicolon => Role::Semicolon,
+        TokenKind::SymColon => Role::Colon,
+        TokenKind::SymPeriod => Role::Period,
+        TokenKind::SymAttr => Role::At,
+        TokenKind::SymMinus | TokenKind::SymAnd | TokenKind::SymStar => {
+            sign_role(behind_operand, kind)
+        }
+        TokenKind::SymBang | TokenKind::SymTilde => Role::Prefix,
+        TokenKind::SymPlusPlus | TokenKind::SymMinusMinus => Role::Step,
+        TokenKind::SymAndAnd
+        | TokenKind::SymForwardSlash
+        | TokenKind::SymEqual
+        | TokenKind::SymEqualEqual
+        | TokenKind::SymNotEqual
+        | TokenKind::SymGreaterThan
+        | TokenKind::SymGreaterThanEqual
+        | TokenKind::SymShiftRight
+        | TokenKind::SymLessThan
+        | TokenKind::SymLessThanEqual
+        | TokenKind::SymShiftLeft
+        | TokenKind::SymModulo
+        | TokenKind::SymPlus
+        | TokenKind::SymOr
+        | TokenKind::SymOrOr
+        | TokenKind::SymXor
+        | TokenKind::SymPlusEqual
+        | TokenKind::SymMinusEqual
+        | TokenKind::SymTimesEqual
+        | TokenKind::SymDivisionEqual
+        | TokenKind::SymModuloEqual
+        | TokenKind::SymAndEqual
+        | TokenKind::SymOrEqual
+        | TokenKind::SymXorEqual
+        | TokenKind::SymShiftRightAssign
+        | TokenKind::SymShiftLeftAssign => Role::Binary,
+        _ => Role::Word,
+    }
+}
+
+impl Role {
+    /// Whether it is this one.
+    pub(crate) fn is(self, other: Role) -> bool
+        ensures { result ≡ is (role_view self) (role_view other) }
+    {
+        self as u8 == other as u8
+    }
+
+    /// Whether an operand can end with it.
+    pub(crate) fn ends_operand(self) -> bool
+        ensures { result ≡ ends_operand (role_view self) }
+    {
+        matches!(
+            self,
+            Role::Name | Role::Number | Role::Closing | Role::TemplateEnd
+        )
+    }
+
+    /// Whether an operand can begin with it.
+    pub(crate) fn begins_operand(self) -> bool
+        ensures { result ≡ begins_operand (role_view self) }
+    {
+        matches!(
+            self,
+            Role::Name | Role::Number | Role::Opening | Role::Minus | Role::Ampersand | Role::Prefix
+        )
+    }
+
+    /// Whether an operand comes next.
+    pub(crate) fn wants_operand(self) -> bool
+        ensures { result ≡ wants_operand (role_view self) }
+    {
+        matches!(
+            self,
+            Role::TemplateStart | Role::Minus | Role::Ampersand | Role::Prefix | Role::Step
+        )
+    }
+
+    /// Whether nothing stands before it.
+    pub(crate) fn is_tight(self) -> bool
+        ensures { result ≡ is_tight (role_view self) }
+    {
+        matches!(
+            self,
+            Role::Comma | Role::Semicolon | Role::Colon | Role::Closing
+        )
+    }
+
+    /// Whether it opens a bracket, a template list or a block.
+    pub(crate) fn opens(self) -> bool
+        ensures { result ≡ opens (role_view self) }
+    {
+        matches!(self, Role::Opening | Role::TemplateStart | Role::BlockStart)
+    }
+
+    /// Whether it closes one.
+    pub(crate) fn closes(self) -> bool
+        ensures { result ≡ closes (role_view self) }
+    {
+        matches!(self, Role::Closing | Role::TemplateEnd | Role::BlockEnd)
+    }
+
+    /// Whether a statement, a declaration, a member or a clause can begin behind it.
+    pub(crate) fn begins_item(self) -> bool
+        ensures { result ≡ begins_item (role_view self) }
+    {
+        matches!(
+            self,
+            Role::Beginning | Role::ItemEnd | Role::BlockStart | Role::BlockEnd | Role::Attribute
+        )
+    }
+}

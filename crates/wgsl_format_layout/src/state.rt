@@ -1,0 +1,182 @@
+//! What is known behind a token.
+
+ghost use Rattle.std.specs.Prelude.{◌≡◌, IfOk};
+ghost use Rattle.wgsl_model_tidy.specs.Open as plain;
+ghost use Rattle.wgsl_lex_token.specs.View.{class_of_kind};
+ghost use Rattle.wgsl_format_layout.specs.View.{role_view};
+ghost use Rattle.wgsl_format_layout.specs.States.{state_view};
+ghost use Rattle.wgsl_format_layout.specs.Kinds.{open_view};
+
+use crate::opened::{Open, Opened, deeper};
+use crate::role::{Role, role_of};
+use std::alloc::{AllocError, Global};
+use wgsl_lex_token::kind::TokenKind;
+
+/// What is known behind a token.
+#[derive(Drop)]
+pub(crate) struct LayoutState {
+    pub(crate) opened: Opened,
+    /// The depth of the line.
+    pub(crate) line: usize,
+    /// What the last token is to what follows.
+    pub(crate) last: Role,
+    /// Whether the next `{` opens a structure.
+    structure: bool,
+}
+
+impl LayoutState {
+    pub(crate) fn new(alloc: Global) -> LayoutState
+        ensures { state_view result ≡ plain.start }
+    {
+        LayoutState {
+            opened: Opened::new(alloc),
+            line: 0,
+            last: Role::Beginning,
+            structure: false,
+        }
+    }
+
+    /// Whether a line that begins with such a token stands as deep as what is in the innermost.
+    fn is_at_depth(&self, right: Role) -> bool
+        ensures { result ≡ plain.is_at_depth (state_view self.now) (role_view right) }
+    {
+        self.opened.in_brackets() || self.last.begins_item() || right.is(Role::BlockStart)
+    }
+
+    fn depth_within(&self, right: Role) -> Result<usize, AllocError>
+        ensures { IfOk result (λ depth.
+            depth ≡ plain.depth_within (state_view self.now) (role_view right)) }
+    {
+        let depth = self.opened.inner_depth()?;
+        if self.is_at_depth(right) {
+            Ok(depth)
+        } else {
+            deeper(depth)
+        }
+    }
+
+    /// How deep a line stands that begins with such a token.
+    pub(crate) fn depth_of(&self, right: Role) -> Result<usize, AllocError>
+        ensures { IfOk result (λ depth.
+            depth ≡ plain.depth_of (state_view self.now) (role_view right)) }
+    {
+        if right.closes() {
+            Ok(self.opened.outer_depth())
+        } else {
+            self.depth_within(right)
+        }
+    }
+
+    /// How deep a line stands that begins with a comment before such a token.
+    pub(crate) fn comment_depth(&self, right: Role) -> Result<usize, AllocError>
+        ensures { IfOk result (λ depth.
+            depth ≡ plain.comment_depth (state_view self.now) (role_view right)) }
+    {
+        if right.closes() {
+            self.opened.inner_depth()
+        } else {
+            self.depth_within(right)
+        }
+    }
+
+    /// What a kind of token does here.
+    pub(crate) fn role_in(&self, kind: TokenKind) -> Role
+        ensures { role_view result ≡ plain.role_in (state_view self.now) (class_of_kind kind) }
+    {
+        role_of(self.last.ends_operand(), kind)
+    }
+
+    /// What such a token is to what follows it.
+    fn last_behind(&self, right: Role) -> Role
+        ensures { role_view result ≡ plain.last_behind (state_view self.now) (role_view right) }
+    {
+        if self.last.is(Role::At) {
+            return Role::Attribute;
+        }
+        if right.is(Role::Closing) && self.opened.in_arguments() {
+            return Role::Attribute;
+        }
+        if right.is(Role::Comma) && self.opened.in_members() {
+            return Role::ItemEnd;
+        }
+        if right.is(Role::Semicolon) && !self.opened.in_brackets() {
+            return Role::ItemEnd;
+        }
+        right
+    }
+
+    /// What a `{` opens.
+    fn block_kind(&self) -> Open
+        ensures { open_view result ≡ plain.block_opened (state_view self.now) }
+    {
+        if self.structure {
+            Open::Members
+        } else {
+            Open::Block
+        }
+    }
+
+    /// What a `(` or a `[` opens.
+    fn bracket_kind(&self) -> Open
+        ensures { open_view result ≡ plain.bracket_opened (state_view self.now) }
+    {
+        if self.last.is(Role::Attribute) {
+            Open::Arguments
+        } else {
+            Open::Bracket
+        }
+    }
+
+    /// Opens or closes what such a token does.
+    fn open_or_close(&mut self, right: Role) -> Result<(), AllocError>
+        ensures opened { IfOk result (λ _. self.new.opened
+            ≡ plain.opened_behind (state_view self.old) self.old.line (role_view right)) }
+        ensures line { IfOk result (λ _. self.new.line
+            ≡ plain.line_behind (state_view self.old) self.old.line (role_view right)) }
+    {
+        if right.is(Role::BlockStart) {
+            let depth = self.opened.inner_depth()?;
+            let kind = self.block_kind();
+            return self.opened.push(kind, depth);
+        }
+        if right.is(Role::Opening) {
+            let kind = self.bracket_kind();
+            return self.opened.push(kind, self.line);
+        }
+        if right.is(Role::TemplateStart) {
+            return self.opened.push(Open::Bracket, self.line);
+        }
+        if right.closes() {
+            self.line = self.opened.outer_depth();
+            self.opened.pop();
+        }
+        Ok(())
+    }
+
+    /// Whether the next `{` opens a structure behind such a token.
+    fn structure_behind(&self, kind: TokenKind, right: Role) -> bool
+        ensures { result
+            ≡ plain.structure_behind (state_view self.now) (class_of_kind kind) (role_view right) }
+    {
+        if right.is(Role::BlockStart) {
+            return false;
+        }
+        if kind as u8 == TokenKind::KwStruct as u8 && !self.last.is(Role::At) {
+            return true;
+        }
+        self.structure
+    }
+
+    /// Goes behind a token that does so.
+    pub(crate) fn take(&mut self, kind: TokenKind, right: Role) -> Result<(), AllocError>
+        ensures { IfOk result (λ _. state_view self.new ≡ plain.behind_token
+            (state_view self.old) self.old.line (class_of_kind kind) (role_view right)) }
+    {
+        let last = self.last_behind(right);
+        let structure = self.structure_behind(kind, right);
+        self.open_or_close(right)?;
+        self.last = last;
+        self.structure = structure;
+        Ok(())
+    }
+}

@@ -1,0 +1,4 @@
+pub mod Told
+pub mod Ends
+pub mod Runs
+pub mod Reports

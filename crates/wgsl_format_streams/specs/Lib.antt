@@ -1,0 +1,4 @@
+pub mod Ends
+pub mod Told
+pub mod Report
+pub mod Run

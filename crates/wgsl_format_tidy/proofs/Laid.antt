@@ -1,0 +1,29 @@
+-- The laid-out text of a module, whichever way its tokens are known, is laid out and keeps the module.
+use Rattle.std.proofs.Common.{◌≡◌, ℕ, List, sym, ap, ◌∙◌, subst}
+use Rattle.grammar.specs.Tokens.{Token}
+use Rattle.grammar.specs.Endings.{Ending, Ending.finished}
+use Rattle.wgsl_model.specs.Trees.Units.{TranslationUnit}
+use Rattle.wgsl_model.specs.Tokens.TokenList.{IsTokenList}
+use Rattle.wgsl_model.specs.Program.{IsUnit}
+use Rattle.wgsl_theory_grammar.proofs.Tokens.Lists.{token_list_unique}
+use Rattle.wgsl_model_tidy.specs.Pieces.{pieces}
+use Rattle.wgsl_model_tidy.specs.LaidOut as model
+use Rattle.wgsl_model_tidy.specs.Kept.{IsLaidOut, Keeps}
+use Rattle.wgsl_theory_tidy.proofs.Kept.Kept as theory
+
+-- the text is the laid-out text of the source by some token list, however that ends
+abbrev pub IsSomeLaidOut : List ℕ → List ℕ → Type 0
+IsSomeLaidOut source text = (ts : List Token) × (e : Ending) × IsTokenList source ts e × (text ≡ model.laid_out (pieces source ts))
+
+-- a text has one token list, so it is laid out by that of the module
+by_its_tokens : (source text : List ℕ) (u : TranslationUnit) (h : IsUnit source u) → IsSomeLaidOut source text → text ≡ model.laid_out (pieces source h.0)
+by_its_tokens source text u h laid =
+    laid.3 ∙ ap (λ ts. model.laid_out (pieces source ts)) (token_list_unique source laid.0 h.0 laid.1 finished laid.2 h.1).0
+
+-- and those tokens end with the text
+pub is_laid_out : (source text : List ℕ) (u : TranslationUnit) → IsUnit source u → IsSomeLaidOut source text → IsLaidOut source text
+is_laid_out source text u h laid = (h.0, h.1, by_its_tokens source text u h laid)
+
+-- so it keeps the module
+pub keeps : (source text : List ℕ) (u : TranslationUnit) → IsUnit source u → IsSomeLaidOut source text → Keeps source text
+keeps source text u h laid = subst (Keeps source) (sym (by_its_tokens source text u h laid)) (theory.kept source u h)

@@ -1,9 +1,0 @@
--- The law is proved in the theory.
-use Rattle.wgsl_grammar_theory.proofs.Answers as theory
-use Rattle.wgsl_grammar_laws.proofs.same_faults.Goals as goal
-
-pub returns-clause-finished : goal.returns-clause-finished
-returns-clause-finished c = theory.same_faults
-
-pub returns-clause-in_want : goal.returns-clause-in_want
-returns-clause-in_want c = theory.same_faults_in_want

@@ -1,8 +1,0 @@
--- The rows: tokens, trees and faults.
-pub mod RowParts
-pub mod ExpressionsRows
-pub mod StatementsRows
-pub mod DeclarationsRows
-pub mod DirectivesRows
-pub mod UnitsRows
-pub mod RecognisedAloneRows

@@ -1,2 +1,0 @@
-//! What holds of the grammar of WGSL.
-#![tactic(auto)]

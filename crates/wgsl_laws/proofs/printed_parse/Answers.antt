@@ -1,9 +1,0 @@
--- The law is proved in the theory.
-use Rattle.wgsl_theory.proofs.RoundTrip as theory
-use Rattle.wgsl_laws.proofs.printed_parse.Goals as goal
-
-pub returns-clause-utf8 : goal.returns-clause-utf8
-returns-clause-utf8 c = theory.printed_is_utf8
-
-pub returns-clause-reads_back : goal.returns-clause-reads_back
-returns-clause-reads_back c = theory.printed_parse

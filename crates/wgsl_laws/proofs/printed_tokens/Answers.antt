@@ -1,6 +1,0 @@
--- The law is proved in the theory.
-use Rattle.wgsl_theory.proofs.RoundTrip as theory
-use Rattle.wgsl_laws.proofs.printed_tokens.Goals as goal
-
-pub returns : goal.returns
-returns c = theory.printed_tokens

@@ -1,0 +1,8 @@
+pub mod RowParts
+pub mod ExpressionsRows
+pub mod StatementsRows
+pub mod DeclarationsRows
+pub mod DirectivesRows
+pub mod UnitsRows
+pub mod RecognisedAloneRows
+pub mod Hashes

@@ -1,0 +1,50 @@
+//! What `==` of attributes, and of the structs that they hold, says.
+
+ghost use Rattle.std.specs.Prelude.{◌≡◌, ◌↔◌, IsTrue};
+ghost use Rattle.std.specs.Cmp.{IsEquivalence};
+ghost use Rattle.wgsl_model.specs.Trees.WithoutSpans.{bare_attribute, bare_workgroup_size, bare_type_constraint, bare_custom};
+ghost use Rattle.wgsl_tree_attribute.specs.declared.attribute.Attribute.{Attribute};
+ghost use Rattle.wgsl_tree_attribute.specs.declared.diagnostic.DiagnosticAttribute.{DiagnosticAttribute};
+ghost use Rattle.wgsl_tree_attribute.specs.declared.interpolate.InterpolateAttribute.{InterpolateAttribute};
+ghost use Rattle.wgsl_tree_attribute.specs.declared.workgroup_size.WorkgroupSizeAttribute.{WorkgroupSizeAttribute};
+ghost use Rattle.wgsl_tree_attribute.specs.declared.type_constraint.TypeConstraint.{TypeConstraint};
+ghost use Rattle.wgsl_tree_attribute.specs.declared.custom.CustomAttribute.{CustomAttribute};
+ghost use Rattle.wgsl_tree_attribute.specs.View.{attribute_view, diagnostic_view, interpolate_view, workgroup_size_view, type_constraint_view, custom_view};
+ghost use Rattle.wgsl_tree_attribute.specs.Equality.{equal_attributes, equal_diagnostics, equal_interpolations, equal_workgroup_sizes, equal_type_constraints, equal_customs};
+
+/// `==` of attributes is an equivalence.
+pub fn equivalence()
+    ensures { IsEquivalence equal_attributes }
+{}
+
+/// Two attributes are equal where they are one with their spans set aside.
+pub fn attributes()
+    ensures { (a b : Attribute) → IsTrue (equal_attributes a b) ↔
+        (bare_attribute (attribute_view a) ≡ bare_attribute (attribute_view b)) }
+{}
+
+pub fn diagnostics()
+    ensures { (a b : DiagnosticAttribute) →
+        IsTrue (equal_diagnostics a b) ↔ (diagnostic_view a ≡ diagnostic_view b) }
+{}
+
+pub fn interpolations()
+    ensures { (a b : InterpolateAttribute) →
+        IsTrue (equal_interpolations a b) ↔ (interpolate_view a ≡ interpolate_view b) }
+{}
+
+pub fn workgroup_sizes()
+    ensures { (a b : WorkgroupSizeAttribute) →
+        IsTrue (equal_workgroup_sizes a b) ↔ (bare_workgroup_size (workgroup_size_view a)
+        ≡ bare_workgroup_size (workgroup_size_view b)) }
+{}
+
+pub fn type_constraints()
+    ensures { (a b : TypeConstraint) → IsTrue (equal_type_constraints a b) ↔ (bare_type_constraint
+        (type_constraint_view a) ≡ bare_type_constraint (type_constraint_view b)) }
+{}
+
+pub fn customs()
+    ensures { (a b : CustomAttribute) →
+        IsTrue (equal_customs a b) ↔ (bare_custom (custom_view a) ≡ bare_custom (custom_view b)) }
+{}

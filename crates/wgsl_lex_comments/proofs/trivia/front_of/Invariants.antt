@@ -1,0 +1,16 @@
+use Rattle.std.proofs.Common.{◌≡◌, chars, length}
+use denote.Text.{Utf8}
+use denote.Shadow.{shadow}
+use Rattle.wgsl_model.specs.Tokens.Trivia.{after_trivia, outside}
+use Rattle.wgsl_theory_grammar.proofs.Tokens.Cuts.{EndsWith}
+use Rattle.wgsl_lex_comments.proofs.trivia.front_of.Given as goal
+
+abbrev pub invariant-loop-c : goal.invariant-loop-c
+invariant-loop-c l = record {
+  text : shadow (Utf8 l.rest);
+  rest : after_trivia outside (chars l.rest) ≡ after_trivia outside (chars l.text);
+  end : EndsWith (chars l.text) (chars l.rest);
+}
+
+abbrev pub decreases-loop-c : goal.decreases-loop-c
+decreases-loop-c l = length l.rest

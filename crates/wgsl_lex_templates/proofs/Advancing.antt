@@ -1,0 +1,9 @@
+-- What is left behind each rule of expressions.
+pub mod Rules
+pub mod Walks
+pub mod Repeats
+pub mod Advances
+pub mod Parts
+pub mod Equations
+pub mod Operands
+pub mod Decided

@@ -1,0 +1,9 @@
+-- Where the lists of a text stand, found one `<` after the other from the right.
+pub mod Begun
+pub mod Fronts
+pub mod Scans
+pub mod Ends
+pub mod Searched
+pub mod Listed
+pub mod Known
+pub mod Stepped

@@ -1,0 +1,27 @@
+//! Lists of expressions.
+#![tactic(auto, unfolding(crate::proofs::Hints::definitions), using(crate::proofs::Hints::lemmas))]
+
+ghost use Rattle.std.specs.Prelude.{◌↔◌, List, IsTrue};
+ghost use Rattle.grammar.specs.Tokens.{Token};
+ghost use Rattle.wgsl_lex_templates.specs.ExpressionLists.{AreOfKinds, IsExpressionList};
+
+use crate::expression::expression;
+use crate::next::take;
+use wgsl_lex_token::kind::TokenKind;
+
+/// Whether tokens of these kinds are list(Expression): one expression at least, with commas between, and perhaps one behind the last.
+/// A reserved word or a comment is of no expression. Each kind is read once, and no memory is taken.
+pub fn is_expression_list(kinds: &[TokenKind]) -> bool
+    ensures { (ts : List Token) → AreOfKinds ts kinds.now → IsTrue result ↔ IsExpressionList ts }
+{
+    let Some(mut left) = expression(kinds) else {
+        return false;
+    };
+    'items: while let Some(next) = take(left, TokenKind::SymComma) {
+        match expression(next) {
+            Some(behind) => left = behind,
+            None => return next.is_empty(),
+        }
+    }
+    left.is_empty()
+}

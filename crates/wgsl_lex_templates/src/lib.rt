@@ -1,0 +1,18 @@
+//! Where the template lists of a text stand (WGSL, "Template Lists").
+#![tactic(auto)]
+
+mod attempt;
+mod expression;
+mod expression_list;
+mod findings;
+mod kept;
+mod lists;
+mod next;
+mod reading;
+pub mod roles;
+mod templates;
+pub mod text;
+mod tried;
+
+pub use expression_list::is_expression_list;
+pub use templates::{Templates, discover};

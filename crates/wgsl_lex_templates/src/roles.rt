@@ -1,0 +1,156 @@
+//! What a token is to a template list.
+
+ghost use Rattle.std.specs.Prelude.{◌≡◌, ◌<◌, ◌+◌, ◌==◌, ◌^◌};
+ghost use Rattle.wgsl_model.specs.Tokens.Classes.{SymLessThan};
+ghost use Rattle.wgsl_model.specs.Tokens.Templates.{is_word};
+ghost use Rattle.wgsl_lex_token.specs.View.{class_of_kind};
+ghost use Rattle.wgsl_lex_templates.specs.Roles.{role, turn};
+
+use wgsl_lex_token::kind::TokenKind;
+
+/// What a kind of token is to a template list.
+#[derive(Clone, Copy)]
+enum Role {
+    Opening,
+    Closing,
+    /// Begins with `>`.
+    Greater,
+    /// `&&` or `||`.
+    ShortCircuit,
+    /// Stands in no expression.
+    Stranger,
+    Other,
+}
+
+fn role_of(kind: TokenKind) -> Role
+    ensures { result ≡ role (class_of_kind kind) }
+{
+    match kind {
+        TokenKind::SymParenLeft | TokenKind::SymBracketLeft => Role::Opening,
+        TokenKind::SymParenRight | TokenKind::SymBracketRight => Role::Closing,
+        TokenKind::SymGreaterThan
+        | TokenKind::SymGreaterThanEqual
+        | TokenKind::SymShiftRight
+        | TokenKind::SymShiftRightAssign => Role::Greater,
+        TokenKind::SymAndAnd | TokenKind::SymOrOr => Role::ShortCircuit,
+        TokenKind::SymArrow
+        | TokenKind::SymAttr
+        | TokenKind::SymBraceLeft
+        | TokenKind::SymBraceRight
+        | TokenKind::SymColon
+        | TokenKind::SymEqual
+        | TokenKind::SymPlusPlus
+        | TokenKind::SymSemicolon
+        | TokenKind::SymUnderscore
+        | TokenKind::SymPlusEqual
+        | TokenKind::SymMinusEqual
+        | TokenKind::SymTimesEqual
+        | TokenKind::SymDivisionEqual
+        | TokenKind::SymModuloEqual
+        | TokenKind::SymAndEqual
+        | TokenKind::SymOrEqual
+        | TokenKind::SymXorEqual
+        | TokenKind::SymShiftLeftAssign
+        | TokenKind::KwAlias
+        | TokenKind::KwBreak
+        | TokenKind::KwCase
+        | TokenKind::KwConst
+        | TokenKind::KwConstAssert
+        | TokenKind::KwContinue
+        | TokenKind::KwContinuing
+        | TokenKind::KwDefault
+        | TokenKind::KwDiagnostic
+        | TokenKind::KwDiscard
+        | TokenKind::KwElse
+        | TokenKind::KwEnable
+        | TokenKind::KwFn
+        | TokenKind::KwFor
+        | TokenKind::KwIf
+        | TokenKind::KwLet
+        | TokenKind::KwLoop
+        | TokenKind::KwOverride
+        | TokenKind::KwRequires
+        | TokenKind::KwReturn
+        | TokenKind::KwStruct
+        | TokenKind::KwSwitch
+        | TokenKind::KwVar
+        | TokenKind::KwWhile
+        | TokenKind::ReservedWord => Role::Stranger,
+        TokenKind::SymAnd
+        | TokenKind::SymForwardSlash
+        | TokenKind::SymBang
+        | TokenKind::SymComma
+        | TokenKind::SymEqualEqual
+        | TokenKind::SymNotEqual
+        | TokenKind::SymLessThan
+        | TokenKind::SymLessThanEqual
+        | TokenKind::SymShiftLeft
+        | TokenKind::SymModulo
+        | TokenKind::SymMinus
+        | TokenKind::SymMinusMinus
+        | TokenKind::SymPeriod
+        | TokenKind::SymPlus
+        | TokenKind::SymOr
+        | TokenKind::SymStar
+        | TokenKind::SymTilde
+        | TokenKind::SymXor
+        | TokenKind::KwFalse
+        | TokenKind::KwTrue
+        | TokenKind::Ident
+        | TokenKind::AbstractInt
+        | TokenKind::I32
+        | TokenKind::U32
+        | TokenKind::AbstractFloat
+        | TokenKind::F32
+        | TokenKind::F16
+        | TokenKind::TemplateArgsStart
+        | TokenKind::TemplateArgsEnd
+        | TokenKind::LineComment
+        | TokenKind::BlockComment => Role::Other,
+    }
+}
+
+/// What a token does to the list that it stands in.
+#[derive(Clone, Copy)]
+pub(crate) enum Turn {
+    Ends,
+    /// Shows that there is no list, if none in whose brackets it stands.
+    Stops,
+    /// Shows that there is no list, and none around it.
+    Refutes,
+    /// Stands inside; so many brackets are open behind it.
+    Takes(usize),
+}
+
+/// What a token does where so many brackets are open.
+pub(crate) fn turn_of(depth: usize, kind: TokenKind) -> Turn
+    requires { depth + 1 < 2 ^ 64 }
+    ensures { result ≡ turn depth (class_of_kind kind) }
+{
+    match role_of(kind) {
+        Role::Opening => Turn::Takes(depth + 1),
+        Role::Closing if depth == 0 => Turn::Stops,
+        Role::Closing => Turn::Takes(depth - 1),
+        Role::Greater if depth == 0 => Turn::Ends,
+        Role::Greater => Turn::Takes(depth),
+        Role::ShortCircuit if depth == 0 => Turn::Stops,
+        Role::ShortCircuit => Turn::Takes(depth),
+        Role::Stranger => Turn::Refutes,
+        Role::Other => Turn::Takes(depth),
+    }
+}
+
+/// Whether a template list may follow: behind an identifier or a keyword.
+pub fn is_word(kind: TokenKind) -> bool
+    ensures { result ≡ is_word (class_of_kind kind) }
+{
+    let class = kind as u8;
+    class == TokenKind::Ident as u8
+        || (TokenKind::KwAlias as u8 <= class && class <= TokenKind::KwWhile as u8)
+}
+
+pub fn is_less_than(kind: TokenKind) -> bool
+    ensures { result ≡ (class_of_kind kind == SymLessThan) }
+{
+    kind as u8 == TokenKind::SymLessThan as u8
+}

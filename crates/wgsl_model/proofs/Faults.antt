@@ -1,0 +1,2 @@
+-- Messages, worked.
+mod SnippetRows

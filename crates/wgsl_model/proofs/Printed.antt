@@ -1,0 +1,2 @@
+-- Printed texts, worked.
+mod Rows

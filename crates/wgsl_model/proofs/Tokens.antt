@@ -1,0 +1,3 @@
+-- Lemmas on texts and tokens.
+pub mod Fronts
+pub mod Characters

@@ -1,0 +1,2 @@
+-- Paths of modules, worked.
+mod PathRows

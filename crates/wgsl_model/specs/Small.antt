@@ -1,7 +1,0 @@
--- The grammar of a text that is recognised alone: the rules of its dialect.
-use Rattle.wgsl_model.specs.Symbols.{Dialect.alone, Symbol, Value, Rule}
-use Rattle.wgsl_model.specs.Written.{rules}
-
--- the rules of the dialect
-abbrev pub small : (n : Symbol) → Rule (Value n)
-small = rules alone

@@ -1,0 +1,14 @@
+-- From the text to its tokens.
+pub mod Classes
+pub mod Kind
+pub mod Words
+pub mod Characters
+pub mod Trivia
+pub mod Pattern
+pub mod Numbers
+pub mod Spelling
+pub mod Raw
+pub mod Texts
+pub mod Places
+pub mod Templates
+pub mod TokenList

@@ -1,0 +1,13 @@
+-- The trees, as plain data, and paths of modules.
+pub mod Operators
+pub mod NamedValues
+pub mod Spanned
+pub mod Expressions
+pub mod Attributes
+pub mod Attributed
+pub mod Statements
+pub mod Units
+pub mod EmptyItems
+pub mod WithoutSpans
+pub mod StatementsWithoutSpans
+pub mod Paths

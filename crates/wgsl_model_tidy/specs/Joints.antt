@@ -1,0 +1,60 @@
+-- What stands between two neighbouring tokens.
+use Rattle.std.specs.Prelude.{Bool, not, ◌&&◌, ◌||◌, if◌then◌else◌}
+use Rattle.wgsl_model_tidy.specs.Roles.{Role, name, number, word, else_word, opening, template_start, template_end, block_start, block_end, comma, period, at, minus, ampersand, binary, step, item_end, attribute, is, ends_operand, begins_operand, wants_operand, is_tight, opens, closes}
+
+pub data Joint : Type 0 where
+  -- a line end
+  line : Joint
+  -- nothing, and a space
+  nothing space : Joint
+  -- the same, or the line end that the author put there
+  nothing_or_line space_or_line : Joint
+
+-- `- -`, `& &` and `-- -` stay apart, since there are `--` and `&&`, and for the eye
+abbrev pub stay_apart : Role → Role → Bool
+stay_apart left right = (is right minus && (is left minus || is left step)) || (is left ampersand && is right ampersand)
+
+-- nothing stands behind `(`, `[` and `@`, between `.` and a name, and where an operand comes next
+abbrev pub tight_behind : Role → Role → Bool
+tight_behind left right =
+    (is left opening || is left at) || ((is left period && is right name) || (wants_operand left && (begins_operand right && not (stay_apart left right))))
+
+-- nothing stands before the `(` of arguments and the `[` of an index
+abbrev pub is_applied : Role → Role → Bool
+is_applied left right = is right opening && (ends_operand left || is left attribute)
+
+-- nor before the brackets of a template list
+abbrev pub is_template : Role → Role → Bool
+is_template left right = (is right template_start && (is left name || is left word)) || (is right template_end && (ends_operand left || is left comma))
+
+-- nor before `.`, `++` and `--`, but behind a number, which would go on with them
+abbrev pub is_continued : Role → Role → Bool
+is_continued left right = (is right period || is right step) && (ends_operand left && not (is left number))
+
+-- two neighbours are closed up
+abbrev pub closed_up : Role → Role → Bool
+closed_up left right = (is_tight right || tight_behind left right) || (is_applied left right || (is_template left right || is_continued left right))
+
+-- where two are closed up: in brackets a line end may stay behind the opening one or before the closing one, unless nothing stands between these
+abbrev pub close_joint : Bool → Role → Role → Joint
+close_joint in_brackets left right =
+    if in_brackets && ((opens left && not (closes right)) || (closes right && not (opens left))) then nothing_or_line else nothing
+
+-- elsewhere a line end of the author's stays around an operator between operands, behind `,` and behind an attribute
+abbrev pub continues_line : Role → Role → Bool
+continues_line left right = (is left binary || is right binary) || (is left comma || is left attribute)
+
+-- behind `}`
+abbrev pub behind_block : Role → Joint
+behind_block right = if is right else_word then space else if is_tight right then nothing else line
+
+-- what stands between two neighbours, in brackets or not; `{` stands in the line of what it belongs to
+abbrev pub joint : Bool → Role → Role → Joint
+joint in_brackets left right =
+    if is left block_start then (if is right block_end then nothing else line)
+    else if is right block_end || is left item_end then line
+    else if is left block_end then behind_block right
+    else if is right block_start then space
+    else if closed_up left right then close_joint in_brackets left right
+    else if in_brackets || continues_line left right then space_or_line
+    else space

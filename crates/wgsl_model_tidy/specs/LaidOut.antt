@@ -1,0 +1,155 @@
+-- The laid-out text of pieces: each piece as it stands, and before it nothing, a space, or a line end, an empty line at most, and the blank space of the line's depth.
+use Rattle.std.specs.Prelude.{ℕ, zero, suc, Bool, true, false, not, ◌&&◌, ◌||◌, ◌==◌, nat_lt, if◌then◌else◌, List, [], ◌∷◌, ◌++◌, codes}
+use Rattle.wgsl_model.specs.Tokens.Classes.{LineComment, BlockComment}
+use Rattle.wgsl_model_tidy.specs.Pieces.{Piece, OpenComment}
+use Rattle.wgsl_model_tidy.specs.Roles.{Role, beginning, opening, template_start, template_end, block_end, is, is_tight, opens, closes}
+use Rattle.wgsl_model_tidy.specs.Joints.{Joint, line, nothing, space, nothing_or_line, space_or_line, joint}
+use Rattle.wgsl_model_tidy.specs.Open.{LayoutState, start, in_brackets, depth_of, comment_depth, role_in, behind_token}
+
+-- nothing, a space, or a line end, with an empty line or without, and the blank space of a line so deep
+pub data Gap : Type 0 where
+  closed blank : Gap
+  broken : Bool → ℕ → Gap
+
+-- the last piece is a token, a line comment, a block comment, one that leads (nothing but such comments stands before it in its line), or one that is not closed; where there is none, it counts as a token
+pub data Last : Type 0 where
+  token line_comment block_comment leading_comment open_comment : Last
+
+-- the state behind the last token, and what the last piece is
+pub record Spot : Type 0 where
+  pub state : LayoutState
+  pub last : Last
+
+-- ---- which gap stands before a piece; n is how many line ends stand there, and break what a line end is there
+
+-- a line end of the author's stays
+abbrev pub kept_gap : ℕ → Gap → Gap → Gap
+kept_gap zero break other = other
+kept_gap (suc n) break other = break
+
+-- by what stands between two tokens
+abbrev pub joint_gap : Joint → ℕ → Gap → Gap
+joint_gap line n break = break
+joint_gap nothing n break = closed
+joint_gap space n break = blank
+joint_gap nothing_or_line n break = kept_gap n break closed
+joint_gap space_or_line n break = kept_gap n break blank
+
+-- what nothing stands before, behind a comment too
+abbrev pub closes_up : Role → Bool
+closes_up right = is_tight right || is right template_end
+
+-- between a comment and a token where no line end has to stand: a line end of the author's stays
+abbrev pub loose_joint : Role → Joint
+loose_joint right = if closes_up right then nothing_or_line else space_or_line
+
+-- between a block comment and a token, by what stands between that and the token before
+abbrev pub behind_comment : Joint → Role → Joint
+behind_comment line right = line
+behind_comment joint right = loose_joint right
+
+-- between a comment that leads and a token: `}` alone has to stand in a line of its own
+abbrev pub behind_leading : Role → Joint
+behind_leading right = if is right block_end then line else loose_joint right
+
+-- before a token: what stands between it and the token before, by what they do
+abbrev pub token_gap : Bool → Last → Role → Role → ℕ → Gap → Gap
+token_gap in_brackets token left right n break = if is left beginning then closed else joint_gap (joint in_brackets left right) n break
+token_gap in_brackets line_comment left right n break = break
+token_gap in_brackets leading_comment left right n break = joint_gap (behind_leading right) n break
+token_gap in_brackets last left right n break = joint_gap (behind_comment (joint in_brackets left right) right) n break
+
+-- before a comment behind a token: a space, but nothing behind an opening bracket, or a line end of the author's
+abbrev pub comment_behind : Role → ℕ → Gap → Gap
+comment_behind left n break =
+    if is left beginning then closed
+    else if is left opening || is left template_start then kept_gap n break closed
+    else kept_gap n break blank
+
+-- before a comment
+abbrev pub comment_gap : Last → Role → ℕ → Gap → Gap
+comment_gap token left n break = comment_behind left n break
+comment_gap line_comment left n break = break
+comment_gap last left n break = kept_gap n break blank
+
+-- the last piece is an opening bracket
+abbrev pub is_behind_opening : Last → Role → Bool
+is_behind_opening token left = opens left
+is_behind_opening last left = false
+
+-- a line end before what does so: an empty line of the author's stays, but neither behind an opening bracket nor before a closing one
+abbrev pub line_end : Last → Role → Role → ℕ → ℕ → Gap
+line_end last left right n depth = broken (nat_lt 1 n && not (is_behind_opening last left || closes right)) depth
+
+-- a comment
+abbrev pub is_comment : ℕ → Bool
+is_comment class = class == LineComment || (class == BlockComment || class == OpenComment)
+
+-- what the first token of these pieces does, or nothing
+abbrev pub next_role : LayoutState → List Piece → Role
+next_role state [] = beginning
+next_role state (p ∷ ps) = if is_comment p.class then next_role state ps else role_in state p.class
+
+-- the gap before a piece; the first token from there on does so
+abbrev pub gap_before : Spot → Role → Piece → Gap
+gap_before spot right p =
+    if is_comment p.class then comment_gap spot.last spot.state.last p.line_ends (line_end spot.last spot.state.last beginning p.line_ends (comment_depth spot.state right))
+    else token_gap (in_brackets spot.state.opened) spot.last spot.state.last right p.line_ends (line_end spot.last spot.state.last right p.line_ends (depth_of spot.state right))
+
+-- ---- the whole text
+
+-- blank space so deep
+abbrev pub indentation : ℕ → List ℕ
+indentation zero = []
+indentation (suc depth) = codes "    " ++ indentation depth
+
+abbrev pub gap_text : Gap → List ℕ
+gap_text closed = []
+gap_text blank = codes " "
+gap_text (broken true depth) = codes "\n\n" ++ indentation depth
+gap_text (broken false depth) = codes "\n" ++ indentation depth
+
+-- how deep a line is in which a piece stands behind a gap
+abbrev pub depth_behind : Gap → ℕ → ℕ
+depth_behind (broken empty depth) before = depth
+depth_behind gap before = before
+
+-- the state in a line of another depth
+abbrev pub in_line_of : LayoutState → ℕ → LayoutState
+in_line_of state depth = record { opened = state.opened; line = depth; last = state.last; structure = state.structure }
+
+-- a comment behind this gap leads: it begins a line or the text, or stands behind one that leads
+abbrev pub leads : Gap → Last → Role → Bool
+leads (broken empty depth) last left = true
+leads gap token left = is left beginning
+leads gap leading_comment left = true
+leads gap last left = false
+
+-- which comment stands last behind a comment of a class, that leads or does not
+abbrev pub comment_last : ℕ → Bool → Last
+comment_last class leading = if class == LineComment then line_comment else if class == BlockComment then (if leading then leading_comment else block_comment) else open_comment
+
+-- behind a piece behind this gap
+abbrev pub behind_piece : Spot → Gap → Role → Piece → Spot
+behind_piece spot gap right p =
+    let depth = depth_behind gap spot.state.line in
+    if is_comment p.class then record { state = in_line_of spot.state depth; last = comment_last p.class (leads gap spot.last spot.state.last) }
+    else record { state = behind_token spot.state depth p.class right; last = token }
+
+-- what stands behind the last piece: a line end, but not where a comment would go on with it, nor where there is no piece
+abbrev pub ending : Last → Role → List ℕ
+ending open_comment left = []
+ending token left = if is left beginning then [] else codes "\n"
+ending last left = codes "\n"
+
+-- pieces laid out behind a spot
+abbrev pub laid_from : Spot → List Piece → List ℕ
+laid_from spot [] = ending spot.last spot.state.last
+laid_from spot (p ∷ ps) =
+    let right = next_role spot.state (p ∷ ps) in
+    let gap = gap_before spot right p in
+    gap_text gap ++ (p.text ++ laid_from (behind_piece spot gap right p) ps)
+
+-- the laid-out text of pieces
+abbrev pub laid_out : List Piece → List ℕ
+laid_out ps = laid_from (record { state = start; last = token }) ps

@@ -1,0 +1,113 @@
+-- What is open at a place, how deep a line there stands, and what a token does to it.
+use Rattle.std.specs.Prelude.{ℕ, suc, Bool, true, false, ◌&&◌, ◌||◌, not, ◌==◌, if◌then◌else◌, List, [], ◌∷◌, drop}
+use Rattle.wgsl_model.specs.Tokens.Classes.{KwStruct}
+use Rattle.wgsl_model_tidy.specs.Roles.{Role, opening, closing, template_start, block_start, comma, semicolon, at, item_end, attribute, beginning, is, closes, ends_operand, begins_item, role_of}
+
+-- a block, the members of a structure, the arguments of an attribute, every other bracket
+pub data Open : Type 0 where
+  block members arguments bracket : Open
+
+-- what is open, the innermost first, each with the depth of the line where it closes
+abbrev pub Opened : Type 0
+Opened = List (Open × ℕ)
+
+-- what is open, the depth of the line, what the last token is to what follows, and whether the next `{` opens a structure
+pub record LayoutState : Type 0 where
+  pub opened : Opened
+  pub line : ℕ
+  pub last : Role
+  pub structure : Bool
+
+-- nothing stands before the text
+abbrev pub start : LayoutState
+start = record { opened = []; line = 0; last = beginning; structure = false }
+
+-- the innermost is a bracket or a template list, and no block
+abbrev pub in_brackets : Opened → Bool
+in_brackets ((bracket, depth) ∷ outer) = true
+in_brackets ((arguments, depth) ∷ outer) = true
+in_brackets opened = false
+
+-- the innermost has the members of a structure
+abbrev pub in_members : Opened → Bool
+in_members ((members, depth) ∷ outer) = true
+in_members opened = false
+
+-- the innermost has the arguments of an attribute
+abbrev pub in_arguments : Opened → Bool
+in_arguments ((arguments, depth) ∷ outer) = true
+in_arguments opened = false
+
+-- how deep the lines in the innermost stand
+abbrev pub inner_depth : Opened → ℕ
+inner_depth [] = 0
+inner_depth ((kind, depth) ∷ outer) = suc depth
+
+-- how deep the line stands that closes it
+abbrev pub outer_depth : Opened → ℕ
+outer_depth [] = 0
+outer_depth ((kind, depth) ∷ outer) = depth
+
+-- ---- depths
+
+-- a line begins as deep as what stands in the innermost: in brackets, where a statement, a declaration, a member or a clause begins, and before `{`
+abbrev pub is_at_depth : LayoutState → Role → Bool
+is_at_depth state right = in_brackets state.opened || (begins_item state.last || is right block_start)
+
+-- where one of these goes on, it stands one level deeper
+abbrev pub depth_within : LayoutState → Role → ℕ
+depth_within state right = if is_at_depth state right then inner_depth state.opened else suc (inner_depth state.opened)
+
+-- a line that begins with a closing bracket stands as deep as the line of the opening one
+abbrev pub depth_of : LayoutState → Role → ℕ
+depth_of state right = if closes right then outer_depth state.opened else depth_within state right
+
+-- a comment on a line of its own stands as deep as what follows, but before a closing bracket as deep as what stands inside
+abbrev pub comment_depth : LayoutState → Role → ℕ
+comment_depth state right = if closes right then inner_depth state.opened else depth_within state right
+
+-- ---- behind a token
+
+-- what a token of a class does behind what stands there
+abbrev pub role_in : LayoutState → ℕ → Role
+role_in state class = role_of (ends_operand state.last) class
+
+-- What a token is to what follows it. An attribute ends with its name or with the `)` behind its arguments, a member with the `,` behind it, and a statement or a declaration with its `;`, but not in the header of a `for`.
+abbrev pub last_behind : LayoutState → Role → Role
+last_behind state right =
+    if is state.last at then attribute
+    else if is right closing && in_arguments state.opened then attribute
+    else if is right comma && in_members state.opened then item_end
+    else if is right semicolon && not (in_brackets state.opened) then item_end
+    else right
+
+-- what a `{` opens
+abbrev pub block_opened : LayoutState → Open
+block_opened state = if state.structure then members else block
+
+-- what a `(` or a `[` opens
+abbrev pub bracket_opened : LayoutState → Open
+bracket_opened state = if is state.last attribute then arguments else bracket
+
+-- a block stands as deep as the statement or the declaration that it is part of, a bracket as deep as the line where it opens
+abbrev pub opened_behind : LayoutState → ℕ → Role → Opened
+opened_behind state line right =
+    if is right block_start then (block_opened state, inner_depth state.opened) ∷ state.opened
+    else if is right opening then (bracket_opened state, line) ∷ state.opened
+    else if is right template_start then (bracket, line) ∷ state.opened
+    else if closes right then drop 1 state.opened
+    else state.opened
+
+-- `struct` announces a structure, unless it is the name of an attribute, up to the `{`
+abbrev pub structure_behind : LayoutState → ℕ → Role → Bool
+structure_behind state class right =
+    if is right block_start then false else if class == KwStruct && not (is state.last at) then true else state.structure
+
+-- behind a closing bracket the line counts as deep as the line of the opening one
+abbrev pub line_behind : LayoutState → ℕ → Role → ℕ
+line_behind state line right = if closes right then outer_depth state.opened else line
+
+-- the state behind a token that does so, in a line of this depth
+abbrev pub behind_token : LayoutState → ℕ → ℕ → Role → LayoutState
+behind_token state line class right =
+    record { opened = opened_behind state line right; line = line_behind state line right; last = last_behind state right; structure = structure_behind state class right }

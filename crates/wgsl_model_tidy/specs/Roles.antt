@@ -1,0 +1,150 @@
+-- What a token does where it stands, by its class and by whether an operand ends before it.
+use Rattle.std.specs.Prelude.{ℕ, Bool, true, false, ◌==◌, if◌then◌else◌, [], ◌∷◌}
+use Rattle.grammar.specs.Grammar.{is_among}
+use Rattle.wgsl_model.specs.Tokens.Classes.{SymAnd, SymAndAnd, SymAttr, SymForwardSlash, SymBang, SymBracketLeft, SymBracketRight, SymBraceLeft, SymBraceRight, SymColon, SymComma, SymEqual, SymEqualEqual, SymNotEqual, SymGreaterThan, SymGreaterThanEqual, SymShiftRight, SymLessThan, SymLessThanEqual, SymShiftLeft, SymModulo, SymMinus, SymMinusMinus, SymPeriod, SymPlus, SymPlusPlus, SymOr, SymOrOr, SymParenLeft, SymParenRight, SymSemicolon, SymStar, SymTilde, SymXor, SymPlusEqual, SymMinusEqual, SymTimesEqual, SymDivisionEqual, SymModuloEqual, SymAndEqual, SymOrEqual, SymXorEqual, SymShiftRightAssign, SymShiftLeftAssign, KwDiagnostic, KwElse, KwFalse, KwTrue, Ident, ReservedWord, AbstractInt, I32, U32, AbstractFloat, F32, F16, TemplateArgsStart, TemplateArgsEnd}
+
+pub data Role : Type 0 where
+  -- a name or a number
+  name number : Role
+  -- every other word, `_` and `->`; and `else`
+  word else_word : Role
+  -- `(` or `[`, and `)` or `]`
+  opening closing : Role
+  -- the brackets of a template list
+  template_start template_end : Role
+  -- `{` and `}`
+  block_start block_end : Role
+  -- `,` `;` `:` `.` `@`
+  comma semicolon colon period at : Role
+  -- an operator before its operand: `-`, `&`, or another
+  minus ampersand prefix : Role
+  -- an operator between operands, or of an assignment
+  binary : Role
+  -- `++` or `--`
+  step : Role
+  -- behind it only: nothing; the end of a statement, a declaration or a member; the name of an attribute, or its arguments
+  beginning item_end attribute : Role
+
+-- its place among the roles
+abbrev pub role_number : Role → ℕ
+role_number name = 0
+role_number number = 1
+role_number word = 2
+role_number else_word = 3
+role_number opening = 4
+role_number closing = 5
+role_number template_start = 6
+role_number template_end = 7
+role_number block_start = 8
+role_number block_end = 9
+role_number comma = 10
+role_number semicolon = 11
+role_number colon = 12
+role_number period = 13
+role_number at = 14
+role_number minus = 15
+role_number ampersand = 16
+role_number prefix = 17
+role_number binary = 18
+role_number step = 19
+role_number beginning = 20
+role_number item_end = 21
+role_number attribute = 22
+
+-- it is this one
+abbrev pub is : Role → Role → Bool
+is role other = role_number role == role_number other
+
+-- an operand can end with it
+abbrev pub ends_operand : Role → Bool
+ends_operand name = true
+ends_operand number = true
+ends_operand closing = true
+ends_operand template_end = true
+ends_operand role = false
+
+-- an operand can begin with it
+abbrev pub begins_operand : Role → Bool
+begins_operand name = true
+begins_operand number = true
+begins_operand opening = true
+begins_operand minus = true
+begins_operand ampersand = true
+begins_operand prefix = true
+begins_operand role = false
+
+-- an operand comes next: behind the `<` of a template list, an operator before its operand, and a `--` between operands
+abbrev pub wants_operand : Role → Bool
+wants_operand template_start = true
+wants_operand minus = true
+wants_operand ampersand = true
+wants_operand prefix = true
+wants_operand step = true
+wants_operand role = false
+
+-- nothing stands before it: `,` `;` `:` `)` `]`
+abbrev pub is_tight : Role → Bool
+is_tight comma = true
+is_tight semicolon = true
+is_tight colon = true
+is_tight closing = true
+is_tight role = false
+
+-- it opens a bracket, a template list or a block
+abbrev pub opens : Role → Bool
+opens opening = true
+opens template_start = true
+opens block_start = true
+opens role = false
+
+-- it closes one
+abbrev pub closes : Role → Bool
+closes closing = true
+closes template_end = true
+closes block_end = true
+closes role = false
+
+-- a statement, a declaration, a member or a clause can begin behind it
+abbrev pub begins_item : Role → Bool
+begins_item beginning = true
+begins_item item_end = true
+begins_item block_start = true
+begins_item block_end = true
+begins_item attribute = true
+begins_item role = false
+
+-- the operators that stand between operands alone, and those of assignments
+abbrev pub is_operator : ℕ → Bool
+is_operator class =
+    is_among class (SymAndAnd ∷ SymOrOr ∷ SymOr ∷ SymXor ∷ SymPlus ∷ SymForwardSlash ∷ SymModulo ∷ SymShiftLeft ∷ SymShiftRight ∷
+    SymLessThan ∷ SymLessThanEqual ∷ SymGreaterThan ∷ SymGreaterThanEqual ∷ SymEqualEqual ∷ SymNotEqual ∷ SymEqual ∷
+    SymPlusEqual ∷ SymMinusEqual ∷ SymTimesEqual ∷ SymDivisionEqual ∷ SymModuloEqual ∷ SymAndEqual ∷ SymOrEqual ∷ SymXorEqual ∷
+    SymShiftRightAssign ∷ SymShiftLeftAssign ∷ [])
+
+-- `-`, `&` and `*` stand between operands behind an operand, else before one
+abbrev pub sign_role : Bool → ℕ → Role
+sign_role true class = binary
+sign_role false class = if class == SymMinus then minus else if class == SymAnd then ampersand else prefix
+
+-- what a token of a class does, behind an operand or not; `diagnostic` has its arguments behind it, as a name has
+abbrev pub role_of : Bool → ℕ → Role
+role_of behind_operand class =
+    if is_among class (Ident ∷ ReservedWord ∷ KwTrue ∷ KwFalse ∷ KwDiagnostic ∷ []) then name
+    else if is_among class (AbstractInt ∷ I32 ∷ U32 ∷ AbstractFloat ∷ F32 ∷ F16 ∷ []) then number
+    else if class == KwElse then else_word
+    else if is_among class (SymParenLeft ∷ SymBracketLeft ∷ []) then opening
+    else if is_among class (SymParenRight ∷ SymBracketRight ∷ []) then closing
+    else if class == TemplateArgsStart then template_start
+    else if class == TemplateArgsEnd then template_end
+    else if class == SymBraceLeft then block_start
+    else if class == SymBraceRight then block_end
+    else if class == SymComma then comma
+    else if class == SymSemicolon then semicolon
+    else if class == SymColon then colon
+    else if class == SymPeriod then period
+    else if class == SymAttr then at
+    else if is_among class (SymMinus ∷ SymAnd ∷ SymStar ∷ []) then sign_role behind_operand class
+    else if is_among class (SymBang ∷ SymTilde ∷ []) then prefix
+    else if is_among class (SymPlusPlus ∷ SymMinusMinus ∷ []) then step
+    else if is_operator class then binary
+    else word

@@ -1,2 +1,0 @@
-//! What tokens derive does not hang on where they stand.
-#![tactic(auto)]

@@ -1,0 +1,9 @@
+pub mod UntemplatedNames
+pub mod Counts
+pub mod Equations
+pub mod Settled
+pub mod Templates
+pub mod Begun
+pub mod Classes
+pub mod Hints
+pub mod Variants

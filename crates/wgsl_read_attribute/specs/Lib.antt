@@ -1,0 +1,7 @@
+pub mod Known
+pub mod Counted
+pub mod Makes
+pub mod Settles
+pub mod Rules
+pub mod Behind
+pub mod Variants

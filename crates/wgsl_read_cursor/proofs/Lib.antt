@@ -1,0 +1,10 @@
+pub mod Lasts
+pub mod Behind
+pub mod Origins
+pub mod Seen
+pub mod Places
+pub mod AttributeNames
+pub mod Hints
+pub mod First
+pub mod Names
+pub mod Refused

@@ -1,0 +1,98 @@
+//! The tokens that are to be read, and where they are from.
+
+ghost use Rattle.std.specs.Prelude.{◌≡◌, map, IfOk, IsTrue};
+ghost use Rattle.grammar.specs.Tokens.{last_end};
+ghost use Rattle.wgsl_model.specs.Faults.Checked.{wants_memory};
+ghost use Rattle.wgsl_lex_token.specs.Placed.{placed_view};
+ghost use Rattle.wgsl_lexer.specs.Placed.{ending_view};
+ghost use Rattle.wgsl_theory_grammar.specs.Answers.{opening};
+
+use crate::Cursor;
+use crate::origin::Origin;
+use std::alloc::{AllocError, Global};
+use std::collections::VecDeque;
+use wgsl_error::ParseError;
+use wgsl_lex_token::placed::PlacedToken;
+use wgsl_lex_token::token::Token;
+use wgsl_lexer::{Collected, TextTokens};
+use wgsl_span::Span;
+
+/// Tokens that are to be read, and where they are from.
+#[derive(Drop)]
+pub struct TokenSource<'s> {
+    pub tokens: Cursor<'s>,
+    pub(crate) origin: Origin<'s>,
+}
+
+impl<'s> TokenSource<'s> {
+    ghost use Rattle.std.specs.Prelude.{chars, List};
+    ghost use Rattle.grammar.specs.Tokens as grammar;
+    ghost use Rattle.grammar.specs.Endings.{Ending};
+    ghost use Rattle.wgsl_model.specs.Tokens.TokenList.{IsTokenList};
+    ghost use Rattle.wgsl_lexer.specs.Placed.{tokens_view};
+    ghost use Rattle.wgsl_read_cursor.specs.Origins.{IsSourceOf};
+
+    /// The tokens of a text.
+    pub fn of_text(alloc: Global, text: &'s str) -> Result<TokenSource<'s>, AllocError>
+        ensures { IfOk result (λ source. (ts : List grammar.Token) × (ending : Ending) ×
+            IsTokenList (chars text.now) ts ending × IsSourceOf source ts ending) }
+    {
+        let tokens = TextTokens::new(alloc, text)?;
+        Ok(TokenSource {
+            tokens: Cursor::of_text(alloc, tokens),
+            origin: Origin::Text(text),
+        })
+    }
+
+    /// The tokens of an iterator. Where memory was refused for what follows them a `(` stands behind, so that an
+    /// attribute at the end is not told to lack its arguments.
+    pub fn new(found: Collected) -> Result<TokenSource<'s>, AllocError>
+        ensures { IfOk result (λ source.
+            IsSourceOf source (tokens_view found) (ending_view found.error)) }
+    {
+        let Collected { mut tokens, error } = found;
+        let place = last_end(&tokens);
+        if is_out_of_memory(&error) {
+            tokens.push_back(opening())?;
+        }
+        Ok(TokenSource {
+            tokens: Cursor::new(tokens),
+            origin: Origin::Given { error, place },
+        })
+    }
+}
+
+/// Where the last token ends, or 0 where there is none.
+#[tactic(auto, using(crate::proofs::Lasts::last_is))]
+pub fn last_end(tokens: &VecDeque<PlacedToken>) -> usize
+    ensures { result ≡ last_end 0 (map placed_view tokens.now.items) }
+{
+    match tokens.back() {
+        Some(last) => last.span.end,
+        None => 0,
+    }
+}
+
+/// Whether memory was refused for a token.
+pub fn is_out_of_memory(error: &Option<(usize, ParseError, usize)>) -> bool
+    ensures { result ≡ wants_memory (ending_view error.now) }
+{
+    matches!(error, Some((_, ParseError::OutOfMemory, _)))
+}
+
+/// The `(` that stands behind tokens that ended because memory was refused.
+fn opening() -> PlacedToken
+    ensures { placed_view result ≡ opening }
+{
+    PlacedToken {
+        token: Token::SymParenLeft,
+        span: Span { start: 0, end: 0 },
+    }
+}
+
+/// Whether a token is that `(`, or one that looks like it.
+pub(crate) fn is_opening(token: &PlacedToken) -> bool
+    ensures { placed_view token.now ≡ opening → IsTrue result }
+{
+    *token == opening()
+}

@@ -1,0 +1,351 @@
+//! The rules of names, expressions and templates, written by tools/dialect.py.
+
+use crate::begins::CONTINUES_MULTIPLICATIVE_EXPRESSION;
+use crate::step::Step::{self, Choice, Repeat, Rule, Token};
+use crate::symbol::Symbol;
+use wgsl_lex_token::kind::TokenKind;
+
+pub const IDENT: &[Step] = &[Token(&[TokenKind::Ident])];
+
+pub const TYPE_SPECIFIER: &[Step] = &[
+    Rule(Symbol::Ident),
+    Choice(
+        &[TokenKind::TemplateArgsStart],
+        &[Rule(Symbol::TemplateList)],
+        &[],
+    ),
+];
+
+pub const TEMPLATE_LIST: &[Step] = &[
+    Token(&[TokenKind::TemplateArgsStart]),
+    Rule(Symbol::TemplateItems),
+];
+
+pub const ARGUMENTS: &[Step] = &[
+    Token(&[TokenKind::SymParenLeft]),
+    Rule(Symbol::ArgumentRest),
+];
+
+pub const LITERAL: &[Step] = &[Token(&[
+    TokenKind::KwTrue,
+    TokenKind::KwFalse,
+    TokenKind::AbstractInt,
+    TokenKind::I32,
+    TokenKind::U32,
+    TokenKind::AbstractFloat,
+    TokenKind::F32,
+    TokenKind::F16,
+])];
+
+pub const PRIMARY_EXPRESSION: &[Step] = &[Choice(
+    &[TokenKind::Ident, TokenKind::ReservedWord],
+    &[
+        Rule(Symbol::TypeSpecifier),
+        Choice(&[TokenKind::SymParenLeft], &[Rule(Symbol::Arguments)], &[]),
+    ],
+    &[Choice(
+        &[
+            TokenKind::KwFalse,
+            TokenKind::KwTrue,
+            TokenKind::AbstractInt,
+            TokenKind::I32,
+            TokenKind::U32,
+            TokenKind::AbstractFloat,
+            TokenKind::F32,
+            TokenKind::F16,
+        ],
+        &[Rule(Symbol::Literal)],
+        &[
+            Token(&[TokenKind::SymParenLeft]),
+            Rule(Symbol::Expression),
+            Token(&[TokenKind::SymParenRight]),
+        ],
+    )],
+)];
+
+pub const SINGULAR_EXPRESSION: &[Step] = &[
+    Rule(Symbol::PrimaryExpression),
+    Rule(Symbol::Components),
+];
+
+pub const COMPONENT: &[Step] = &[Choice(
+    &[TokenKind::SymBracketLeft],
+    &[
+        Token(&[TokenKind::SymBracketLeft]),
+        Rule(Symbol::Expression),
+        Token(&[TokenKind::SymBracketRight]),
+    ],
+    &[Token(&[TokenKind::SymPeriod]), Rule(Symbol::Ident)],
+)];
+
+pub const UNARY_EXPRESSION: &[Step] = &[Choice(
+    &[
+        TokenKind::SymParenLeft,
+        TokenKind::KwFalse,
+        TokenKind::KwTrue,
+        TokenKind::Ident,
+        TokenKind::ReservedWord,
+        TokenKind::AbstractInt,
+        TokenKind::I32,
+        TokenKind::U32,
+        TokenKind::AbstractFloat,
+        TokenKind::F32,
+        TokenKind::F16,
+    ],
+    &[Rule(Symbol::SingularExpression)],
+    &[
+        Choice(
+            &[TokenKind::SymMinus],
+            &[Token(&[TokenKind::SymMinus])],
+            &[Choice(
+                &[TokenKind::SymBang],
+                &[Token(&[TokenKind::SymBang])],
+                &[Choice(
+                    &[TokenKind::SymTilde],
+                    &[Token(&[TokenKind::SymTilde])],
+                    &[Choice(
+                        &[TokenKind::SymStar],
+                        &[Token(&[TokenKind::SymStar])],
+                        &[Token(&[TokenKind::SymAnd])],
+                    )],
+                )],
+            )],
+        ),
+        Rule(Symbol::UnaryExpression),
+    ],
+)];
+
+pub const MULTIPLICATIVE_EXPRESSION: &[Step] = &[
+    Rule(Symbol::UnaryExpression),
+    Repeat(
+        CONTINUES_MULTIPLICATIVE_EXPRESSION,
+        &[
+            Choice(
+                &[TokenKind::SymStar],
+                &[Token(&[TokenKind::SymStar])],
+                &[Choice(
+                    &[TokenKind::SymForwardSlash],
+                    &[Token(&[TokenKind::SymForwardSlash])],
+                    &[Token(&[TokenKind::SymModulo])],
+                )],
+            ),
+            Rule(Symbol::UnaryExpression),
+        ],
+    ),
+];
+
+pub const SHIFT_EXPRESSION: &[Step] = &[Rule(Symbol::UnaryExpression), Rule(Symbol::SumRest)];
+
+pub const RELATIONAL_EXPRESSION: &[Step] = &[
+    Rule(Symbol::ShiftExpression),
+    Rule(Symbol::RelationRest),
+];
+
+pub const EXPRESSION: &[Step] = &[Rule(Symbol::UnaryExpression), Rule(Symbol::ExpressionRest)];
+
+pub const LHS_EXPRESSION: &[Step] = &[Choice(
+    &[TokenKind::Ident, TokenKind::ReservedWord],
+    &[Rule(Symbol::Ident), Rule(Symbol::Components)],
+    &[Choice(
+        &[TokenKind::SymAnd, TokenKind::SymStar],
+        &[Rule(Symbol::PrefixedLeftSide)],
+        &[Rule(Symbol::LeftSideInParentheses)],
+    )],
+)];
+
+pub const TEMPLATE_ITEMS: &[Step] = &[Rule(Symbol::Expression), Rule(Symbol::TemplateMore)];
+
+pub const TEMPLATE_REST: &[Step] = &[Choice(
+    &[TokenKind::TemplateArgsEnd],
+    &[Token(&[TokenKind::TemplateArgsEnd])],
+    &[Rule(Symbol::Expression), Rule(Symbol::TemplateMore)],
+)];
+
+pub const TEMPLATE_MORE: &[Step] = &[Choice(
+    &[TokenKind::SymComma],
+    &[Token(&[TokenKind::SymComma]), Rule(Symbol::TemplateRest)],
+    &[Token(&[TokenKind::TemplateArgsEnd])],
+)];
+
+pub const ARGUMENT_REST: &[Step] = &[Choice(
+    &[TokenKind::SymParenRight],
+    &[Token(&[TokenKind::SymParenRight])],
+    &[Rule(Symbol::Expression), Rule(Symbol::ArgumentMore)],
+)];
+
+pub const ARGUMENT_MORE: &[Step] = &[Choice(
+    &[TokenKind::SymComma],
+    &[Token(&[TokenKind::SymComma]), Rule(Symbol::ArgumentRest)],
+    &[Token(&[TokenKind::SymParenRight])],
+)];
+
+pub const COMPONENTS: &[Step] = &[Repeat(
+    &[TokenKind::SymBracketLeft, TokenKind::SymPeriod],
+    &[Rule(Symbol::Component)],
+)];
+
+pub const FACTORS: &[Step] = &[Repeat(
+    CONTINUES_MULTIPLICATIVE_EXPRESSION,
+    &[
+        Choice(
+            &[TokenKind::SymStar],
+            &[Token(&[TokenKind::SymStar])],
+            &[Choice(
+                &[TokenKind::SymForwardSlash],
+                &[Token(&[TokenKind::SymForwardSlash])],
+                &[Token(&[TokenKind::SymModulo])],
+            )],
+        ),
+        Rule(Symbol::UnaryExpression),
+    ],
+)];
+
+pub const SUMMANDS: &[Step] = &[Repeat(
+    &[TokenKind::SymPlus, TokenKind::SymMinus],
+    &[
+        Choice(
+            &[TokenKind::SymPlus],
+            &[Token(&[TokenKind::SymPlus])],
+            &[Token(&[TokenKind::SymMinus])],
+        ),
+        Rule(Symbol::MultiplicativeExpression),
+    ],
+)];
+
+pub const SUM_REST: &[Step] = &[Choice(
+    &[TokenKind::SymShiftLeft],
+    &[
+        Token(&[TokenKind::SymShiftLeft]),
+        Rule(Symbol::UnaryExpression),
+    ],
+    &[Choice(
+        &[TokenKind::SymShiftRight],
+        &[
+            Token(&[TokenKind::SymShiftRight]),
+            Rule(Symbol::UnaryExpression),
+        ],
+        &[Rule(Symbol::Factors), Rule(Symbol::Summands)],
+    )],
+)];
+
+pub const RELATION_REST: &[Step] = &[Choice(
+    &[
+        TokenKind::SymLessThan,
+        TokenKind::SymGreaterThan,
+        TokenKind::SymLessThanEqual,
+        TokenKind::SymGreaterThanEqual,
+        TokenKind::SymEqualEqual,
+        TokenKind::SymNotEqual,
+    ],
+    &[
+        Choice(
+            &[TokenKind::SymLessThan],
+            &[Token(&[TokenKind::SymLessThan])],
+            &[Choice(
+                &[TokenKind::SymGreaterThan],
+                &[Token(&[TokenKind::SymGreaterThan])],
+                &[Choice(
+                    &[TokenKind::SymLessThanEqual],
+                    &[Token(&[TokenKind::SymLessThanEqual])],
+                    &[Choice(
+                        &[TokenKind::SymGreaterThanEqual],
+                        &[Token(&[TokenKind::SymGreaterThanEqual])],
+                        &[Choice(
+                            &[TokenKind::SymEqualEqual],
+                            &[Token(&[TokenKind::SymEqualEqual])],
+                            &[Token(&[TokenKind::SymNotEqual])],
+                        )],
+                    )],
+                )],
+            )],
+        ),
+        Rule(Symbol::ShiftExpression),
+    ],
+    &[],
+)];
+
+pub const AND_REST: &[Step] = &[
+    Token(&[TokenKind::SymAndAnd]),
+    Rule(Symbol::RelationalExpression),
+    Repeat(
+        &[TokenKind::SymAndAnd],
+        &[
+            Token(&[TokenKind::SymAndAnd]),
+            Rule(Symbol::RelationalExpression),
+        ],
+    ),
+];
+
+pub const OR_REST: &[Step] = &[
+    Token(&[TokenKind::SymOrOr]),
+    Rule(Symbol::RelationalExpression),
+    Repeat(
+        &[TokenKind::SymOrOr],
+        &[
+            Token(&[TokenKind::SymOrOr]),
+            Rule(Symbol::RelationalExpression),
+        ],
+    ),
+];
+
+pub const BITWISE_AND_REST: &[Step] = &[
+    Token(&[TokenKind::SymAnd]),
+    Rule(Symbol::UnaryExpression),
+    Repeat(
+        &[TokenKind::SymAnd],
+        &[Token(&[TokenKind::SymAnd]), Rule(Symbol::UnaryExpression)],
+    ),
+];
+
+pub const BITWISE_OR_REST: &[Step] = &[
+    Token(&[TokenKind::SymOr]),
+    Rule(Symbol::UnaryExpression),
+    Repeat(
+        &[TokenKind::SymOr],
+        &[Token(&[TokenKind::SymOr]), Rule(Symbol::UnaryExpression)],
+    ),
+];
+
+pub const BITWISE_XOR_REST: &[Step] = &[
+    Token(&[TokenKind::SymXor]),
+    Rule(Symbol::UnaryExpression),
+    Repeat(
+        &[TokenKind::SymXor],
+        &[Token(&[TokenKind::SymXor]), Rule(Symbol::UnaryExpression)],
+    ),
+];
+
+pub const EXPRESSION_REST: &[Step] = &[Choice(
+    &[TokenKind::SymAnd],
+    &[Rule(Symbol::BitwiseAndRest)],
+    &[Choice(
+        &[TokenKind::SymOr],
+        &[Rule(Symbol::BitwiseOrRest)],
+        &[Choice(
+            &[TokenKind::SymXor],
+            &[Rule(Symbol::BitwiseXorRest)],
+            &[
+                Rule(Symbol::SumRest),
+                Rule(Symbol::RelationRest),
+                Choice(
+                    &[TokenKind::SymAndAnd],
+                    &[Rule(Symbol::AndRest)],
+                    &[Choice(&[TokenKind::SymOrOr], &[Rule(Symbol::OrRest)], &[])],
+                ),
+            ],
+        )],
+    )],
+)];
+
+pub const LEFT_SIDE_IN_PARENTHESES: &[Step] = &[
+    Token(&[TokenKind::SymParenLeft]),
+    Rule(Symbol::LhsExpression),
+    Token(&[TokenKind::SymParenRight]),
+    Rule(Symbol::Components),
+];
+
+pub const PREFIXED_LEFT_SIDE: &[Step] = &[Choice(
+    &[TokenKind::SymStar],
+    &[Token(&[TokenKind::SymStar]), Rule(Symbol::LhsExpression)],
+    &[Token(&[TokenKind::SymAnd]), Rule(Symbol::LhsExpression)],
+)];

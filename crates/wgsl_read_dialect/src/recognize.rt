@@ -1,0 +1,41 @@
+//! Recognising a module.
+
+ghost use Rattle.std.specs.Prelude.{◌≡◌, ◌⊎◌, false, chars, length, List, IfOk, IfErr};
+ghost use Rattle.grammar.specs.Tokens.{Token};
+ghost use Rattle.grammar.specs.Endings.{Ending};
+ghost use Rattle.wgsl_model.specs.Faults.Checked.{wants_memory};
+ghost use Rattle.wgsl_error.specs.View.{fault_view};
+ghost use Rattle.wgsl_read_cursor.specs.Answers.{IsOutOfMemory};
+ghost use Rattle.wgsl_read_cursor.specs.Origins.{IsSourceOf};
+ghost use Rattle.wgsl_read_cursor.specs.Places.{StandsWithin};
+ghost use Rattle.wgsl_read_dialect.specs.Recognized.{IsRecognized, IsRefused, Recognized};
+
+use crate::accept::accept;
+use crate::rules::right_side;
+use crate::symbol::Symbol;
+use std::alloc::Global;
+use wgsl_error::Error;
+use wgsl_read_cursor::{Expected, TokenSource};
+
+/// Whether the tokens of a source are a module.
+#[tactic(auto, using(crate::proofs::Weights::rule_settled, crate::proofs::Recognized::unit_is))]
+fn recognize_unit(alloc: Global, source: TokenSource) -> Result<(), Error>
+    ensures { (ts : List Token) (ending : Ending) → IsSourceOf source.entry ts ending →
+        wants_memory ending ≡ false → Recognized result ts ending }
+{
+    let mut source = source;
+    let read = accept(right_side(Symbol::Unit), &mut source.tokens);
+    source.answer(alloc, read, Expected::DECLARATION)
+}
+
+/// Whether a text is a module where it is recognised alone: names are identifiers alone, after `@` too, `--` stands in
+/// no sum, and no attribute, `var` template or diagnostic is checked. Otherwise the error is the first token that can't
+/// stand where it stands; else the text that is no token; else that the text ends too early. No tree is made.
+pub fn recognize_str(alloc: Global, source: &str) -> Result<(), Error>
+    ensures accepted { IfOk result (λ _. IsRecognized (chars source.now)) }
+    ensures refused { IfErr result (λ e.
+        IsOutOfMemory e ⊎ IsRefused (chars source.now) (fault_view e)) }
+    ensures placed { IfErr result (λ e. StandsWithin e.span (length source.now)) }
+{
+    recognize_unit(alloc, TokenSource::of_text(alloc, source)?)
+}

@@ -1,0 +1,86 @@
+-- `if` and chains of `else if` by their parts.
+use Rattle.std.proofs.Common.{◌≡◌, ◌∙◌, ap, ap₂, List, [], ◌∷◌, ◌++◌, cond, append-nil}
+use Rattle.std.specs.Prelude.{Option, Some, None}
+use Rattle.grammar.specs.Grammar.{Grammar.symbol}
+use Rattle.grammar.specs.Notation.{◌then◌, ◌or◌, ◌gives◌, ◌▹◌}
+use Rattle.grammar.specs.States.{State, Read, Read.done, ◌>>=◌, is_at, take, go}
+use Rattle.grammar.proofs.Binding.{bind_associates, bind_alike, bind_cond, pair_goes_on}
+use Rattle.wgsl_model.specs.Tokens.Classes.{KwElse, KwIf}
+use Rattle.wgsl_model.specs.Trees.Expressions.{ExpressionNode}
+use Rattle.wgsl_model.specs.Trees.Statements.{CompoundStatement, ElseIfClause, ElseClause, UnattributedStatement, else_if_clause, else_clause}
+use Rattle.wgsl_model.specs.Grammar.StatementParts.{if_of}
+use Rattle.wgsl_model.specs.Grammar.Symbols.{Symbol.compound_statement, Symbol.expression}
+use Rattle.wgsl_theory_grammar.specs.Factored.{FactoredSymbol.of, FactoredSymbol.further, Further.else_rest, Further.if_part, FactoredRule}
+use Rattle.wgsl_theory_grammar.specs.Tables.{tables}
+use Rattle.wgsl_theory_grammar.specs.Reader.{reader}
+use Rattle.wgsl_theory_grammar.specs.StatementRules.{else_rest_at, if_part_at}
+use Rattle.wgsl_theory_grammar.proofs.StatementEquations.{else_rest_is, if_part_is}
+use Rattle.wgsl_read_simple.proofs.Binding.{triple_goes_on, token_before, put_before, behind, behind_more, behind_none}
+use Rattle.wgsl_read_part.specs.Heads.{condition_at}
+use Rattle.wgsl_read_part.proofs.Heads.{condition_first}
+
+abbrev Elses : Type 0
+Elses = List ElseIfClause × Option ElseClause
+
+-- further clauses, behind those that were read so far
+unfoldable pub elses_from : List ElseIfClause → State → Read Elses
+elses_from clauses s = behind clauses (reader (further else_rest) s)
+
+-- `else if` and what follows, the last `else`, or nothing
+unfoldable pub elses_turn : List ElseIfClause → State → Read Elses
+elses_turn clauses s = cond (is_at KwElse s) (take KwElse s >>= λ t s'. cond (is_at KwIf s')
+    (take KwIf s' >>= λ u s1. reader (of expression) s1 >>= λ e s2. reader (of compound_statement) s2 >>= λ b s3. elses_from (clauses ++ else_if_clause [] e b ∷ []) s3)
+    (reader (of compound_statement) s' >>= λ b s1. done (clauses, Some (else_clause [] b)) s1))
+    (done (clauses, None) s)
+
+-- ---- as the grammar writes them
+abbrev with_else_if : ExpressionNode × (CompoundStatement × Elses) → Elses
+with_else_if p = (else_if_clause [] p.0 p.1.0 ∷ p.1.1.0, p.1.1.1)
+
+abbrev else_if_rest : FactoredRule (ExpressionNode × (CompoundStatement × Elses))
+else_if_rest = symbol (of expression) then symbol (of compound_statement) then symbol (further else_rest)
+
+abbrev last_else : FactoredRule Elses
+last_else = symbol (of compound_statement) gives λ b. ([], Some (else_clause [] b))
+
+else_if_is : (clauses : List ElseIfClause) (s : State) → behind clauses (go tables reader (KwIf ▹ else_if_rest gives with_else_if) s)
+    ≡ (take KwIf s >>= λ u s1. reader (of expression) s1 >>= λ e s2. reader (of compound_statement) s2 >>= λ b s3. elses_from (clauses ++ else_if_clause [] e b ∷ []) s3)
+unfolding elses_from
+else_if_is clauses s =
+    bind_associates (go tables reader (KwIf ▹ else_if_rest) s) (λ p s'. done (with_else_if p) s') (λ p s'. done (put_before clauses p) s')
+    ∙ token_before (take KwIf s) (go tables reader else_if_rest) (λ p s'. done (put_before clauses (with_else_if p)) s')
+    ∙ bind_alike (take KwIf s) _ _ (λ u s1 h. triple_goes_on (reader (of expression) s1) (reader (of compound_statement)) (reader (further else_rest)) (λ p s'. done (put_before clauses (with_else_if p)) s')
+    ∙ bind_alike (reader (of expression) s1) _ _ (λ e s2 h2. bind_alike (reader (of compound_statement) s2) _ _ (λ b s3 h3. behind_more clauses (else_if_clause [] e b) (reader (further else_rest) s3))))
+
+last_else_is : (clauses : List ElseIfClause) (s : State) → behind clauses (go tables reader last_else s) ≡ (reader (of compound_statement) s >>= λ b s'. done (clauses, Some (else_clause [] b)) s')
+last_else_is clauses s =
+    bind_associates (reader (of compound_statement) s) (λ b s'. done ([], Some (else_clause [] b)) s') (λ p s'. done (put_before clauses p) s')
+    ∙ bind_alike (reader (of compound_statement) s) _ _ (λ b s' h. ap (λ cs. done (cs, Some (else_clause [] b)) s') (append-nil clauses))
+
+-- ---- the equations
+pub elses_are : (clauses : List ElseIfClause) (s : State) → elses_from clauses s ≡ elses_turn clauses s
+unfolding elses_from elses_turn else_rest_at
+elses_are clauses s =
+    ap (behind clauses) (else_rest_is s) ∙ bind_cond (is_at KwElse s) (go tables reader (KwElse ▹ (KwIf ▹ else_if_rest gives with_else_if or last_else)) s) (done ([], None) s) (λ p s'. done (put_before clauses p) s')
+    ∙ ap₂ (cond (is_at KwElse s))
+    (token_before (take KwElse s) (go tables reader (KwIf ▹ else_if_rest gives with_else_if or last_else)) (λ p s'. done (put_before clauses p) s')
+    ∙ bind_alike (take KwElse s) _ _ (λ t s' h. bind_cond (is_at KwIf s') (go tables reader (KwIf ▹ else_if_rest gives with_else_if) s') (go tables reader last_else s') (λ p s''. done (put_before clauses p) s'')
+    ∙ ap₂ (cond (is_at KwIf s')) (else_if_is clauses s') (last_else_is clauses s')))
+    (ap (λ cs. done (cs, None) s) (append-nil clauses))
+
+pub else_rest_from : (s : State) → reader (further else_rest) s ≡ elses_from [] s
+unfolding elses_from
+else_rest_from s = behind_none (reader (further else_rest) s)
+
+-- ---- the statement, without its attributes
+unfoldable pub if_parts : State → Read UnattributedStatement
+if_parts s = condition_at KwIf s >>= λ e s1. reader (of compound_statement) s1 >>= λ b s2. reader (further else_rest) s2 >>= λ elses s3. done (if_of e b elses) s3
+
+abbrev block_and_elses : FactoredRule (CompoundStatement × Elses)
+block_and_elses = symbol (of compound_statement) then symbol (further else_rest)
+
+pub if_by_parts : (s : State) → reader (further if_part) s ≡ if_parts s
+unfolding if_part_at if_parts
+if_by_parts s =
+    if_part_is s ∙ condition_first KwIf block_and_elses (λ p s'. done (if_of p.0 p.1.0 p.1.1) s') s
+    ∙ bind_alike (condition_at KwIf s) _ _ (λ e s' h. pair_goes_on (reader (of compound_statement) s') (reader (further else_rest)) (λ p s''. done (if_of e p.0 p.1) s''))

@@ -1,0 +1,125 @@
+-- `switch` by its parts.
+use Rattle.std.proofs.Common.{◌≡◌, ◌∙◌, refl, sym, ap, ap₂, List, [], ◌∷◌, ◌++◌, cond}
+use Rattle.std.specs.Prelude.{Option}
+use Rattle.grammar.specs.Tokens.{Token}
+use Rattle.grammar.specs.Grammar.{Grammar.symbol}
+use Rattle.grammar.specs.Notation.{one_token, ◌then◌, ◌▹◌, optional}
+use Rattle.grammar.specs.States.{State, Read, Read.done, ◌>>=◌, is_at, take, go}
+use Rattle.grammar.proofs.Lists.{until}
+use Rattle.grammar.proofs.Binding.{bind_associates, bind_alike, bind_cond, pair_goes_on}
+use Rattle.wgsl_model.specs.Tokens.Classes.{SymBraceRight, SymColon, KwCase, KwDefault}
+use Rattle.wgsl_model.specs.Trees.Statements.{UnattributedStatement, CaseSelector, CompoundStatement, SwitchClause}
+use Rattle.wgsl_model.specs.Grammar.StatementParts.{clause_of, switch_of}
+use Rattle.wgsl_model.specs.Grammar.Symbols.{Symbol.compound_statement, Symbol.switch_clause}
+use Rattle.wgsl_theory_grammar.specs.Factored.{FactoredSymbol.of, FactoredSymbol.further, Further.attribute_list, Further.selectors, Further.clause_rest, Further.clause_part, Further.switch_part, FactoredRule}
+use Rattle.wgsl_theory_grammar.specs.Tables.{tables}
+use Rattle.wgsl_theory_grammar.specs.Reader.{reader}
+use Rattle.wgsl_theory_grammar.specs.StatementRules.{switch_clause_at, clause_rest_at, clause_part_at, switch_part_at}
+use Rattle.wgsl_theory_grammar.proofs.StatementEquations.{switch_clause_is, clause_rest_is, clause_part_is, switch_part_is}
+use Rattle.wgsl_read_simple.proofs.Binding.{triple_goes_on, token_before}
+use Rattle.wgsl_read_part.specs.Clauses.{maybe_colon_at, clause_head_at}
+use Rattle.wgsl_read_part.specs.Heads.{switch_head_at}
+use Rattle.wgsl_read_part.proofs.Heads.{switch_head_first}
+use Rattle.wgsl_read_statement.specs.Switches.{clauses_at}
+
+-- ---- a clause
+-- what a clause selects, and its block
+abbrev Clause : Type 0
+Clause = List CaseSelector × CompoundStatement
+
+-- attributes, what stands before the block, and the block
+unfoldable pub switch_clause_parts : State → Read SwitchClause
+switch_clause_parts s = reader (further attribute_list) s >>= λ a s1. clause_head_at s1 >>= λ l s2. reader (of compound_statement) s2 >>= λ b s3. done (clause_of a (l, b)) s3
+
+-- the block behind what stands before it
+abbrev block_behind : List CaseSelector → State → Read Clause
+block_behind l s = reader (of compound_statement) s >>= λ b s'. done (l, b) s'
+
+abbrev default_only : List CaseSelector
+default_only = CaseSelector.default_selector ∷ []
+
+abbrev case_head : State → Read (List CaseSelector)
+case_head s = take KwCase s >>= λ t s1. reader (further selectors) s1 >>= λ l s2. maybe_colon_at s2 >>= λ o s3. done l s3
+
+abbrev default_head : State → Read (List CaseSelector)
+default_head s = take KwDefault s >>= λ t s1. maybe_colon_at s1 >>= λ o s2. done default_only s2
+
+-- as the grammar writes it
+abbrev behind_colon : FactoredRule (Option Token × CompoundStatement)
+behind_colon = optional (one_token SymColon) then symbol (of compound_statement)
+
+abbrev case_made : List CaseSelector × (Option Token × CompoundStatement) → State → Read Clause
+case_made p s = done (p.0, p.1.1) s
+
+abbrev default_made : Option Token × CompoundStatement → State → Read Clause
+default_made p s = done (default_only, p.1) s
+
+case_is : (s : State) → (go tables reader (KwCase ▹ symbol (further selectors) then behind_colon) s >>= case_made) ≡ (case_head s >>= block_behind)
+unfolding maybe_colon_at
+case_is s =
+    token_before (take KwCase s) (go tables reader (symbol (further selectors) then behind_colon)) case_made
+    ∙ bind_alike (take KwCase s) _ _ (λ t s1 h. triple_goes_on (reader (further selectors) s1) maybe_colon_at (reader (of compound_statement)) case_made)
+    ∙ sym (bind_associates (take KwCase s) _ block_behind
+    ∙ bind_alike (take KwCase s) _ _ (λ t s1 h. bind_associates (reader (further selectors) s1) _ block_behind
+    ∙ bind_alike (reader (further selectors) s1) _ _ (λ l s2 h2. bind_associates (maybe_colon_at s2) _ block_behind)))
+
+default_is : (s : State) → (go tables reader (KwDefault ▹ behind_colon) s >>= default_made) ≡ (default_head s >>= block_behind)
+unfolding maybe_colon_at
+default_is s =
+    token_before (take KwDefault s) (go tables reader behind_colon) default_made
+    ∙ bind_alike (take KwDefault s) _ _ (λ t s1 h. pair_goes_on (maybe_colon_at s1) (reader (of compound_statement)) default_made)
+    ∙ sym (bind_associates (take KwDefault s) _ block_behind ∙ bind_alike (take KwDefault s) _ _ (λ t s1 h. bind_associates (maybe_colon_at s1) _ block_behind))
+
+clause_part_by_parts : (s : State) → reader (further clause_part) s ≡ (clause_head_at s >>= block_behind)
+unfolding clause_part_at clause_head_at
+clause_part_by_parts s =
+    clause_part_is s ∙ ap₂ (cond (is_at KwCase s)) (case_is s) (default_is s)
+    ∙ sym (bind_cond (is_at KwCase s) (case_head s) (default_head s) block_behind)
+
+pub switch_clause_by_parts : (s : State) → reader (of switch_clause) s ≡ switch_clause_parts s
+unfolding switch_clause_at switch_clause_parts
+switch_clause_by_parts s =
+    switch_clause_is s
+    ∙ pair_goes_on (reader (further attribute_list) s) (reader (further clause_part)) (λ p s'. done (clause_of p.0 p.1) s')
+    ∙ bind_alike (reader (further attribute_list) s) _ _ (λ a s1 h. ap (λ m. m >>= λ p s'. done (clause_of a p) s') (clause_part_by_parts s1)
+    ∙ bind_associates (clause_head_at s1) block_behind (λ p s'. done (clause_of a p) s')
+    ∙ bind_alike (clause_head_at s1) _ _ (λ l s2 h2. bind_associates (reader (of compound_statement) s2) (λ b s'. done (l, b) s') (λ p s'. done (clause_of a p) s')))
+
+-- ---- clauses
+-- further clauses, behind those that were read so far
+unfoldable pub clauses_from : List SwitchClause → State → Read (List SwitchClause)
+clauses_from clauses s = reader (further clause_rest) s >>= λ more s'. done (clauses ++ more) s'
+
+unfoldable pub clauses_turn : List SwitchClause → State → Read (List SwitchClause)
+clauses_turn clauses s = cond (is_at SymBraceRight s) (take SymBraceRight s >>= λ t s'. done clauses s') (reader (of switch_clause) s >>= λ c s'. clauses_from (clauses ++ c ∷ []) s')
+
+pub clauses_are : (clauses : List SwitchClause) (s : State) → clauses_from clauses s ≡ clauses_turn clauses s
+unfolding clauses_from clauses_turn clause_rest_at
+clauses_are clauses s = until (reader (further clause_rest)) (reader (of switch_clause)) SymBraceRight clause_rest_is clauses s
+
+-- the first, and those behind it
+unfoldable pub clauses_parts : State → Read (List SwitchClause)
+clauses_parts s = reader (of switch_clause) s >>= λ c s'. clauses_from (c ∷ []) s'
+
+pub clauses_by_parts : (s : State) → clauses_at s ≡ clauses_parts s
+unfolding clauses_at clauses_parts clauses_from
+clauses_by_parts s = refl
+
+-- ---- the statement, without its attributes
+unfoldable pub switch_parts : State → Read UnattributedStatement
+switch_parts s = switch_head_at s >>= λ h s1. clauses_at s1 >>= λ clauses s2. done (switch_of h.0 h.1 clauses) s2
+
+-- as the grammar writes its clauses
+abbrev clauses_written : FactoredRule (SwitchClause × List SwitchClause)
+clauses_written = symbol (of switch_clause) then symbol (further clause_rest)
+
+clauses_go_on : (f : List SwitchClause → State → Read UnattributedStatement) (s : State) → (reader (of switch_clause) s >>= λ c s'. reader (further clause_rest) s' >>= λ cs s''. f (c ∷ cs) s'') ≡ (clauses_at s >>= f)
+unfolding clauses_at
+clauses_go_on f s = sym (bind_associates (reader (of switch_clause) s) _ f ∙ bind_alike (reader (of switch_clause) s) _ _ (λ c s' h. bind_associates (reader (further clause_rest) s') _ f))
+
+pub switch_by_parts : (s : State) → reader (further switch_part) s ≡ switch_parts s
+unfolding switch_part_at switch_parts
+switch_by_parts s =
+    switch_part_is s ∙ switch_head_first clauses_written (λ p s'. done (switch_of p.0 p.1.0 (p.1.1.0 ∷ p.1.1.1)) s') s
+    ∙ bind_alike (switch_head_at s) _ _ (λ h s1 k. pair_goes_on (reader (of switch_clause) s1) (reader (further clause_rest)) (λ p s'. done (switch_of h.0 h.1 (p.0 ∷ p.1)) s')
+    ∙ clauses_go_on (λ clauses s'. done (switch_of h.0 h.1 clauses) s') s1)

@@ -1,0 +1,117 @@
+//! Statements.
+#![tactic(auto, unfolding(crate::proofs::Hints::definitions), using(crate::proofs::Hints::lemmas))]
+
+ghost use Rattle.std.specs.Prelude.{◌≡◌};
+ghost use Rattle.grammar.specs.States.{is_any};
+ghost use Rattle.wgsl_model.specs.Trees.Statements.{statement};
+ghost use Rattle.wgsl_model.specs.Grammar.Symbols.{Symbol};
+ghost use Rattle.wgsl_tree_attribute.specs.View.{attributes_view};
+ghost use Rattle.wgsl_tree_statement.specs.View.{statement_view, statement_node_view};
+ghost use Rattle.wgsl_theory_grammar.specs.Factored.{FactoredSymbol.of, FactoredSymbol.further, Further.braced_part};
+ghost use Rattle.wgsl_theory_grammar.specs.Reader.{reader};
+ghost use Rattle.wgsl_read_cursor.specs.Reading.{state, Parses};
+ghost use Rattle.wgsl_read_attribute.specs.Behind.{behind_attributes};
+ghost use Rattle.wgsl_read_statement.specs.Statements.{begin_braced_part, statement_part_at, statement_behind_at};
+
+use crate::block::parse_block_part;
+use crate::if_chain::parse_if_part;
+use crate::loops::{parse_for_part, parse_loop_part, parse_while_part};
+use crate::switch::parse_switch_part;
+use std::alloc::Global;
+use wgsl_lex_token::kind::TokenKind;
+use wgsl_read_attribute::parse_attributes;
+use wgsl_read_cursor::{Cursor, Fault};
+use wgsl_read_part::{
+    begins_plain_statement, parse_break_part, parse_ended_part, parse_plain_statement,
+};
+use wgsl_span::Spanned;
+use wgsl_tree_attribute::Attributes;
+use wgsl_tree_statement::{Statement, StatementNode};
+
+/// A statement. What begins with `;` or `(` has no attributes.
+#[cycle(statement)]
+pub fn parse_statement(alloc: Global, tokens: &mut Cursor) -> Result<StatementNode, Fault>
+    ensures { Parses statement_node_view result tokens.old tokens.new
+        (reader (of Symbol.statement)) }
+{
+    if begins_plain_statement(tokens) {
+        return parse_plain_statement(alloc, tokens);
+    }
+    let start = tokens.start();
+    let attributes = parse_attributes(alloc, tokens)?;
+    parse_statement_behind(alloc, tokens, attributes, start)
+}
+
+/// A statement behind its attributes, and its place, which begins where they do.
+#[cycle(statement)]
+pub fn parse_statement_behind(
+    alloc: Global,
+    tokens: &mut Cursor,
+    attributes: Attributes,
+    start: usize,
+) -> Result<StatementNode, Fault>
+    ensures { Parses statement_node_view result tokens.old tokens.new
+        (statement_behind_at (attributes_view attributes.items) start) }
+{
+    let statement = parse_statement_part(alloc, tokens, attributes)?;
+    Ok(Spanned::new(alloc, statement, tokens.span_from(start))?)
+}
+
+/// A statement from its first word on, behind its attributes.
+#[cycle(statement)]
+fn parse_statement_part(
+    alloc: Global,
+    tokens: &mut Cursor,
+    attributes: Attributes,
+) -> Result<Statement, Fault>
+    ensures { Parses statement_view result tokens.old tokens.new
+        (behind_attributes statement (attributes_view attributes.items) statement_part_at) }
+{
+    if tokens.is_at(TokenKind::KwBreak) {
+        return parse_break_part(tokens, attributes);
+    }
+    if begins_braced_part(tokens) {
+        return parse_braced_part(alloc, tokens, attributes);
+    }
+    parse_ended_part(alloc, tokens, attributes)
+}
+
+/// Whether the next token begins a statement that ends with a block.
+fn begins_braced_part(tokens: &Cursor) -> bool
+    ensures { result ≡ is_any begin_braced_part (state tokens.now) }
+{
+    tokens.is_at(TokenKind::SymBraceLeft)
+        || tokens.is_at(TokenKind::KwFor)
+        || tokens.is_at(TokenKind::KwIf)
+        || tokens.is_at(TokenKind::KwLoop)
+        || tokens.is_at(TokenKind::KwSwitch)
+        || tokens.is_at(TokenKind::KwWhile)
+}
+
+/// A statement that ends with a block, behind its attributes.
+#[cycle(statement)]
+fn parse_braced_part(
+    alloc: Global,
+    tokens: &mut Cursor,
+    attributes: Attributes,
+) -> Result<Statement, Fault>
+    ensures { Parses statement_view result tokens.old tokens.new (behind_attributes statement
+        (attributes_view attributes.items) (reader (further braced_part))) }
+{
+    if tokens.is_at(TokenKind::KwIf) {
+        return parse_if_part(alloc, tokens, attributes);
+    }
+    if tokens.is_at(TokenKind::KwSwitch) {
+        return parse_switch_part(alloc, tokens, attributes);
+    }
+    if tokens.is_at(TokenKind::KwLoop) {
+        return parse_loop_part(alloc, tokens, attributes);
+    }
+    if tokens.is_at(TokenKind::KwFor) {
+        return parse_for_part(alloc, tokens, attributes);
+    }
+    if tokens.is_at(TokenKind::KwWhile) {
+        return parse_while_part(alloc, tokens, attributes);
+    }
+    parse_block_part(alloc, tokens, attributes)
+}

@@ -1,5 +1,0 @@
-pub mod Binding
-pub mod LeftSides
-pub mod SimpleStatements
-pub mod Made
-pub mod Hints

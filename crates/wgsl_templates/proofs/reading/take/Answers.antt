@@ -1,8 +1,0 @@
-use Rattle.std.proofs.Common.{◌∙◌, ap, chars}
-use Rattle.wgsl_model.specs.Raw.{raw, raw_at}
-use Rattle.wgsl_templates.proofs.Fronts.{behind_trivia}
-use Rattle.wgsl_model.specs.Trivia.{outside}
-use Rattle.wgsl_templates.proofs.reading.take.Goals as goal
-
-pub returns-clause-value : goal.returns-clause-value
-returns-clause-value c = c.scan.ensures.value ∙ ap raw c.in_ok-rest.ensures.rest ∙ ap raw_at (behind_trivia outside (chars c.args.text.now))

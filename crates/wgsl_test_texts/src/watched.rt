@@ -1,0 +1,76 @@
+//! The tokens of a text, from an iterator that knows what is asked of it behind an error.
+
+ghost use Rattle.std.specs.Prelude.{◌≡◌};
+ghost use Rattle.std.specs.Iterator.{at_most};
+ghost use Rattle.std.proofs.Common.{rules};
+
+use std::alloc::{AllocError, Global};
+use std::cell::Cell;
+use wgsl_parse::error::ParseError;
+use wgsl_parse::lexer::{FiniteTokens, Lexer, TokenItem};
+
+/// Gives the tokens of a text, or a want of memory before them, and tells if it is asked behind an
+/// error.
+#[derive(Drop)]
+pub struct Watched<'w> {
+    tokens: Lexer<'w>,
+    /// How many items it still gives at most.
+    left: usize,
+    is_refused: bool,
+    is_over: bool,
+    is_asked_behind: &'w Cell<bool>,
+}
+
+impl<'w> Watched<'w> {
+    pub fn new(
+        alloc: Global,
+        text: &'w str,
+        is_asked_behind: &'w Cell<bool>,
+    ) -> Result<Watched<'w>, AllocError> {
+        Ok(Watched {
+            tokens: Lexer::new(alloc, text)?,
+            left: text.len().saturating_add(1),
+            is_refused: false,
+            is_over: false,
+            is_asked_behind,
+        })
+    }
+
+    /// The same with a want of memory before the tokens.
+    pub fn refused(self) -> Watched<'w> {
+        Watched {
+            is_refused: true,
+            ..self
+        }
+    }
+
+    fn give(&mut self) -> Option<TokenItem>
+        ensures { self.new.left ≡ self.old.left }
+    {
+        if self.is_refused {
+            self.is_refused = false;
+            return Some(Err((0, ParseError::OutOfMemory, 0)));
+        }
+        self.tokens.next()
+    }
+}
+
+impl Iterator for Watched<'_> {
+    type Item = TokenItem;
+
+    ghost remaining = { λ watched. at_most watched.left };
+
+    fn next(&mut self) -> Option<TokenItem> {
+        if self.is_over {
+            self.is_asked_behind.set(true);
+        }
+        self.left = self.left.checked_sub(1)?;
+        let item = self.give()?;
+        self.is_over = item.is_err();
+        Some(item)
+    }
+}
+
+impl FiniteTokens for Watched<'_> {
+    ghost is_bounded = { Prim.search rules };
+}

@@ -1,0 +1,30 @@
+//! Tests of values made by hand: spans, words, tokens, faults, paths, trees, lists and iterators of
+//! tokens, readers and writers that fail.
+#![tactic(auto)]
+
+#[cfg(test)]
+mod chains;
+#[cfg(test)]
+mod faults;
+#[cfg(test)]
+mod lists;
+#[cfg(test)]
+mod making;
+#[cfg(test)]
+mod named_values;
+#[cfg(test)]
+mod nodes;
+#[cfg(test)]
+mod own_node;
+#[cfg(test)]
+mod parsers;
+#[cfg(test)]
+mod paths;
+#[cfg(test)]
+mod spans;
+#[cfg(test)]
+mod streams;
+#[cfg(test)]
+mod tokens;
+#[cfg(test)]
+mod trees;

@@ -1,0 +1,44 @@
+//! Lists of tokens: those of a text, and those before the first fault of a list made by hand.
+
+use std::test::Fail;
+use wgsl_error::ParseError;
+use wgsl_lex_templates::is_expression_list;
+use wgsl_lex_token::kind::TokenKind;
+use wgsl_lex_token::token::Token;
+use wgsl_lexer::{TokenItem, collect_tokens, lex};
+use wgsl_span::Span;
+
+#[test]
+fn collects_up_to_an_error(rt: HostRuntime) -> Result<(), Fail> {
+    let items: Vec<TokenItem> = vec![in rt.alloc();
+        Ok((7, Token::KwFn, 9)),
+        Err((9, ParseError::DiagnosticSeverity, 4)),
+        Ok((10, Token::SymComma, 11)),
+    ]?;
+    let found = collect_tokens(rt.alloc(), items)?;
+    assert_eq!(rt; found.tokens.len(), 1);
+    assert_eq!(rt; found.tokens[0].span, Span { start: 7, end: 9 });
+    assert!(rt; found.error == Some((9, ParseError::DiagnosticSeverity, 4)));
+    Ok(())
+}
+
+#[test]
+fn reads_a_text_to_its_end(rt: HostRuntime) -> Result<(), Fail> {
+    let found = lex(rt.alloc(), "a < b")?;
+    assert_eq!(rt; found.tokens.len(), 3);
+    assert!(rt; found.tokens[1].token == Token::SymLessThan);
+    assert!(rt; found.error.is_none());
+    Ok(())
+}
+
+/// Kinds that no text gives: in a text a template list has an end and something in it, and the `<`
+/// of `a < b > c` opens one.
+#[test]
+fn kinds_that_no_text_gives_are_no_expressions(rt: HostRuntime) {
+    let name = TokenKind::Ident;
+    let (start, end) = (TokenKind::TemplateArgsStart, TokenKind::TemplateArgsEnd);
+    let (less, greater) = (TokenKind::SymLessThan, TokenKind::SymGreaterThan);
+    assert!(rt; !is_expression_list(&[name, start, name]));
+    assert!(rt; !is_expression_list(&[name, start, end]));
+    assert!(rt; !is_expression_list(&[name, less, name, greater, name]));
+}

@@ -1,0 +1,12 @@
+-- The form in which one token decides, and what the further symbols mean.
+pub mod Tokens
+pub mod Factored
+pub mod Tables
+pub mod Apart
+pub mod FewerAttributes
+pub mod Meaning
+pub mod Answers
+pub mod Reader
+pub mod ExpressionRules
+pub mod StatementRules
+pub mod UnitRules

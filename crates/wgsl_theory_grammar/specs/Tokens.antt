@@ -1,0 +1,2 @@
+-- What refutes a template list.
+pub mod Refuted

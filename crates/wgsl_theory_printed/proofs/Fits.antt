@@ -1,0 +1,11 @@
+-- The pieces of sound trees fit before what follows.
+pub mod FittingWords
+pub mod PointBehind
+pub mod SoundExpressions
+pub mod FittingSigns
+pub mod FittingExpressions
+pub mod SoundUnits
+pub mod WrittenWords
+pub mod FittingAttributes
+pub mod FittingStatements
+pub mod FittingUnits

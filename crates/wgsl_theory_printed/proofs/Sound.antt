@@ -1,0 +1,6 @@
+-- What a text derives is sound.
+pub mod Scanned
+pub mod SoundAttributes
+pub mod SoundRules
+pub mod DerivedSound
+pub mod DerivedUnits

@@ -1,0 +1,8 @@
+-- The pieces of printed trees: they print them and have their tokens.
+pub mod Printing
+pub mod PiecesOfExpressions
+pub mod PiecesOfAttributes
+pub mod PiecesOfStatements
+pub mod PrintingStatements
+pub mod PiecesOfUnits
+pub mod PrintedAlong

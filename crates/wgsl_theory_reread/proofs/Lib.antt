@@ -1,0 +1,10 @@
+pub mod Trees
+pub mod Words
+pub mod Again
+pub mod Ways
+pub mod Rules
+pub mod Derived
+pub mod Gives
+pub mod Names
+pub mod EachRule
+pub mod DerivedAgain

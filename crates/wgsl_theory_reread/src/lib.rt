@@ -1,0 +1,2 @@
+//! The tokens that are written from a tree, and what they derive.
+#![tactic(auto)]

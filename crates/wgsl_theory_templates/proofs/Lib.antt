@@ -1,0 +1,5 @@
+pub mod Reaching
+pub mod Lexed
+pub mod Changes
+pub mod Swaps
+pub mod Rest

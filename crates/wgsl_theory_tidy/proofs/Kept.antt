@@ -1,0 +1,22 @@
+-- What a laid-out text keeps of its source.
+pub mod Alone
+pub mod Touching
+pub mod Readings
+pub mod Encoded
+pub mod Signs
+pub mod TokenTexts
+pub mod Walk
+pub mod Read
+pub mod TokenRoles
+pub mod Neighbours
+pub mod Parted
+pub mod ClosedComments
+mod TextFronts
+pub mod Trails
+pub mod Gaps
+pub mod Relaid
+pub mod LaidTrails
+pub mod LaidTokens
+pub mod LaidText
+pub mod SameShape
+pub mod Kept

@@ -1,0 +1,92 @@
+-- How the gaps and the comments of a laid-out text are read: what stands behind them, and how many line ends a gap has.
+use Rattle.std.proofs.Common.{◌≡◌, ℕ, zero, suc, ◌+◌, true, false, refl, ap, ◌∙◌, List, [], ◌∷◌, ◌++◌, arith}
+use Rattle.wgsl_model.specs.Tokens.Classes.{LineComment, BlockComment}
+use Rattle.wgsl_model.specs.Tokens.Trivia.{outside, in_block, after_trivia}
+use Rattle.wgsl_model_tidy.specs.Pieces.{Piece, OpenComment, comments}
+use Rattle.wgsl_model_tidy.specs.LaidOut.{Gap, closed, blank, broken, gap_text, indentation, is_comment}
+use Rattle.wgsl_theory_tidy.proofs.Comments.{piece, no_comment, trimmed, OnLine, AtLineEnd, line_comment, whole_line, whole_block}
+use Rattle.wgsl_theory_tidy.proofs.Kept.ClosedComments.{Closed, closed_line, closed_block, Unclosed, unclosed}
+use Rattle.wgsl_theory_tidy.proofs.Kept.TextFronts.{over_line, at_line_end}
+
+-- ---- gaps
+
+-- how many line ends a gap has
+abbrev pub gap_ends : Gap → ℕ
+gap_ends closed = 0
+gap_ends blank = 0
+gap_ends (broken true depth) = 2
+gap_ends (broken false depth) = 1
+
+indentation_passed : (depth : ℕ) (r : List ℕ) → after_trivia outside (indentation depth ++ r) ≡ after_trivia outside r
+unfolding after_trivia
+indentation_passed zero r = refl
+indentation_passed (suc depth) r = indentation_passed depth r
+
+-- the same follows the blank space and comments with a gap before them
+pub gap_passed : (g : Gap) (r : List ℕ) → after_trivia outside (gap_text g ++ r) ≡ after_trivia outside r
+unfolding after_trivia
+gap_passed closed r = refl
+gap_passed blank r = refl
+gap_passed (broken true depth) r = indentation_passed depth r
+gap_passed (broken false depth) r = indentation_passed depth r
+
+space_counted : (b : ℕ → List Piece) (n : ℕ) (r : List ℕ) → comments b outside n (32 ∷ r) ≡ comments b outside n r
+space_counted b n r =
+    let same : n + 0 ≡ n = omega arith in
+    no_comment b n 32 r refl refl ∙ ap (λ m. comments b outside m r) same
+
+indentation_counted : (b : ℕ → List Piece) (n depth : ℕ) (r : List ℕ) → comments b outside n (indentation depth ++ r) ≡ comments b outside n r
+indentation_counted b n zero r = refl
+indentation_counted b n (suc depth) r =
+    let rest = indentation depth ++ r in
+    space_counted b n (32 ∷ (32 ∷ (32 ∷ rest))) ∙ space_counted b n (32 ∷ (32 ∷ rest)) ∙ space_counted b n (32 ∷ rest) ∙ space_counted b n rest ∙ indentation_counted b n depth r
+
+-- a gap counts as so many line ends
+pub gap_counted : (b : ℕ → List Piece) (g : Gap) (r : List ℕ) → comments b outside 0 (gap_text g ++ r) ≡ comments b outside (gap_ends g) r
+gap_counted b closed r = refl
+gap_counted b blank r = space_counted b 0 r
+gap_counted b (broken true depth) r = no_comment b 0 10 (10 ∷ (indentation depth ++ r)) refl refl ∙ no_comment b 1 10 (indentation depth ++ r) refl refl ∙ indentation_counted b 2 depth r
+gap_counted b (broken false depth) r = no_comment b 0 10 (indentation depth ++ r) refl refl ∙ indentation_counted b 1 depth r
+
+-- ---- comments
+
+-- the sign of a line comment and that of a block comment, before a rest
+line_passed : (xs r : List ℕ) → OnLine xs → AtLineEnd r → after_trivia outside (47 ∷ (47 ∷ (xs ++ r))) ≡ after_trivia outside r
+unfolding after_trivia
+line_passed xs r h e = over_line xs r h ∙ at_line_end r e
+
+block_passed : (text rest : List ℕ) → after_trivia (in_block 0) text ≡ rest → after_trivia outside (47 ∷ (42 ∷ text)) ≡ rest
+unfolding after_trivia
+block_passed text rest h = h
+
+-- a comment that ends is one piece, and behind it nothing is left of it; behind a line comment the line ends
+pub closed_counted : (class : ℕ) (text : List ℕ) → Closed class text → (b : ℕ → List Piece) (n : ℕ) (r : List ℕ) → (class ≡ LineComment → AtLineEnd r) → comments b outside n (text ++ r) ≡ piece class text n ∷ comments b outside 0 r
+closed_counted class text (closed_line xs h t) b n r e =
+    whole_line b n (xs ++ r) (trimmed xs) r (line_comment b n xs r h (e refl)) ∙ ap (λ ys. piece LineComment (47 ∷ (47 ∷ ys)) n ∷ comments b outside 0 r) t
+closed_counted class text (closed_block xs h k) b n r e = whole_block b n BlockComment (xs ++ r) xs (comments b outside 0 r) (h r b n)
+
+pub closed_passed : (class : ℕ) (text : List ℕ) → Closed class text → (r : List ℕ) → (class ≡ LineComment → AtLineEnd r) → after_trivia outside (text ++ r) ≡ after_trivia outside r
+closed_passed class text (closed_line xs h t) r e = line_passed xs r h (e refl)
+closed_passed class text (closed_block xs h k) r e = block_passed (xs ++ r) (after_trivia outside r) (k r)
+
+-- one that is not closed is the last piece
+pub unclosed_counted : (class : ℕ) (text : List ℕ) → Unclosed class text → (b : ℕ → List Piece) (n : ℕ) → comments b outside n text ≡ piece class text n ∷ b 0
+unclosed_counted class text (unclosed xs h k) b n = whole_block b n OpenComment xs xs (b 0) (h b n)
+
+pub unclosed_passed : (class : ℕ) (text : List ℕ) → Unclosed class text → after_trivia outside text ≡ []
+unclosed_passed class text (unclosed xs h k) = block_passed xs [] k
+
+-- they are comments, and begin with `/`
+pub closed_is_comment : (class : ℕ) (text : List ℕ) → Closed class text → is_comment class ≡ true
+closed_is_comment class text (closed_line xs h t) = refl
+closed_is_comment class text (closed_block xs h k) = refl
+
+pub unclosed_is_comment : (class : ℕ) (text : List ℕ) → Unclosed class text → is_comment class ≡ true
+unclosed_is_comment class text (unclosed xs h k) = refl
+
+pub closed_begins : (class : ℕ) (text : List ℕ) → Closed class text → (more : List ℕ) × (text ≡ 47 ∷ more)
+closed_begins class text (closed_line xs h t) = (47 ∷ xs, refl)
+closed_begins class text (closed_block xs h k) = (42 ∷ xs, refl)
+
+pub unclosed_begins : (class : ℕ) (text : List ℕ) → Unclosed class text → (more : List ℕ) × (text ≡ 47 ∷ more)
+unclosed_begins class text (unclosed xs h k) = (42 ∷ xs, refl)

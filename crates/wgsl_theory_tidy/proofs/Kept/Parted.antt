@@ -1,0 +1,144 @@
+-- A token of a text is read again before what is laid out behind it: a token, a comment, or the end of the text.
+use Rattle.std.proofs.Common.{◌≡◌, ◌⊎◌, inl, inr, ℕ, zero, suc, ◌==◌, Bool, true, false, cond, refl, sym, ap, subst, ◌∙◌, List, [], ◌∷◌, ◌++◌, Some, lit<}
+use Rattle.std.specs.Prelude.{option_map}
+use Rattle.std.proofs.lemmas.Bool.{true≢false}
+use Rattle.unicode_ident.proofs.IdentLemmas.{is_xid_start-ascii}
+use Rattle.wgsl_model.specs.Tokens.Classes.{SymForwardSlash, SymDivisionEqual, SymLessThan, TemplateArgsEnd}
+use Rattle.wgsl_model.specs.Tokens.Kind.{Kind, plain}
+use Rattle.wgsl_model.specs.Tokens.Raw.{Raw.token as raw_token, raw, raw_at}
+use Rattle.wgsl_model.specs.Tokens.Trivia.{first_or_zero, after_trivia}
+use Rattle.wgsl_model.specs.Tokens.Words.{look_up, symbols}
+use Rattle.wgsl_theory_templates.proofs.Reaching.Reach.{role}
+use Rattle.wgsl_theory_templates.proofs.Lexed.RoleClasses.{is_mark_role}
+use Rattle.wgsl_theory_printed.proofs.Spelling.Spellings.{IsSpelling, EndsBefore, spelling_at, spelling_stands}
+use Rattle.wgsl_theory_printed.proofs.Spelling.Signs.{looked_up, spelled_symbol}
+use Rattle.wgsl_model_tidy.specs.Roles.{Role, template_start, beginning, is, ends_operand}
+use Rattle.wgsl_model_tidy.specs.Joints.{Joint, line, nothing, space, nothing_or_line, space_or_line, joint}
+use Rattle.wgsl_model_tidy.specs.Open.{LayoutState, in_brackets, depth_of, comment_depth, role_in, last_behind}
+use Rattle.wgsl_model_tidy.specs.LaidOut.{Gap, closed, blank, broken, token, Spot, kept_gap, joint_gap, line_end, gap_text, ending}
+use Rattle.wgsl_theory_tidy.proofs.Laid.{comment_gap_of, token_gap_of}
+use Rattle.wgsl_theory_tidy.proofs.Kept.Neighbours.{not_beginning, shaped_behind, may_close, by_joint, is_before_comment, NoComment, PartsAt, Parts, parts}
+use Rattle.wgsl_theory_tidy.proofs.Kept.Readings.{IsToken, is_word, is_slash, is_slash_equal, is_start, is_end}
+use Rattle.wgsl_theory_tidy.proofs.Kept.TokenRoles.{Starts, shaped}
+use Rattle.wgsl_theory_tidy.proofs.Kept.Touching.{Shaped, is_less}
+
+-- a token and the first character of a rest begin no longer token and no comment
+abbrev pub PartsBefore : List ℕ → List ℕ → Type 0
+PartsBefore w [] = Unit {0}
+PartsBefore w (c ∷ cs) = PartsAt w c
+
+-- ---- gaps
+
+broken_parts : (left : Role) (w : List ℕ) (empty : Bool) (depth : ℕ) (more : List ℕ) → Parts left w → PartsBefore w (gap_text (broken empty depth) ++ more)
+broken_parts left w true depth more p = p.line_end
+broken_parts left w false depth more p = p.line_end
+
+-- a line end of the author's, or what stands there else
+kept_parts : (left : Role) (w : List ℕ) (n : ℕ) (empty : Bool) (depth : ℕ) (other : Gap) (more : List ℕ) → Parts left w → PartsBefore w (gap_text other ++ more) → PartsBefore w (gap_text (kept_gap n (broken empty depth) other) ++ more)
+kept_parts left w zero empty depth other more p e = e
+kept_parts left w (suc n) empty depth other more p e = broken_parts left w empty depth more p
+
+joint_parts : (left : Role) (w : List ℕ) (j : Joint) (n : ℕ) (empty : Bool) (depth : ℕ) (more : List ℕ) → Parts left w → (may_close j ≡ true → PartsBefore w more) → PartsBefore w (gap_text (joint_gap j n (broken empty depth)) ++ more)
+joint_parts left w line n empty depth more p e = broken_parts left w empty depth more p
+joint_parts left w nothing n empty depth more p e = e refl
+joint_parts left w space n empty depth more p e = p.space
+joint_parts left w nothing_or_line n empty depth more p e = kept_parts left w n empty depth closed more p (e refl)
+joint_parts left w space_or_line n empty depth more p e = kept_parts left w n empty depth blank more p p.space
+
+-- ---- behind a token
+
+token_parts : (state : LayoutState) (right : Role) (n : ℕ) (w v more : List ℕ) → Shaped state.last w → Starts right v → PartsBefore w (gap_text (token_gap_of (record { state = state; last = token }) right n) ++ (v ++ more))
+token_parts state right n w [] more h s = absurd s
+token_parts state right n w (x ∷ xs) more h s =
+    let p = parts state.last w h in
+    rw (not_beginning state.last w h)
+    (joint_parts state.last w (joint (in_brackets state.opened) state.last right) n _ (depth_of state right) (x ∷ (xs ++ more)) p
+    (λ m. p.token right x s (by_joint (in_brackets state.opened) state.last right m)))
+
+comment_parts : (state : LayoutState) (right : Role) (n : ℕ) (w more : List ℕ) → Shaped state.last w → PartsBefore w (gap_text (comment_gap_of (record { state = state; last = token }) right n) ++ (47 ∷ more))
+comment_parts state right n w more h = rw (not_beginning state.last w h) (go (is_before_comment state.last) refl)
+  where
+    break : Gap
+    break = line_end token state.last beginning n (comment_depth state right)
+
+    p : Parts state.last w
+    p = parts state.last w h
+
+    go : (b : Bool) → is_before_comment state.last ≡ b → PartsBefore w (gap_text (cond b (kept_gap n break closed) (kept_gap n break blank)) ++ (47 ∷ more))
+    go true e = kept_parts state.last w n _ (comment_depth state right) closed (47 ∷ more) p (p.comment e)
+    go false e = kept_parts state.last w n _ (comment_depth state right) blank (47 ∷ more) p p.space
+
+ending_parts : (left : Role) (w : List ℕ) → Shaped left w → PartsBefore w (ending token left)
+ending_parts left w h = go (is left beginning)
+  where
+    go : (b : Bool) → PartsBefore w (cond b [] (10 ∷ []))
+    go true = tt
+    go false = (parts left w h).line_end
+
+-- the same at a spot: before a token
+pub parts_before_token : (spot : Spot) (right : Role) (n : ℕ) (w v more : List ℕ) → spot.last ≡ token → Shaped spot.state.last w → Starts right v → PartsBefore w (gap_text (token_gap_of spot right n) ++ (v ++ more))
+parts_before_token spot right n w v more e h s =
+    subst (λ last. PartsBefore w (gap_text (token_gap_of (record { state = spot.state; last = last }) right n) ++ (v ++ more))) (sym e) (token_parts spot.state right n w v more h s)
+
+-- before a comment, where the next token does so
+pub parts_before_comment : (spot : Spot) (right : Role) (n : ℕ) (w more : List ℕ) → spot.last ≡ token → Shaped spot.state.last w → PartsBefore w (gap_text (comment_gap_of spot right n) ++ (47 ∷ more))
+parts_before_comment spot right n w more e h =
+    subst (λ last. PartsBefore w (gap_text (comment_gap_of (record { state = spot.state; last = last }) right n) ++ (47 ∷ more))) (sym e) (comment_parts spot.state right n w more h)
+
+-- and at the end of the text
+pub parts_before_ending : (spot : Spot) (w : List ℕ) → spot.last ≡ token → Shaped spot.state.last w → PartsBefore w (ending spot.last spot.state.last)
+parts_before_ending spot w e h = subst (λ last. PartsBefore w (ending last spot.state.last)) (sym e) (ending_parts spot.state.last w h)
+
+-- ---- so the token is read again
+
+parts_ends : (w rest : List ℕ) → PartsBefore w rest → EndsBefore w rest
+parts_ends w [] p = tt
+parts_ends w (c ∷ cs) p = p.0
+
+slash_here : (cs : List ℕ) → (first_or_zero cs == 47) ≡ false → (first_or_zero cs == 42) ≡ false → raw (47 ∷ cs) ≡ raw_at (47 ∷ cs)
+unfolding after_trivia
+slash_here cs h k = rw (h, k) refl
+
+no_comment : (rest : List ℕ) → PartsBefore (47 ∷ []) rest → NoComment (first_or_zero rest)
+no_comment [] p = (refl, refl)
+no_comment (c ∷ cs) p = p.1 refl
+
+-- `/` and `/=` at the front
+slash_front : (cs rest : List ℕ) (class : ℕ) → look_up symbols (47 ∷ cs) ≡ Some class → EndsBefore (47 ∷ cs) rest → raw_at (47 ∷ (cs ++ rest)) ≡ raw_token (plain class) (47 ∷ (cs ++ rest)) rest
+slash_front cs rest class l e = spelling_at 47 cs rest (plain class) (spelled_symbol (47 ∷ cs) (looked_up symbols (47 ∷ cs) class l)) (rw (is_xid_start-ascii 47 (lit< tt)) (ap (option_map plain) l)) e
+
+parted_again : (k : Kind) (w rest more : List ℕ) → IsToken k w rest → PartsBefore w more → IsToken k w more
+parted_again k w rest more (is_word kind v others m s r) p = is_word k w more m s (spelling_stands k w more s (parts_ends w more p))
+parted_again k w rest more (is_slash others r) p =
+    let no = no_comment more p in
+    is_slash more (slash_here more no.0 no.1 ∙ slash_front [] more SymForwardSlash refl (parts_ends (47 ∷ []) more p))
+parted_again k w rest more (is_slash_equal others r) p = is_slash_equal more (slash_here (61 ∷ more) refl refl ∙ slash_front (61 ∷ []) more SymDivisionEqual refl (parts_ends (47 ∷ (61 ∷ [])) more p))
+parted_again k w rest more (is_start others) p = is_start more
+parted_again k w rest more (is_end others) p = is_end more
+
+-- the end of a template list stands before everything
+end_again : (k : Kind) (w rest more : List ℕ) → k ≡ plain TemplateArgsEnd → IsToken k w rest → IsToken k w more
+end_again k w rest more e (is_word kind v others m s r) = absurd (true≢false (sym (ap (λ (x : Kind). is_mark_role (role x.class)) e) ∙ m))
+end_again k w rest more e (is_slash others r) = absurd (true≢false (ap (λ (x : Kind). x.class == SymForwardSlash) e))
+end_again k w rest more e (is_slash_equal others r) = absurd (true≢false (ap (λ (x : Kind). x.class == SymDivisionEqual) e))
+end_again k w rest more e (is_start others) = is_start more
+end_again k w rest more e (is_end others) = is_end more
+
+-- a token of a text is one before other characters, where none of those that may stand behind it makes more of it
+pub token_again : (state : LayoutState) (k : Kind) (w rest more : List ℕ) → IsToken k w rest → (Shaped (last_behind state (role_in state k.class)) w → PartsBefore w more) → IsToken k w more
+token_again state k w rest more t f = go (shaped (ends_operand state.last) k w rest t)
+  where
+    go : Shaped (role_in state k.class) w ⊎ (k ≡ plain TemplateArgsEnd) → IsToken k w more
+    go (inl h) = parted_again k w rest more t (f (shaped_behind state (role_in state k.class) w h))
+    go (inr e) = end_again k w rest more e t
+
+less_spelling : IsSpelling (plain SymLessThan) (60 ∷ [])
+less_spelling = record {
+  spelled = spelled_symbol (60 ∷ []) (looked_up symbols (60 ∷ []) SymLessThan refl);
+  valued = rw (is_xid_start-ascii 60 (lit< tt)) refl;
+  begins = (refl, refl);
+}
+
+-- the `<` of a template list is the token `<`
+pub start_again : (state : LayoutState) (more : List ℕ) → (Shaped (last_behind state template_start) (60 ∷ []) → PartsBefore (60 ∷ []) more) → raw (60 ∷ more) ≡ raw_token (plain SymLessThan) (60 ∷ more) more
+start_again state more f = spelling_stands (plain SymLessThan) (60 ∷ []) more less_spelling (parts_ends (60 ∷ []) more (f (shaped_behind state template_start (60 ∷ []) is_less)))

@@ -1,0 +1,6 @@
+pub mod Moved
+pub mod Comments
+pub mod Written
+pub mod Laid
+pub mod NextRoles
+pub mod Kept

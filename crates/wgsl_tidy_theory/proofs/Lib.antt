@@ -1,4 +1,0 @@
-pub mod Comments
-pub mod Written
-pub mod Laid
-pub mod NextRoles

@@ -1,2 +1,0 @@
-//! What holds of template lists and of the token list of every text, as lemmas.
-#![tactic(auto)]

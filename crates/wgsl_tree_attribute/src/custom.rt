@@ -1,0 +1,70 @@
+//! Attributes of other names.
+
+ghost use Rattle.std.specs.Prelude.{◌≡◌, IfOk};
+ghost use Rattle.wgsl_tree_attribute.specs.View.{custom_view, expressions_view};
+ghost use Rattle.std.specs.Option.{option_map};
+ghost use Rattle.std.specs.Fmt.{WritesOnOk};
+ghost use Rattle.wgsl_model.specs.Printed.Attributes.{print_custom, print_arguments};
+
+use std::alloc::{AllocError, Global};
+use std::fmt;
+use std::fmt::Write;
+use wgsl_span::CloneWith;
+use wgsl_tree_expression::ExpressionNode;
+use wgsl_writer::write_joined;
+
+/// An attribute of another name, with its arguments if it has parentheses.
+#[derive(PartialEq, Debug, Drop)]
+pub struct CustomAttribute {
+    pub name: String,
+    pub arguments: Option<Vec<ExpressionNode>>,
+}
+
+impl CustomAttribute {
+    pub fn clone(&self, alloc: Global) -> Result<Self, AllocError>
+        ensures { IfOk result (λ copy. custom_view copy ≡ custom_view self.now) }
+    {
+        self.clone_with(alloc)
+    }
+}
+
+impl CloneWith for CustomAttribute {
+    ghost copies = { λ attribute copy. custom_view copy ≡ custom_view attribute };
+
+    fn clone_with(&self, alloc: Global) -> Result<Self, AllocError> {
+        Ok(CustomAttribute {
+            name: String::from_str(alloc, self.name.as_str())?,
+            arguments: self.arguments.clone_with(alloc)?,
+        })
+    }
+}
+
+pub(crate) fn write_custom<W: fmt::Write>(
+    attribute: &CustomAttribute,
+    f: &mut fmt::Formatter<W>,
+) -> fmt::Result
+    ensures { WritesOnOk W.write_str_gives f.old result
+        (print_custom (custom_view attribute.now)) f.new }
+{
+    let name = &attribute.name;
+    write!(f, "@{name}")?;
+    write_arguments(&attribute.arguments, f)
+}
+
+/// Writes arguments in parentheses, if there is a list of them.
+fn write_arguments<W: fmt::Write>(
+    arguments: &Option<Vec<ExpressionNode>>,
+    f: &mut fmt::Formatter<W>,
+) -> fmt::Result
+    ensures { WritesOnOk W.write_str_gives f.old result
+        (print_arguments (option_map expressions_view arguments.now)) f.new }
+{
+    match arguments {
+        None => Ok(()),
+        Some(arguments) => {
+            f.write_str("(")?;
+            write_joined(arguments, ", ", f)?;
+            f.write_str(")")
+        }
+    }
+}

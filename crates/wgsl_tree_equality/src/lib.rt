@@ -1,0 +1,2 @@
+//! Equality of trees with their spans aside, as a test that computes.
+#![tactic(auto)]

@@ -1,0 +1,6 @@
+pub mod Chains
+mod Views
+mod Texts
+mod Copies
+mod Equalities
+pub mod DerivedEqualities

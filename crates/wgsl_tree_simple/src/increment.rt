@@ -1,0 +1,103 @@
+//! Statements that count up or down by one.
+#![tactic(auto, using(std::proofs::lemmas::List::append_assoc))]
+
+ghost use Rattle.std.specs.Prelude.{◌≡◌, IfOk, Some};
+ghost use Rattle.wgsl_tree_simple.specs.View.{increment_view, decrement_view};
+ghost use Rattle.wgsl_model.specs.Printed.Declarations.{print_attributed, print_increment, print_decrement, unended_increment, unended_decrement};
+
+use crate::attributes::{clone_attributes, write_attributes};
+use crate::unended::Unended;
+use std::alloc::{AllocError, Global};
+use std::fmt;
+use std::fmt::Write;
+use wgsl_span::CloneWith;
+use wgsl_tree_attribute::Attributes;
+use wgsl_tree_expression::ExpressionNode;
+
+/// `expression++;`
+#[derive(PartialEq, Debug, Drop)]
+pub struct IncrementStatement {
+    pub attributes: Attributes,
+    pub expression: ExpressionNode,
+}
+
+impl IncrementStatement {
+    pub fn clone(&self, alloc: Global) -> Result<Self, AllocError>
+        ensures { IfOk result (λ copy. increment_view copy ≡ increment_view self.now) }
+    {
+        self.clone_with(alloc)
+    }
+}
+
+impl CloneWith for IncrementStatement {
+    ghost copies = { λ original copy. increment_view copy ≡ increment_view original };
+
+    fn clone_with(&self, alloc: Global) -> Result<Self, AllocError> {
+        Ok(IncrementStatement {
+            attributes: clone_attributes(&self.attributes, alloc)?,
+            expression: self.expression.clone_with(alloc)?,
+        })
+    }
+}
+
+impl fmt::Display for IncrementStatement {
+    ghost output = { λ statement. Some (print_attributed print_increment (increment_view statement)) };
+
+    fn fmt<W: fmt::Write>(&self, f: &mut fmt::Formatter<W>) -> fmt::Result {
+        write!(f, "{};", Unended(self))
+    }
+}
+
+impl fmt::Display for Unended<'_, IncrementStatement> {
+    ghost output = { λ statement. Some (print_attributed unended_increment (increment_view statement.0.now)) };
+
+    fn fmt<W: fmt::Write>(&self, f: &mut fmt::Formatter<W>) -> fmt::Result {
+        write_attributes(&self.0.attributes, f)?;
+        let expression = &self.0.expression;
+        write!(f, "{expression}++")
+    }
+}
+
+/// `expression--;`
+#[derive(PartialEq, Debug, Drop)]
+pub struct DecrementStatement {
+    pub attributes: Attributes,
+    pub expression: ExpressionNode,
+}
+
+impl DecrementStatement {
+    pub fn clone(&self, alloc: Global) -> Result<Self, AllocError>
+        ensures { IfOk result (λ copy. decrement_view copy ≡ decrement_view self.now) }
+    {
+        self.clone_with(alloc)
+    }
+}
+
+impl CloneWith for DecrementStatement {
+    ghost copies = { λ original copy. decrement_view copy ≡ decrement_view original };
+
+    fn clone_with(&self, alloc: Global) -> Result<Self, AllocError> {
+        Ok(DecrementStatement {
+            attributes: clone_attributes(&self.attributes, alloc)?,
+            expression: self.expression.clone_with(alloc)?,
+        })
+    }
+}
+
+impl fmt::Display for DecrementStatement {
+    ghost output = { λ statement. Some (print_attributed print_decrement (decrement_view statement)) };
+
+    fn fmt<W: fmt::Write>(&self, f: &mut fmt::Formatter<W>) -> fmt::Result {
+        write!(f, "{};", Unended(self))
+    }
+}
+
+impl fmt::Display for Unended<'_, DecrementStatement> {
+    ghost output = { λ statement. Some (print_attributed unended_decrement (decrement_view statement.0.now)) };
+
+    fn fmt<W: fmt::Write>(&self, f: &mut fmt::Formatter<W>) -> fmt::Result {
+        write_attributes(&self.0.attributes, f)?;
+        let expression = &self.0.expression;
+        write!(f, "{expression}--")
+    }
+}

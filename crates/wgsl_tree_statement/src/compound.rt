@@ -1,0 +1,152 @@
+//! Statements in braces.
+
+ghost use Rattle.std.specs.Prelude.{◌≡◌, IfOk, [], Some};
+ghost use Rattle.wgsl_tree_statement.specs.View.{compound_statement_view, statement_nodes_view};
+ghost use Rattle.wgsl_model.specs.Trees.Statements.{compound_statement, no_statements};
+ghost use Rattle.wgsl_model.specs.Printed.Statements.{print_compound, print_opened};
+ghost use Rattle.std.specs.Cmp.{on_per};
+ghost use Rattle.wgsl_tree_equality.specs.Code.{same};
+ghost use Rattle.wgsl_tree_equality.specs.Laws.{same_partial};
+ghost use Rattle.wgsl_tree_equality.specs.Statements.{statements_code, compound_code};
+ghost use Rattle.wgsl_model.specs.Trees.EmptyItems.{full_compound};
+ghost use Rattle.wgsl_writer.specs.Writing.{WritesInto};
+
+use crate::statement::{StatementNode, write_statement};
+use std::alloc::{AllocError, Global};
+use std::fmt;
+use wgsl_span::{CloneWith, Spanned};
+use wgsl_tree_attribute::Attributes;
+use wgsl_tree_simple::{write_gap, write_open};
+use wgsl_writer::Indented;
+
+/// Attributes, and statements in braces.
+#[cycle(statement)]
+#[derive(Debug, Drop)]
+pub struct CompoundStatement {
+    pub attributes: Attributes,
+    pub statements: Vec<StatementNode>,
+}
+
+impl CompoundStatement {
+    /// The block without attributes and statements.
+    pub fn new(alloc: Global) -> Self
+        ensures { compound_statement_view result ≡ compound_statement [] no_statements }
+    {
+        CompoundStatement {
+            attributes: Vec::new(alloc),
+            statements: Vec::new(alloc),
+        }
+    }
+
+    /// Removes the empty statements from this list and from every list of statements in it.
+    #[cycle(remove)]
+    pub fn remove_voids(&mut self)
+        ensures { compound_statement_view self.new
+            ≡ full_compound (compound_statement_view self.old) }
+    {
+        let statements = &mut self.statements;
+        'statements: for i in 0..statements.len() {
+            statements[i].node_mut().remove_voids();
+        }
+        statements.retain(|statement| !statement.node().is_void());
+    }
+
+    pub fn clone(&self, alloc: Global) -> Result<Self, AllocError>
+        ensures { IfOk result (λ copy.
+            compound_statement_view copy ≡ compound_statement_view self.now) }
+    {
+        self.clone_with(alloc)
+    }
+}
+
+impl CloneWith for CompoundStatement {
+    ghost copies = { λ original copy. compound_statement_view copy ≡ compound_statement_view original };
+
+    #[cycle(clone)]
+    fn clone_with(&self, alloc: Global) -> Result<Self, AllocError> {
+        let attributes = self.attributes.clone_with(alloc)?;
+        let mut statements = Vec::new(alloc);
+        'nodes: for node in &self.statements {
+            let copy = node.node().clone_with(alloc)?;
+            statements.push(Spanned::new(alloc, copy, node.span())?)?;
+        }
+        Ok(CompoundStatement {
+            attributes,
+            statements,
+        })
+    }
+}
+
+impl PartialEq for CompoundStatement {
+    ghost eq = { λ a b. same (compound_code (compound_statement_view a)) (compound_code (compound_statement_view b)) };
+
+    ghost laws = { on_per (λ e. compound_code (compound_statement_view e)) same_partial };
+
+    #[cycle(equal)]
+    fn eq(&self, other: &CompoundStatement) -> bool {
+        self.attributes == other.attributes && nodes_equal(&self.statements, &other.statements)
+    }
+}
+
+impl fmt::Display for CompoundStatement {
+    ghost output = { λ block. Some (print_compound (compound_statement_view block)) };
+
+    fn fmt<W: fmt::Write>(&self, f: &mut fmt::Formatter<W>) -> fmt::Result {
+        let mut out = Indented::new(f);
+        let outcome = write_compound(self, &mut out);
+        out.into_inner();
+        outcome
+    }
+}
+
+#[cycle(equal)]
+fn nodes_equal(a: &[StatementNode], b: &[StatementNode]) -> bool
+    ensures { result ≡ same (statements_code (statement_nodes_view a.now))
+        (statements_code (statement_nodes_view b.now)) }
+{
+    if a.len() != b.len() {
+        return false;
+    }
+    'nodes: for i in 0..a.len() {
+        if !(*a[i].node() == *b[i].node()) {
+            return false;
+        }
+    }
+    true
+}
+
+#[cycle(printing)]
+pub fn write_compound<W: fmt::Write>(
+    block: &CompoundStatement,
+    out: &mut Indented<'_, W>,
+) -> fmt::Result
+    ensures { WritesInto W.write_str_gives out.old result
+        (print_compound (compound_statement_view block.now)) out.new }
+{
+    write_opened(block, out)?;
+    out.write_piece("}")
+}
+
+/// Writes a block up to its closing brace: each statement that is not empty on a line of its own.
+#[cycle(printing)]
+pub fn write_opened<W: fmt::Write>(
+    block: &CompoundStatement,
+    out: &mut Indented<'_, W>,
+) -> fmt::Result
+    ensures { WritesInto W.write_str_gives out.old result
+        (print_opened (compound_statement_view block.now)) out.new }
+{
+    write_open(&block.attributes, out)?;
+    out.indent()?;
+    let mut first = true;
+    'statements: for statement in &block.statements {
+        if statement.node().is_void() {
+            continue;
+        }
+        write_gap(first, out)?;
+        write_statement(statement.node(), out)?;
+        first = false;
+    }
+    out.unindent();
+    out.write_line_end()
+}

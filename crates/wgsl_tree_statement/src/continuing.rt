@@ -1,0 +1,121 @@
+//! What a loop does after each turn.
+
+ghost use Rattle.std.specs.Prelude.{◌≡◌, IfOk, Some};
+ghost use Rattle.std.specs.Option.{option_map};
+ghost use Rattle.wgsl_tree_statement.specs.View.{continuing_statement_view};
+ghost use Rattle.wgsl_model.specs.Printed.Statements.{print_continuing};
+ghost use Rattle.std.specs.Cmp.{on_per};
+ghost use Rattle.wgsl_model.specs.Trees.Statements.{continuing_of};
+ghost use Rattle.wgsl_tree_equality.specs.Code.{same};
+ghost use Rattle.wgsl_tree_equality.specs.Laws.{same_partial};
+ghost use Rattle.wgsl_tree_equality.specs.Statements.{maybe_continuing_code, continuing_code};
+ghost use Rattle.wgsl_writer.specs.Writing.{WritesInto};
+
+use crate::compound::{CompoundStatement, write_opened};
+use std::alloc::{AllocError, Global};
+use std::fmt;
+use wgsl_span::CloneWith;
+use wgsl_tree_attribute::Attributes;
+use wgsl_tree_simple::{BreakIfStatement, write_break_if, write_start};
+use wgsl_writer::Indented;
+
+/// What a loop does after each turn.
+#[cycle(statement)]
+#[derive(Debug, Drop)]
+pub struct ContinuingStatement {
+    pub attributes: Attributes,
+    pub body: CompoundStatement,
+    pub break_if: Option<BreakIfStatement>,
+}
+
+impl ContinuingStatement {
+    pub fn clone(&self, alloc: Global) -> Result<Self, AllocError>
+        ensures { IfOk result (λ copy.
+            continuing_statement_view copy ≡ continuing_statement_view self.now) }
+    {
+        self.clone_with(alloc)
+    }
+}
+
+impl CloneWith for ContinuingStatement {
+    ghost copies = { λ original copy. continuing_statement_view copy ≡ continuing_statement_view original };
+
+    #[cycle(clone)]
+    fn clone_with(&self, alloc: Global) -> Result<Self, AllocError> {
+        Ok(ContinuingStatement {
+            attributes: self.attributes.clone_with(alloc)?,
+            body: self.body.clone_with(alloc)?,
+            break_if: self.break_if.clone_with(alloc)?,
+        })
+    }
+}
+
+impl PartialEq for ContinuingStatement {
+    ghost eq = { λ a b. same (continuing_code (continuing_statement_view a)) (continuing_code (continuing_statement_view b)) };
+
+    ghost laws = { on_per (λ e. continuing_code (continuing_statement_view e)) same_partial };
+
+    #[cycle(equal)]
+    fn eq(&self, other: &ContinuingStatement) -> bool {
+        self.attributes == other.attributes
+            && self.body == other.body
+            && self.break_if == other.break_if
+    }
+}
+
+impl fmt::Display for ContinuingStatement {
+    ghost output = { λ statement. Some (print_continuing (continuing_statement_view statement)) };
+
+    fn fmt<W: fmt::Write>(&self, f: &mut fmt::Formatter<W>) -> fmt::Result {
+        let mut out = Indented::new(f);
+        let outcome = write_continuing(self, &mut out);
+        out.into_inner();
+        outcome
+    }
+}
+
+#[cycle(clone)]
+pub(crate) fn clone_continuing(
+    continuing: &Option<ContinuingStatement>,
+    alloc: Global,
+) -> Result<Option<ContinuingStatement>, AllocError>
+    ensures { IfOk result (λ copy. option_map continuing_statement_view copy
+        ≡ option_map continuing_statement_view continuing.now) }
+{
+    match continuing {
+        None => Ok(None),
+        Some(continuing) => Ok(Some(continuing.clone_with(alloc)?)),
+    }
+}
+
+#[cycle(equal)]
+pub(crate) fn continuing_equal(
+    a: &Option<ContinuingStatement>,
+    b: &Option<ContinuingStatement>,
+) -> bool
+    ensures { result
+        ≡ same (maybe_continuing_code (continuing_of (option_map continuing_statement_view a.now)))
+        (maybe_continuing_code (continuing_of (option_map continuing_statement_view b.now))) }
+{
+    match a {
+        None => b.is_none(),
+        Some(a) => match b {
+            None => false,
+            Some(b) => *a == *b,
+        },
+    }
+}
+
+#[cycle(printing)]
+pub fn write_continuing<W: fmt::Write>(
+    statement: &ContinuingStatement,
+    out: &mut Indented<'_, W>,
+) -> fmt::Result
+    ensures { WritesInto W.write_str_gives out.old result
+        (print_continuing (continuing_statement_view statement.now)) out.new }
+{
+    write_start(&statement.attributes, "continuing ", out)?;
+    write_opened(&statement.body, out)?;
+    write_break_if(&statement.break_if, out)?;
+    out.write_piece("}")
+}

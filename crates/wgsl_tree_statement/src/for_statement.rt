@@ -1,0 +1,150 @@
+//! `for` statements.
+
+ghost use Rattle.std.specs.Prelude.{◌≡◌, IfOk, Some};
+ghost use Rattle.std.specs.Option.{option_map};
+ghost use Rattle.wgsl_tree_statement.specs.View.{statement_node_view, for_statement_view};
+ghost use Rattle.wgsl_model.specs.Printed.Declarations.{print_attributed};
+ghost use Rattle.wgsl_model.specs.Printed.Statements.{print_for, unended_part};
+ghost use Rattle.std.specs.Cmp.{on_per};
+ghost use Rattle.wgsl_model.specs.Trees.Statements.{maybe_statement};
+ghost use Rattle.wgsl_tree_equality.specs.Code.{same};
+ghost use Rattle.wgsl_tree_equality.specs.Laws.{same_partial};
+ghost use Rattle.wgsl_tree_equality.specs.Declarations.{attributed_code};
+ghost use Rattle.wgsl_tree_equality.specs.Statements.{for_code, part_code};
+ghost use Rattle.wgsl_model.specs.Trees.EmptyItems.{full_part};
+ghost use Rattle.wgsl_writer.specs.Writing.{WritesInto};
+
+use crate::compound::{CompoundStatement, write_compound};
+use crate::statement::{StatementNode, write_unended};
+use std::alloc::{AllocError, Global};
+use std::fmt;
+use wgsl_span::{CloneWith, Spanned};
+use wgsl_tree_attribute::Attributes;
+use wgsl_tree_expression::ExpressionNode;
+use wgsl_tree_simple::{write_condition, write_start};
+use wgsl_writer::Indented;
+
+#[cycle(statement)]
+#[derive(Debug, Drop)]
+pub struct ForStatement {
+    pub attributes: Attributes,
+    pub initializer: Option<StatementNode>,
+    pub condition: Option<ExpressionNode>,
+    pub update: Option<StatementNode>,
+    pub body: CompoundStatement,
+}
+
+impl ForStatement {
+    pub fn clone(&self, alloc: Global) -> Result<Self, AllocError>
+        ensures { IfOk result (λ copy. for_statement_view copy ≡ for_statement_view self.now) }
+    {
+        self.clone_with(alloc)
+    }
+}
+
+impl CloneWith for ForStatement {
+    ghost copies = { λ original copy. for_statement_view copy ≡ for_statement_view original };
+
+    #[cycle(clone)]
+    fn clone_with(&self, alloc: Global) -> Result<Self, AllocError> {
+        Ok(ForStatement {
+            attributes: self.attributes.clone_with(alloc)?,
+            initializer: clone_part(&self.initializer, alloc)?,
+            condition: self.condition.clone_with(alloc)?,
+            update: clone_part(&self.update, alloc)?,
+            body: self.body.clone_with(alloc)?,
+        })
+    }
+}
+
+impl PartialEq for ForStatement {
+    ghost eq = { λ a b. same (attributed_code for_code (for_statement_view a)) (attributed_code for_code (for_statement_view b)) };
+
+    ghost laws = { on_per (λ e. attributed_code for_code (for_statement_view e)) same_partial };
+
+    #[cycle(equal)]
+    fn eq(&self, other: &ForStatement) -> bool {
+        self.attributes == other.attributes
+            && part_equal(&self.initializer, &other.initializer)
+            && self.condition == other.condition
+            && part_equal(&self.update, &other.update)
+            && self.body == other.body
+    }
+}
+
+impl fmt::Display for ForStatement {
+    ghost output = { λ statement. Some (print_attributed print_for (for_statement_view statement)) };
+
+    fn fmt<W: fmt::Write>(&self, f: &mut fmt::Formatter<W>) -> fmt::Result {
+        let mut out = Indented::new(f);
+        let outcome = write_for(self, &mut out);
+        out.into_inner();
+        outcome
+    }
+}
+
+#[cycle(clone)]
+fn clone_part(
+    part: &Option<StatementNode>,
+    alloc: Global,
+) -> Result<Option<StatementNode>, AllocError>
+    ensures { IfOk result (λ copy.
+        option_map statement_node_view copy ≡ option_map statement_node_view part.now) }
+{
+    match part {
+        None => Ok(None),
+        Some(node) => {
+            let copy = node.node().clone_with(alloc)?;
+            Ok(Some(Spanned::new(alloc, copy, node.span())?))
+        }
+    }
+}
+
+#[cycle(equal)]
+fn part_equal(a: &Option<StatementNode>, b: &Option<StatementNode>) -> bool
+    ensures { result ≡ same (part_code (maybe_statement (option_map statement_node_view a.now)))
+        (part_code (maybe_statement (option_map statement_node_view b.now))) }
+{
+    match a {
+        None => b.is_none(),
+        Some(a) => match b {
+            None => false,
+            Some(b) => *a.node() == *b.node(),
+        },
+    }
+}
+
+#[cycle(remove)]
+pub(crate) fn remove_from_part(part: &mut Option<StatementNode>)
+    ensures { maybe_statement (option_map statement_node_view part.new)
+        ≡ full_part (maybe_statement (option_map statement_node_view part.old)) }
+{
+    if let Some(statement) = part {
+        statement.node_mut().remove_voids();
+    }
+}
+
+#[cycle(printing)]
+pub fn write_for<W: fmt::Write>(statement: &ForStatement, out: &mut Indented<'_, W>) -> fmt::Result
+    ensures { WritesInto W.write_str_gives out.old result
+        (print_attributed print_for (for_statement_view statement.now)) out.new }
+{
+    write_start(&statement.attributes, "for (", out)?;
+    write_part(&statement.initializer, out)?;
+    write_condition(&statement.condition, out)?;
+    write_part(&statement.update, out)?;
+    out.write_piece(") ")?;
+    write_compound(&statement.body, out)
+}
+
+/// Writes a statement in the header of a `for`, if there is one, without the `;` that ends it.
+#[cycle(printing)]
+fn write_part<W: fmt::Write>(part: &Option<StatementNode>, out: &mut Indented<'_, W>) -> fmt::Result
+    ensures { WritesInto W.write_str_gives out.old result
+        (unended_part (maybe_statement (option_map statement_node_view part.now))) out.new }
+{
+    match part {
+        None => Ok(()),
+        Some(part) => write_unended(part.node(), out),
+    }
+}

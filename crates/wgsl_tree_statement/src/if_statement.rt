@@ -1,0 +1,178 @@
+//! `if` statements.
+
+ghost use Rattle.std.specs.Prelude.{◌≡◌, IfOk, Some};
+ghost use Rattle.wgsl_tree_statement.specs.View.{if_statement_view, if_clause_view};
+ghost use Rattle.wgsl_model.specs.Printed.Declarations.{print_attributed};
+ghost use Rattle.wgsl_model.specs.Printed.Statements.{print_if, print_if_clause};
+ghost use Rattle.std.specs.Cmp.{on_per};
+ghost use Rattle.wgsl_tree_equality.specs.Code.{same};
+ghost use Rattle.wgsl_tree_equality.specs.Laws.{same_partial};
+ghost use Rattle.wgsl_tree_equality.specs.Declarations.{attributed_code};
+ghost use Rattle.wgsl_tree_equality.specs.Statements.{if_code, if_clause_code};
+ghost use Rattle.wgsl_model.specs.Trees.EmptyItems.{full_attributed, full_if};
+ghost use Rattle.wgsl_writer.specs.Writing.{WritesInto};
+
+use crate::compound::{CompoundStatement, write_compound};
+use crate::else_clause::{
+    ElseClause, ElseIfClause, clone_else, else_equal, else_ifs_equal, remove_from_else_ifs,
+    write_else_clause, write_else_if_clause,
+};
+use std::alloc::{AllocError, Global};
+use std::fmt;
+use wgsl_span::CloneWith;
+use wgsl_tree_attribute::Attributes;
+use wgsl_tree_expression::ExpressionNode;
+use wgsl_tree_simple::{write_attribute_line, write_head};
+use wgsl_writer::Indented;
+
+#[cycle(statement)]
+#[derive(Debug, Drop)]
+pub struct IfStatement {
+    pub attributes: Attributes,
+    pub if_clause: IfClause,
+    pub else_if_clauses: Vec<ElseIfClause>,
+    pub else_clause: Option<ElseClause>,
+}
+
+impl IfStatement {
+    pub fn clone(&self, alloc: Global) -> Result<Self, AllocError>
+        ensures { IfOk result (λ copy. if_statement_view copy ≡ if_statement_view self.now) }
+    {
+        self.clone_with(alloc)
+    }
+
+    #[cycle(remove)]
+    pub(crate) fn remove_voids(&mut self)
+        ensures { if_statement_view self.new
+            ≡ full_attributed full_if (if_statement_view self.old) }
+    {
+        self.if_clause.body.remove_voids();
+        remove_from_else_ifs(&mut self.else_if_clauses);
+        if let Some(clause) = &mut self.else_clause {
+            clause.body.remove_voids();
+        }
+    }
+}
+
+impl CloneWith for IfStatement {
+    ghost copies = { λ original copy. if_statement_view copy ≡ if_statement_view original };
+
+    #[cycle(clone)]
+    fn clone_with(&self, alloc: Global) -> Result<Self, AllocError> {
+        let attributes = self.attributes.clone_with(alloc)?;
+        let if_clause = self.if_clause.clone_with(alloc)?;
+        let mut else_if_clauses = Vec::new(alloc);
+        'clauses: for clause in &self.else_if_clauses {
+            else_if_clauses.push(clause.clone_with(alloc)?)?;
+        }
+        Ok(IfStatement {
+            attributes,
+            if_clause,
+            else_if_clauses,
+            else_clause: clone_else(&self.else_clause, alloc)?,
+        })
+    }
+}
+
+impl PartialEq for IfStatement {
+    ghost eq = { λ a b. same (attributed_code if_code (if_statement_view a)) (attributed_code if_code (if_statement_view b)) };
+
+    ghost laws = { on_per (λ e. attributed_code if_code (if_statement_view e)) same_partial };
+
+    #[cycle(equal)]
+    fn eq(&self, other: &IfStatement) -> bool {
+        self.attributes == other.attributes
+            && self.if_clause == other.if_clause
+            && else_ifs_equal(&self.else_if_clauses, &other.else_if_clauses)
+            && else_equal(&self.else_clause, &other.else_clause)
+    }
+}
+
+impl fmt::Display for IfStatement {
+    ghost output = { λ statement. Some (print_attributed print_if (if_statement_view statement)) };
+
+    fn fmt<W: fmt::Write>(&self, f: &mut fmt::Formatter<W>) -> fmt::Result {
+        let mut out = Indented::new(f);
+        let outcome = write_if(self, &mut out);
+        out.into_inner();
+        outcome
+    }
+}
+
+#[cycle(statement)]
+#[derive(Debug, Drop)]
+pub struct IfClause {
+    pub expression: ExpressionNode,
+    pub body: CompoundStatement,
+}
+
+impl IfClause {
+    pub fn clone(&self, alloc: Global) -> Result<Self, AllocError>
+        ensures { IfOk result (λ copy. if_clause_view copy ≡ if_clause_view self.now) }
+    {
+        self.clone_with(alloc)
+    }
+}
+
+impl CloneWith for IfClause {
+    ghost copies = { λ original copy. if_clause_view copy ≡ if_clause_view original };
+
+    #[cycle(clone)]
+    fn clone_with(&self, alloc: Global) -> Result<Self, AllocError> {
+        Ok(IfClause {
+            expression: self.expression.clone_with(alloc)?,
+            body: self.body.clone_with(alloc)?,
+        })
+    }
+}
+
+impl PartialEq for IfClause {
+    ghost eq = { λ a b. same (if_clause_code (if_clause_view a)) (if_clause_code (if_clause_view b)) };
+
+    ghost laws = { on_per (λ e. if_clause_code (if_clause_view e)) same_partial };
+
+    #[cycle(equal)]
+    fn eq(&self, other: &IfClause) -> bool {
+        self.expression == other.expression && self.body == other.body
+    }
+}
+
+impl fmt::Display for IfClause {
+    ghost output = { λ clause. Some (print_if_clause (if_clause_view clause)) };
+
+    fn fmt<W: fmt::Write>(&self, f: &mut fmt::Formatter<W>) -> fmt::Result {
+        let mut out = Indented::new(f);
+        let outcome = write_if_clause(self, &mut out);
+        out.into_inner();
+        outcome
+    }
+}
+
+#[cycle(printing)]
+pub fn write_if<W: fmt::Write>(statement: &IfStatement, out: &mut Indented<'_, W>) -> fmt::Result
+    ensures { WritesInto W.write_str_gives out.old result
+        (print_attributed print_if (if_statement_view statement.now)) out.new }
+{
+    write_attribute_line(&statement.attributes, out)?;
+    write_if_clause(&statement.if_clause, out)?;
+    'clauses: for clause in &statement.else_if_clauses {
+        out.write_line_end()?;
+        write_else_if_clause(clause, out)?;
+    }
+    match &statement.else_clause {
+        None => Ok(()),
+        Some(clause) => {
+            out.write_line_end()?;
+            write_else_clause(clause, out)
+        }
+    }
+}
+
+#[cycle(printing)]
+pub fn write_if_clause<W: fmt::Write>(clause: &IfClause, out: &mut Indented<'_, W>) -> fmt::Result
+    ensures { WritesInto W.write_str_gives out.old result
+        (print_if_clause (if_clause_view clause.now)) out.new }
+{
+    write_head("if ", &clause.expression, out)?;
+    write_compound(&clause.body, out)
+}

@@ -1,0 +1,99 @@
+//! `loop` statements.
+
+ghost use Rattle.std.specs.Prelude.{◌≡◌, IfOk, Some};
+ghost use Rattle.wgsl_tree_statement.specs.View.{loop_statement_view};
+ghost use Rattle.wgsl_model.specs.Printed.Declarations.{print_attributed};
+ghost use Rattle.wgsl_model.specs.Printed.Statements.{print_loop};
+ghost use Rattle.std.specs.Cmp.{on_per};
+ghost use Rattle.wgsl_tree_equality.specs.Code.{same};
+ghost use Rattle.wgsl_tree_equality.specs.Laws.{same_partial};
+ghost use Rattle.wgsl_tree_equality.specs.Declarations.{attributed_code};
+ghost use Rattle.wgsl_tree_equality.specs.Statements.{loop_code};
+ghost use Rattle.wgsl_writer.specs.Writing.{WritesInto};
+
+use crate::compound::{CompoundStatement, write_opened};
+use crate::continuing::{
+    ContinuingStatement, clone_continuing, continuing_equal, write_continuing,
+};
+use std::alloc::{AllocError, Global};
+use std::fmt;
+use wgsl_span::CloneWith;
+use wgsl_tree_attribute::Attributes;
+use wgsl_tree_simple::write_start;
+use wgsl_writer::Indented;
+
+#[cycle(statement)]
+#[derive(Debug, Drop)]
+pub struct LoopStatement {
+    pub attributes: Attributes,
+    pub body: CompoundStatement,
+    pub continuing: Option<ContinuingStatement>,
+}
+
+impl LoopStatement {
+    pub fn clone(&self, alloc: Global) -> Result<Self, AllocError>
+        ensures { IfOk result (λ copy. loop_statement_view copy ≡ loop_statement_view self.now) }
+    {
+        self.clone_with(alloc)
+    }
+}
+
+impl CloneWith for LoopStatement {
+    ghost copies = { λ original copy. loop_statement_view copy ≡ loop_statement_view original };
+
+    #[cycle(clone)]
+    fn clone_with(&self, alloc: Global) -> Result<Self, AllocError> {
+        Ok(LoopStatement {
+            attributes: self.attributes.clone_with(alloc)?,
+            body: self.body.clone_with(alloc)?,
+            continuing: clone_continuing(&self.continuing, alloc)?,
+        })
+    }
+}
+
+impl PartialEq for LoopStatement {
+    ghost eq = { λ a b. same (attributed_code loop_code (loop_statement_view a)) (attributed_code loop_code (loop_statement_view b)) };
+
+    ghost laws = { on_per (λ e. attributed_code loop_code (loop_statement_view e)) same_partial };
+
+    #[cycle(equal)]
+    fn eq(&self, other: &LoopStatement) -> bool {
+        self.attributes == other.attributes
+            && self.body == other.body
+            && continuing_equal(&self.continuing, &other.continuing)
+    }
+}
+
+impl fmt::Display for LoopStatement {
+    ghost output = { λ statement. Some (print_attributed print_loop (loop_statement_view statement)) };
+
+    fn fmt<W: fmt::Write>(&self, f: &mut fmt::Formatter<W>) -> fmt::Result {
+        let mut out = Indented::new(f);
+        let outcome = write_loop(self, &mut out);
+        out.into_inner();
+        outcome
+    }
+}
+
+#[cycle(printing)]
+pub fn write_loop<W: fmt::Write>(
+    statement: &LoopStatement,
+    out: &mut Indented<'_, W>,
+) -> fmt::Result
+    ensures { WritesInto W.write_str_gives out.old result
+        (print_attributed print_loop (loop_statement_view statement.now)) out.new }
+{
+    write_start(&statement.attributes, "loop ", out)?;
+    write_opened(&statement.body, out)?;
+    match &statement.continuing {
+        None => out.write_piece("}"),
+        Some(continuing) => {
+            out.indent()?;
+            out.write_piece("    ")?;
+            write_continuing(continuing, out)?;
+            out.unindent();
+            out.write_line_end()?;
+            out.write_piece("}")
+        }
+    }
+}

@@ -1,0 +1,205 @@
+//! `switch` statements and their clauses.
+
+ghost use Rattle.std.specs.Prelude.{◌≡◌, IfOk, Some, map};
+ghost use Rattle.wgsl_tree_statement.specs.View.{switch_statement_view, switch_clause_view};
+ghost use Rattle.wgsl_model.specs.Printed.Declarations.{print_attributed};
+ghost use Rattle.wgsl_model.specs.Printed.Statements.{print_switch, print_switch_clause};
+ghost use Rattle.std.specs.Cmp.{on_per};
+ghost use Rattle.wgsl_model.specs.Trees.Statements.{clauses_of};
+ghost use Rattle.wgsl_tree_equality.specs.Code.{same};
+ghost use Rattle.wgsl_tree_equality.specs.Laws.{same_partial};
+ghost use Rattle.wgsl_tree_equality.specs.Declarations.{attributed_code};
+ghost use Rattle.wgsl_tree_equality.specs.Statements.{switch_code, clauses_code, switch_clause_code};
+ghost use Rattle.wgsl_model.specs.Trees.EmptyItems.{full_attributed, full_switch};
+ghost use Rattle.wgsl_writer.specs.Writing.{WritesInto};
+
+use crate::compound::{CompoundStatement, write_compound};
+use std::alloc::{AllocError, Global};
+use std::fmt;
+use wgsl_span::CloneWith;
+use wgsl_tree_attribute::Attributes;
+use wgsl_tree_expression::ExpressionNode;
+use wgsl_tree_simple::{
+    CaseSelector, write_attribute_line, write_case, write_gap, write_head, write_open,
+};
+use wgsl_writer::Indented;
+
+#[cycle(statement)]
+#[derive(Debug, Drop)]
+pub struct SwitchStatement {
+    pub attributes: Attributes,
+    pub expression: ExpressionNode,
+    pub body_attributes: Attributes,
+    pub clauses: Vec<SwitchClause>,
+}
+
+impl SwitchStatement {
+    pub fn clone(&self, alloc: Global) -> Result<Self, AllocError>
+        ensures { IfOk result (λ copy.
+            switch_statement_view copy ≡ switch_statement_view self.now) }
+    {
+        self.clone_with(alloc)
+    }
+
+    #[cycle(remove)]
+    pub(crate) fn remove_voids(&mut self)
+        ensures { switch_statement_view self.new
+            ≡ full_attributed full_switch (switch_statement_view self.old) }
+    {
+        let clauses = &mut self.clauses;
+        'clauses: for i in 0..clauses.len() {
+            clauses[i].body.remove_voids();
+        }
+    }
+}
+
+impl CloneWith for SwitchStatement {
+    ghost copies = { λ original copy. switch_statement_view copy ≡ switch_statement_view original };
+
+    #[cycle(clone)]
+    fn clone_with(&self, alloc: Global) -> Result<Self, AllocError> {
+        let attributes = self.attributes.clone_with(alloc)?;
+        let expression = self.expression.clone_with(alloc)?;
+        let body_attributes = self.body_attributes.clone_with(alloc)?;
+        let mut clauses = Vec::new(alloc);
+        'clauses: for clause in &self.clauses {
+            clauses.push(clause.clone_with(alloc)?)?;
+        }
+        Ok(SwitchStatement {
+            attributes,
+            expression,
+            body_attributes,
+            clauses,
+        })
+    }
+}
+
+impl PartialEq for SwitchStatement {
+    ghost eq = { λ a b. same (attributed_code switch_code (switch_statement_view a)) (attributed_code switch_code (switch_statement_view b)) };
+
+    ghost laws = { on_per (λ e. attributed_code switch_code (switch_statement_view e)) same_partial };
+
+    #[cycle(equal)]
+    fn eq(&self, other: &SwitchStatement) -> bool {
+        self.attributes == other.attributes
+            && self.expression == other.expression
+            && self.body_attributes == other.body_attributes
+            && clauses_equal(&self.clauses, &other.clauses)
+    }
+}
+
+impl fmt::Display for SwitchStatement {
+    ghost output = { λ statement. Some (print_attributed print_switch (switch_statement_view statement)) };
+
+    fn fmt<W: fmt::Write>(&self, f: &mut fmt::Formatter<W>) -> fmt::Result {
+        let mut out = Indented::new(f);
+        let outcome = write_switch(self, &mut out);
+        out.into_inner();
+        outcome
+    }
+}
+
+#[cycle(statement)]
+#[derive(Debug, Drop)]
+pub struct SwitchClause {
+    pub attributes: Attributes,
+    pub case_selectors: Vec<CaseSelector>,
+    pub body: CompoundStatement,
+}
+
+impl SwitchClause {
+    pub fn clone(&self, alloc: Global) -> Result<Self, AllocError>
+        ensures { IfOk result (λ copy. switch_clause_view copy ≡ switch_clause_view self.now) }
+    {
+        self.clone_with(alloc)
+    }
+}
+
+impl CloneWith for SwitchClause {
+    ghost copies = { λ original copy. switch_clause_view copy ≡ switch_clause_view original };
+
+    #[cycle(clone)]
+    fn clone_with(&self, alloc: Global) -> Result<Self, AllocError> {
+        Ok(SwitchClause {
+            attributes: self.attributes.clone_with(alloc)?,
+            case_selectors: self.case_selectors.clone_with(alloc)?,
+            body: self.body.clone_with(alloc)?,
+        })
+    }
+}
+
+impl PartialEq for SwitchClause {
+    ghost eq = { λ a b. same (switch_clause_code (switch_clause_view a)) (switch_clause_code (switch_clause_view b)) };
+
+    ghost laws = { on_per (λ e. switch_clause_code (switch_clause_view e)) same_partial };
+
+    #[cycle(equal)]
+    fn eq(&self, other: &SwitchClause) -> bool {
+        self.attributes == other.attributes
+            && self.case_selectors == other.case_selectors
+            && self.body == other.body
+    }
+}
+
+impl fmt::Display for SwitchClause {
+    ghost output = { λ clause. Some (print_switch_clause (switch_clause_view clause)) };
+
+    fn fmt<W: fmt::Write>(&self, f: &mut fmt::Formatter<W>) -> fmt::Result {
+        let mut out = Indented::new(f);
+        let outcome = write_switch_clause(self, &mut out);
+        out.into_inner();
+        outcome
+    }
+}
+
+#[cycle(equal)]
+fn clauses_equal(a: &[SwitchClause], b: &[SwitchClause]) -> bool
+    ensures { result ≡ same (clauses_code (clauses_of (map switch_clause_view a.now)))
+        (clauses_code (clauses_of (map switch_clause_view b.now))) }
+{
+    if a.len() != b.len() {
+        return false;
+    }
+    'clauses: for i in 0..a.len() {
+        if !(a[i] == b[i]) {
+            return false;
+        }
+    }
+    true
+}
+
+#[cycle(printing)]
+pub fn write_switch<W: fmt::Write>(
+    statement: &SwitchStatement,
+    out: &mut Indented<'_, W>,
+) -> fmt::Result
+    ensures { WritesInto W.write_str_gives out.old result
+        (print_attributed print_switch (switch_statement_view statement.now)) out.new }
+{
+    write_attribute_line(&statement.attributes, out)?;
+    write_head("switch ", &statement.expression, out)?;
+    write_open(&statement.body_attributes, out)?;
+    out.indent()?;
+    let mut first = true;
+    'clauses: for clause in &statement.clauses {
+        write_gap(first, out)?;
+        write_switch_clause(clause, out)?;
+        first = false;
+    }
+    out.unindent();
+    out.write_line_end()?;
+    out.write_piece("}")
+}
+
+#[cycle(printing)]
+pub fn write_switch_clause<W: fmt::Write>(
+    clause: &SwitchClause,
+    out: &mut Indented<'_, W>,
+) -> fmt::Result
+    ensures { WritesInto W.write_str_gives out.old result
+        (print_switch_clause (switch_clause_view clause.now)) out.new }
+{
+    write_attribute_line(&clause.attributes, out)?;
+    write_case(&clause.case_selectors, out)?;
+    write_compound(&clause.body, out)
+}

@@ -1,0 +1,87 @@
+//! `while` statements.
+
+ghost use Rattle.std.specs.Prelude.{◌≡◌, IfOk, Some};
+ghost use Rattle.wgsl_tree_statement.specs.View.{while_statement_view};
+ghost use Rattle.wgsl_model.specs.Printed.Declarations.{print_attributed};
+ghost use Rattle.wgsl_model.specs.Printed.Statements.{print_while};
+ghost use Rattle.std.specs.Cmp.{on_per};
+ghost use Rattle.wgsl_tree_equality.specs.Code.{same};
+ghost use Rattle.wgsl_tree_equality.specs.Laws.{same_partial};
+ghost use Rattle.wgsl_tree_equality.specs.Declarations.{attributed_code};
+ghost use Rattle.wgsl_tree_equality.specs.Statements.{while_code};
+ghost use Rattle.wgsl_writer.specs.Writing.{WritesInto};
+
+use crate::compound::{CompoundStatement, write_compound};
+use std::alloc::{AllocError, Global};
+use std::fmt;
+use wgsl_span::CloneWith;
+use wgsl_tree_attribute::Attributes;
+use wgsl_tree_expression::ExpressionNode;
+use wgsl_tree_simple::{write_attribute_line, write_head};
+use wgsl_writer::Indented;
+
+#[cycle(statement)]
+#[derive(Debug, Drop)]
+pub struct WhileStatement {
+    pub attributes: Attributes,
+    pub condition: ExpressionNode,
+    pub body: CompoundStatement,
+}
+
+impl WhileStatement {
+    pub fn clone(&self, alloc: Global) -> Result<Self, AllocError>
+        ensures { IfOk result (λ copy. while_statement_view copy ≡ while_statement_view self.now) }
+    {
+        self.clone_with(alloc)
+    }
+}
+
+impl CloneWith for WhileStatement {
+    ghost copies = { λ original copy. while_statement_view copy ≡ while_statement_view original };
+
+    #[cycle(clone)]
+    fn clone_with(&self, alloc: Global) -> Result<Self, AllocError> {
+        Ok(WhileStatement {
+            attributes: self.attributes.clone_with(alloc)?,
+            condition: self.condition.clone_with(alloc)?,
+            body: self.body.clone_with(alloc)?,
+        })
+    }
+}
+
+impl PartialEq for WhileStatement {
+    ghost eq = { λ a b. same (attributed_code while_code (while_statement_view a)) (attributed_code while_code (while_statement_view b)) };
+
+    ghost laws = { on_per (λ e. attributed_code while_code (while_statement_view e)) same_partial };
+
+    #[cycle(equal)]
+    fn eq(&self, other: &WhileStatement) -> bool {
+        self.attributes == other.attributes
+            && self.condition == other.condition
+            && self.body == other.body
+    }
+}
+
+impl fmt::Display for WhileStatement {
+    ghost output = { λ statement. Some (print_attributed print_while (while_statement_view statement)) };
+
+    fn fmt<W: fmt::Write>(&self, f: &mut fmt::Formatter<W>) -> fmt::Result {
+        let mut out = Indented::new(f);
+        let outcome = write_while(self, &mut out);
+        out.into_inner();
+        outcome
+    }
+}
+
+#[cycle(printing)]
+pub fn write_while<W: fmt::Write>(
+    statement: &WhileStatement,
+    out: &mut Indented<'_, W>,
+) -> fmt::Result
+    ensures { WritesInto W.write_str_gives out.old result
+        (print_attributed print_while (while_statement_view statement.now)) out.new }
+{
+    write_attribute_line(&statement.attributes, out)?;
+    write_head("while ", &statement.condition, out)?;
+    write_compound(&statement.body, out)
+}

@@ -1,0 +1,5 @@
+mod Copies
+mod Texts
+mod FullDeclarations
+mod Shown
+pub mod Equalities

@@ -1,0 +1,11 @@
+use Rattle.std.proofs.Common.{rules}
+use Rattle.wgsl_tree_unit.specs.View.{global_directive_view, global_declaration_view}
+use Rattle.wgsl_tree_unit.proofs.Copies.{items_copied, nodes_copied}
+use Rattle.wgsl_tree_unit.proofs.unit.TranslationUnitCloneWith.clone_with.Goals as goal
+
+pub returns : goal.returns
+returns c =
+    let original = c.args.self.now in
+    let directives = items_copied global_directive_view original.global_directives.items _ c.in_ok-clone_with.ensures.copy in
+    let declarations = nodes_copied global_declaration_view original.global_declarations.items _ c.in_ok-clone_with-2.ensures.copy in
+    search rules

@@ -1,0 +1,4 @@
+pub mod View
+pub mod Variants
+pub mod Printed
+pub mod Equality

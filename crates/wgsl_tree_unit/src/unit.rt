@@ -1,0 +1,93 @@
+//! Modules.
+
+ghost use Rattle.std.specs.Prelude.{◌≡◌, IfOk, [], Some, map};
+ghost use Rattle.wgsl_tree_unit.specs.View.{unit_view, global_directive_view};
+ghost use Rattle.std.specs.Fmt.{WritesOnOk};
+ghost use Rattle.wgsl_model.specs.Printed.Units.{print_directives, print_unit};
+ghost use Rattle.wgsl_model.specs.Trees.EmptyItems.{full_unit};
+
+use crate::directive::GlobalDirective;
+use crate::global_declaration::GlobalDeclarationNode;
+use std::alloc::{AllocError, Global};
+use std::fmt;
+use std::fmt::Write;
+use wgsl_span::{CloneWith, retain_nodes};
+use wgsl_writer::write_joined;
+
+/// A module: its directives, then its declarations.
+#[derive(PartialEq, Debug, Drop)]
+pub struct TranslationUnit {
+    pub global_directives: Vec<GlobalDirective>,
+    pub global_declarations: Vec<GlobalDeclarationNode>,
+}
+
+impl TranslationUnit {
+    /// The module without directives and declarations.
+    pub fn new(alloc: Global) -> Self
+        ensures { unit_view result ≡ record { global_directives = []; global_declarations = [] } }
+    {
+        TranslationUnit {
+            global_directives: Vec::new(alloc),
+            global_declarations: Vec::new(alloc),
+        }
+    }
+
+    /// Removes the empty declarations, and the empty statements from every list of statements.
+    pub fn remove_voids(&mut self)
+        ensures { unit_view self.new ≡ full_unit (unit_view self.old) }
+    {
+        retain_nodes(&mut self.global_declarations, |declaration| {
+            declaration.remove_voids();
+            !declaration.is_void()
+        });
+    }
+
+    pub fn clone(&self, alloc: Global) -> Result<Self, AllocError>
+        ensures { IfOk result (λ copy. unit_view copy ≡ unit_view self.now) }
+    {
+        self.clone_with(alloc)
+    }
+}
+
+impl CloneWith for TranslationUnit {
+    ghost copies = { λ unit copy. unit_view copy ≡ unit_view unit };
+
+    fn clone_with(&self, alloc: Global) -> Result<Self, AllocError> {
+        Ok(TranslationUnit {
+            global_directives: self.global_directives.clone_with(alloc)?,
+            global_declarations: self.global_declarations.clone_with(alloc)?,
+        })
+    }
+}
+
+impl fmt::Display for TranslationUnit {
+    ghost output = { λ unit. Some (print_unit (unit_view unit)) };
+
+    fn fmt<W: fmt::Write>(&self, f: &mut fmt::Formatter<W>) -> fmt::Result {
+        write_directives(&self.global_directives, f)?;
+        let mut before = "";
+        'declarations: for declaration in &self.global_declarations {
+            if declaration.node().is_void() {
+                continue;
+            }
+            write!(f, "{before}{declaration}")?;
+            before = "\n\n";
+        }
+        f.write_str("\n")
+    }
+}
+
+/// Writes directives on lines of their own, and an empty line behind them if there are any.
+fn write_directives<W: fmt::Write>(
+    directives: &[GlobalDirective],
+    f: &mut fmt::Formatter<W>,
+) -> fmt::Result
+    ensures { WritesOnOk W.write_str_gives f.old result
+        (print_directives (map global_directive_view directives.now)) f.new }
+{
+    if directives.is_empty() {
+        return Ok(());
+    }
+    write_joined(directives, "\n", f)?;
+    f.write_str("\n\n")
+}

@@ -1,5 +1,0 @@
-mod Copies
-mod Texts
-mod FullDeclarations
-mod Shown
-mod Equalities
