@@ -1,6 +1,6 @@
 #!/usr/bin/env python3
-"""Writes the table of keywords and reserved words of the scanner, and the two tables of bytes that
-lead from a word to the only place in it where the word can stand.
+"""Writes the table of keywords and reserved words of the scanner, with their number, and the two
+tables of bytes that lead from a word to the only place in it where the word can stand.
 
 Run it at the top of the repository, and `rt fmt` in crates/wgsl_lex_scanner behind it:
 
@@ -17,7 +17,7 @@ DEFINED = Path("crates/wgsl_model/specs/Tokens/Words.antt")
 WRITTEN = Path("crates/wgsl_lex_scanner/src/word_table.rt")
 
 # what is written begins and ends before these lines
-BEGIN = "/// The keywords and the reserved words"
+BEGIN = "/// How many keywords and reserved words there are."
 END = "/// How far the sum is moved."
 
 GROUPS = 64
@@ -68,6 +68,9 @@ def written(entries):
     places = [words.index(sums[it]) if it in sums else 0 for it in range(SUMS)]
     lines = "".join(f'    ("{word}", {meaning}),\n' for word, meaning in entries.items())
     return f"""\
+/// How many keywords and reserved words there are.
+const WORD_COUNT: usize = {len(entries)};
+
 /// The keywords and the reserved words, in the order of their letters.
 static WORDS: [(&str, Meaning); {len(entries)}] = [
 {lines}];

@@ -1,5 +1,5 @@
 -- The classes of tokens, as numbers: 46 symbols, 26 keywords, and the others (WGSL, "Tokens").
-use Rattle.std.specs.Prelude.{ℕ}
+use Rattle.std.specs.Prelude.{ℕ, Bool, ◌&&◌, nat_le, nat_lt}
 
 -- the symbol `&`
 abbrev pub SymAnd : ℕ
@@ -336,3 +336,7 @@ LineComment = 82
 -- a block comment
 abbrev pub BlockComment : ℕ
 BlockComment = 83
+
+-- a keyword: the classes from that of `alias` on, up to that of identifiers
+abbrev pub is_keyword : ℕ → Bool
+is_keyword class = nat_le KwAlias class && nat_lt class Ident

@@ -19,7 +19,7 @@ use Rattle.wgsl_theory_printed.proofs.Fits.SoundExpressions.{IsSoundType, Closed
 use Rattle.wgsl_theory_printed.proofs.Fits.FittingSigns.{as_text, left_paren_fits, right_paren_fits, comma_fits}
 use Rattle.wgsl_theory_printed.proofs.Fits.FittingExpressions.{closed_by_paren, closed_by_comma, ends_at_paren}
 use Rattle.wgsl_theory_printed.proofs.Fits.SoundUnits.{IfSome, Every, AreSoundAttributes, IsSoundUnattributedDirective, IsSoundDirective, IsSoundMember, IsSoundParameter, IsSoundFunction, IsSoundUnattributedDeclaration, IsSoundGlobal, IsSoundUnit}
-use Rattle.wgsl_theory_printed.proofs.Fits.WrittenWords.{severity_name, alias_fits, diagnostic_fits, enable_fits, fn_fits, requires_fits, struct_fits}
+use Rattle.wgsl_theory_printed.proofs.Fits.WrittenWords.{severity_name, keyword_fits}
 use Rattle.wgsl_theory_printed.proofs.Fits.FittingAttributes.{list_fits, closed_type_fits, plain_name_fits, rule_fits, attributes_fit}
 use Rattle.wgsl_theory_printed.proofs.Fits.FittingStatements.{line_fits, closed_line, attribute_lines_fit, left_brace_fits, right_brace_fits, semicolon_fits, colon_fits, equal_fits, closed_by_semicolon, declaration_fits, assert_fits, compound_fits, one_fits}
 use Rattle.wgsl_theory_printed.proofs.TreePieces.PiecesOfExpressions.{sign, name, comma, type_pieces}
@@ -32,15 +32,15 @@ unattributed_directive_fits : (d : UnattributedDirective) (rest : List Piece) �
 unattributed_directive_fits (diagnostic d) rest s f =
     let last = sign (codes ";") SymSemicolon rest in
     let more = rule_pieces d.rule_name (sign (codes ")") SymParenRight last) in (
-      diagnostic_fits _ refl,
+      keyword_fits _ refl refl,
       (
         left_paren_fits _,
         plain_name_fits (severity_text d.severity) (comma more) (severity_name d.severity) (closed_by_comma more)
             (comma_fits _, rule_fits d.rule_name (sign (codes ")") SymParenRight last) s (closed_by_paren last) (right_paren_fits _, (semicolon_fits _, f))),
       ),
     )
-unattributed_directive_fits (enable d) rest s f = (enable_fits _ refl, list_fits name IsNameText plain_name_fits d.extensions (sign (codes ";") SymSemicolon rest) s (closed_by_semicolon rest) (semicolon_fits _, f))
-unattributed_directive_fits (requires d) rest s f = (requires_fits _ refl, list_fits name IsNameText plain_name_fits d.extensions (sign (codes ";") SymSemicolon rest) s (closed_by_semicolon rest) (semicolon_fits _, f))
+unattributed_directive_fits (enable d) rest s f = (keyword_fits _ refl refl, list_fits name IsNameText plain_name_fits d.extensions (sign (codes ";") SymSemicolon rest) s (closed_by_semicolon rest) (semicolon_fits _, f))
+unattributed_directive_fits (requires d) rest s f = (keyword_fits _ refl refl, list_fits name IsNameText plain_name_fits d.extensions (sign (codes ";") SymSemicolon rest) s (closed_by_semicolon rest) (semicolon_fits _, f))
 
 directive_fits : (d : GlobalDirective) (rest : List Piece) → IsSoundDirective d → Fits rest → Fits (directive_pieces d rest)
 directive_fits d rest s f = attribute_lines_fit 0 d.attributes _ s.0 (unattributed_directive_fits d.node rest s.1 f)
@@ -78,7 +78,7 @@ result_fits a (Some t) rest s y f =
 function_fits : (x : Function) (rest : List Piece) → IsSoundFunction x → Fits rest → Fits (function_pieces x rest)
 function_fits x rest s f =
     let last = space ∷ result_pieces x.return_attributes x.return_type (compound_pieces 0 x.body rest) in (
-      fn_fits _ refl,
+      keyword_fits _ refl refl,
       (
         name_fits x.ident _ s.0 (ends_at_paren (list_pieces parameter_pieces x.parameters (sign (codes ")") SymParenRight last))),
         (
@@ -93,10 +93,10 @@ unattributed_fits : (d : UnattributedDeclaration) (rest : List Piece) → IsSoun
 unattributed_fits void rest s f = (semicolon_fits _, f)
 unattributed_fits (declaration d) rest s f = declaration_fits d (sign (codes ";") SymSemicolon rest) s (closed_by_semicolon rest) (semicolon_fits _, f)
 unattributed_fits (type_alias a) rest s f =
-    (alias_fits _ refl, (name_fits a.ident _ s.0 refl, (equal_fits _, closed_type_fits a.ty (sign (codes ";") SymSemicolon rest) s.1 (closed_by_semicolon rest) (semicolon_fits _, f))))
+    (keyword_fits _ refl refl, (name_fits a.ident _ s.0 refl, (equal_fits _, closed_type_fits a.ty (sign (codes ";") SymSemicolon rest) s.1 (closed_by_semicolon rest) (semicolon_fits _, f))))
 unattributed_fits (structure x) rest s f =
     let last = sign (codes "}") SymBraceRight rest in
-    (struct_fits _ refl, (name_fits x.ident _ s.0 refl, (left_brace_fits _, line_fits 0 (members_pieces x.members (line 0 last)) (members_fit x.members (line 0 last) s.1 (closed_line 0 last) (line_fits 0 last (right_brace_fits _, f))))))
+    (keyword_fits _ refl refl, (name_fits x.ident _ s.0 refl, (left_brace_fits _, line_fits 0 (members_pieces x.members (line 0 last)) (members_fit x.members (line 0 last) s.1 (closed_line 0 last) (line_fits 0 last (right_brace_fits _, f))))))
 unattributed_fits (function x) rest s f = function_fits x rest s f
 unattributed_fits (const_assert x) rest s f = assert_fits x (sign (codes ";") SymSemicolon rest) s (closed_by_semicolon rest) (semicolon_fits _, f)
 
