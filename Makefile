@@ -34,16 +34,17 @@ tables:
 	@tools/make_tables
 
 # What README.md and CALLING.md quote has to stand in the sources, and what tools write from the
-# definitions has to be what they would write again; what rt ci runs; each shader of examples/ has to
-# print as examples/printed/ has it, and what is there as it stands; the built programs are run on
-# made texts, wgsltidy on its worked texts too; each request for memory of each call is refused; and
-# the library is tried from C, and from Rust where there is cargo.
+# definitions has to be what they would write again; what rt ci runs, with no edit that can't be
+# tried; each shader of examples/ has to print as examples/printed/ has it, and what is there as it
+# stands; the built programs are run on made texts, wgsltidy on its worked texts too; each request
+# for memory of each call is refused; and the library is tried from C, and from Rust where there is
+# cargo.
 test:
 	@test "$$(cat HANDLES)" = "Handles allowed: none." \
 	    || { echo "Failed: the file HANDLES."; exit 1; }
 	@tools/snippets || { echo "Failed: tools/snippets, as the lines above say."; exit 1; }
 	@tools/make_tables --check || { echo "Failed: run \`make tables\`."; exit 1; }
-	@rt ci || { echo "Failed: rt ci, as the lines above say."; exit 1; }
+	@tools/prove_all || { echo "Failed: rt ci, as the lines above say."; exit 1; }
 	@cd examples && for shader in *.wgsl printed/*.wgsl; do \
 	    ../crates/wgslfmt/out/wgslfmt < $$shader | cmp - printed/$${shader##*/} \
 	        || { echo "Failed: the print of examples/$$shader."; exit 1; }; \

@@ -79,6 +79,23 @@ def reached(found, start):
     return seen
 
 
+# the symbol in whose steps stand those of each symbol in it: the statements that end with a block
+OPENED = ("further", "braced_part")
+
+
+def opened(steps, found):
+    """Steps, with those of each symbol in its place; in items the symbols stay."""
+    made = []
+    for step in steps:
+        if step[0] == "Symbol":
+            made += found[step[1]]
+        elif step[0] == "Choice":
+            made.append((*step[:2], *[opened(part, found) for part in step[2:]]))
+        else:
+            made.append(step)
+    return made
+
+
 def camel(n):
     return "".join(word.capitalize() for word in n[1].split("_"))
 
@@ -87,18 +104,18 @@ def capitals(n):
     return n[1].upper()
 
 
-# the last written symbol of each part of the grammar, and the further symbols of the first two
+# the last written symbol of the first two parts of the grammar, and the further symbols of all but the units
 LAST = {"expressions": "lhs_expression", "statements": "for_update"}
 FURTHER = {
     "expressions": ["template_", "argument_", "components", "factors", "summands", "sum_rest", "relation_rest", "and_rest",
                     "or_rest", "bitwise_", "expression_rest", "left_side_in_parentheses", "prefixed_left_side"],
     "statements": ["selectors", "statement_rest", "loop_", "continuing_", "clause_", "else_rest", "init_part",
-                   "condition_part", "update_part", "if_part", "switch_part", "for_part", "while_part", "block_part",
-                   "braced_part", "returning_part", "local_part", "value_part", "phony_part", "simple_part", "ended_part",
-                   "assert_part", "left_side_rest", "name_rest_statement", "parenthesized_statement", "plain_statement"],
+                   "condition_part", "update_part", "braced_part", "ended_part"],
+    "simple": ["returning_part", "local_part", "value_part", "phony_part", "simple_part", "assert_part",
+               "left_side_rest", "name_rest_statement", "parenthesized_statement", "plain_statement"],
 }
-SAYS = {"expressions": "The rules of names, expressions and templates", "statements": "The rules of statements",
-        "units": "The rules of attributes, declarations, directives and units"}
+SAYS = {"expressions": "The rules of names, expressions and templates", "statements": "The rules of statements and their blocks",
+        "units": "The rules of attributes, declarations, directives and units", "simple": "The rules of statements that hold no others"}
 
 
 def in_parts(order, needed):
@@ -132,6 +149,8 @@ class Writer:
                 users.setdefault(tuple(classes), []).append(n)
         shared = [classes for classes, symbols in users.items() if len(classes) > 2 and len(symbols) > 1]
         self.names = {classes: self.name(classes, users) for classes in shared}
+        home = {n: part for part, symbols in reversed(parts.items()) for n in symbols}
+        self.homes = {self.names[classes]: min((home[n] for n in users[classes]), key=list(parts).index) for classes in shared}
 
     def name(self, classes, users):
         """The name of a set: by the first symbols before which it is asked for, else by the rule that goes on with it."""
@@ -182,51 +201,44 @@ class Writer:
         consts = [f"pub const {capitals(n)}: &[Step] = {self.steps(self.found[n])};" for n in self.parts[part]]
         body = "\n\n".join(consts)
         used = [v for v in ("Choice", "Repeat", "Rule", "Token") if v + "(" in body]
-        names = sorted(name for name in self.names.values() if re.search(rf"\b{name}\b", body))
         lines = [f"//! {SAYS[part]}, written by tools/dialect.py.", ""]
-        if names:
-            lines.append(f"use crate::begins::{{{', '.join(names)}}};")
-        lines += [f"use crate::step::Step::{{self, {', '.join(used)}}};", "use crate::symbol::Symbol;",
-                  "use wgsl_lex_token::kind::TokenKind;", "", body, ""]
-        return "\n".join(lines)
-
-    def begins(self):
-        lines = ["//! Kinds of tokens by which one of two ways is chosen, written by tools/dialect.py.", "", "use wgsl_lex_token::kind::TokenKind;", ""]
+        lines += [f"use crate::{home}::{name};" for name, home in self.homes.items() if home != part and re.search(rf"\b{name}\b", body)]
+        lines += ["use crate::rules::Symbol;", f"use crate::step::Step::{{self, {', '.join(used)}}};", "use wgsl_lex_token::kind::TokenKind;", ""]
         for classes, name in self.names.items():
-            kinds = ", ".join(f"TokenKind::{c}" for c in classes)
-            lines += [f"pub const {name}: &[TokenKind] = &[{kinds}];", ""]
-        return "\n".join(lines)
+            if self.homes[name] == part:
+                kinds = ", ".join(f"TokenKind::{c}" for c in classes)
+                lines += [f"pub const {name}: &[TokenKind] = &[{kinds}];", ""]
+        return "\n".join(lines + [body, ""])
 
 
 def symbols_text(order):
-    lines = ["//! The symbols of the grammar in which one token decides, written by tools/dialect.py.", "",
-             "/// A symbol: those of the written grammar, and behind them those that stand for a part of a rule.",
+    lines = ["/// A symbol: those of the written grammar, and behind them those that stand for a part of a rule.",
              "#[derive(Clone, Copy)]", "pub enum Symbol {"]
-    lines += [f"    {camel(n)}," for n in order]
-    return "\n".join(lines + ["}", ""])
+    return lines + [f"    {camel(n)}," for n in order] + ["}", ""]
 
 
 def view_text(order):
     lines = ["-- The symbols of the code as those of the grammar, written by tools/dialect.py."]
     lines += [f"use Rattle.wgsl_model.specs.Grammar.Symbols.{{{', '.join('Symbol.' + n[1] for n in order if n[0] == 'of')}}}"]
     lines += [f"use Rattle.wgsl_theory_grammar.specs.Factored.{{FactoredSymbol, FactoredSymbol.of, FactoredSymbol.further, {', '.join('Further.' + n[1] for n in order if n[0] == 'further')}}}"]
-    lines += ["use Rattle.wgsl_read_dialect.specs.declared.symbol.Symbol.{Symbol}",
-              "use Rattle.wgsl_read_dialect.specs.declared.symbol.Symbol.TheVariants as variant", "",
+    lines += ["use Rattle.wgsl_read_dialect.specs.declared.rules.Symbol.{Symbol}",
+              "use Rattle.wgsl_read_dialect.specs.declared.rules.Symbol.TheVariants as variant", "",
               "-- which symbol it is", "abbrev pub symbol_view : Symbol → FactoredSymbol"]
     lines += [f"symbol_view variant.{camel(n)} = {n[0]} {n[1]}" for n in order]
     return "\n".join(lines + [""])
 
 
-def right_sides(parts):
-    lines = ["//! The rules of the dialect, as steps over tokens, written by tools/dialect.py.", "",
+def rules_text(writer, order):
+    lines = ["//! The symbols of the grammar in which one token decides, and the steps of each,",
+             "//! written by tools/dialect.py.", "",
              "ghost use Rattle.std.specs.Prelude.{◌≡◌};", "ghost use Rattle.wgsl_read_dialect.specs.Steps.{rule_steps};",
              "ghost use Rattle.wgsl_read_dialect.specs.Symbols.{symbol_view};",
              "ghost use Rattle.wgsl_read_dialect.specs.View.{steps_view};", ""]
-    lines += [f"use crate::{part};" for part in parts]
-    lines += ["use crate::step::Step;", "use crate::symbol::Symbol;", "",
+    lines += [f"use crate::{part};" for part in writer.parts]
+    lines += ["use crate::step::Step;", "", *symbols_text(order),
               "/// The steps of a symbol.", "pub fn right_side(symbol: Symbol) -> &'static [Step]",
               "    ensures { steps_view result.now ≡ rule_steps (symbol_view symbol) }", "{", "    match symbol {"]
-    lines += [f"        Symbol::{camel(n)} => {part}::{capitals(n)}," for part, symbols in parts.items() for n in symbols]
+    lines += [f"        Symbol::{camel(n)} => {part}::{capitals(n)}," for part, symbols in writer.parts.items() for n in symbols]
     return "\n".join(lines + ["    }", "}", ""])
 
 
@@ -250,15 +262,14 @@ def main(crate):
     tables = Tables(rules(THEORY, "whole"))
     steps = Steps(tables, {c: i for i, c in enumerate(classes)})
     every = {n: steps.of(g) for n, g in rules(THEORY, "alone").items()}
+    every[OPENED] = opened(every[OPENED], every)
     needed = reached(every, ("of", "unit"))
     found = {n: s for n, s in every.items() if n in needed}
     parts = in_parts(every, needed)
     writer = Writer(found, parts, tables.empty)
     for part in parts:
         (crate / f"src/{part}.rt").write_text(writer.rules(part))
-    (crate / "src/begins.rt").write_text(writer.begins())
-    (crate / "src/symbol.rt").write_text(symbols_text(found))
-    (crate / "src/rules.rt").write_text(right_sides(parts))
+    (crate / "src/rules.rt").write_text(rules_text(writer, found))
     (crate / "specs/Symbols.antt").write_text(view_text(found))
     proofs = crate / "proofs/rules/right_side"
     proofs.mkdir(parents=True, exist_ok=True)

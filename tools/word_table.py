@@ -1,6 +1,6 @@
 #!/usr/bin/env python3
-"""Writes the table of keywords and reserved words of the scanner, and the two tables of bytes that
-lead from a word to the only place in it where the word can stand.
+"""Writes the table of keywords and reserved words of the scanner, with their number, and the two
+tables of bytes that lead from a word to the only place in it where the word can stand.
 
 Run it at the top of the repository, and `rt fmt` in crates/wgsl_lex_scanner behind it:
 
@@ -13,20 +13,21 @@ import re
 from collections import defaultdict
 from pathlib import Path
 
-DEFINED = Path("crates/wgsl_model/specs/Tokens/Words.antt")
+DEFINED = Path("crates/wgsl_model/specs/Tokens")
 WRITTEN = Path("crates/wgsl_lex_scanner/src/word_table.rt")
 
 # what is written begins and ends before these lines
-BEGIN = "/// The keywords and the reserved words"
+BEGIN = "/// How many keywords and reserved words there are."
 END = "/// How far the sum is moved."
 
 GROUPS = 64
 SUMS = 256
 
 
-def defined(name):
+def defined(file, name):
     """The words of a list, each with what stands behind it."""
-    text = re.search(rf"^{name} =\n(.*?)\[\]$", DEFINED.read_text(), re.M | re.S).group(1)
+    lines = (DEFINED / file).read_text()
+    text = re.search(rf"^{name} =\n(.*?)\[\]$", lines, re.M | re.S).group(1)
     return re.findall(r'codes "(\w+)"(?:, (\w+))?', text)
 
 
@@ -68,6 +69,9 @@ def written(entries):
     places = [words.index(sums[it]) if it in sums else 0 for it in range(SUMS)]
     lines = "".join(f'    ("{word}", {meaning}),\n' for word, meaning in entries.items())
     return f"""\
+/// How many keywords and reserved words there are.
+const WORD_COUNT: usize = {len(entries)};
+
 /// The keywords and the reserved words, in the order of their letters.
 static WORDS: [(&str, Meaning); {len(entries)}] = [
 {lines}];
@@ -83,9 +87,11 @@ static PLACES: [u8; {SUMS}] = [{array(places)}];
 
 
 def main():
-    keywords = {word: f"Meaning::Keyword(TokenKind::{kind})" for word, kind in defined("keywords")}
-    reserved = {word: "Meaning::Reserved" for word, _ in defined("reserved_words")}
-    entries = dict(sorted((reserved | keywords).items()))
+    keywords = defined("Classes.antt", "keywords")
+    reserved = defined("Words.antt", "reserved_words")
+    entries = {word: f"Meaning::Keyword(TokenKind::{kind})" for word, kind in keywords}
+    entries |= {word: "Meaning::Reserved" for word, _ in reserved}
+    entries = dict(sorted(entries.items()))
     text = WRITTEN.read_text()
     begin, end = text.index(BEGIN), text.index(END)
     WRITTEN.write_text(text[:begin] + written(entries) + text[end:])

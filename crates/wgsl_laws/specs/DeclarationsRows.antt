@@ -8,9 +8,8 @@ use Rattle.wgsl_model.specs.Trees.Spanned.{Spanned, spanned}
 use Rattle.wgsl_model.specs.Trees.Expressions.{Expression, TypeExpression.type_expression, TemplateArguments.no_template, template_of}
 use Rattle.wgsl_model.specs.Trees.Attributes.{OneArgument, NoArgument, Attribute}
 use Rattle.wgsl_model.specs.Trees.Attributed.{with_attributes, without_attributes}
-use Rattle.wgsl_model.specs.Trees.Statements.{DeclarationKind, StatementNode.statement_node, unattributed}
+use Rattle.wgsl_model.specs.Trees.Statements.{DeclarationKind, StatementNode.statement_node, unattributed, compound_of, return_of}
 use Rattle.wgsl_model.specs.Trees.Units.{GlobalDeclaration}
-use Rattle.wgsl_model.specs.Grammar.StatementParts.{compound_of, return_of}
 use Rattle.wgsl_model.specs.Grammar.UnitParts.{value_of, struct_of, function_of}
 use Rattle.wgsl_laws.specs.RowParts.{span, sign, word, reserved, number_token, at, name_at, number_at, call_at, custom_at}
 

@@ -6,8 +6,7 @@ use Rattle.wgsl_model.specs.Faults.Kinds.{var_template_kind}
 use Rattle.wgsl_model.specs.Trees.Operators.{BinaryOperator.less_than, AssignmentOperator.equal, AssignmentOperator.plus_equal}
 use Rattle.wgsl_model.specs.Trees.Expressions.{LiteralExpression.boolean, Expression}
 use Rattle.wgsl_model.specs.Trees.Attributed.{with_attributes, without_attributes}
-use Rattle.wgsl_model.specs.Trees.Statements.{DeclarationKind, CaseSelector, StatementNode, StatementNode.statement_node, ElseIfClause, ElseClause, UnattributedStatement, unattributed, block_statement, statement}
-use Rattle.wgsl_model.specs.Grammar.StatementParts.{compound_of, assignment_of, increment_of, return_of, if_of, clause_of, switch_of, loop_of, local_of, for_of, break_if_of, continuing_statement_of}
+use Rattle.wgsl_model.specs.Trees.Statements.{DeclarationKind, CaseSelector, StatementNode, StatementNode.statement_node, ElseIfClause, ElseClause, UnattributedStatement, unattributed, block_statement, statement, compound_of, assignment_of, increment_of, return_of, if_of, clause_of, switch_of, loop_of, local_of, for_of, break_if_of, continuing_statement_of}
 use Rattle.wgsl_laws.specs.RowParts.{span, sign, word, number_token, at, name_at, number_at, call_at, custom_at, if_at}
 
 -- for (var i = 0; i < 4; i++) { s += i; }

@@ -13,37 +13,44 @@ ghost use Rattle.wgsl_tree_attribute.specs.View.{attribute_view, diagnostic_view
 ghost use Rattle.wgsl_tree_attribute.specs.Equality.{equal_attributes, equal_diagnostics, equal_interpolations, equal_workgroup_sizes, equal_type_constraints, equal_customs};
 
 /// `==` of attributes is an equivalence.
+#[tactic(auto, using(wgsl_tree_attribute::proofs::Equalities::attributes_equivalence))]
 pub fn equivalence()
     ensures { IsEquivalence equal_attributes }
 {}
 
 /// Two attributes are equal where they are one with their spans set aside.
+#[tactic(auto, using(wgsl_tree_attribute::proofs::Equalities::attributes_agree))]
 pub fn attributes()
     ensures { (a b : Attribute) → IsTrue (equal_attributes a b) ↔
         (bare_attribute (attribute_view a) ≡ bare_attribute (attribute_view b)) }
 {}
 
+#[tactic(auto, using(wgsl_tree_attribute::proofs::Equalities::diagnostics_agree))]
 pub fn diagnostics()
     ensures { (a b : DiagnosticAttribute) →
         IsTrue (equal_diagnostics a b) ↔ (diagnostic_view a ≡ diagnostic_view b) }
 {}
 
+#[tactic(auto, using(wgsl_tree_attribute::proofs::Equalities::interpolations_agree))]
 pub fn interpolations()
     ensures { (a b : InterpolateAttribute) →
         IsTrue (equal_interpolations a b) ↔ (interpolate_view a ≡ interpolate_view b) }
 {}
 
+#[tactic(auto, using(wgsl_tree_attribute::proofs::Equalities::workgroup_sizes_agree))]
 pub fn workgroup_sizes()
     ensures { (a b : WorkgroupSizeAttribute) →
         IsTrue (equal_workgroup_sizes a b) ↔ (bare_workgroup_size (workgroup_size_view a)
         ≡ bare_workgroup_size (workgroup_size_view b)) }
 {}
 
+#[tactic(auto, using(wgsl_tree_attribute::proofs::Equalities::type_constraints_agree))]
 pub fn type_constraints()
     ensures { (a b : TypeConstraint) → IsTrue (equal_type_constraints a b) ↔ (bare_type_constraint
         (type_constraint_view a) ≡ bare_type_constraint (type_constraint_view b)) }
 {}
 
+#[tactic(auto, using(wgsl_tree_attribute::proofs::Equalities::customs_agree))]
 pub fn customs()
     ensures { (a b : CustomAttribute) →
         IsTrue (equal_customs a b) ↔ (bare_custom (custom_view a) ≡ bare_custom (custom_view b)) }

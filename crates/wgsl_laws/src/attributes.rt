@@ -42,6 +42,7 @@ use wgsl_tree_statement::{
 };
 
 /// The attributes that each statement answers are those of its plain tree.
+#[tactic(auto, using(crate::proofs::Hints::attributes))]
 pub fn statement_attributes()
     ensures declaration { (s : Declaration) → (declaration_view s).attributes
         ≡ attributes_view (⟦<Declaration as SyntaxNode>⟧.attributes_of s) }

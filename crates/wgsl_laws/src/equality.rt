@@ -5,7 +5,7 @@ ghost use Rattle.std.specs.Cmp.{IsEquivalence};
 ghost use Rattle.wgsl_model.specs.Trees.Expressions.{LiteralExpression, Expression, ExpressionNode, FunctionCall, TypeExpression};
 ghost use Rattle.wgsl_model.specs.Trees.WithoutSpans.{bare_expression, bare_expression_node, bare_call, bare_type};
 ghost use Rattle.wgsl_model.specs.Trees.Statements as tree;
-ghost use Rattle.wgsl_model.specs.Trees.StatementsWithoutSpans.{bare_declaration, bare_assignment, bare_increment, bare_decrement, bare_return, bare_call_statement, bare_assert, bare_break_if, bare_selector, bare_statement, bare_statement_node, bare_compound, bare_if, bare_if_clause, bare_else_if_clause, bare_else_clause, bare_switch, bare_switch_clause, bare_loop, bare_continuing, bare_for, bare_while};
+ghost use Rattle.wgsl_model.specs.Trees.StatementsWithoutSpans.{without_spans, bare_declaration, bare_assignment, bare_increment, bare_decrement, bare_return, bare_call_statement, bare_assert, bare_break_if, bare_selector, bare_statement, bare_statement_node, bare_compound, bare_if_clause, bare_else_if_clause, bare_else_clause, bare_switch_clause, bare_continuing};
 ghost use Rattle.wgsl_model.specs.Trees.StatementsWithoutSpans.{bare_directive, bare_type_alias, bare_member, bare_struct, bare_parameter, bare_function, bare_global_declaration, bare_unit};
 ghost use Rattle.wgsl_model.specs.Trees.Units as unit_tree;
 ghost use Rattle.wgsl_tree_equality.specs.Code.{same};
@@ -15,23 +15,27 @@ ghost use Rattle.wgsl_tree_equality.specs.Units.{diagnostic_directive_code, enab
 ghost use Rattle.wgsl_tree_equality.specs.Expressions.{literal_code, expression_code, expression_node_code, call_code, type_code};
 
 /// The test is an equivalence.
+#[tactic(auto, using(wgsl_tree_equality::specs::Laws::same_equivalence))]
 pub fn equivalence()
     ensures { IsEquivalence same }
 {}
 
 /// Where two literals are equal: where they are one.
+#[tactic(auto, using(wgsl_tree_equality::proofs::ExpressionLaws::literals_equal))]
 pub fn literals()
     ensures { (a b : LiteralExpression) →
         IsTrue (same (literal_code a) (literal_code b)) ↔ (a ≡ b) }
 {}
 
 /// Where two expressions are equal: where they are one with their spans set aside.
+#[tactic(auto, using(wgsl_tree_equality::proofs::ExpressionLaws::expressions_equal))]
 pub fn expressions()
     ensures { (a b : Expression) → IsTrue (same (expression_code a) (expression_code b)) ↔
         (bare_expression a ≡ bare_expression b) }
 {}
 
 /// The same of expressions with their places.
+#[tactic(auto, using(wgsl_tree_equality::proofs::ExpressionLaws::nodes_equal))]
 pub fn nodes()
     ensures { (a b : ExpressionNode) →
         IsTrue (same (expression_node_code a) (expression_node_code b)) ↔
@@ -39,18 +43,21 @@ pub fn nodes()
 {}
 
 /// The same of calls.
+#[tactic(auto, using(wgsl_tree_equality::proofs::ExpressionLaws::calls_equal))]
 pub fn calls()
     ensures { (a b : FunctionCall) →
         IsTrue (same (call_code a) (call_code b)) ↔ (bare_call a ≡ bare_call b) }
 {}
 
 /// The same of types.
+#[tactic(auto, using(wgsl_tree_equality::proofs::ExpressionLaws::types_equal))]
 pub fn types()
     ensures { (a b : TypeExpression) →
         IsTrue (same (type_code a) (type_code b)) ↔ (bare_type a ≡ bare_type b) }
 {}
 
 /// The same of declarations; of their kinds, which have no spans.
+#[tactic(auto, using(crate::proofs::Hints::declarations))]
 pub fn declarations()
     ensures kind { (a b : tree.DeclarationKind) →
         IsTrue (same (declaration_kind_code a) (declaration_kind_code b)) ↔ (a ≡ b) }
@@ -60,6 +67,7 @@ pub fn declarations()
 {}
 
 /// The same of the statements that hold no others.
+#[tactic(auto, using(crate::proofs::Hints::simple_statements))]
 pub fn simple_statements()
     ensures assignment { (a b : tree.AssignmentStatement) → IsTrue
         (same (assignment_code a) (assignment_code b)) ↔ (bare_assignment a ≡ bare_assignment b) }
@@ -81,6 +89,7 @@ pub fn simple_statements()
 {}
 
 /// The same of statements, of blocks and of the statements that hold them.
+#[tactic(auto, using(crate::proofs::Hints::statements))]
 pub fn statements()
     ensures statement { (a b : tree.Statement) → IsTrue
         (same (statement_code a) (statement_code b)) ↔ (bare_statement a ≡ bare_statement b) }
@@ -92,9 +101,11 @@ pub fn statements()
 {}
 
 /// The same of the statements that branch, and of their clauses.
+#[tactic(auto, using(wgsl_tree_equality::proofs::StatementLaws::branches))]
 pub fn branches()
     ensures if_statement { (a b : tree.IfStatement) →
-        IsTrue (same (if_code a) (if_code b)) ↔ (bare_if a ≡ bare_if b) }
+        IsTrue (same (if_code a) (if_code b)) ↔
+        (tree.changed_if without_spans a ≡ tree.changed_if without_spans b) }
     ensures if_clause { (a b : tree.IfClause) → IsTrue
         (same (if_clause_code a) (if_clause_code b)) ↔ (bare_if_clause a ≡ bare_if_clause b) }
     ensures else_if_clause { (a b : tree.ElseIfClause) →
@@ -104,25 +115,31 @@ pub fn branches()
         IsTrue (same (else_clause_code a) (else_clause_code b)) ↔
         (bare_else_clause a ≡ bare_else_clause b) }
     ensures switch_statement { (a b : tree.SwitchStatement) →
-        IsTrue (same (switch_code a) (switch_code b)) ↔ (bare_switch a ≡ bare_switch b) }
+        IsTrue (same (switch_code a) (switch_code b)) ↔
+        (tree.changed_switch without_spans a ≡ tree.changed_switch without_spans b) }
     ensures switch_clause { (a b : tree.SwitchClause) →
         IsTrue (same (switch_clause_code a) (switch_clause_code b)) ↔
         (bare_switch_clause a ≡ bare_switch_clause b) }
 {}
 
 /// The same of loops.
+#[tactic(auto, using(wgsl_tree_equality::proofs::StatementLaws::loops))]
 pub fn loops()
     ensures loop_statement { (a b : tree.LoopStatement) →
-        IsTrue (same (loop_code a) (loop_code b)) ↔ (bare_loop a ≡ bare_loop b) }
+        IsTrue (same (loop_code a) (loop_code b)) ↔
+        (tree.changed_loop without_spans a ≡ tree.changed_loop without_spans b) }
     ensures continuing { (a b : tree.ContinuingStatement) → IsTrue
         (same (continuing_code a) (continuing_code b)) ↔ (bare_continuing a ≡ bare_continuing b) }
     ensures for_statement { (a b : tree.ForStatement) →
-        IsTrue (same (for_code a) (for_code b)) ↔ (bare_for a ≡ bare_for b) }
+        IsTrue (same (for_code a) (for_code b)) ↔
+        (tree.changed_for without_spans a ≡ tree.changed_for without_spans b) }
     ensures while_statement { (a b : tree.WhileStatement) →
-        IsTrue (same (while_code a) (while_code b)) ↔ (bare_while a ≡ bare_while b) }
+        IsTrue (same (while_code a) (while_code b)) ↔
+        (tree.changed_while without_spans a ≡ tree.changed_while without_spans b) }
 {}
 
 /// Where two directives are equal: where they are one, the spans in their attributes set aside.
+#[tactic(auto, using(crate::proofs::Hints::directives))]
 pub fn directives()
     ensures directive { (a b : unit_tree.GlobalDirective) →
         IsTrue (same (global_directive_code a) (global_directive_code b)) ↔
@@ -136,6 +153,7 @@ pub fn directives()
 {}
 
 /// Where two declarations of modules are equal: where they are one with their spans set aside.
+#[tactic(auto, using(crate::proofs::Hints::global_declarations))]
 pub fn global_declarations()
     ensures declaration { (a b : unit_tree.GlobalDeclaration) →
         IsTrue (same (global_declaration_code a) (global_declaration_code b)) ↔
@@ -153,6 +171,7 @@ pub fn global_declarations()
 {}
 
 /// The same of modules.
+#[tactic(auto, using(wgsl_tree_equality::proofs::UnitLaws::units_equal))]
 pub fn units()
     ensures { (a b : unit_tree.TranslationUnit) →
         IsTrue (same (unit_code a) (unit_code b)) ↔ (bare_unit a ≡ bare_unit b) }

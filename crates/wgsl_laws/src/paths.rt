@@ -9,6 +9,7 @@ ghost use Rattle.wgsl_tree_path.specs.View.{origin_view, path_view};
 ghost use Rattle.wgsl_tree_path.specs.Equality.{equal_origins, equal_paths, hashed_origin, hashed_path};
 
 /// A text that reads as a path is the text of that path.
+#[tactic(auto, using(wgsl_tree_path::proofs::TextLaws::text_read))]
 pub fn path_text()
     ensures { (text : List ℕ) (path : plain.ModulePath)
         → plain.read_path text ≡ Ok path → plain.path_text path ≡ text }
@@ -16,6 +17,7 @@ pub fn path_text()
 
 /// Joining is associative, and the path `self` changes nothing on either side, whatever the levels,
 /// so also where all of them, given or formed, fit a `usize`.
+#[tactic(auto, using(crate::proofs::Hints::joins))]
 pub fn join_laws()
     ensures associative { (first second third : plain.ModulePath)
         → plain.join_paths (plain.join_paths first second) third

@@ -20,6 +20,7 @@ ghost use Rattle.wgsl_tree_simple.specs.Equality.{equal_kinds, equal_declaration
 
 /// Two declarations are equal where they are one with their spans set aside; two kinds where they
 /// are one.
+#[tactic(auto, using(crate::proofs::Hints::value_nodes))]
 pub fn declarations()
     ensures kind { (a b : DeclarationKind) →
         IsTrue (equal_kinds a b) ↔ (declaration_kind_view a ≡ declaration_kind_view b) }
@@ -29,6 +30,7 @@ pub fn declarations()
 {}
 
 /// Two statements are equal where they are one with their spans set aside.
+#[tactic(auto, using(wgsl_tree_simple::proofs::Equalities::statements_agree))]
 pub fn simple_statements()
     ensures assignment { (a b : AssignmentStatement) →
         IsTrue (equal_assignments a b) ↔ (bare_attributed bare_assignment (assignment_view a)

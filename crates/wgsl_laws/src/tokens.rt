@@ -11,6 +11,7 @@ ghost use Rattle.wgsl_lexer.specs.Left.{HasEnded, IsLeft, GivesItem};
 ghost use Rattle.wgsl_lexer.specs.InOrder.{AreInOrder, IsFaultBehind};
 
 /// Every text has a token list, and only one.
+#[tactic(auto, using(crate::proofs::Hints::token_lists))]
 pub fn one_token_list()
     ensures exists { (source : List ℕ) →
         (ts : List Token) × (e : Ending) × IsTokenList source ts e }
@@ -20,6 +21,7 @@ pub fn one_token_list()
 
 /// A template list is `<`, what stands inside with the lists in it, and a `>`: the bound by which
 /// the definition goes down leaves none out.
+#[tactic(auto, using(wgsl_theory_grammar::proofs::Tokens::Bounds::template_is))]
 pub fn lists_within_lists()
     ensures { (total : ℕ) (text : List ℕ) (ts : List Token) (rest : List ℕ) →
         Template total text ts rest ↔ Enclosed total (Template total) text ts rest }
@@ -27,6 +29,7 @@ pub fn lists_within_lists()
 
 /// No token is empty, they stand in order and in the text, and so does the invalid token that ends
 /// them.
+#[tactic(auto, using(crate::proofs::Hints::token_order))]
 pub fn tokens_in_order()
     ensures tokens { (source : List ℕ) (ts : List Token) (e : Ending) →
         IsTokenList source ts e → AreInOrder 0 ts (width source) }
@@ -42,6 +45,7 @@ pub fn one_list_left()
 {}
 
 /// Behind a fault, and behind the last token, each call of `next` gives nothing.
+#[tactic(auto, using(wgsl_lexer::proofs::Lefts::ended_gives))]
 pub fn nothing_behind_the_end()
     ensures { (old : Lexer) (item : Option TokenItem) (new : Lexer) →
         HasEnded old → GivesItem old item new → (item ≡ None) × HasEnded new }

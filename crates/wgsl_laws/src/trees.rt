@@ -12,6 +12,7 @@ ghost use Rattle.wgsl_model.specs.Printed.Statements.{print_statement, print_com
 ghost use Rattle.wgsl_model.specs.Printed.Units.{print_global_declaration, print_unit};
 
 /// Removing the empty items twice is removing them once, and it does not change the printed text.
+#[tactic(auto, using(crate::proofs::Hints::without_empty_items))]
 pub fn voids_twice()
     ensures statement { (s : Statement) → full_statement (full_statement s) ≡ full_statement s }
     ensures block { (b : CompoundStatement) → full_compound (full_compound b) ≡ full_compound b }
@@ -28,6 +29,7 @@ pub fn voids_twice()
 {}
 
 /// The printed text is the same with the spans set aside.
+#[tactic(auto, using(crate::proofs::Hints::without_spans))]
 pub fn spans_unprinted()
     ensures expression { (e : Expression) →
         print_expression (bare_expression e) ≡ print_expression e }

@@ -18,17 +18,20 @@ ghost use Rattle.wgsl_tree_unit.specs.View.{diagnostic_directive_view, enable_di
 ghost use Rattle.wgsl_tree_unit.specs.Equality.{equal_diagnostics, equal_enables, equal_requires, equal_directives, equal_type_aliases, equal_members, equal_structs, equal_parameters, equal_functions, equal_global_declarations, equal_units};
 
 /// `==` of modules is an equivalence.
+#[tactic(auto, using(wgsl_tree_unit::proofs::Equalities::units_equivalence))]
 pub fn equivalence()
     ensures { IsEquivalence equal_units }
 {}
 
 /// Two modules are equal where they are one with their spans set aside.
+#[tactic(auto, using(wgsl_tree_unit::proofs::Equalities::units_agree))]
 pub fn units()
     ensures { (a b : TranslationUnit) →
         IsTrue (equal_units a b) ↔ (bare_unit (unit_view a) ≡ bare_unit (unit_view b)) }
 {}
 
 /// Two directives are equal where they are one with the spans of their attributes set aside.
+#[tactic(auto, using(crate::proofs::Hints::directive_nodes))]
 pub fn directives()
     ensures directive { (a b : GlobalDirective) → IsTrue (equal_directives a b) ↔
         (bare_directive (global_directive_view a) ≡ bare_directive (global_directive_view b)) }
@@ -43,6 +46,7 @@ pub fn directives()
 {}
 
 /// Two declarations are equal where they are one with their spans set aside; so are their parts.
+#[tactic(auto, using(crate::proofs::Hints::declaration_nodes))]
 pub fn global_declarations()
     ensures declaration { (a b : GlobalDeclaration) → IsTrue (equal_global_declarations a b) ↔
         (bare_global_declaration (global_declaration_view a)

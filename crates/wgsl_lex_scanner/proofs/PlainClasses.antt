@@ -2,9 +2,9 @@
 use Rattle.std.proofs.Common.{◌≡◌, ℕ, List, [], ◌∷◌, Option, Some, Bool, true, false, cond, not, ◌&&◌, nat_le, refl}
 use Rattle.std.specs.Prelude.{bytes_eq}
 use Rattle.std.proofs.lemmas.Bool.{and_parts}
-use Rattle.wgsl_model.specs.Tokens.Classes.{Ident, AbstractInt, U32, F16}
+use Rattle.wgsl_model.specs.Tokens.Classes.{Ident, AbstractInt, U32, F16, symbols, keywords}
 use Rattle.wgsl_model.specs.Tokens.Kind.{plain}
-use Rattle.wgsl_model.specs.Tokens.Words.{look_up, symbols, keywords}
+use Rattle.wgsl_model.specs.Tokens.Words.{look_up}
 use Rattle.wgsl_lex_token.specs.View.{view_of_class}
 
 -- no name and no number

@@ -3,11 +3,11 @@ use Rattle.std.proofs.Common.{◌≡◌, ℕ, ◌<◌, true, false, ◌==◌, re
 use Rattle.std.specs.Char.{is_ascii_digit, is_ascii_alphabetic}
 use Rattle.unicode_ident.specs.Ident.{is_xid_start}
 use Rattle.unicode_ident.proofs.IdentLemmas.{is_xid_start-ascii}
-use Rattle.wgsl_model.specs.Tokens.Classes.{SymAnd, SymAndAnd, SymArrow, SymAttr, SymForwardSlash, SymBang, SymBracketLeft, SymBracketRight, SymBraceLeft, SymBraceRight, SymColon, SymComma, SymEqual, SymEqualEqual, SymNotEqual, SymGreaterThan, SymGreaterThanEqual, SymShiftRight, SymLessThan, SymLessThanEqual, SymShiftLeft, SymModulo, SymMinus, SymMinusMinus, SymPlus, SymPlusPlus, SymOr, SymOrOr, SymParenLeft, SymParenRight, SymSemicolon, SymStar, SymTilde, SymXor, SymPlusEqual, SymMinusEqual, SymTimesEqual, SymDivisionEqual, SymModuloEqual, SymAndEqual, SymOrEqual, SymXorEqual, SymShiftRightAssign, SymShiftLeftAssign}
+use Rattle.wgsl_model.specs.Tokens.Classes.{SymAnd, SymAndAnd, SymArrow, SymAttr, SymForwardSlash, SymBang, SymBracketLeft, SymBracketRight, SymBraceLeft, SymBraceRight, SymColon, SymComma, SymEqual, SymEqualEqual, SymNotEqual, SymGreaterThan, SymGreaterThanEqual, SymShiftRight, SymLessThan, SymLessThanEqual, SymShiftLeft, SymModulo, SymMinus, SymMinusMinus, SymPlus, SymPlusPlus, SymOr, SymOrOr, SymParenLeft, SymParenRight, SymSemicolon, SymStar, SymTilde, SymXor, SymPlusEqual, SymMinusEqual, SymTimesEqual, SymDivisionEqual, SymModuloEqual, SymAndEqual, SymOrEqual, SymXorEqual, SymShiftRightAssign, SymShiftLeftAssign, symbols}
 use Rattle.wgsl_model.specs.Tokens.Pattern.{Pattern, empty, both, either, code, after_spelling}
 use Rattle.wgsl_model.specs.Tokens.Raw.{raw_at, kind_of_spelling, token}
 use Rattle.wgsl_model.specs.Tokens.Spelling.{spelling, symbol}
-use Rattle.wgsl_model.specs.Tokens.Words.{look_up, symbols}
+use Rattle.wgsl_model.specs.Tokens.Words.{look_up}
 use Rattle.wgsl_lex_token.specs.View.{view_of_class}
 use Rattle.wgsl_lex_scanner.specs.Scanning.{with_equal, doubled, angle, symbol_at, symboled}
 use Rattle.wgsl_lex_scanner.proofs.Derivative.{after}

@@ -5,7 +5,8 @@ use Rattle.std.specs.List.{list_all}
 use Rattle.std.proofs.lemmas.Bool.{eqb-true, ltb-true, false_from_ne_true, and_parts}
 use Rattle.std.proofs.lemmas.Slice.Eq.{bytes_eq-Decides}
 use Rattle.wgsl_model.specs.Tokens.Raw.{kind_of_word}
-use Rattle.wgsl_model.specs.Tokens.Words.{look_up, is_word_among, keywords, reserved_words}
+use Rattle.wgsl_model.specs.Tokens.Words.{look_up, is_word_among, reserved_words}
+use Rattle.wgsl_model.specs.Tokens.Classes.{keywords}
 use Rattle.wgsl_lex_token.specs.View.{class_of_kind}
 use Rattle.wgsl_lex_scanner.specs.declared.word_table.Meaning.{Meaning}
 use Rattle.wgsl_lex_scanner.specs.declared.word_table.Meaning.TheVariants as meaning
@@ -21,8 +22,8 @@ at p [] i d h l = absurd (omega (arith, l))
 at p (x ∷ xs) zero d h l = (and_parts (p x) (list_all p xs) h).0
 at p (x ∷ xs) (suc i) d h l = at p xs i d (and_parts (p x) (list_all p xs) h).1 (omega (arith, l))
 
-pub low_at : (places : List ℕ) (i : ℕ) → list_all (λ n. nat_lt n 173) places ≡ true → i < length places → get_or places i 0 < 173
-low_at places i all low = ltb-true (get_or places i 0) 173 (at (λ n. nat_lt n 173) places i 0 all low)
+pub low_at : (bound : ℕ) (places : List ℕ) (i : ℕ) → list_all (λ n. nat_lt n bound) places ≡ true → i < length places → get_or places i 0 < bound
+low_at bound places i all low = ltb-true (get_or places i 0) bound (at (λ n. nat_lt n bound) places i 0 all low)
 
 -- ---- an entry is what it says
 

@@ -5,7 +5,8 @@ use denote.Bor.{Bor}
 use Rattle.wgsl_model.specs.Tokens.Classes as class
 use Rattle.wgsl_model.specs.Tokens.Kind.{Kind, named}
 use Rattle.wgsl_model.specs.Tokens.Raw.{keyword_or_name}
-use Rattle.wgsl_model.specs.Tokens.Words.{look_up, is_word_among, keywords, reserved_words}
+use Rattle.wgsl_model.specs.Tokens.Words.{look_up, is_word_among, reserved_words}
+use Rattle.wgsl_model.specs.Tokens.Classes.{keywords}
 use Rattle.wgsl_lex_token.specs.View.{class_of_kind, view_of_class}
 use Rattle.wgsl_lex_scanner.specs.declared.word_table.Meaning.{Meaning}
 use Rattle.wgsl_lex_scanner.specs.declared.word_table.Meaning.TheVariants as meaning

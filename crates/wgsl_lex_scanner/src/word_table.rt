@@ -12,6 +12,9 @@ pub(crate) enum Meaning {
     Reserved,
 }
 
+/// How many keywords and reserved words there are.
+const WORD_COUNT: usize = 173;
+
 /// The keywords and the reserved words, in the order of their letters.
 static WORDS: [(&str, Meaning); 173] = [
     ("NULL", Meaning::Reserved),
@@ -224,7 +227,7 @@ fn moved(first: u8, size: usize) -> u8
 fn place(size: usize, first: u8, middle: u8, last: u8) -> usize
     requires { size < 64 }
     ensures value { result ≡ slot_by size first middle last }
-    ensures bound { result < 173 }
+    ensures bound { result < WORD_COUNT }
 {
     let moved = moved(first, size) as usize;
     PLACES[(moved + size + 2 * middle as usize + 8 * last as usize) % 256] as usize
@@ -232,7 +235,7 @@ fn place(size: usize, first: u8, middle: u8, last: u8) -> usize
 
 /// The only entry of a table that can be that of a word.
 fn candidate(table: &'static [(&'static str, Meaning)], word: &str) -> (&'static str, Meaning)
-    requires size { length table.now ≡ 173 }
+    requires size { length table.now ≡ WORD_COUNT }
     requires right { EntriesHold table.now }
     requires whole { HoldsAllWords table.now }
     requires some { 0 < length word.now }

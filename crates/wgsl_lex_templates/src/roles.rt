@@ -51,62 +51,10 @@ fn role_of(kind: TokenKind) -> Role
         | TokenKind::SymOrEqual
         | TokenKind::SymXorEqual
         | TokenKind::SymShiftLeftAssign
-        | TokenKind::KwAlias
-        | TokenKind::KwBreak
-        | TokenKind::KwCase
-        | TokenKind::KwConst
-        | TokenKind::KwConstAssert
-        | TokenKind::KwContinue
-        | TokenKind::KwContinuing
-        | TokenKind::KwDefault
-        | TokenKind::KwDiagnostic
-        | TokenKind::KwDiscard
-        | TokenKind::KwElse
-        | TokenKind::KwEnable
-        | TokenKind::KwFn
-        | TokenKind::KwFor
-        | TokenKind::KwIf
-        | TokenKind::KwLet
-        | TokenKind::KwLoop
-        | TokenKind::KwOverride
-        | TokenKind::KwRequires
-        | TokenKind::KwReturn
-        | TokenKind::KwStruct
-        | TokenKind::KwSwitch
-        | TokenKind::KwVar
-        | TokenKind::KwWhile
         | TokenKind::ReservedWord => Role::Stranger,
-        TokenKind::SymAnd
-        | TokenKind::SymForwardSlash
-        | TokenKind::SymBang
-        | TokenKind::SymComma
-        | TokenKind::SymEqualEqual
-        | TokenKind::SymNotEqual
-        | TokenKind::SymLessThan
-        | TokenKind::SymLessThanEqual
-        | TokenKind::SymShiftLeft
-        | TokenKind::SymModulo
-        | TokenKind::SymMinus
-        | TokenKind::SymMinusMinus
-        | TokenKind::SymPeriod
-        | TokenKind::SymPlus
-        | TokenKind::SymOr
-        | TokenKind::SymStar
-        | TokenKind::SymTilde
-        | TokenKind::SymXor
-        | TokenKind::KwFalse
-        | TokenKind::KwTrue
-        | TokenKind::Ident
-        | TokenKind::AbstractInt
-        | TokenKind::I32
-        | TokenKind::U32
-        | TokenKind::AbstractFloat
-        | TokenKind::F32
-        | TokenKind::F16
-        | TokenKind::TemplateArgsStart
-        | TokenKind::TemplateArgsEnd
-        | TokenKind::LineComment
-        | TokenKind::BlockComment => Role::Other,
+        TokenKind::KwFalse | TokenKind::KwTrue => Role::Other,
+        _ if kind.is_keyword() => Role::Stranger,
+        _ => Role::Other,
     }
 }
 
@@ -144,9 +92,7 @@ pub(crate) fn turn_of(depth: usize, kind: TokenKind) -> Turn
 pub fn is_word(kind: TokenKind) -> bool
     ensures { result ≡ is_word (class_of_kind kind) }
 {
-    let class = kind as u8;
-    class == TokenKind::Ident as u8
-        || (TokenKind::KwAlias as u8 <= class && class <= TokenKind::KwWhile as u8)
+    kind as u8 == TokenKind::Ident as u8 || kind.is_keyword()
 }
 
 pub fn is_less_than(kind: TokenKind) -> bool

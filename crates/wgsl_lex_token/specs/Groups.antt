@@ -1,16 +1,11 @@
--- Which classes are symbols, keywords, numbers and comments, and the words that stand for a class.
+-- Which classes are symbols, numbers and comments, and the words that stand for a class.
 use Rattle.std.specs.Prelude.{ℕ, Bool, ◌&&◌, ◌||◌, ◌==◌, nat_le, List, ◌++◌}
-use Rattle.wgsl_model.specs.Tokens.Classes.{SymShiftLeftAssign, KwAlias, KwWhile, AbstractInt, F16, LineComment, BlockComment}
-use Rattle.wgsl_model.specs.Tokens.Words.{symbols, keywords}
+use Rattle.wgsl_model.specs.Tokens.Classes.{SymShiftLeftAssign, AbstractInt, F16, LineComment, BlockComment, symbols, keywords}
 use Rattle.wgsl_model.specs.Tokens.Texts.{word_in, special_texts}
 
 -- a symbol: the first classes, up to `<<=`
 abbrev pub is_symbol : ℕ → Bool
 is_symbol class = nat_le class SymShiftLeftAssign
-
--- a keyword: from `alias` to `while`
-abbrev pub is_keyword : ℕ → Bool
-is_keyword class = nat_le KwAlias class && nat_le class KwWhile
 
 -- a number: a whole number or a float, with its suffix or without
 abbrev pub is_numeric_literal : ℕ → Bool

@@ -1,6 +1,7 @@
 //! Which token it is, without what it holds.
 
 ghost use Rattle.std.specs.Prelude.{◌≡◌, ◌++◌};
+ghost use Rattle.wgsl_model.specs.Tokens.Classes.{is_keyword};
 ghost use Rattle.wgsl_lex_token.specs.Groups.{word_of_class};
 ghost use Rattle.wgsl_lex_token.specs.View.{class_of_kind};
 
@@ -94,6 +95,46 @@ pub enum TokenKind {
 }
 
 impl TokenKind {
+    /// The kinds of words: the keywords, identifiers and reserved words.
+    pub const WORDS: &'static [TokenKind] = &[
+        TokenKind::KwAlias,
+        TokenKind::KwBreak,
+        TokenKind::KwCase,
+        TokenKind::KwConst,
+        TokenKind::KwConstAssert,
+        TokenKind::KwContinue,
+        TokenKind::KwContinuing,
+        TokenKind::KwDefault,
+        TokenKind::KwDiagnostic,
+        TokenKind::KwDiscard,
+        TokenKind::KwElse,
+        TokenKind::KwEnable,
+        TokenKind::KwFalse,
+        TokenKind::KwFn,
+        TokenKind::KwFor,
+        TokenKind::KwIf,
+        TokenKind::KwLet,
+        TokenKind::KwLoop,
+        TokenKind::KwOverride,
+        TokenKind::KwRequires,
+        TokenKind::KwReturn,
+        TokenKind::KwStruct,
+        TokenKind::KwSwitch,
+        TokenKind::KwTrue,
+        TokenKind::KwVar,
+        TokenKind::KwWhile,
+        TokenKind::Ident,
+        TokenKind::ReservedWord,
+    ];
+
+    /// Whether it is a keyword.
+    pub fn is_keyword(self) -> bool
+        ensures { result ≡ is_keyword (class_of_kind self) }
+    {
+        let class = self as u8;
+        TokenKind::KwAlias as u8 <= class && class < TokenKind::Ident as u8
+    }
+
     /// The text of a kind that holds nothing, and the empty text for the others.
     pub fn text(self) -> &'static str
         ensures { result.now ≡ word_of_class (class_of_kind self) }

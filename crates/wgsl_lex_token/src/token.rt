@@ -1,8 +1,9 @@
 //! Tokens.
 
 ghost use Rattle.std.specs.Prelude.{◌≡◌, IfOk, Some};
+ghost use Rattle.wgsl_model.specs.Tokens.Classes.{is_keyword};
 ghost use Rattle.wgsl_model.specs.Tokens.Texts.{kind_text};
-ghost use Rattle.wgsl_lex_token.specs.Groups.{is_symbol, is_keyword, is_numeric_literal, is_trivia};
+ghost use Rattle.wgsl_lex_token.specs.Groups.{is_symbol, is_numeric_literal, is_trivia};
 ghost use Rattle.wgsl_lex_token.specs.View.{class_of_kind, kind_view, view_of_class};
 
 use crate::kind::TokenKind;
@@ -297,12 +298,11 @@ impl Token {
         self.kind() as u8 <= TokenKind::SymShiftLeftAssign as u8
     }
 
-    /// Whether it is one of the 26 keywords.
+    /// Whether it is a keyword.
     pub fn is_keyword(&self) -> bool
         ensures { result ≡ is_keyword (kind_view self.now).class }
     {
-        let kind = self.kind() as u8;
-        TokenKind::KwAlias as u8 <= kind && kind <= TokenKind::KwWhile as u8
+        self.kind().is_keyword()
     }
 
     /// Whether it is a number.

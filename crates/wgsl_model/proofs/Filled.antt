@@ -1,5 +1,5 @@
 -- Printed texts that are not empty.
-use Rattle.std.proofs.Common.{◌≡◌, ℕ, true, false, List, [], ◌∷◌, ◌++◌}
+use Rattle.std.proofs.Common.{◌≡◌, ℕ, false, List, [], ◌∷◌, ◌++◌}
 use Rattle.std.specs.Prelude.{codes}
 use Rattle.std.proofs.lemmas.Bool.{true≢false}
 use Rattle.wgsl_model.specs.Trees.Statements.{Statement, statement, void, compound, if_statement, switch_statement, loop_statement, for_statement, while_statement, if_else, if_clause, SwitchClause, switch, switch_clause, repeat, ContinuingStatement, continuing, repeat_for, repeat_while}

@@ -8,9 +8,9 @@ use Rattle.wgsl_model.specs.Tokens.Characters.{is_blank, is_line_break}
 use Rattle.wgsl_model.specs.Tokens.Places.{width}
 use Rattle.wgsl_model.specs.Tokens.Trivia.{Place, outside, in_line, in_block, second, closed, first_or_zero}
 
--- the class of a block comment that is not closed, behind which a text ends
+-- the class of a block comment that is not closed, behind which a text ends; it stands behind the classes of tokens
 abbrev pub OpenComment : ℕ
-OpenComment = 84
+OpenComment = suc BlockComment
 
 -- a token, a bracket of a template list or a comment: its class, its characters, and how many line ends stand before it
 pub record Piece : Type 0 where

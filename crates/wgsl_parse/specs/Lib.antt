@@ -75,7 +75,6 @@ pub use Rattle.wgsl_tree_expression.specs.Variants as ExpressionVariants
 pub use Rattle.wgsl_tree_attribute.specs.Variants as AttributeVariants
 pub use Rattle.wgsl_tree_simple.specs.Variants as SimpleStatementVariants
 pub use Rattle.wgsl_tree_simple.specs.Kinds as KindWords
-pub use Rattle.wgsl_tree_statement.specs.Variants as StatementVariants
 pub use Rattle.wgsl_tree_unit.specs.Variants as UnitVariants
 -- errors, and what is answered of texts and of the tokens of iterators
 pub use Rattle.wgsl_error.specs.Kinds as ErrorKinds

@@ -45,36 +45,7 @@ impl Expected {
     ]);
 
     /// What the name of an attribute is.
-    pub const ATTRIBUTE_NAME: Expected = Expected::OneOf(&[
-        TokenKind::KwAlias,
-        TokenKind::KwBreak,
-        TokenKind::KwCase,
-        TokenKind::KwConst,
-        TokenKind::KwConstAssert,
-        TokenKind::KwContinue,
-        TokenKind::KwContinuing,
-        TokenKind::KwDefault,
-        TokenKind::KwDiagnostic,
-        TokenKind::KwDiscard,
-        TokenKind::KwElse,
-        TokenKind::KwEnable,
-        TokenKind::KwFalse,
-        TokenKind::KwFn,
-        TokenKind::KwFor,
-        TokenKind::KwIf,
-        TokenKind::KwLet,
-        TokenKind::KwLoop,
-        TokenKind::KwOverride,
-        TokenKind::KwRequires,
-        TokenKind::KwReturn,
-        TokenKind::KwStruct,
-        TokenKind::KwSwitch,
-        TokenKind::KwTrue,
-        TokenKind::KwVar,
-        TokenKind::KwWhile,
-        TokenKind::Ident,
-        TokenKind::ReservedWord,
-    ]);
+    pub const ATTRIBUTE_NAME: Expected = Expected::OneOf(TokenKind::WORDS);
 
     /// What a directive or a declaration begins with.
     pub const DIRECTIVE_OR_DECLARATION: Expected = Expected::OneOf(&[

@@ -9,7 +9,7 @@ use Rattle.wgsl_lex_token.specs.View.{classes}
 use Rattle.wgsl_read_cursor.specs.declared.fault.Fault.{Fault}
 use Rattle.wgsl_read_cursor.specs.Reading.{Fails}
 use Rattle.wgsl_read_dialect.specs.declared.step.Step.{Step, Token, Rule, Choice, Repeat}
-use Rattle.wgsl_read_dialect.specs.declared.symbol.Symbol.{Symbol}
+use Rattle.wgsl_read_dialect.specs.declared.rules.Symbol.{Symbol}
 use Rattle.wgsl_read_dialect.specs.Steps.{Steps, Steps.no_step, Steps.a_token, Steps.a_symbol, Steps.a_choice, Steps.items, rule_steps}
 use Rattle.wgsl_read_dialect.specs.Following.{forgotten, repeated, follow}
 use Rattle.wgsl_read_dialect.specs.Weights.{can_be_empty, weight, token_weight, is_settled}

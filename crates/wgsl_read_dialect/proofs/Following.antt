@@ -3,15 +3,15 @@ use Rattle.std.proofs.Common.{◌≡◌, ℕ, zero, suc, Bool, true, false, cond
 use Rattle.grammar.specs.Tokens.{Span}
 use Rattle.grammar.specs.Grammar.{Grammar.empty, Grammar.token, Grammar.sequence, Grammar.choice, Grammar.mapped, Grammar.node, Grammar.checked, Grammar.symbol, Grammar.left_chain}
 use Rattle.grammar.specs.Tables.{first}
-use Rattle.grammar.specs.States.{State, Read, Read.done, Read.stop, ◌>>=◌, is_any, next_start, turns_in, turns, go, reads, span_from}
+use Rattle.grammar.specs.States.{State, Read, Read.done, Read.stop, ◌>>=◌, is_any, take_any, next_start, turns_in, turns, go, reads, span_from}
 use Rattle.grammar.proofs.Reading.Sets.{and_true}
 use Rattle.grammar.proofs.Reading.Beginnings.{pick}
 use Rattle.grammar.proofs.States.{reads_is}
 use Rattle.wgsl_model.specs.Grammar.Symbols.{Symbol.ident}
-use Rattle.wgsl_theory_grammar.specs.Factored.{Further.components, FactoredSymbol, FactoredSymbol.of, FactoredSymbol.further, FactoredValue, FactoredRule, small_body}
+use Rattle.wgsl_theory_grammar.specs.Factored.{Further.components, Further.braced_part, FactoredSymbol, FactoredSymbol.of, FactoredSymbol.further, FactoredValue, FactoredRule, small_body}
 use Rattle.wgsl_theory_grammar.specs.Tables.{rank_limit, tables}
 use Rattle.wgsl_theory_grammar.proofs.Passes.{small_passes}
-use Rattle.wgsl_read_dialect.specs.Steps.{Steps, Steps.no_step, Steps.items, steps_of, rule_steps}
+use Rattle.wgsl_read_dialect.specs.Steps.{Steps, Steps.no_step, Steps.a_token, Steps.a_symbol, Steps.a_choice, Steps.items, steps_of, opened, rule_steps}
 use Rattle.wgsl_read_dialect.specs.Following.{forgotten, passes, repeated, follow}
 
 -- ---- values that are forgotten
@@ -109,9 +109,28 @@ follow_is (left_chain f g h) u k s =
     follow_is g u'.0 (items (first tables h) (steps_of h no_step) k) s
     ∙ in_chain (reading g s) f (first tables h) (reading h) (follow (steps_of h no_step)) (λ s'. sym (follow_is h u'.1 no_step s' ∙ behind_done (forgotten (reading h s')))) (next_start s) (follow k)
 
+-- the steps of a symbol's right side, before others
+symbol_follow : (n : FactoredSymbol) (k : Steps) (s : State) → follow (steps_of (small_body n) k) s ≡ behind (passes n s) (follow k)
+unfolding passes
+symbol_follow n k s =
+    follow_is (small_body n) (none_checked n) k s
+    ∙ ap (λ (x : Read (FactoredValue n)). behind (forgotten x) (follow k)) (sym (reads_is tables small_body rank_limit small_passes n s))
+
+-- steps pass over the same where those of the symbols stand in their places
+opened_is : (w : Steps) (s : State) → follow (opened w) s ≡ follow w s
+opened_is no_step s = refl
+opened_is (a_token cs k) s = behind_alike (forgotten (take_any cs s)) _ _ (opened_is k)
+opened_is (a_symbol n k) s = symbol_follow n (opened k) s ∙ behind_alike (passes n s) _ _ (opened_is k)
+opened_is (a_choice cs g h k) s =
+    ap (λ (x : Passed). behind (cond (is_any cs s) x (follow (opened h) s)) (follow (opened k))) (opened_is g s)
+    ∙ ap (λ (x : Passed). behind (cond (is_any cs s) (follow g s) x) (follow (opened k))) (opened_is h s)
+    ∙ behind_alike (cond (is_any cs s) (follow g s) (follow h s)) _ _ (opened_is k)
+opened_is (items cs h k) s = behind_alike (repeated cs (follow h) s) _ _ (opened_is k)
+
 -- what a symbol passes over is what the steps of its right side pass over
 pub passes_is : (n : FactoredSymbol) (s : State) → passes n s ≡ follow (rule_steps n) s
-unfolding passes rule_steps
-passes_is n s =
-    ap (λ (x : Read (FactoredValue n)). forgotten x) (reads_is tables small_body rank_limit small_passes n s)
-    ∙ sym (follow_is (small_body n) (none_checked n) no_step s ∙ behind_done (forgotten (reading (small_body n) s)))
+unfolding rule_steps
+passes_is (of n) s = sym (symbol_follow (of n) no_step s ∙ behind_done (passes (of n) s))
+passes_is (further braced_part) s =
+    sym (opened_is (steps_of (small_body (further braced_part)) no_step) s ∙ symbol_follow (further braced_part) no_step s ∙ behind_done (passes (further braced_part) s))
+passes_is (further x) s = sym (symbol_follow (further x) no_step s ∙ behind_done (passes (further x) s))

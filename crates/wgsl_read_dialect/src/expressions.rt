@@ -1,9 +1,14 @@
 //! The rules of names, expressions and templates, written by tools/dialect.py.
 
-use crate::begins::CONTINUES_MULTIPLICATIVE_EXPRESSION;
+use crate::rules::Symbol;
 use crate::step::Step::{self, Choice, Repeat, Rule, Token};
-use crate::symbol::Symbol;
 use wgsl_lex_token::kind::TokenKind;
+
+pub const CONTINUES_MULTIPLICATIVE_EXPRESSION: &[TokenKind] = &[
+    TokenKind::SymStar,
+    TokenKind::SymForwardSlash,
+    TokenKind::SymModulo,
+];
 
 pub const IDENT: &[Step] = &[Token(&[TokenKind::Ident])];
 

@@ -2,13 +2,12 @@
 #![tactic(auto)]
 
 mod accept;
-mod begins;
 mod expressions;
 mod recognize;
 mod rules;
+mod simple;
 mod statements;
 mod step;
-mod symbol;
 mod units;
 
 pub use recognize::recognize_str;

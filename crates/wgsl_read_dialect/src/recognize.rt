@@ -11,8 +11,7 @@ ghost use Rattle.wgsl_read_cursor.specs.Places.{StandsWithin};
 ghost use Rattle.wgsl_read_dialect.specs.Recognized.{IsRecognized, IsRefused, Recognized};
 
 use crate::accept::accept;
-use crate::rules::right_side;
-use crate::symbol::Symbol;
+use crate::rules::{Symbol, right_side};
 use std::alloc::Global;
 use wgsl_error::Error;
 use wgsl_read_cursor::{Expected, TokenSource};

@@ -1,9 +1,33 @@
-//! The rules of statements, written by tools/dialect.py.
+//! The rules of statements and their blocks, written by tools/dialect.py.
 
-use crate::begins::{BEGINS_ATTRIBUTE_LIST_BRACED_PART, BEGINS_ENDED_PART};
+use crate::rules::Symbol;
 use crate::step::Step::{self, Choice, Rule, Token};
-use crate::symbol::Symbol;
 use wgsl_lex_token::kind::TokenKind;
+
+pub const BEGINS_ATTRIBUTE_LIST_BRACED_PART: &[TokenKind] = &[
+    TokenKind::SymAttr,
+    TokenKind::SymBraceLeft,
+    TokenKind::KwFor,
+    TokenKind::KwIf,
+    TokenKind::KwLoop,
+    TokenKind::KwSwitch,
+    TokenKind::KwWhile,
+];
+
+pub const BEGINS_ENDED_PART: &[TokenKind] = &[
+    TokenKind::SymAnd,
+    TokenKind::SymStar,
+    TokenKind::SymUnderscore,
+    TokenKind::KwConst,
+    TokenKind::KwConstAssert,
+    TokenKind::KwContinue,
+    TokenKind::KwDiscard,
+    TokenKind::KwLet,
+    TokenKind::KwReturn,
+    TokenKind::KwVar,
+    TokenKind::Ident,
+    TokenKind::ReservedWord,
+];
 
 pub const COMPOUND_STATEMENT: &[Step] = &[
     Rule(Symbol::AttributeList),
@@ -210,131 +234,56 @@ pub const UPDATE_PART: &[Step] = &[Choice(
     &[Rule(Symbol::ForUpdate), Token(&[TokenKind::SymParenRight])],
 )];
 
-pub const IF_PART: &[Step] = &[
-    Token(&[TokenKind::KwIf]),
-    Rule(Symbol::Expression),
-    Rule(Symbol::CompoundStatement),
-    Rule(Symbol::ElseRest),
-];
-
-pub const SWITCH_PART: &[Step] = &[
-    Token(&[TokenKind::KwSwitch]),
-    Rule(Symbol::Expression),
-    Rule(Symbol::AttributeList),
-    Token(&[TokenKind::SymBraceLeft]),
-    Rule(Symbol::SwitchClause),
-    Rule(Symbol::ClauseRest),
-];
-
-pub const LOOP_PART: &[Step] = &[
-    Token(&[TokenKind::KwLoop]),
-    Rule(Symbol::AttributeList),
-    Token(&[TokenKind::SymBraceLeft]),
-    Rule(Symbol::LoopRest),
-];
-
-pub const FOR_PART: &[Step] = &[
-    Token(&[TokenKind::KwFor]),
-    Token(&[TokenKind::SymParenLeft]),
-    Rule(Symbol::InitPart),
-    Rule(Symbol::ConditionPart),
-    Rule(Symbol::UpdatePart),
-    Rule(Symbol::CompoundStatement),
-];
-
-pub const WHILE_PART: &[Step] = &[
-    Token(&[TokenKind::KwWhile]),
-    Rule(Symbol::Expression),
-    Rule(Symbol::CompoundStatement),
-];
-
-pub const BLOCK_PART: &[Step] = &[
-    Token(&[TokenKind::SymBraceLeft]),
-    Rule(Symbol::StatementRest),
-];
-
 pub const BRACED_PART: &[Step] = &[Choice(
     &[TokenKind::KwIf],
-    &[Rule(Symbol::IfPart)],
+    &[
+        Token(&[TokenKind::KwIf]),
+        Rule(Symbol::Expression),
+        Rule(Symbol::CompoundStatement),
+        Rule(Symbol::ElseRest),
+    ],
     &[Choice(
         &[TokenKind::KwSwitch],
-        &[Rule(Symbol::SwitchPart)],
+        &[
+            Token(&[TokenKind::KwSwitch]),
+            Rule(Symbol::Expression),
+            Rule(Symbol::AttributeList),
+            Token(&[TokenKind::SymBraceLeft]),
+            Rule(Symbol::SwitchClause),
+            Rule(Symbol::ClauseRest),
+        ],
         &[Choice(
             &[TokenKind::KwLoop],
-            &[Rule(Symbol::LoopPart)],
+            &[
+                Token(&[TokenKind::KwLoop]),
+                Rule(Symbol::AttributeList),
+                Token(&[TokenKind::SymBraceLeft]),
+                Rule(Symbol::LoopRest),
+            ],
             &[Choice(
                 &[TokenKind::KwFor],
-                &[Rule(Symbol::ForPart)],
+                &[
+                    Token(&[TokenKind::KwFor]),
+                    Token(&[TokenKind::SymParenLeft]),
+                    Rule(Symbol::InitPart),
+                    Rule(Symbol::ConditionPart),
+                    Rule(Symbol::UpdatePart),
+                    Rule(Symbol::CompoundStatement),
+                ],
                 &[Choice(
                     &[TokenKind::KwWhile],
-                    &[Rule(Symbol::WhilePart)],
-                    &[Rule(Symbol::BlockPart)],
+                    &[
+                        Token(&[TokenKind::KwWhile]),
+                        Rule(Symbol::Expression),
+                        Rule(Symbol::CompoundStatement),
+                    ],
+                    &[
+                        Token(&[TokenKind::SymBraceLeft]),
+                        Rule(Symbol::StatementRest),
+                    ],
                 )],
             )],
         )],
-    )],
-)];
-
-pub const RETURNING_PART: &[Step] = &[
-    Token(&[TokenKind::KwReturn]),
-    Choice(
-        &[
-            TokenKind::SymAnd,
-            TokenKind::SymBang,
-            TokenKind::SymMinus,
-            TokenKind::SymParenLeft,
-            TokenKind::SymStar,
-            TokenKind::SymTilde,
-            TokenKind::KwFalse,
-            TokenKind::KwTrue,
-            TokenKind::Ident,
-            TokenKind::ReservedWord,
-            TokenKind::AbstractInt,
-            TokenKind::I32,
-            TokenKind::U32,
-            TokenKind::AbstractFloat,
-            TokenKind::F32,
-            TokenKind::F16,
-        ],
-        &[Rule(Symbol::Expression)],
-        &[],
-    ),
-];
-
-pub const LOCAL_PART: &[Step] = &[
-    Rule(Symbol::VarTemplate),
-    Rule(Symbol::TypedIdent),
-    Choice(
-        &[TokenKind::SymEqual],
-        &[Token(&[TokenKind::SymEqual]), Rule(Symbol::Expression)],
-        &[],
-    ),
-];
-
-pub const VALUE_PART: &[Step] = &[
-    Choice(
-        &[TokenKind::KwLet],
-        &[Token(&[TokenKind::KwLet])],
-        &[Token(&[TokenKind::KwConst])],
-    ),
-    Rule(Symbol::TypedIdent),
-    Token(&[TokenKind::SymEqual]),
-    Rule(Symbol::Expression),
-];
-
-pub const PHONY_PART: &[Step] = &[
-    Token(&[TokenKind::SymUnderscore]),
-    Token(&[TokenKind::SymEqual]),
-    Rule(Symbol::Expression),
-];
-
-pub const SIMPLE_PART: &[Step] = &[Choice(
-    &[TokenKind::Ident, TokenKind::ReservedWord],
-    &[Rule(Symbol::Ident), Rule(Symbol::NameRestStatement)],
-    &[Choice(
-        &[TokenKind::SymAnd, TokenKind::SymStar],
-        &[Rule(Symbol::PrefixedLeftSide), Rule(Symbol::LeftSideRest)],
-        &[Rule(Symbol::PhonyPart)],
     )],
 )];
 
@@ -373,8 +322,6 @@ pub const ENDED_PART: &[Step] = &[
     Token(&[TokenKind::SymSemicolon]),
 ];
 
-pub const ASSERT_PART: &[Step] = &[Token(&[TokenKind::KwConstAssert]), Rule(Symbol::Expression)];
-
 pub const CLAUSE_PART: &[Step] = &[Choice(
     &[TokenKind::KwCase],
     &[
@@ -404,95 +351,3 @@ pub const CONTINUING_PART: &[Step] = &[
     Token(&[TokenKind::SymBraceLeft]),
     Rule(Symbol::ContinuingRest),
 ];
-
-pub const LEFT_SIDE_REST: &[Step] = &[Choice(
-    &[
-        TokenKind::SymEqual,
-        TokenKind::SymPlusEqual,
-        TokenKind::SymMinusEqual,
-        TokenKind::SymTimesEqual,
-        TokenKind::SymDivisionEqual,
-        TokenKind::SymModuloEqual,
-        TokenKind::SymAndEqual,
-        TokenKind::SymOrEqual,
-        TokenKind::SymXorEqual,
-        TokenKind::SymShiftRightAssign,
-        TokenKind::SymShiftLeftAssign,
-    ],
-    &[
-        Choice(
-            &[TokenKind::SymEqual],
-            &[Token(&[TokenKind::SymEqual])],
-            &[Choice(
-                &[TokenKind::SymPlusEqual],
-                &[Token(&[TokenKind::SymPlusEqual])],
-                &[Choice(
-                    &[TokenKind::SymMinusEqual],
-                    &[Token(&[TokenKind::SymMinusEqual])],
-                    &[Choice(
-                        &[TokenKind::SymTimesEqual],
-                        &[Token(&[TokenKind::SymTimesEqual])],
-                        &[Choice(
-                            &[TokenKind::SymDivisionEqual],
-                            &[Token(&[TokenKind::SymDivisionEqual])],
-                            &[Choice(
-                                &[TokenKind::SymModuloEqual],
-                                &[Token(&[TokenKind::SymModuloEqual])],
-                                &[Choice(
-                                    &[TokenKind::SymAndEqual],
-                                    &[Token(&[TokenKind::SymAndEqual])],
-                                    &[Choice(
-                                        &[TokenKind::SymOrEqual],
-                                        &[Token(&[TokenKind::SymOrEqual])],
-                                        &[Choice(
-                                            &[TokenKind::SymXorEqual],
-                                            &[Token(&[TokenKind::SymXorEqual])],
-                                            &[Choice(
-                                                &[TokenKind::SymShiftRightAssign],
-                                                &[Token(&[TokenKind::SymShiftRightAssign])],
-                                                &[Token(&[TokenKind::SymShiftLeftAssign])],
-                                            )],
-                                        )],
-                                    )],
-                                )],
-                            )],
-                        )],
-                    )],
-                )],
-            )],
-        ),
-        Rule(Symbol::Expression),
-    ],
-    &[Choice(
-        &[TokenKind::SymPlusPlus],
-        &[Token(&[TokenKind::SymPlusPlus])],
-        &[Token(&[TokenKind::SymMinusMinus])],
-    )],
-)];
-
-pub const NAME_REST_STATEMENT: &[Step] = &[Choice(
-    &[TokenKind::TemplateArgsStart, TokenKind::SymParenLeft],
-    &[
-        Choice(
-            &[TokenKind::TemplateArgsStart],
-            &[Rule(Symbol::TemplateList)],
-            &[],
-        ),
-        Rule(Symbol::Arguments),
-    ],
-    &[Rule(Symbol::Components), Rule(Symbol::LeftSideRest)],
-)];
-
-pub const PARENTHESIZED_STATEMENT: &[Step] = &[
-    Rule(Symbol::LeftSideInParentheses),
-    Rule(Symbol::LeftSideRest),
-];
-
-pub const PLAIN_STATEMENT: &[Step] = &[Choice(
-    &[TokenKind::SymSemicolon],
-    &[Token(&[TokenKind::SymSemicolon])],
-    &[
-        Rule(Symbol::ParenthesizedStatement),
-        Token(&[TokenKind::SymSemicolon]),
-    ],
-)];

@@ -1,6 +1,6 @@
 //! The steps of a rule.
 
-use crate::symbol::Symbol;
+use crate::rules::Symbol;
 use wgsl_lex_token::kind::TokenKind;
 
 /// A step of a rule over the tokens that are left.

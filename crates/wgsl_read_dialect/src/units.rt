@@ -1,9 +1,15 @@
 //! The rules of attributes, declarations, directives and units, written by tools/dialect.py.
 
-use crate::begins::BEGINS_ATTRIBUTE_LIST_ATTRIBUTED_PART;
+use crate::rules::Symbol;
 use crate::step::Step::{self, Choice, Repeat, Rule, Token};
-use crate::symbol::Symbol;
 use wgsl_lex_token::kind::TokenKind;
+
+pub const BEGINS_ATTRIBUTE_LIST_ATTRIBUTED_PART: &[TokenKind] = &[
+    TokenKind::SymAttr,
+    TokenKind::KwFn,
+    TokenKind::KwOverride,
+    TokenKind::KwVar,
+];
 
 pub const ATTRIBUTE: &[Step] = &[
     Token(&[TokenKind::SymAttr]),

@@ -7,7 +7,7 @@ use Rattle.wgsl_read_part.proofs.Selectors.{selectors_parts, selectors_turn, sel
 use Rattle.wgsl_read_part.proofs.EndedStatements.{plain_statement_parts, for_init_parts, for_update_parts, plain_statement_by_parts, ended_behind, for_init_by_parts, for_update_by_parts}
 use Rattle.wgsl_theory_grammar.specs.StatementRules.{case_selector_at, init_part_at, condition_part_at, update_part_at, assert_part_at}
 use Rattle.wgsl_read_part.specs.Heads.{for_header_at, condition_at, block_start_at, block_start_after_at, switch_head_at}
-use Rattle.wgsl_tree_statement.proofs.StatementViews.{is_break, is_const_assert}
+use Rattle.wgsl_tree_statement.proofs.Views.{is_break, is_const_assert}
 use Rattle.std.proofs.lemmas.List.{map_push}
 use Rattle.wgsl_theory_grammar.proofs.StatementEquations.{case_selector_is, init_part_is, condition_part_is, update_part_is, assert_part_is}
 

@@ -6,8 +6,7 @@ use Rattle.grammar.specs.States.{State, Read, Read.done, ◌>>=◌, is_at, is_an
 use Rattle.wgsl_model.specs.Tokens.Classes.{SymAnd, SymBraceRight, SymParenLeft, SymSemicolon, SymStar, SymUnderscore, KwConst, KwContinue, KwDiscard, KwIf, KwLet, KwReturn, KwVar, Ident, ReservedWord}
 use Rattle.wgsl_model.specs.Trees.Attributes.{Attributes}
 use Rattle.wgsl_model.specs.Trees.Attributed.{Attributed, with_attributes}
-use Rattle.wgsl_model.specs.Trees.Statements.{BreakIfStatement, Statement, UnattributedStatement, statement, unattributed}
-use Rattle.wgsl_model.specs.Grammar.StatementParts.{break_if_of}
+use Rattle.wgsl_model.specs.Trees.Statements.{BreakIfStatement, Statement, UnattributedStatement, statement, unattributed, break_if_of}
 use Rattle.wgsl_model.specs.Grammar.Symbols.{Symbol.expression}
 use Rattle.wgsl_theory_grammar.specs.Factored.{FactoredSymbol.of, FactoredSymbol.further, Further.attribute_list, Further.returning_part, Further.local_part, Further.value_part, Further.simple_part, Further.assert_part, Further.parenthesized_statement, break_part}
 use Rattle.wgsl_theory_grammar.specs.Tables.{tables}
@@ -39,15 +38,25 @@ assert_statement_at s = reader (further assert_part) s >>= λ c s'. done (Unattr
 abbrev pub begin_simple_part : List ℕ
 begin_simple_part = SymAnd ∷ SymStar ∷ SymUnderscore ∷ Ident ∷ ReservedWord ∷ []
 
--- a statement other than `break` that a `;` ends, without its attributes and its `;`
+-- of some parts, each with the classes that begin it, the first that is begun, or a last one
+abbrev pub begun_part : {A : Type 0} → List (List ℕ × (State → Read A)) → (State → Read A) → State → Read A
+begun_part [] last s = last s
+begun_part (p ∷ parts) last s = cond (is_any p.0 s) (p.1 s) (begun_part parts last s)
+
+-- the statements other than `break` and `const_assert` that a `;` ends, without their attributes and their `;`
+abbrev pub ended_kinds : List (List ℕ × (State → Read UnattributedStatement))
+ended_kinds =
+    (KwReturn ∷ [], reader (further returning_part))
+    ∷ (KwVar ∷ [], reader (further local_part))
+    ∷ (KwConst ∷ KwLet ∷ [], reader (further value_part))
+    ∷ (KwContinue ∷ [], word_at KwContinue UnattributedStatement.continue_statement)
+    ∷ (KwDiscard ∷ [], word_at KwDiscard UnattributedStatement.discard_statement)
+    ∷ (begin_simple_part, reader (further simple_part))
+    ∷ []
+
+-- one of them, or a `const_assert`
 unfoldable pub ended_kinds_at : State → Read UnattributedStatement
-ended_kinds_at s =
-    cond (is_at KwReturn s) (reader (further returning_part) s)
-    (cond (is_at KwVar s) (reader (further local_part) s)
-    (cond (is_any (KwConst ∷ KwLet ∷ []) s) (reader (further value_part) s)
-    (cond (is_at KwContinue s) (word_at KwContinue UnattributedStatement.continue_statement s)
-    (cond (is_at KwDiscard s) (word_at KwDiscard UnattributedStatement.discard_statement s)
-    (cond (is_any begin_simple_part s) (reader (further simple_part) s) (assert_statement_at s))))))
+ended_kinds_at s = begun_part ended_kinds assert_statement_at s
 
 -- a `break if` with its attributes, behind its `break`, and the `}` behind it
 unfoldable pub break_if_rest_at : Attributes → State → Read (Attributed BreakIfStatement)

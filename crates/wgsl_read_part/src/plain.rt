@@ -25,54 +25,6 @@ use wgsl_tree_attribute::Attributes;
 use wgsl_tree_simple::{BreakStatement, ConstAssert};
 use wgsl_tree_statement::{Statement, StatementNode};
 
-/// What begins a statement.
-const STATEMENT: Expected = Expected::OneOf(&[
-    TokenKind::SymAnd,
-    TokenKind::SymAttr,
-    TokenKind::SymBraceLeft,
-    TokenKind::SymParenLeft,
-    TokenKind::SymSemicolon,
-    TokenKind::SymStar,
-    TokenKind::SymUnderscore,
-    TokenKind::KwBreak,
-    TokenKind::KwConst,
-    TokenKind::KwConstAssert,
-    TokenKind::KwContinue,
-    TokenKind::KwDiscard,
-    TokenKind::KwFor,
-    TokenKind::KwIf,
-    TokenKind::KwLet,
-    TokenKind::KwLoop,
-    TokenKind::KwReturn,
-    TokenKind::KwSwitch,
-    TokenKind::KwVar,
-    TokenKind::KwWhile,
-    TokenKind::Ident,
-]);
-
-/// What can stand behind attributes of a statement.
-const ATTRIBUTED_STATEMENT: Expected = Expected::OneOf(&[
-    TokenKind::SymAnd,
-    TokenKind::SymAttr,
-    TokenKind::SymBraceLeft,
-    TokenKind::SymStar,
-    TokenKind::SymUnderscore,
-    TokenKind::KwBreak,
-    TokenKind::KwConst,
-    TokenKind::KwConstAssert,
-    TokenKind::KwContinue,
-    TokenKind::KwDiscard,
-    TokenKind::KwFor,
-    TokenKind::KwIf,
-    TokenKind::KwLet,
-    TokenKind::KwLoop,
-    TokenKind::KwReturn,
-    TokenKind::KwSwitch,
-    TokenKind::KwVar,
-    TokenKind::KwWhile,
-    TokenKind::Ident,
-]);
-
 /// Whether the next token begins a statement that has no attributes: an empty one, or one whose left side begins with `(`.
 pub fn begins_plain_statement(tokens: &Cursor) -> bool
     ensures { result ≡ is_any (class.SymParenLeft ∷ (class.SymSemicolon ∷ [])) (state tokens.now) }
@@ -115,16 +67,18 @@ pub fn parse_break_part(tokens: &mut Cursor, attributes: Attributes) -> Result<S
 }
 
 /// A statement other than `break` that a `;` ends, behind its attributes, with its `;`.
+/// `expected` is what could stand in the place of a token that begins none.
 #[inline(never)]
 pub fn parse_ended_part(
     alloc: Global,
     tokens: &mut Cursor,
     attributes: Attributes,
+    expected: Expected,
 ) -> Result<Statement, Fault>
     ensures { Parses statement_view result tokens.old tokens.new (behind_attributes statement
         (attributes_view attributes.items) (reader (further ended_part))) }
 {
-    let statement = parse_ended_kind(alloc, tokens, attributes)?;
+    let statement = parse_ended_kind(alloc, tokens, attributes, expected)?;
     tokens.expect(TokenKind::SymSemicolon)?;
     Ok(statement)
 }
@@ -134,6 +88,7 @@ fn parse_ended_kind(
     alloc: Global,
     tokens: &mut Cursor,
     attributes: Attributes,
+    expected: Expected,
 ) -> Result<Statement, Fault>
     ensures { Parses statement_view result tokens.old tokens.new
         (behind_attributes statement (attributes_view attributes.items) ended_kinds_at) }
@@ -159,16 +114,7 @@ fn parse_ended_kind(
     if tokens.is_at(TokenKind::KwConstAssert) {
         return parse_assert_statement(alloc, tokens, attributes);
     }
-    Err(tokens.refuse(expected_behind(&attributes)))
-}
-
-/// What could stand in the place of a token that begins no statement, behind attributes.
-fn expected_behind(attributes: &Attributes) -> Expected {
-    if attributes.is_empty() {
-        STATEMENT
-    } else {
-        ATTRIBUTED_STATEMENT
-    }
+    Err(tokens.refuse(expected))
 }
 
 /// Whether the next token begins a call, an assignment, an increment or a decrement that may have attributes.

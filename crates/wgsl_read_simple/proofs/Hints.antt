@@ -11,7 +11,7 @@ use Rattle.wgsl_read_simple.specs.Values.{maybe_expression_at, value_kind_at, wo
 use Rattle.wgsl_read_simple.specs.VarKinds.{var_kind_at}
 use Rattle.wgsl_read_simple.proofs.Made.{parenthesized_is, unary_is, call_is}
 use Rattle.wgsl_theory_grammar.proofs.StatementEquations.{phony_part_is, returning_part_is, local_part_is, value_part_is, assert_part_is}
-use Rattle.wgsl_tree_statement.proofs.StatementViews.{is_function_call, is_assignment, is_increment, is_decrement, is_return, is_declaration, is_continue, is_discard}
+use Rattle.wgsl_tree_statement.proofs.Views.{is_function_call, is_assignment, is_increment, is_decrement, is_return, is_declaration, is_continue, is_discard}
 
 unfoldable pub definitions : ⊤
 unfolding lhs_expression_parts left_name_at left_side_in_parentheses_parts prefixed_left_side_parts unary_left_side_at take parenthesized_left_side_at simple_parts parenthesized_parts phony_part_at underscore_left_side_at named_statement_parts call_rest_at maybe_template_list_at left_side_rest_parts assignment_operator_at initializer_at returning_part_at maybe_expression_at local_part_at var_kind_at maybe_initializer_at value_part_at value_kind_at word_at assert_part_at

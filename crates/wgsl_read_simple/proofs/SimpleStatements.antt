@@ -6,8 +6,8 @@ use Rattle.grammar.specs.States.{State, Read, Read.done, Stop, Stop.unexpected, 
 use Rattle.grammar.proofs.Binding.{bind_associates, bind_alike, bind_cond}
 use Rattle.wgsl_model.specs.Tokens.Classes.{SymAnd, SymMinusMinus, SymParenLeft, SymPlusPlus, SymStar, Ident, ReservedWord, TemplateArgsStart}
 use Rattle.wgsl_model.specs.Trees.Expressions.{ExpressionNode}
-use Rattle.wgsl_model.specs.Trees.Statements.{UnattributedStatement}
-use Rattle.wgsl_model.specs.Grammar.StatementParts.{variable_at, assignment_of, increment_of, decrement_of}
+use Rattle.wgsl_model.specs.Trees.Statements.{UnattributedStatement, assignment_of, increment_of, decrement_of}
+use Rattle.wgsl_model.specs.Grammar.StatementParts.{variable_at}
 use Rattle.wgsl_model.specs.Grammar.TokenValues.{text_of}
 use Rattle.wgsl_model.specs.Grammar.Checks.{unreserved}
 use Rattle.wgsl_model.specs.Grammar.Symbols.{Symbol.ident, Symbol.expression, Symbol.arguments}

@@ -7,8 +7,8 @@ use Rattle.wgsl_model.specs.Tokens.Classes.{SymEqual, SymUnderscore, SymPlusEqua
 use Rattle.wgsl_model.specs.Trees.Operators.{AssignmentOperator}
 use Rattle.wgsl_model.specs.Trees.Expressions.{ExpressionNode, type_expression, template_of}
 use Rattle.wgsl_model.specs.Grammar.ExpressionParts.{call_of}
-use Rattle.wgsl_model.specs.Trees.Statements.{UnattributedStatement}
-use Rattle.wgsl_model.specs.Grammar.StatementParts.{assignment_operator, underscore_at, call_statement_of}
+use Rattle.wgsl_model.specs.Trees.Statements.{UnattributedStatement, call_statement_of}
+use Rattle.wgsl_model.specs.Grammar.StatementParts.{assignment_operator, underscore_at}
 use Rattle.wgsl_model.specs.Grammar.Symbols.{Symbol.ident, Symbol.template_list, Symbol.arguments}
 use Rattle.wgsl_theory_grammar.specs.Factored.{FactoredSymbol.of, FactoredSymbol.further, Further.name_rest_statement, lifted}
 use Rattle.wgsl_theory_grammar.specs.Tables.{tables}

@@ -10,8 +10,8 @@ use Rattle.wgsl_model.specs.Tokens.Classes.{SymBraceRight, SymParenLeft, SymSemi
 use Rattle.wgsl_model.specs.Trees.Expressions.{ExpressionNode}
 use Rattle.wgsl_model.specs.Trees.Attributes.{Attributes}
 use Rattle.wgsl_model.specs.Trees.Attributed.{Attributed, with_attributes}
-use Rattle.wgsl_model.specs.Trees.Statements.{BreakIfStatement, StatementNode, UnattributedStatement, statement}
-use Rattle.wgsl_model.specs.Grammar.StatementParts.{placed_statement, break_if_of}
+use Rattle.wgsl_model.specs.Trees.Statements.{BreakIfStatement, StatementNode, UnattributedStatement, statement, break_if_of}
+use Rattle.wgsl_model.specs.Grammar.StatementParts.{placed_statement}
 use Rattle.wgsl_model.specs.Grammar.Symbols.{Symbol.expression}
 use Rattle.wgsl_theory_grammar.specs.Factored.{FactoredSymbol.of, FactoredSymbol.further, FactoredRule, Further.attribute_list, Further.continuing_rest, Further.plain_statement, Further.braced_part, Further.ended_part, attributes_before, taken_by, with_place, begun_by, statement_first, with_break, with_condition}
 use Rattle.wgsl_theory_grammar.specs.Tables.{tables}

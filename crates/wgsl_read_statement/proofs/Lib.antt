@@ -6,6 +6,4 @@ pub mod Switches
 pub mod LoopParts
 pub mod LoopItems
 pub mod ContinuingItems
-pub mod MadeStatements
-pub mod ReadParts
 pub mod Hints

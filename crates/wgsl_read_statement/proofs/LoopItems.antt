@@ -7,8 +7,7 @@ use Rattle.grammar.specs.States.{State, Read, Read.done, ◌>>=◌, is_at, is_an
 use Rattle.grammar.proofs.Binding.{bind_associates, bind_alike, bind_cond, pair_goes_on}
 use Rattle.wgsl_model.specs.Tokens.Classes.{SymBraceRight, SymParenLeft, SymSemicolon, KwContinuing}
 use Rattle.wgsl_model.specs.Trees.Attributes.{Attributes}
-use Rattle.wgsl_model.specs.Trees.Statements.{ContinuingStatement, StatementNode}
-use Rattle.wgsl_model.specs.Grammar.StatementParts.{continuing_statement_of}
+use Rattle.wgsl_model.specs.Trees.Statements.{ContinuingStatement, StatementNode, continuing_statement_of}
 use Rattle.wgsl_theory_grammar.specs.Factored.{FactoredSymbol.further, FactoredRule, Further.attribute_list, Further.loop_rest, Further.plain_statement, Further.continuing_part, attributes_before, taken_by, with_place, statement_first, with_continuing}
 use Rattle.wgsl_theory_grammar.specs.Tables.{tables}
 use Rattle.wgsl_theory_grammar.specs.Reader.{reader}

@@ -1,18 +1,19 @@
 -- Statements by their parts.
-use Rattle.std.proofs.Common.{◌≡◌, ◌∙◌, ℕ, false, inl, inr, refl, sym, ap, List, [], ◌∷◌, cond}
+use Rattle.std.proofs.Common.{◌≡◌, ◌∙◌, ℕ, Bool, true, false, inl, inr, refl, sym, ap, List, [], ◌∷◌, cond}
 use Rattle.grammar.specs.Tokens.{Token}
 use Rattle.grammar.specs.Grammar.{Grammar.symbol}
 use Rattle.grammar.specs.Notation.{◌or◌}
+use Rattle.grammar.specs.Tables.{subset}
 use Rattle.grammar.specs.States.{State, Read, Read.done, ◌>>=◌, refused, is_at, is_any, take, next_start, span_from, go}
-use Rattle.grammar.proofs.Reading.Sets.{cases}
+use Rattle.grammar.proofs.Reading.Sets.{cases, cond_and}
 use Rattle.grammar.proofs.Reading.Beginnings.{cond_yes, cond_no}
 use Rattle.grammar.proofs.Binding.{bind_associates, bind_alike, pair_goes_on}
-use Rattle.wgsl_model.specs.Tokens.Classes.{SymParenLeft, SymSemicolon, KwBreak, KwConst, KwConstAssert, KwContinue, KwDiscard, KwLet, KwReturn, KwVar}
+use Rattle.wgsl_model.specs.Tokens.Classes.{SymParenLeft, SymSemicolon, KwBreak, KwConstAssert}
 use Rattle.wgsl_model.specs.Trees.Expressions.{ExpressionNode}
-use Rattle.wgsl_model.specs.Trees.Statements.{StatementNode, Statement, UnattributedStatement, statement}
-use Rattle.wgsl_model.specs.Grammar.StatementParts.{assert_of, placed_statement}
+use Rattle.wgsl_model.specs.Trees.Statements.{StatementNode, Statement, UnattributedStatement, statement, assert_of}
+use Rattle.wgsl_model.specs.Grammar.StatementParts.{placed_statement}
 use Rattle.wgsl_model.specs.Grammar.Symbols.{Symbol, Symbol.expression}
-use Rattle.wgsl_theory_grammar.specs.Factored.{FactoredSymbol.of, FactoredSymbol.further, FactoredRule, Further.attribute_list, Further.plain_statement, Further.braced_part, Further.ended_part, Further.returning_part, Further.local_part, Further.value_part, Further.simple_part, break_part}
+use Rattle.wgsl_theory_grammar.specs.Factored.{FactoredSymbol.of, FactoredSymbol.further, FactoredRule, Further.attribute_list, Further.plain_statement, Further.braced_part, Further.ended_part, break_part}
 use Rattle.wgsl_theory_grammar.specs.Tables.{tables, firsts}
 use Rattle.wgsl_theory_grammar.specs.Reader.{reader}
 use Rattle.wgsl_theory_grammar.specs.StatementRules.{statement_at, ended_part_at, assert_part_at}
@@ -20,7 +21,7 @@ use Rattle.wgsl_theory_grammar.proofs.StatementEquations.{statement_is, ended_pa
 use Rattle.wgsl_read_expression.proofs.Choices.{not_taken}
 use Rattle.wgsl_read_attribute.proofs.Classes.{alone, other_class, not_one, none_among}
 use Rattle.wgsl_read_simple.specs.Values.{word_at}
-use Rattle.wgsl_read_part.specs.Plain.{break_part_at, ended_kinds_at, assert_statement_at, begin_simple_part}
+use Rattle.wgsl_read_part.specs.Plain.{break_part_at, begun_part, ended_kinds, ended_kinds_at, assert_statement_at}
 use Rattle.wgsl_read_statement.specs.Statements.{begin_braced_part, statement_part_at, statement_behind_at}
 
 -- ---- what is refused
@@ -60,22 +61,21 @@ ended_stops (t ∷ ts) = refl
 abbrev begin_ended_part : List ℕ
 begin_ended_part = firsts (further ended_part)
 
+-- whether the classes that begin some parts are among these
+abbrev begin_within : {A : Type 0} → List (List ℕ × (State → Read A)) → List ℕ → Bool
+begin_within [] classes = true
+begin_within (p ∷ parts) classes = cond (subset p.0 classes) (begin_within parts classes) false
+
+-- where none of some parts is begun, the last one stands
+none_begun : {A : Type 0} (parts : List (List ℕ × (State → Read A))) (last : State → Read A) (classes : List ℕ) (s : State) → begin_within parts classes ≡ true → is_any classes s ≡ false → begun_part parts last s ≡ last s
+none_begun [] last classes s h n = refl
+none_begun {A} (p ∷ parts) last classes s h n =
+    let both = cond_and (subset p.0 classes) (begin_within parts classes) h in
+    cond_no {A = Read A} (is_any p.0 s) (p.1 s) (begun_part parts last s) (none_among p.0 classes s both.0 n) ∙ none_begun parts last classes s both.1 n
+
 kinds_refused : (s : State) → is_any begin_ended_part s ≡ false → ended_kinds_at s ≡ refused s.rest
 unfolding ended_kinds_at
-kinds_refused s n =
-    let R = Read UnattributedStatement in
-    let last : R = cond (is_any begin_simple_part s) (reader (further simple_part) s) (assert_statement_at s) in
-    let discarding : R = cond (is_at KwDiscard s) (word_at KwDiscard UnattributedStatement.discard_statement s) last in
-    let continuing : R = cond (is_at KwContinue s) (word_at KwContinue UnattributedStatement.continue_statement s) discarding in
-    let valued : R = cond (is_any (KwConst ∷ KwLet ∷ []) s) (reader (further value_part) s) continuing in
-    let local : R = cond (is_at KwVar s) (reader (further local_part) s) valued in
-    cond_no {A = Read UnattributedStatement} (is_at KwReturn s) (reader (further returning_part) s) local (not_one KwReturn begin_ended_part s refl n)
-    ∙ cond_no {A = Read UnattributedStatement} (is_at KwVar s) (reader (further local_part) s) valued (not_one KwVar begin_ended_part s refl n)
-    ∙ cond_no {A = Read UnattributedStatement} (is_any (KwConst ∷ KwLet ∷ []) s) (reader (further value_part) s) continuing (none_among (KwConst ∷ KwLet ∷ []) begin_ended_part s refl n)
-    ∙ cond_no {A = Read UnattributedStatement} (is_at KwContinue s) (word_at KwContinue UnattributedStatement.continue_statement s) discarding (not_one KwContinue begin_ended_part s refl n)
-    ∙ cond_no {A = Read UnattributedStatement} (is_at KwDiscard s) (word_at KwDiscard UnattributedStatement.discard_statement s) last (not_one KwDiscard begin_ended_part s refl n)
-    ∙ cond_no {A = Read UnattributedStatement} (is_any begin_simple_part s) (reader (further simple_part) s) (assert_statement_at s) (none_among begin_simple_part begin_ended_part s refl n)
-    ∙ assert_refused s (not_one KwConstAssert begin_ended_part s refl n)
+kinds_refused s n = none_begun ended_kinds assert_statement_at begin_ended_part s refl n ∙ assert_refused s (not_one KwConstAssert begin_ended_part s refl n)
 
 ended_refused : (s : State) → is_any begin_ended_part s ≡ false → reader (further ended_part) s ≡ refused s.rest
 unfolding ended_part_at ended_kinds_at word_at assert_statement_at

@@ -1,18 +1,19 @@
 -- What the parts of statements read, each as a word of its own, which no computation opens.
-use Rattle.std.specs.Prelude.{ℕ, List, [], ◌∷◌, cond}
+use Rattle.std.specs.Prelude.{ℕ, List, cond}
 use Rattle.grammar.specs.States.{State, Read, Read.done, ◌>>=◌, is_at, is_any, span_from}
-use Rattle.wgsl_model.specs.Tokens.Classes.{SymBraceLeft, KwBreak, KwFor, KwIf, KwLoop, KwSwitch, KwWhile}
+use Rattle.wgsl_model.specs.Tokens.Classes.{KwBreak}
 use Rattle.wgsl_model.specs.Trees.Attributes.{Attributes}
 use Rattle.wgsl_model.specs.Trees.Statements.{StatementNode, UnattributedStatement, statement}
 use Rattle.wgsl_model.specs.Grammar.StatementParts.{placed_statement}
 use Rattle.wgsl_theory_grammar.specs.Factored.{FactoredSymbol.further, Further.braced_part, Further.ended_part}
+use Rattle.wgsl_theory_grammar.specs.Tables.{firsts}
 use Rattle.wgsl_theory_grammar.specs.Reader.{reader}
 use Rattle.wgsl_read_attribute.specs.Behind.{behind_attributes}
 use Rattle.wgsl_read_part.specs.Plain.{break_part_at}
 
 -- the classes that begin a statement that ends with a block, behind its attributes
 abbrev pub begin_braced_part : List ℕ
-begin_braced_part = SymBraceLeft ∷ KwFor ∷ KwIf ∷ KwLoop ∷ KwSwitch ∷ KwWhile ∷ []
+begin_braced_part = firsts (further braced_part)
 
 -- a statement from its first word on, without its attributes
 unfoldable pub statement_part_at : State → Read UnattributedStatement

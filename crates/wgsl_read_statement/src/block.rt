@@ -20,6 +20,7 @@ use wgsl_tree_attribute::Attributes;
 use wgsl_tree_statement::{CompoundStatement, Statement, StatementNode};
 
 /// A block.
+#[tactic(auto, using(crate::proofs::Blocks::compounds))]
 #[cycle(statement)]
 pub fn parse_compound_statement(
     alloc: Global,
@@ -37,6 +38,7 @@ pub fn parse_compound_statement(
 }
 
 /// A block as a statement, behind its attributes.
+#[tactic(auto, using(crate::proofs::Blocks::blocks))]
 #[inline(never)]
 #[cycle(statement)]
 pub fn parse_block_part(

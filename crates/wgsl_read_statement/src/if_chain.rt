@@ -20,6 +20,7 @@ use wgsl_tree_attribute::Attributes;
 use wgsl_tree_statement::{ElseClause, ElseIfClause, IfClause, IfStatement, Statement};
 
 /// An `if` with all of its clauses, behind its attributes.
+#[tactic(auto, using(crate::proofs::IfChains::ifs))]
 #[inline(never)]
 #[cycle(statement)]
 pub fn parse_if_part(

@@ -2,8 +2,7 @@
 #![tactic(auto, unfolding(crate::proofs::Hints::definitions), using(crate::proofs::Hints::lemmas))]
 
 ghost use Rattle.std.specs.Prelude.{map, option_map};
-ghost use Rattle.wgsl_model.specs.Trees.Statements.{statement};
-ghost use Rattle.wgsl_model.specs.Grammar.StatementParts.{continuing_statement_of};
+ghost use Rattle.wgsl_model.specs.Trees.Statements.{statement, continuing_statement_of};
 ghost use Rattle.wgsl_tree_attribute.specs.View.{attributes_view};
 ghost use Rattle.wgsl_tree_simple.specs.View.{break_if_view};
 ghost use Rattle.wgsl_tree_statement.specs.View.{statement_view, statement_node_view, continuing_statement_view};
@@ -30,6 +29,7 @@ use wgsl_tree_statement::{
 };
 
 /// A `loop`, behind its attributes.
+#[tactic(auto, using(crate::proofs::LoopParts::loops))]
 #[inline(never)]
 #[cycle(statement)]
 pub fn parse_loop_part(
@@ -79,6 +79,7 @@ fn parse_loop_rest(
 }
 
 /// What a `loop` does after each turn, behind its attributes.
+#[tactic(auto, using(crate::proofs::LoopParts::continuings))]
 #[inline(never)]
 #[cycle(statement)]
 fn parse_continuing_part(
@@ -132,6 +133,7 @@ fn parse_continuing_rest(
 }
 
 /// A `while`, behind its attributes.
+#[tactic(auto, using(crate::proofs::LoopParts::whiles))]
 #[inline(never)]
 #[cycle(statement)]
 pub fn parse_while_part(
@@ -152,6 +154,7 @@ pub fn parse_while_part(
 }
 
 /// A `for`, behind its attributes.
+#[tactic(auto, using(crate::proofs::LoopParts::fors))]
 #[inline(never)]
 #[cycle(statement)]
 pub fn parse_for_part(

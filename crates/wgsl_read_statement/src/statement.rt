@@ -1,4 +1,4 @@
-//! Statements.
+//! Statements: which one stands there.
 #![tactic(auto, unfolding(crate::proofs::Hints::definitions), using(crate::proofs::Hints::lemmas))]
 
 ghost use Rattle.std.specs.Prelude.{◌≡◌};
@@ -20,13 +20,61 @@ use crate::switch::parse_switch_part;
 use std::alloc::Global;
 use wgsl_lex_token::kind::TokenKind;
 use wgsl_read_attribute::parse_attributes;
-use wgsl_read_cursor::{Cursor, Fault};
+use wgsl_read_cursor::{Cursor, Expected, Fault};
 use wgsl_read_part::{
     begins_plain_statement, parse_break_part, parse_ended_part, parse_plain_statement,
 };
 use wgsl_span::Spanned;
 use wgsl_tree_attribute::Attributes;
 use wgsl_tree_statement::{Statement, StatementNode};
+
+/// What begins a statement.
+const STATEMENT: Expected = Expected::OneOf(&[
+    TokenKind::SymAnd,
+    TokenKind::SymAttr,
+    TokenKind::SymBraceLeft,
+    TokenKind::SymParenLeft,
+    TokenKind::SymSemicolon,
+    TokenKind::SymStar,
+    TokenKind::SymUnderscore,
+    TokenKind::KwBreak,
+    TokenKind::KwConst,
+    TokenKind::KwConstAssert,
+    TokenKind::KwContinue,
+    TokenKind::KwDiscard,
+    TokenKind::KwFor,
+    TokenKind::KwIf,
+    TokenKind::KwLet,
+    TokenKind::KwLoop,
+    TokenKind::KwReturn,
+    TokenKind::KwSwitch,
+    TokenKind::KwVar,
+    TokenKind::KwWhile,
+    TokenKind::Ident,
+]);
+
+/// What can stand behind attributes of a statement.
+const ATTRIBUTED_STATEMENT: Expected = Expected::OneOf(&[
+    TokenKind::SymAnd,
+    TokenKind::SymAttr,
+    TokenKind::SymBraceLeft,
+    TokenKind::SymStar,
+    TokenKind::SymUnderscore,
+    TokenKind::KwBreak,
+    TokenKind::KwConst,
+    TokenKind::KwConstAssert,
+    TokenKind::KwContinue,
+    TokenKind::KwDiscard,
+    TokenKind::KwFor,
+    TokenKind::KwIf,
+    TokenKind::KwLet,
+    TokenKind::KwLoop,
+    TokenKind::KwReturn,
+    TokenKind::KwSwitch,
+    TokenKind::KwVar,
+    TokenKind::KwWhile,
+    TokenKind::Ident,
+]);
 
 /// A statement. What begins with `;` or `(` has no attributes.
 #[cycle(statement)]
@@ -73,7 +121,17 @@ fn parse_statement_part(
     if begins_braced_part(tokens) {
         return parse_braced_part(alloc, tokens, attributes);
     }
-    parse_ended_part(alloc, tokens, attributes)
+    let expected = expected_behind(&attributes);
+    parse_ended_part(alloc, tokens, attributes, expected)
+}
+
+/// What could stand in the place of a token that begins no statement, behind attributes.
+fn expected_behind(attributes: &Attributes) -> Expected {
+    if attributes.is_empty() {
+        STATEMENT
+    } else {
+        ATTRIBUTED_STATEMENT
+    }
 }
 
 /// Whether the next token begins a statement that ends with a block.

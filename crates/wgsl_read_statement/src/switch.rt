@@ -22,6 +22,7 @@ use wgsl_tree_attribute::Attributes;
 use wgsl_tree_statement::{Statement, SwitchClause, SwitchStatement};
 
 /// A `switch`, behind its attributes.
+#[tactic(auto, using(crate::proofs::Switches::switches))]
 #[inline(never)]
 #[cycle(statement)]
 pub fn parse_switch_part(
@@ -58,6 +59,7 @@ fn parse_clauses(alloc: Global, tokens: &mut Cursor) -> Result<Vec<SwitchClause>
 }
 
 /// A clause: its attributes, `case` with its selectors, or `default`, and a block.
+#[tactic(auto, using(crate::proofs::Switches::switch_clauses))]
 #[cycle(statement)]
 fn parse_switch_clause(alloc: Global, tokens: &mut Cursor) -> Result<SwitchClause, Fault>
     ensures { Parses switch_clause_view result tokens.old tokens.new (reader (of switch_clause)) }

@@ -2,9 +2,9 @@
 use Rattle.std.proofs.Common.{◌≡◌}
 use Rattle.grammar.specs.States.{State}
 use Rattle.wgsl_model.specs.Grammar.Symbols.{Symbol.attribute, Symbol.compound_statement, Symbol.statement, Symbol.switch_clause, Symbol.case_selector, Symbol.for_init, Symbol.for_update, Symbol.var_template, Symbol.typed_ident}
-use Rattle.wgsl_theory_grammar.specs.Factored.{FactoredSymbol.of, FactoredSymbol.further, Further.selectors, Further.attribute_list, Further.statement_rest, Further.loop_rest, Further.continuing_rest, Further.clause_rest, Further.else_rest, Further.init_part, Further.condition_part, Further.update_part, Further.if_part, Further.switch_part, Further.loop_part, Further.for_part, Further.while_part, Further.block_part, Further.braced_part, Further.returning_part, Further.local_part, Further.value_part, Further.phony_part, Further.simple_part, Further.ended_part, Further.assert_part, Further.clause_part, Further.continuing_part, Further.left_side_rest, Further.left_side_in_parentheses, Further.prefixed_left_side, Further.name_rest_statement, Further.parenthesized_statement, Further.plain_statement}
+use Rattle.wgsl_theory_grammar.specs.Factored.{FactoredSymbol.of, FactoredSymbol.further, Further.selectors, Further.attribute_list, Further.statement_rest, Further.loop_rest, Further.continuing_rest, Further.clause_rest, Further.else_rest, Further.init_part, Further.condition_part, Further.update_part, Further.block_part, Further.braced_part, Further.returning_part, Further.local_part, Further.value_part, Further.phony_part, Further.simple_part, Further.ended_part, Further.assert_part, Further.clause_part, Further.left_side_rest, Further.left_side_in_parentheses, Further.prefixed_left_side, Further.name_rest_statement, Further.parenthesized_statement, Further.plain_statement}
 use Rattle.wgsl_theory_grammar.specs.Reader.{reader}
-use Rattle.wgsl_theory_grammar.specs.StatementRules.{attribute_at, compound_statement_at, statement_at, switch_clause_at, case_selector_at, for_init_at, for_update_at, var_template_at, typed_ident_at, selectors_at, attribute_list_at, statement_rest_at, loop_rest_at, continuing_rest_at, clause_rest_at, else_rest_at, init_part_at, condition_part_at, update_part_at, if_part_at, switch_part_at, loop_part_at, for_part_at, while_part_at, block_part_at, braced_part_at, returning_part_at, local_part_at, value_part_at, phony_part_at, simple_part_at, ended_part_at, assert_part_at, clause_part_at, continuing_part_at, left_side_rest_at, left_side_in_parentheses_at, prefixed_left_side_at, name_rest_statement_at, parenthesized_statement_at, plain_statement_at}
+use Rattle.wgsl_theory_grammar.specs.StatementRules.{attribute_at, compound_statement_at, statement_at, switch_clause_at, case_selector_at, for_init_at, for_update_at, var_template_at, typed_ident_at, selectors_at, attribute_list_at, statement_rest_at, loop_rest_at, continuing_rest_at, clause_rest_at, else_rest_at, init_part_at, condition_part_at, update_part_at, block_part_at, braced_part_at, returning_part_at, local_part_at, value_part_at, phony_part_at, simple_part_at, ended_part_at, assert_part_at, clause_part_at, left_side_rest_at, left_side_in_parentheses_at, prefixed_left_side_at, name_rest_statement_at, parenthesized_statement_at, plain_statement_at}
 use Rattle.wgsl_theory_grammar.proofs.Reader.{step}
 
 pub attribute_is : (s : State) → reader (of attribute) s ≡ attribute_at s
@@ -83,26 +83,6 @@ pub update_part_is : (s : State) → reader (further update_part) s ≡ update_p
 unfolding update_part_at
 update_part_is s = step (further update_part) s
 
-pub if_part_is : (s : State) → reader (further if_part) s ≡ if_part_at s
-unfolding if_part_at
-if_part_is s = step (further if_part) s
-
-pub switch_part_is : (s : State) → reader (further switch_part) s ≡ switch_part_at s
-unfolding switch_part_at
-switch_part_is s = step (further switch_part) s
-
-pub loop_part_is : (s : State) → reader (further loop_part) s ≡ loop_part_at s
-unfolding loop_part_at
-loop_part_is s = step (further loop_part) s
-
-pub for_part_is : (s : State) → reader (further for_part) s ≡ for_part_at s
-unfolding for_part_at
-for_part_is s = step (further for_part) s
-
-pub while_part_is : (s : State) → reader (further while_part) s ≡ while_part_at s
-unfolding while_part_at
-while_part_is s = step (further while_part) s
-
 pub block_part_is : (s : State) → reader (further block_part) s ≡ block_part_at s
 unfolding block_part_at
 block_part_is s = step (further block_part) s
@@ -142,10 +122,6 @@ assert_part_is s = step (further assert_part) s
 pub clause_part_is : (s : State) → reader (further clause_part) s ≡ clause_part_at s
 unfolding clause_part_at
 clause_part_is s = step (further clause_part) s
-
-pub continuing_part_is : (s : State) → reader (further continuing_part) s ≡ continuing_part_at s
-unfolding continuing_part_at
-continuing_part_is s = step (further continuing_part) s
 
 pub left_side_rest_is : (s : State) → reader (further left_side_rest) s ≡ left_side_rest_at s
 unfolding left_side_rest_at

@@ -9,10 +9,10 @@ use Rattle.wgsl_model.specs.Trees.Spanned.{Spanned, spanned}
 use Rattle.wgsl_model.specs.Trees.Expressions.{ExpressionNode, Expression, TypeExpression, start_of, end_of}
 use Rattle.wgsl_model.specs.Trees.Attributes.{Attributes}
 use Rattle.wgsl_model.specs.Trees.Attributed.{with_attributes, without_attributes, Attributed}
-use Rattle.wgsl_model.specs.Trees.Statements.{DeclarationKind, BreakIfStatement, CaseSelector, StatementNode, statement, UnattributedStatement, unattributed, statements_of, ElseIfClause, ElseClause, SwitchClause, ContinuingStatement, CompoundStatement, ConstAssert}
+use Rattle.wgsl_model.specs.Trees.Statements.{DeclarationKind, BreakIfStatement, CaseSelector, StatementNode, statement, UnattributedStatement, unattributed, statements_of, ElseIfClause, ElseClause, SwitchClause, ContinuingStatement, CompoundStatement, ConstAssert, compound_of, assignment_of, increment_of, decrement_of, call_statement_of, if_of, clause_of, switch_of, loop_of, for_of, while_of, local_of, return_of, assert_of, break_if_of, continuing_statement_of}
 use Rattle.wgsl_model.specs.Trees.Units.{GlobalDirective, StructMember, FormalParameter, GlobalDeclaration, UnattributedDeclaration, UnattributedDirective}
 use Rattle.wgsl_model.specs.Grammar.ExpressionParts.{placed_expression, type_of, call_of, unary_of, binary_of, multiplicative_operator, relational_operator, summand}
-use Rattle.wgsl_model.specs.Grammar.StatementParts.{placed_statement, attributes, initializer, var_kind, compound_of, assignment_operator, assignment_of, increment_of, decrement_of, variable_at, parenthesized_at, call_statement_of, if_of, clause_of, switch_of, loop_of, for_of, while_of, local_of, underscore_at, return_of, assert_of, break_if_of, continuing_statement_of}
+use Rattle.wgsl_model.specs.Grammar.StatementParts.{placed_statement, attributes, initializer, var_kind, assignment_operator, variable_at, parenthesized_at, underscore_at}
 use Rattle.wgsl_model.specs.Grammar.UnitParts.{member_of, parameter_of, value_of, struct_of, function_of, enable_of, requires_of, alias_of, diagnostic_of}
 use Rattle.wgsl_model.specs.Grammar.Symbols.{Dialect, Dialect.whole, Dialect.alone, Symbol, Symbol.ident, Symbol.type_specifier, Symbol.template_list, Symbol.expressions, Symbol.arguments, Symbol.literal, Symbol.primary_expression, Symbol.singular_expression, Symbol.component, Symbol.unary_expression, Symbol.shift_expression, Symbol.relational_expression, Symbol.expression, Symbol.lhs_expression, Symbol.compound_statement, Symbol.statement, Symbol.return_statement, Symbol.if_statement, Symbol.switch_statement, Symbol.loop_statement, Symbol.for_statement, Symbol.while_statement, Symbol.var_statement, Symbol.value_statement, Symbol.break_statement, Symbol.continue_statement, Symbol.discard_statement, Symbol.phony_assignment, Symbol.const_assert, Symbol.switch_clause, Symbol.case_selector, Symbol.continuing_statement, Symbol.for_init, Symbol.for_update, Symbol.typed_ident, Symbol.struct_member, Symbol.formal_parameter, Symbol.global_declaration, Symbol.var_declaration, Symbol.const_declaration, Symbol.override_declaration, Symbol.alias_declaration, Symbol.struct_declaration, Symbol.function_declaration, Symbol.global_directive, Symbol.enable_directive, Symbol.requires_directive, Symbol.unit, Value, Rule, Symbol.call, Symbol.call_statement, Symbol.diagnostic_severity, Symbol.diagnostic_directive}
 use Rattle.wgsl_model.specs.Grammar.Written.{rules}

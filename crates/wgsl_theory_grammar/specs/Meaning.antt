@@ -6,9 +6,9 @@ use Rattle.wgsl_model.specs.Tokens.Classes.{SymAnd, SymAndAnd, SymBraceLeft, Sym
 use Rattle.wgsl_model.specs.Trees.Operators.{UnaryOperator.address_of, UnaryOperator.indirection, BinaryOperator, BinaryOperator.short_circuit_or, BinaryOperator.short_circuit_and, BinaryOperator.bitwise_or, BinaryOperator.bitwise_and, BinaryOperator.bitwise_xor, BinaryOperator.shift_left, BinaryOperator.shift_right, AssignmentOperator.equal}
 use Rattle.wgsl_model.specs.Trees.Expressions.{ExpressionNode}
 use Rattle.wgsl_model.specs.Trees.Attributed.{Attributed}
-use Rattle.wgsl_model.specs.Trees.Statements.{DeclarationKind, UnattributedStatement, unattributed, statements_of, ElseIfClause, ElseClause, ConstAssert, CaseSelector, CompoundStatement, BreakIfStatement}
+use Rattle.wgsl_model.specs.Trees.Statements.{DeclarationKind, UnattributedStatement, unattributed, statements_of, ElseIfClause, ElseClause, ConstAssert, CaseSelector, CompoundStatement, BreakIfStatement, assignment_of, increment_of, decrement_of, if_of, switch_of, loop_of, for_of, while_of, compound_of, local_of, call_statement_of, return_of, assert_of}
 use Rattle.wgsl_model.specs.Grammar.ExpressionParts.{unary_of, multiplicative_operator, relational_operator, summand}
-use Rattle.wgsl_model.specs.Grammar.StatementParts.{placed_statement, attributes, statements, initializer, var_kind, assignment_operator, assignment_of, increment_of, decrement_of, if_of, else_if, else_block, switch_of, loop_of, break_if, for_of, while_of, compound_of, local_of, underscore_at, open_left_side, parenthesized_left_side, call_statement_of, return_of, assert_of}
+use Rattle.wgsl_model.specs.Grammar.StatementParts.{placed_statement, attributes, statements, initializer, var_kind, assignment_operator, else_if, else_block, break_if, underscore_at, open_left_side, parenthesized_left_side}
 use Rattle.wgsl_model.specs.Trees.Units.{UnattributedDeclaration, UnattributedDirective}
 use Rattle.wgsl_model.specs.Grammar.UnitParts.{value_of, return_part, function_of, alias_of, struct_of, enable_of, requires_of, diagnostic_of}
 use Rattle.wgsl_model.specs.Grammar.Symbols.{Dialect, Symbol.ident, Symbol.template_list, Symbol.arguments, Symbol.component, Symbol.unary_expression, Symbol.shift_expression, Symbol.relational_expression, Symbol.expression, Symbol.lhs_expression, Symbol.compound_statement, Symbol.switch_clause, Symbol.case_selector, Symbol.continuing_statement, Symbol.for_init, Symbol.for_update, Symbol.typed_ident, Symbol.struct_member, Symbol.formal_parameter, Symbol.global_declaration, Symbol.global_directive, Rule, Symbol.type_specifier, Symbol.call, Symbol.diagnostic_severity}

@@ -1,7 +1,7 @@
 -- What the symbols of attributes and statements that are cited read by their right sides, each as a word of its own, which no computation opens; written by tools/rules.py.
 use Rattle.grammar.specs.States.{State, Read, go}
 use Rattle.wgsl_model.specs.Grammar.Symbols.{Value, Symbol.attribute, Symbol.compound_statement, Symbol.statement, Symbol.switch_clause, Symbol.case_selector, Symbol.for_init, Symbol.for_update, Symbol.var_template, Symbol.typed_ident}
-use Rattle.wgsl_theory_grammar.specs.Factored.{FactoredSymbol.of, FactoredSymbol.further, FurtherValue, Further.selectors, Further.attribute_list, Further.statement_rest, Further.loop_rest, Further.continuing_rest, Further.clause_rest, Further.else_rest, Further.init_part, Further.condition_part, Further.update_part, Further.if_part, Further.switch_part, Further.loop_part, Further.for_part, Further.while_part, Further.block_part, Further.braced_part, Further.returning_part, Further.local_part, Further.value_part, Further.phony_part, Further.simple_part, Further.ended_part, Further.assert_part, Further.clause_part, Further.continuing_part, Further.left_side_rest, Further.left_side_in_parentheses, Further.prefixed_left_side, Further.name_rest_statement, Further.parenthesized_statement, Further.plain_statement, body}
+use Rattle.wgsl_theory_grammar.specs.Factored.{FactoredSymbol.of, FactoredSymbol.further, FurtherValue, Further.selectors, Further.attribute_list, Further.statement_rest, Further.loop_rest, Further.continuing_rest, Further.clause_rest, Further.else_rest, Further.init_part, Further.condition_part, Further.update_part, Further.block_part, Further.braced_part, Further.returning_part, Further.local_part, Further.value_part, Further.phony_part, Further.simple_part, Further.ended_part, Further.assert_part, Further.clause_part, Further.left_side_rest, Further.left_side_in_parentheses, Further.prefixed_left_side, Further.name_rest_statement, Further.parenthesized_statement, Further.plain_statement, body}
 use Rattle.wgsl_theory_grammar.specs.Tables.{tables}
 use Rattle.wgsl_theory_grammar.specs.Reader.{reader}
 
@@ -62,21 +62,6 @@ condition_part_at s = go tables reader (body (further condition_part)) s
 unfoldable pub update_part_at : State → Read (FurtherValue update_part)
 update_part_at s = go tables reader (body (further update_part)) s
 
-unfoldable pub if_part_at : State → Read (FurtherValue if_part)
-if_part_at s = go tables reader (body (further if_part)) s
-
-unfoldable pub switch_part_at : State → Read (FurtherValue switch_part)
-switch_part_at s = go tables reader (body (further switch_part)) s
-
-unfoldable pub loop_part_at : State → Read (FurtherValue loop_part)
-loop_part_at s = go tables reader (body (further loop_part)) s
-
-unfoldable pub for_part_at : State → Read (FurtherValue for_part)
-for_part_at s = go tables reader (body (further for_part)) s
-
-unfoldable pub while_part_at : State → Read (FurtherValue while_part)
-while_part_at s = go tables reader (body (further while_part)) s
-
 unfoldable pub block_part_at : State → Read (FurtherValue block_part)
 block_part_at s = go tables reader (body (further block_part)) s
 
@@ -106,9 +91,6 @@ assert_part_at s = go tables reader (body (further assert_part)) s
 
 unfoldable pub clause_part_at : State → Read (FurtherValue clause_part)
 clause_part_at s = go tables reader (body (further clause_part)) s
-
-unfoldable pub continuing_part_at : State → Read (FurtherValue continuing_part)
-continuing_part_at s = go tables reader (body (further continuing_part)) s
 
 unfoldable pub left_side_rest_at : State → Read (FurtherValue left_side_rest)
 left_side_rest_at s = go tables reader (body (further left_side_rest)) s

@@ -4,7 +4,6 @@ pub mod PointBehind
 pub mod SoundExpressions
 pub mod FittingSigns
 pub mod FittingExpressions
-pub mod SoundUnits
 pub mod WrittenWords
 pub mod FittingAttributes
 pub mod FittingStatements

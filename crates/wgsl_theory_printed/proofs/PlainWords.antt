@@ -17,7 +17,8 @@ use Rattle.wgsl_model.specs.Trees.EmptyItems.{full_unit}
 use Rattle.wgsl_model.specs.Grammar.Symbols.{Symbol.unit}
 use Rattle.wgsl_model.specs.Tokens.TokenList.{IsTokenList}
 use Rattle.wgsl_model.specs.Trees.Units.{TranslationUnit}
-use Rattle.wgsl_model.specs.Tokens.Words.{look_up, symbols}
+use Rattle.wgsl_model.specs.Tokens.Words.{look_up}
+use Rattle.wgsl_model.specs.Tokens.Classes.{symbols}
 use Rattle.wgsl_model.specs.Grammar.Written.{written}
 use Rattle.wgsl_theory_reread.specs.CanonicalUnits.{canonical, without_place}
 use Rattle.wgsl_theory_reread.proofs.Words.{NoPeriod, AllWords}

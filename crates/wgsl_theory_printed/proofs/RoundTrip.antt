@@ -9,7 +9,7 @@ use Rattle.wgsl_model.specs.Trees.EmptyItems.{full_unit}
 use Rattle.wgsl_model.specs.Trees.StatementsWithoutSpans.{bare_unit}
 use Rattle.wgsl_model.specs.Tokens.TokenList.{width}
 use Rattle.wgsl_model.specs.Program.{IsUnit, ReadsBack, Formats, printed}
-use Rattle.wgsl_theory_reread.proofs.Trees.Modules.{unit_printed}
+use Rattle.wgsl_theory_reread.proofs.Trees.EmptyItems.{unit_printed}
 use Rattle.wgsl_theory_reread.proofs.Trees.SpansUnits.{unit_print_bare}
 use Rattle.wgsl_theory_reread.specs.CanonicalUnits.{canonical, HasTokens}
 use Rattle.wgsl_theory_templates.proofs.Lexed.Runs.{lexed}

@@ -3,6 +3,5 @@ pub mod Printing
 pub mod PiecesOfExpressions
 pub mod PiecesOfAttributes
 pub mod PiecesOfStatements
-pub mod PrintingStatements
 pub mod PiecesOfUnits
 pub mod PrintedAlong

@@ -1,5 +1,5 @@
 -- What it means that a value is read again: a list of tokens with the kinds that are written from the value derives a value that is the same, spans and empty items aside.
-use Rattle.std.proofs.Common.{◌≡◌, List, ◌∷◌, map, Option, Some}
+use Rattle.std.proofs.Common.{◌≡◌, Bool, true, false, List, ◌∷◌, map, Option, Some}
 use Rattle.std.specs.Option.{option_map}
 use Rattle.grammar.specs.Tokens.{Token}
 use Rattle.grammar.specs.Grammar.{Mode.checking, Part}
@@ -16,13 +16,63 @@ use Rattle.wgsl_model.specs.Grammar.TokenValues.{text_of}
 use Rattle.wgsl_model.specs.Trees.WithoutSpans.{bare_spanned, bare_expression, bare_expression_node, bare_call, bare_type}
 use Rattle.wgsl_model.specs.Trees.StatementsWithoutSpans.{bare_attributed, bare_assert, bare_selector, bare_statement, bare_statement_node, bare_compound, bare_switch_clause, bare_continuing, bare_member, bare_parameter, bare_directive, bare_global_declaration, bare_unit}
 use Rattle.wgsl_model.specs.Trees.EmptyItems.{full_statement, full_compound, full_switch_clause, full_continuing, full_declaration, full_unit}
-use Rattle.wgsl_model.specs.Grammar.Symbols.{Symbol, ident, type_specifier, template_list, expressions, call, arguments, literal, primary_expression, singular_expression, component, unary_expression, multiplicative_expression, negated_expression, additive_expression, shift_expression, relational_expression, expression, lhs_expression, attribute, compound_statement, statement, return_statement, if_statement, switch_statement, loop_statement, for_statement, while_statement, call_statement, var_statement, value_statement, break_statement, continue_statement, discard_statement, assignment, phony_assignment, increment, decrement, const_assert, switch_clause, case_selector, continuing_statement, for_init, for_update, var_template, typed_ident, struct_member, formal_parameter, global_declaration, var_declaration, const_declaration, override_declaration, alias_declaration, struct_declaration, function_declaration, diagnostic_severity, global_directive, enable_directive, requires_directive, diagnostic_directive, unit, Value}
+use Rattle.wgsl_model.specs.Grammar.Symbols.{Symbol, ident, type_specifier, template_list, expressions, call, arguments, literal, primary_expression, singular_expression, component, unary_expression, multiplicative_expression, negated_expression, additive_expression, shift_expression, relational_expression, expression, lhs_expression, attribute, compound_statement, statement, const_assert, switch_clause, case_selector, continuing_statement, for_init, for_update, var_template, typed_ident, struct_member, formal_parameter, global_declaration, var_declaration, const_declaration, override_declaration, alias_declaration, struct_declaration, function_declaration, diagnostic_severity, global_directive, enable_directive, requires_directive, diagnostic_directive, unit, Value}
+use Rattle.wgsl_model.specs.Printed.Statements.{is_void}
 use Rattle.wgsl_model.specs.Grammar.Written.{written}
+use Rattle.wgsl_theory_grammar.proofs.Faults.WrittenEnds.{closing}
 use Rattle.wgsl_theory_reread.specs.CanonicalExpressions.{Writer, optional_tokens, list_tokens, literal_token, expression_tokens, expression_node_tokens, call_tokens, type_tokens}
 use Rattle.wgsl_theory_reread.specs.CanonicalAttributes.{arguments_tokens, named_attribute_tokens, attributes_tokens}
 use Rattle.wgsl_theory_reread.specs.CanonicalStatements.{kind_tokens, typed_tokens, assert_tokens, selector_tokens, end_token, unended_tokens, statement_tokens, compound_tokens, switch_clause_tokens, continuing_tokens}
 use Rattle.wgsl_theory_reread.specs.CanonicalUnits.{directive_tokens, member_tokens, parameter_tokens, global_declaration_tokens, unit_tokens, without_place}
 use Rattle.wgsl_theory_reread.proofs.Words.{NoPeriod, AllWords}
+
+-- the kinds of statements: all symbols but these
+abbrev pub IsKind : Symbol → Type 0
+IsKind ident = ⊥
+IsKind type_specifier = ⊥
+IsKind template_list = ⊥
+IsKind expressions = ⊥
+IsKind call = ⊥
+IsKind arguments = ⊥
+IsKind literal = ⊥
+IsKind primary_expression = ⊥
+IsKind singular_expression = ⊥
+IsKind component = ⊥
+IsKind unary_expression = ⊥
+IsKind multiplicative_expression = ⊥
+IsKind negated_expression = ⊥
+IsKind additive_expression = ⊥
+IsKind shift_expression = ⊥
+IsKind relational_expression = ⊥
+IsKind expression = ⊥
+IsKind lhs_expression = ⊥
+IsKind attribute = ⊥
+IsKind compound_statement = ⊥
+IsKind statement = ⊥
+IsKind const_assert = ⊥
+IsKind switch_clause = ⊥
+IsKind case_selector = ⊥
+IsKind continuing_statement = ⊥
+IsKind for_init = ⊥
+IsKind for_update = ⊥
+IsKind var_template = ⊥
+IsKind typed_ident = ⊥
+IsKind struct_member = ⊥
+IsKind formal_parameter = ⊥
+IsKind global_declaration = ⊥
+IsKind var_declaration = ⊥
+IsKind const_declaration = ⊥
+IsKind override_declaration = ⊥
+IsKind alias_declaration = ⊥
+IsKind struct_declaration = ⊥
+IsKind function_declaration = ⊥
+IsKind diagnostic_severity = ⊥
+IsKind global_directive = ⊥
+IsKind enable_directive = ⊥
+IsKind requires_directive = ⊥
+IsKind diagnostic_directive = ⊥
+IsKind unit = ⊥
+IsKind n = Unit {0}
 
 -- what the symbols derive
 abbrev pub D : (n : Symbol) → Value n → List Token → List Token → Type 0
@@ -140,35 +190,65 @@ Same diagnostic_directive w v = bare_directive w ≡ bare_directive v
 Same unit w v = bare_unit w ≡ bare_unit (full_unit v)
 Same n w v = bare_statement w ≡ bare_statement (full_statement v)
 
--- a statement that ends with a `;`, and one that does not
+-- a statement that is not empty and ends with a `;`, and one that does not
 abbrev pub Ended : Statement → Type 0
-Ended s = (rest : List Kind) → end_token s rest ≡ plain SymSemicolon ∷ rest
+Ended s = (is_void s ≡ false) × ((rest : List Kind) → end_token s rest ≡ plain SymSemicolon ∷ rest)
 
 abbrev pub Unended : Statement → Type 0
-Unended s = (rest : List Kind) → end_token s rest ≡ rest
+Unended s = (is_void s ≡ false) × ((rest : List Kind) → end_token s rest ≡ rest)
+
+-- one that ends as its rule does
+abbrev pub EndsAs : Bool → Statement → Type 0
+EndsAs true s = Unended s
+EndsAs false s = Ended s
 
 -- what else is known of a value that a symbol derives
 abbrev pub Known : (n : Symbol) → Value n → Type 0
 Known ident t = NoPeriod (text_of t)
-Known return_statement v = Ended v
-Known call_statement v = Ended v
-Known var_statement v = Ended v
-Known value_statement v = Ended v
-Known break_statement v = Ended v
-Known continue_statement v = Ended v
-Known discard_statement v = Ended v
-Known assignment v = Ended v
-Known phony_assignment v = Ended v
-Known increment v = Ended v
-Known decrement v = Ended v
-Known if_statement v = Unended v
-Known switch_statement v = Unended v
-Known loop_statement v = Unended v
-Known for_statement v = Unended v
-Known while_statement v = Unended v
+Known type_specifier v = Unit {0}
+Known template_list v = Unit {0}
+Known expressions v = Unit {0}
+Known call v = Unit {0}
+Known arguments v = Unit {0}
+Known literal v = Unit {0}
+Known primary_expression v = Unit {0}
+Known singular_expression v = Unit {0}
+Known component v = Unit {0}
+Known unary_expression v = Unit {0}
+Known multiplicative_expression v = Unit {0}
+Known negated_expression v = Unit {0}
+Known additive_expression v = Unit {0}
+Known shift_expression v = Unit {0}
+Known relational_expression v = Unit {0}
+Known expression v = Unit {0}
+Known lhs_expression v = Unit {0}
 Known attribute v = (a : Attribute) × (attribute_of v.node ≡ right a) × ((rest : List Kind) → named_attribute_tokens a rest ≡ kind_of_word v.node.name ∷ optional_tokens arguments_tokens v.node.arguments rest)
+Known compound_statement v = Unit {0}
+Known statement v = Unit {0}
+Known const_assert v = Unit {0}
+Known switch_clause v = Unit {0}
+Known case_selector v = Unit {0}
+Known continuing_statement v = Unit {0}
+Known for_init v = Unit {0}
+Known for_update v = Unit {0}
+Known var_template v = Unit {0}
+Known typed_ident v = Unit {0}
+Known struct_member v = Unit {0}
+Known formal_parameter v = Unit {0}
+Known global_declaration v = Unit {0}
+Known var_declaration v = Unit {0}
+Known const_declaration v = Unit {0}
+Known override_declaration v = Unit {0}
+Known alias_declaration v = Unit {0}
+Known struct_declaration v = Unit {0}
+Known function_declaration v = Unit {0}
 Known diagnostic_severity t = (s : DiagnosticSeverity) × (look_up severities (text_of t) ≡ Some s)
-Known n v = Unit {0}
+Known global_directive v = Unit {0}
+Known enable_directive v = Unit {0}
+Known requires_directive v = Unit {0}
+Known diagnostic_directive v = Unit {0}
+Known unit v = Unit {0}
+Known n v = EndsAs (closing n) v
 
 -- what is derived from a list of tokens up to a list with these kinds
 pub record Found {A : Type 0} (P : A → List Token → List Token → Type 0) (Like : A → Type 0) (us : List Token) (ks : List Kind) : Type 0 where

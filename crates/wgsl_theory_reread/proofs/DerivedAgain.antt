@@ -1,22 +1,20 @@
 -- What the tokens that are written from a derived tree derive: the same tree, spans and empty items aside.
-use Rattle.std.proofs.Common.{◌≡◌, List, [], ◌∷◌, map, refl, ap, subst, ◌∙◌}
+use Rattle.std.proofs.Common.{◌≡◌, List, [], ◌∷◌, map, refl, subst}
 use Rattle.grammar.specs.Tokens.{Token}
 use Rattle.grammar.specs.Grammar.{Mode.checking, Means, Derives}
-use Rattle.wgsl_model.specs.Tokens.Classes.{KwBreak, KwContinue, KwDiscard}
-use Rattle.wgsl_model.specs.Trees.Statements as trees
 use Rattle.wgsl_model.specs.Trees.Units.{TranslationUnit}
 use Rattle.wgsl_model.specs.Trees.StatementsWithoutSpans.{bare_unit}
 use Rattle.wgsl_model.specs.Trees.EmptyItems.{full_unit}
-use Rattle.wgsl_model.specs.Grammar.Symbols.{Symbol, ident, type_specifier, template_list, expressions, call, arguments, literal, primary_expression, singular_expression, component, unary_expression, multiplicative_expression, negated_expression, additive_expression, shift_expression, relational_expression, expression, lhs_expression, attribute, compound_statement, statement, return_statement, if_statement, switch_statement, loop_statement, for_statement, while_statement, call_statement, var_statement, value_statement, break_statement, continue_statement, discard_statement, assignment, phony_assignment, increment, decrement, const_assert, switch_clause, case_selector, continuing_statement, for_init, for_update, var_template, typed_ident, struct_member, formal_parameter, global_declaration, var_declaration, const_declaration, override_declaration, alias_declaration, struct_declaration, function_declaration, diagnostic_severity, global_directive, enable_directive, requires_directive, diagnostic_directive, unit, Value}
+use Rattle.wgsl_model.specs.Grammar.Symbols.{Symbol, ident, type_specifier, template_list, expressions, call, arguments, literal, primary_expression, singular_expression, component, unary_expression, multiplicative_expression, negated_expression, additive_expression, shift_expression, relational_expression, expression, lhs_expression, attribute, compound_statement, statement, const_assert, switch_clause, case_selector, continuing_statement, for_init, for_update, var_template, typed_ident, struct_member, formal_parameter, global_declaration, var_declaration, const_declaration, override_declaration, alias_declaration, struct_declaration, function_declaration, diagnostic_severity, global_directive, enable_directive, requires_directive, diagnostic_directive, unit, Value}
 use Rattle.wgsl_model.specs.Grammar.Written.{written}
 use Rattle.wgsl_theory_reread.specs.CanonicalUnits.{canonical, without_place}
 use Rattle.wgsl_theory_reread.proofs.Words.{AllWords}
-use Rattle.wgsl_theory_reread.proofs.Again.{D, Ended, Unended, Again}
+use Rattle.wgsl_theory_reread.proofs.Again.{D, Again}
 use Rattle.wgsl_theory_reread.proofs.Derived.{by_derivation}
 use Rattle.wgsl_theory_reread.proofs.Rules.{known_by}
 use Rattle.wgsl_theory_reread.proofs.EachRule.ExpressionRules.{ident_rule, component_rule, negated_expression_rule, type_specifier_right, template_list_right, expressions_right, call_right, arguments_right, literal_right, primary_expression_right, singular_expression_right, unary_expression_right, multiplicative_expression_right, additive_expression_right, shift_expression_right, relational_expression_right, expression_right, lhs_expression_right}
 use Rattle.wgsl_theory_reread.proofs.EachRule.AttributeRules.{attribute_node_reads, attribute_rule, var_template_rule, diagnostic_severity_rule}
-use Rattle.wgsl_theory_reread.proofs.EachRule.StatementRules.{word_statement_reads, written_compound_statement_reads, written_continuing_statement_reads, written_if_statement_reads, written_switch_statement_reads, written_loop_statement_reads, written_for_statement_reads, written_while_statement_reads, written_return_statement_reads, written_call_statement_reads, written_var_statement_reads, written_value_statement_reads, written_assignment_reads, written_increment_reads, written_decrement_reads, written_const_assert_reads, written_typed_ident_reads, written_case_selector_reads, written_phony_assignment_reads, written_switch_clause_reads, written_statement_reads, written_for_update_reads, written_for_init_reads}
+use Rattle.wgsl_theory_reread.proofs.EachRule.StatementRules.{written_compound_statement_reads, written_continuing_statement_reads, written_const_assert_reads, written_typed_ident_reads, written_case_selector_reads, written_switch_clause_reads, written_statement_reads, written_for_update_reads, written_for_init_reads, kind_rules}
 use Rattle.wgsl_theory_reread.proofs.EachRule.UnitRules.{struct_member_written, formal_parameter_written, var_declaration_written, const_declaration_written, override_declaration_written, alias_declaration_written, struct_declaration_written, function_declaration_written, global_declaration_written, enable_directive_written, requires_directive_written, global_directive_written, diagnostic_directive_written, unit_written}
 
 -- each rule of the grammar
@@ -42,22 +40,6 @@ rules lhs_expression v xs ys here d = known_by lhs_expression lhs_expression_rig
 rules attribute v xs ys here d = attribute_rule v xs ys here d
 rules compound_statement v xs ys here d = known_by compound_statement (written_compound_statement_reads attribute_node_reads) v tt xs ys d
 rules statement v xs ys here d = known_by statement written_statement_reads v tt xs ys d
-rules return_statement v xs ys here d = known_by return_statement (written_return_statement_reads attribute_node_reads) v (subst Ended (ap (trees.statement d.0.0) d.2.2.1 ∙ d.1) (λ rest. refl)) xs ys d
-rules if_statement v xs ys here d = known_by if_statement (written_if_statement_reads attribute_node_reads) v (subst Unended (ap (trees.statement d.0.0) d.2.2.1 ∙ d.1) (λ rest. refl)) xs ys d
-rules switch_statement v xs ys here d = known_by switch_statement (written_switch_statement_reads attribute_node_reads) v (subst Unended (ap (trees.statement d.0.0) d.2.2.1 ∙ d.1) (λ rest. refl)) xs ys d
-rules loop_statement v xs ys here d = known_by loop_statement (written_loop_statement_reads attribute_node_reads) v (subst Unended (ap (trees.statement d.0.0) d.2.2.1 ∙ d.1) (λ rest. refl)) xs ys d
-rules for_statement v xs ys here d = known_by for_statement (written_for_statement_reads attribute_node_reads) v (subst Unended (ap (trees.statement d.0.0) d.2.2.1 ∙ d.1) (λ rest. refl)) xs ys d
-rules while_statement v xs ys here d = known_by while_statement (written_while_statement_reads attribute_node_reads) v (subst Unended (ap (trees.statement d.0.0) d.2.2.1 ∙ d.1) (λ rest. refl)) xs ys d
-rules call_statement v xs ys here d = known_by call_statement (written_call_statement_reads attribute_node_reads) v (subst Ended (ap (trees.statement d.0.0) d.2.2.1 ∙ d.1) (λ rest. refl)) xs ys d
-rules var_statement v xs ys here d = known_by var_statement (written_var_statement_reads attribute_node_reads) v (subst Ended (ap (trees.statement d.0.0) d.2.2.1 ∙ d.1) (λ rest. refl)) xs ys d
-rules value_statement v xs ys here d = known_by value_statement (written_value_statement_reads attribute_node_reads) v (subst Ended (ap (trees.statement d.0.0) d.2.2.1 ∙ d.1) (λ rest. refl)) xs ys d
-rules break_statement v xs ys here d = known_by break_statement (word_statement_reads attribute_node_reads KwBreak refl (λ rest. refl) refl) v (subst Ended (ap (trees.statement d.0.0) d.2.2.1 ∙ d.1) (λ rest. refl)) xs ys d
-rules continue_statement v xs ys here d = known_by continue_statement (word_statement_reads attribute_node_reads KwContinue refl (λ rest. refl) refl) v (subst Ended (ap (trees.statement d.0.0) d.2.2.1 ∙ d.1) (λ rest. refl)) xs ys d
-rules discard_statement v xs ys here d = known_by discard_statement (word_statement_reads attribute_node_reads KwDiscard refl (λ rest. refl) refl) v (subst Ended (ap (trees.statement d.0.0) d.2.2.1 ∙ d.1) (λ rest. refl)) xs ys d
-rules assignment v xs ys here d = known_by assignment (written_assignment_reads attribute_node_reads) v (subst Ended d.1 (λ rest. refl)) xs ys d
-rules phony_assignment v xs ys here d = known_by phony_assignment (written_phony_assignment_reads attribute_node_reads) v (subst Ended (ap (trees.statement d.0.0) d.2.2.1 ∙ d.1) (λ rest. refl)) xs ys d
-rules increment v xs ys here d = known_by increment (written_increment_reads attribute_node_reads) v (subst Ended d.1 (λ rest. refl)) xs ys d
-rules decrement v xs ys here d = known_by decrement (written_decrement_reads attribute_node_reads) v (subst Ended d.1 (λ rest. refl)) xs ys d
 rules const_assert v xs ys here d = known_by const_assert (written_const_assert_reads attribute_node_reads) v tt xs ys d
 rules switch_clause v xs ys here d = known_by switch_clause (written_switch_clause_reads attribute_node_reads) v tt xs ys d
 rules case_selector v xs ys here d = known_by case_selector written_case_selector_reads v tt xs ys d
@@ -81,6 +63,7 @@ rules enable_directive v xs ys here d = known_by enable_directive (enable_direct
 rules requires_directive v xs ys here d = known_by requires_directive (requires_directive_written attribute_node_reads) v tt xs ys d
 rules diagnostic_directive v xs ys here d = known_by diagnostic_directive (diagnostic_directive_written attribute_node_reads) v tt xs ys d
 rules unit v xs ys here d = known_by unit unit_written v tt xs ys d
+rules n v xs ys here d = kind_rules attribute_node_reads n tt v xs ys here d
 
 -- what a symbol derives is read again
 pub again : (n : Symbol) (v : Value n) (xs ys : List Token) → D n v xs ys → Again n v xs ys

@@ -1,9 +1,10 @@
 -- What the first token behind comments does.
 use Rattle.std.proofs.Common.{◌≡◌, ℕ, suc, ◌+◌, ◌==◌, ◌&&◌, Bool, true, false, cond, refl, ap, List, [], ◌∷◌}
 use Rattle.grammar.specs.Tables.{is_empty}
+use Rattle.wgsl_model.specs.Tokens.Classes.{LineComment}
 use Rattle.wgsl_model.specs.Tokens.Characters.{is_blank, is_line_break}
 use Rattle.wgsl_model.specs.Tokens.Trivia.{Place, outside, in_line, in_block, second, closed, first_or_zero}
-use Rattle.wgsl_model_tidy.specs.Pieces.{Piece, comments, put, put_in_line, line_ends_at}
+use Rattle.wgsl_model_tidy.specs.Pieces.{Piece, comment, comments, put, put_in_line, line_ends_at}
 use Rattle.wgsl_model_tidy.specs.Roles.{Role}
 use Rattle.wgsl_model_tidy.specs.Open.{LayoutState, role_in}
 use Rattle.wgsl_model_tidy.specs.LaidOut.{next_role, in_line_of, is_comment}
@@ -34,7 +35,7 @@ next_behind s right behind h outside n (c ∷ cs) =
     (next_behind s right behind h outside (n + line_ends_at c cs) cs))
 next_behind s right behind h in_line n [] = h 0
 next_behind s right behind h in_line n (c ∷ cs) =
-    either_next s right (is_line_break c) (record { class = 82; text = []; line_ends = n } ∷ comments behind outside (line_ends_at c cs) cs) (put_in_line c (comments behind in_line n cs))
+    either_next s right (is_line_break c) (comment LineComment n ∷ comments behind outside (line_ends_at c cs) cs) (put_in_line c (comments behind in_line n cs))
     (next_behind s right behind h outside (line_ends_at c cs) cs)
     (put_in_line_next s c right (comments behind in_line n cs) (next_behind s right behind h in_line n cs))
 next_behind s right behind h (in_block depth) n [] = h 0

@@ -2,9 +2,9 @@
 use Rattle.std.specs.Prelude.{true, [], ◌∷◌, ◌≡◌, ◌↔◌}
 use Rattle.std.proofs.Common.{refl, ap}
 use Rattle.wgsl_model.specs.Trees.Attributed.{Attributed, with_attributes}
-use Rattle.wgsl_model.specs.Trees.Statements.{BreakIfStatement, StatementNode, statement_node, Statement, statement, UnattributedStatement, void, compound, assignment, increment, decrement, if_statement, switch_statement, loop_statement, for_statement, while_statement, break_statement, continue_statement, discard_statement, return_statement, function_call_statement, UnattributedStatement.const_assert, UnattributedStatement.declaration, CompoundStatement, compound_statement, IfStatement, if_else, IfClause, if_clause, ElseIfClause, else_if_clause, ElseClause, else_clause, SwitchStatement, switch, SwitchClause, switch_clause, LoopStatement, repeat, ContinuingStatement, continuing, ForStatement, repeat_for, WhileStatement, repeat_while, StatementNodes, no_statements, statement_before, ElseIfClauses, no_else_ifs, else_if_before, MaybeElseClause, no_else, one_else, SwitchClauses, no_clauses, clause_before, MaybeContinuing, no_continuing, one_continuing, MaybeStatement, no_statement, one_statement}
+use Rattle.wgsl_model.specs.Trees.Statements.{BreakIfStatement, StatementNode, statement_node, Statement, statement, UnattributedStatement, void, compound, assignment, increment, decrement, if_statement, switch_statement, loop_statement, for_statement, while_statement, break_statement, continue_statement, discard_statement, return_statement, function_call_statement, UnattributedStatement.const_assert, UnattributedStatement.declaration, CompoundStatement, compound_statement, IfStatement, if_else, IfClause, if_clause, ElseIfClause, else_if_clause, ElseClause, else_clause, SwitchStatement, switch, SwitchClause, switch_clause, LoopStatement, repeat, ContinuingStatement, continuing, ForStatement, repeat_for, WhileStatement, repeat_while, StatementNodes, no_statements, statement_before, ElseIfClauses, no_else_ifs, else_if_before, MaybeElseClause, no_else, one_else, SwitchClauses, no_clauses, clause_before, MaybeContinuing, no_continuing, one_continuing, MaybeStatement, no_statement, one_statement, changed_if, changed_switch, changed_loop, changed_for, changed_while}
 use Rattle.wgsl_model.specs.Trees.WithoutSpans.{no_span, bare_expression_node}
-use Rattle.wgsl_model.specs.Trees.StatementsWithoutSpans.{bare_attributed, bare_break_if, bare_selector, bare_statement, bare_unattributed, bare_statement_node, bare_statements, bare_compound, bare_if, bare_if_clause, bare_else_if_clause, bare_else_ifs, bare_else_clause, bare_else, bare_switch, bare_clauses, bare_switch_clause, bare_loop, bare_maybe_continuing, bare_continuing, bare_for, bare_part, bare_while}
+use Rattle.wgsl_model.specs.Trees.StatementsWithoutSpans.{without_spans, bare_attributed, bare_break_if, bare_selector, bare_statement, bare_unattributed, bare_statement_node, bare_statements, bare_compound, bare_if_clause, bare_else_if_clause, bare_else_ifs, bare_else_clause, bare_else, bare_clauses, bare_switch_clause, bare_maybe_continuing, bare_continuing, bare_part}
 use Rattle.wgsl_tree_equality.specs.Code.{Code, number, pair, same}
 use Rattle.wgsl_tree_equality.specs.Laws.{same_is}
 use Rattle.wgsl_tree_equality.specs.Expressions.{expression_node_code}
@@ -162,7 +162,7 @@ mutual
   pub compound_decoded : (b : CompoundStatement) → compound_of (compound_code b) ≡ bare_compound b
   compound_decoded (compound_statement attributes ss) = λ i. compound_statement (attributes_decoded attributes i) (statements_decoded ss i)
 
-  if_decoded : (s : IfStatement) → if_of (if_code s) ≡ bare_if s
+  if_decoded : (s : IfStatement) → if_of (if_code s) ≡ changed_if without_spans s
   if_decoded (if_else first others last) = λ i. if_else (if_clause_decoded first i) (else_ifs_decoded others i) (else_decoded last i)
 
   if_clause_decoded : (c : IfClause) → if_clause_of (if_clause_code c) ≡ bare_if_clause c
@@ -182,7 +182,7 @@ mutual
   else_decoded no_else = refl
   else_decoded (one_else c) = λ i. one_else (else_clause_decoded c i)
 
-  switch_decoded : (s : SwitchStatement) → switch_of (switch_code s) ≡ bare_switch s
+  switch_decoded : (s : SwitchStatement) → switch_of (switch_code s) ≡ changed_switch without_spans s
   switch_decoded (switch e body_attributes cs) = λ i. switch (node_decoded e i) (attributes_decoded body_attributes i) (clauses_decoded cs i)
 
   clauses_decoded : (cs : SwitchClauses) → clauses_of (clauses_code cs) ≡ bare_clauses cs
@@ -193,7 +193,7 @@ mutual
   switch_clause_decoded (switch_clause attributes selectors block) =
       λ i. switch_clause (attributes_decoded attributes i) (list_decoded selector_code selector_of bare_selector selector_decoded selectors i) (compound_decoded block i)
 
-  loop_decoded : (s : LoopStatement) → loop_of (loop_code s) ≡ bare_loop s
+  loop_decoded : (s : LoopStatement) → loop_of (loop_code s) ≡ changed_loop without_spans s
   loop_decoded (repeat body last) = λ i. repeat (compound_decoded body i) (maybe_continuing_decoded last i)
 
   maybe_continuing_decoded : (c : MaybeContinuing) → maybe_continuing_of (maybe_continuing_code c) ≡ bare_maybe_continuing c
@@ -204,14 +204,14 @@ mutual
   continuing_decoded (continuing attributes body condition) =
       λ i. continuing (attributes_decoded attributes i) (compound_decoded body i) (option_decoded break_if_at_code break_if_at_of bare_break_if_at break_if_at_decoded condition i)
 
-  for_decoded : (s : ForStatement) → for_of (for_code s) ≡ bare_for s
+  for_decoded : (s : ForStatement) → for_of (for_code s) ≡ changed_for without_spans s
   for_decoded (repeat_for init condition update block) = λ i. repeat_for (part_decoded init i) (option_decoded expression_node_code node_of bare_expression_node node_decoded condition i) (part_decoded update i) (compound_decoded block i)
 
   part_decoded : (p : MaybeStatement) → part_of (part_code p) ≡ bare_part p
   part_decoded no_statement = refl
   part_decoded (one_statement s) = λ i. one_statement (statement_node_decoded s i)
 
-  while_decoded : (s : WhileStatement) → while_of (while_code s) ≡ bare_while s
+  while_decoded : (s : WhileStatement) → while_of (while_code s) ≡ changed_while without_spans s
   while_decoded (repeat_while e block) = λ i. repeat_while (node_decoded e i) (compound_decoded block i)
 
 mutual
@@ -247,7 +247,7 @@ mutual
   pub compound_coded : (b : CompoundStatement) → compound_code (bare_compound b) ≡ compound_code b
   compound_coded (compound_statement attributes ss) = λ i. pair (statements_coded ss i) (attributes_coded attributes i)
 
-  if_coded : (s : IfStatement) → if_code (bare_if s) ≡ if_code s
+  if_coded : (s : IfStatement) → if_code (changed_if without_spans s) ≡ if_code s
   if_coded (if_else first others last) = λ i. pair (if_clause_coded first i) (pair (else_ifs_coded others i) (else_coded last i))
 
   if_clause_coded : (c : IfClause) → if_clause_code (bare_if_clause c) ≡ if_clause_code c
@@ -267,7 +267,7 @@ mutual
   else_coded no_else = refl
   else_coded (one_else c) = λ i. pair (number 0) (else_clause_coded c i)
 
-  switch_coded : (s : SwitchStatement) → switch_code (bare_switch s) ≡ switch_code s
+  switch_coded : (s : SwitchStatement) → switch_code (changed_switch without_spans s) ≡ switch_code s
   switch_coded (switch e body_attributes cs) = λ i. pair (node_coded e i) (pair (attributes_coded body_attributes i) (clauses_coded cs i))
 
   clauses_coded : (cs : SwitchClauses) → clauses_code (bare_clauses cs) ≡ clauses_code cs
@@ -278,7 +278,7 @@ mutual
   switch_clause_coded (switch_clause attributes selectors block) =
       λ i. pair (attributes_coded attributes i) (pair (list_coded selector_code bare_selector selector_coded selectors i) (compound_coded block i))
 
-  loop_coded : (s : LoopStatement) → loop_code (bare_loop s) ≡ loop_code s
+  loop_coded : (s : LoopStatement) → loop_code (changed_loop without_spans s) ≡ loop_code s
   loop_coded (repeat body last) = λ i. pair (compound_coded body i) (maybe_continuing_coded last i)
 
   maybe_continuing_coded : (c : MaybeContinuing) → maybe_continuing_code (bare_maybe_continuing c) ≡ maybe_continuing_code c
@@ -289,14 +289,14 @@ mutual
   continuing_coded (continuing attributes body condition) =
       λ i. pair (attributes_coded attributes i) (pair (compound_coded body i) (option_coded break_if_at_code bare_break_if_at break_if_at_coded condition i))
 
-  for_coded : (s : ForStatement) → for_code (bare_for s) ≡ for_code s
+  for_coded : (s : ForStatement) → for_code (changed_for without_spans s) ≡ for_code s
   for_coded (repeat_for init condition update block) = λ i. pair (part_coded init i) (pair (option_coded expression_node_code bare_expression_node node_coded condition i) (pair (part_coded update i) (compound_coded block i)))
 
   part_coded : (p : MaybeStatement) → part_code (bare_part p) ≡ part_code p
   part_coded no_statement = refl
   part_coded (one_statement s) = λ i. pair (number 0) (statement_node_coded s i)
 
-  while_coded : (s : WhileStatement) → while_code (bare_while s) ≡ while_code s
+  while_coded : (s : WhileStatement) → while_code (changed_while without_spans s) ≡ while_code s
   while_coded (repeat_while e block) = λ i. pair (node_coded e i) (compound_coded block i)
 
 -- where the codes are the same, the statements are equal with their spans aside
@@ -312,8 +312,8 @@ else_clauses_equal = same_is else_clause_code else_clause_of bare_else_clause el
 pub compounds_equal : (a b : CompoundStatement) → (same (compound_code a) (compound_code b) ≡ true) ↔ (bare_compound a ≡ bare_compound b)
 compounds_equal = same_is compound_code compound_of bare_compound compound_decoded compound_coded
 
-pub ifs_equal : (a b : IfStatement) → (same (if_code a) (if_code b) ≡ true) ↔ (bare_if a ≡ bare_if b)
-ifs_equal = same_is if_code if_of bare_if if_decoded if_coded
+pub ifs_equal : (a b : IfStatement) → (same (if_code a) (if_code b) ≡ true) ↔ (changed_if without_spans a ≡ changed_if without_spans b)
+ifs_equal = same_is if_code if_of (changed_if without_spans) if_decoded if_coded
 
 pub if_clauses_equal : (a b : IfClause) → (same (if_clause_code a) (if_clause_code b) ≡ true) ↔ (bare_if_clause a ≡ bare_if_clause b)
 if_clauses_equal = same_is if_clause_code if_clause_of bare_if_clause if_clause_decoded if_clause_coded
@@ -321,20 +321,25 @@ if_clauses_equal = same_is if_clause_code if_clause_of bare_if_clause if_clause_
 pub else_if_clauses_equal : (a b : ElseIfClause) → (same (else_if_clause_code a) (else_if_clause_code b) ≡ true) ↔ (bare_else_if_clause a ≡ bare_else_if_clause b)
 else_if_clauses_equal = same_is else_if_clause_code else_if_clause_of bare_else_if_clause else_if_clause_decoded else_if_clause_coded
 
-pub switches_equal : (a b : SwitchStatement) → (same (switch_code a) (switch_code b) ≡ true) ↔ (bare_switch a ≡ bare_switch b)
-switches_equal = same_is switch_code switch_of bare_switch switch_decoded switch_coded
+pub switches_equal : (a b : SwitchStatement) → (same (switch_code a) (switch_code b) ≡ true) ↔ (changed_switch without_spans a ≡ changed_switch without_spans b)
+switches_equal = same_is switch_code switch_of (changed_switch without_spans) switch_decoded switch_coded
 
 pub switch_clauses_equal : (a b : SwitchClause) → (same (switch_clause_code a) (switch_clause_code b) ≡ true) ↔ (bare_switch_clause a ≡ bare_switch_clause b)
 switch_clauses_equal = same_is switch_clause_code switch_clause_of bare_switch_clause switch_clause_decoded switch_clause_coded
 
-pub loops_equal : (a b : LoopStatement) → (same (loop_code a) (loop_code b) ≡ true) ↔ (bare_loop a ≡ bare_loop b)
-loops_equal = same_is loop_code loop_of bare_loop loop_decoded loop_coded
+pub loops_equal : (a b : LoopStatement) → (same (loop_code a) (loop_code b) ≡ true) ↔ (changed_loop without_spans a ≡ changed_loop without_spans b)
+loops_equal = same_is loop_code loop_of (changed_loop without_spans) loop_decoded loop_coded
 
 pub continuings_equal : (a b : ContinuingStatement) → (same (continuing_code a) (continuing_code b) ≡ true) ↔ (bare_continuing a ≡ bare_continuing b)
 continuings_equal = same_is continuing_code continuing_of bare_continuing continuing_decoded continuing_coded
 
-pub fors_equal : (a b : ForStatement) → (same (for_code a) (for_code b) ≡ true) ↔ (bare_for a ≡ bare_for b)
-fors_equal = same_is for_code for_of bare_for for_decoded for_coded
+pub fors_equal : (a b : ForStatement) → (same (for_code a) (for_code b) ≡ true) ↔ (changed_for without_spans a ≡ changed_for without_spans b)
+fors_equal = same_is for_code for_of (changed_for without_spans) for_decoded for_coded
 
-pub whiles_equal : (a b : WhileStatement) → (same (while_code a) (while_code b) ≡ true) ↔ (bare_while a ≡ bare_while b)
-whiles_equal = same_is while_code while_of bare_while while_decoded while_coded
+pub whiles_equal : (a b : WhileStatement) → (same (while_code a) (while_code b) ≡ true) ↔ (changed_while without_spans a ≡ changed_while without_spans b)
+whiles_equal = same_is while_code while_of (changed_while without_spans) while_decoded while_coded
+
+-- of the statements that branch and their clauses, and of loops
+pub ruleset branches = (ifs_equal, if_clauses_equal, else_if_clauses_equal, else_clauses_equal, switches_equal, switch_clauses_equal)
+
+pub ruleset loops = (loops_equal, continuings_equal, fors_equal, whiles_equal)

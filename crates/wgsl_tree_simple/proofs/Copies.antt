@@ -1,7 +1,6 @@
 -- What copies show.
 use Rattle.std.proofs.Common.{◌≡◌, List, Option}
 use Rattle.std.specs.Option.{option_map}
-use Rattle.wgsl_model.specs.Trees.Expressions as plain_expression
 use Rattle.wgsl_span.specs.declared.Spanned.{Spanned}
 use Rattle.wgsl_span.specs.Spanned.{spanned_node, spanned_span}
 use Rattle.wgsl_span.specs.View.{span_view, spanned_view}

@@ -5,7 +5,7 @@ use Rattle.std.proofs.Math.Bool.{and_comm}
 use Rattle.std.specs.Option.{option_map}
 use Rattle.std.specs.Cmp.Lexicographic.{pointwise}
 use Rattle.wgsl_model.specs.Trees.Attributed.{Attributed, with_attributes}
-use Rattle.wgsl_model.specs.Trees.StatementsWithoutSpans.{bare_attributed}
+use Rattle.wgsl_model.specs.Trees.StatementsWithoutSpans.{bare_attributed, bare_statement, bare_declaration, bare_assignment, bare_increment, bare_decrement, bare_return, bare_call_statement, bare_assert, bare_break_if, bare_selector}
 use Rattle.wgsl_span.specs.declared.Spanned.{Spanned}
 use Rattle.wgsl_span.specs.Spanned.{spanned_node}
 use Rattle.wgsl_tree_words.specs.declared.memory.AccessMode.{AccessMode}
@@ -29,7 +29,8 @@ use Rattle.wgsl_tree_attribute.specs.View.{attributes_view}
 use Rattle.wgsl_tree_equality.specs.Attributes.{attributes_code}
 use Rattle.wgsl_tree_equality.specs.Declarations.{attributed_code, assignment_operator_number, var_template_code, declaration_kind_code, declaration_code, assignment_code, increment_code, decrement_code, return_code, call_statement_code, assert_code, break_if_code, selector_code}
 use Rattle.wgsl_tree_equality.specs.Statements.{statement_code}
-use Rattle.wgsl_tree_equality.proofs.DeclarationLaws.{attributed_equal}
+use Rattle.wgsl_tree_equality.proofs.DeclarationLaws as law
+use Rattle.wgsl_tree_equality.proofs.StatementLaws.{statements_equal}
 use Rattle.wgsl_tree_simple.specs.declared.declaration.DeclarationKind.{DeclarationKind}
 use Rattle.wgsl_tree_simple.specs.declared.declaration.DeclarationKind.TheVariants as kind
 use Rattle.wgsl_tree_simple.specs.declared.declaration.Declaration.{Declaration}
@@ -133,4 +134,45 @@ selectors_same (selector.Expression e) other = refl
 -- of nodes behind their attributes `==` says that the views are one with their spans set aside
 pub agree_behind : {X Node : Type 0} (equal : X → X → Bool) (view : X → Attributed Node) (code : Node → Code) → ((a b : X) → equal a b ≡ same (attributed_code code (view a)) (attributed_code code (view b)))
     → (bare : Node → Node) → ((m n : Node) → (same (code m) (code n) ≡ true) ↔ (bare m ≡ bare n)) → (a b : X) → (equal a b ≡ true) ↔ (bare_attributed bare (view a) ≡ bare_attributed bare (view b))
-agree_behind equal view code alike bare law = agree equal view (attributed_code code) alike (bare_attributed bare) (attributed_equal code bare law)
+agree_behind equal view code alike bare bare_is = agree equal view (attributed_code code) alike (bare_attributed bare) (law.attributed_equal code bare bare_is)
+
+pub kinds_agree : (a b : DeclarationKind) → (equal_kinds a b ≡ true) ↔ (declaration_kind_view a ≡ declaration_kind_view b)
+kinds_agree = agree equal_kinds declaration_kind_view declaration_kind_code kinds_same (λ k. k) law.kinds_equal
+
+pub declarations_agree : (a b : Declaration) → (equal_declarations a b ≡ true) ↔ (bare_attributed bare_declaration (declaration_view a) ≡ bare_attributed bare_declaration (declaration_view b))
+declarations_agree = agree_behind equal_declarations declaration_view declaration_code declarations_same bare_declaration law.declarations_equal
+
+pub assignments_agree : (a b : AssignmentStatement) → (equal_assignments a b ≡ true) ↔ (bare_attributed bare_assignment (assignment_view a) ≡ bare_attributed bare_assignment (assignment_view b))
+assignments_agree = agree_behind equal_assignments assignment_view assignment_code assignments_same bare_assignment law.assignments_equal
+
+pub increments_agree : (a b : IncrementStatement) → (equal_increments a b ≡ true) ↔ (bare_attributed bare_increment (increment_view a) ≡ bare_attributed bare_increment (increment_view b))
+increments_agree = agree_behind equal_increments increment_view increment_code increments_same bare_increment law.increments_equal
+
+pub decrements_agree : (a b : DecrementStatement) → (equal_decrements a b ≡ true) ↔ (bare_attributed bare_decrement (decrement_view a) ≡ bare_attributed bare_decrement (decrement_view b))
+decrements_agree = agree_behind equal_decrements decrement_view decrement_code decrements_same bare_decrement law.decrements_equal
+
+pub breaks_agree : (a b : BreakStatement) → (equal_breaks a b ≡ true) ↔ (bare_statement (break_view a) ≡ bare_statement (break_view b))
+breaks_agree = agree equal_breaks break_view statement_code breaks_same bare_statement statements_equal
+
+pub continues_agree : (a b : ContinueStatement) → (equal_continues a b ≡ true) ↔ (bare_statement (continue_view a) ≡ bare_statement (continue_view b))
+continues_agree = agree equal_continues continue_view statement_code continues_same bare_statement statements_equal
+
+pub discards_agree : (a b : DiscardStatement) → (equal_discards a b ≡ true) ↔ (bare_statement (discard_view a) ≡ bare_statement (discard_view b))
+discards_agree = agree equal_discards discard_view statement_code discards_same bare_statement statements_equal
+
+pub returns_agree : (a b : ReturnStatement) → (equal_returns a b ≡ true) ↔ (bare_attributed bare_return (return_view a) ≡ bare_attributed bare_return (return_view b))
+returns_agree = agree_behind equal_returns return_view return_code returns_same bare_return law.returns_equal
+
+pub call_statements_agree : (a b : FunctionCallStatement) → (equal_call_statements a b ≡ true) ↔ (bare_attributed bare_call_statement (call_statement_view a) ≡ bare_attributed bare_call_statement (call_statement_view b))
+call_statements_agree = agree_behind equal_call_statements call_statement_view call_statement_code call_statements_same bare_call_statement law.call_statements_equal
+
+pub asserts_agree : (a b : ConstAssert) → (equal_asserts a b ≡ true) ↔ (bare_attributed bare_assert (assert_view a) ≡ bare_attributed bare_assert (assert_view b))
+asserts_agree = agree_behind equal_asserts assert_view assert_code asserts_same bare_assert law.asserts_equal
+
+pub break_ifs_agree : (a b : BreakIfStatement) → (equal_break_ifs a b ≡ true) ↔ (bare_attributed bare_break_if (break_if_view a) ≡ bare_attributed bare_break_if (break_if_view b))
+break_ifs_agree = agree_behind equal_break_ifs break_if_view break_if_code break_ifs_same bare_break_if law.break_ifs_equal
+
+pub selectors_agree : (a b : CaseSelector) → (equal_selectors a b ≡ true) ↔ (bare_selector (selector_view a) ≡ bare_selector (selector_view b))
+selectors_agree = agree equal_selectors selector_view selector_code selectors_same bare_selector law.selectors_equal
+
+pub ruleset statements_agree = (assignments_agree, increments_agree, decrements_agree, breaks_agree, continues_agree, discards_agree, returns_agree, call_statements_agree, asserts_agree, break_ifs_agree, selectors_agree)

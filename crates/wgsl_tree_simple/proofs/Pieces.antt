@@ -4,13 +4,13 @@ use Rattle.std.proofs.lemmas.List.{append_assoc}
 use Rattle.wgsl_model.specs.Trees.Expressions.{ExpressionNode}
 use Rattle.wgsl_model.specs.Trees.Attributes.{Attributes}
 use Rattle.wgsl_model.specs.Trees.Attributed.{Attributed, with_attributes}
-use Rattle.wgsl_model.specs.Trees.Statements.{Statement, statement, void, CompoundStatement, compound_statement, IfStatement, if_else, IfClause, if_clause, ElseIfClause, else_if_clause, ElseClause, else_clause, SwitchStatement, switch, SwitchClause, switch_clause, LoopStatement, repeat, ContinuingStatement, continuing, ForStatement, repeat_for, WhileStatement, repeat_while, StatementNodes, ElseIfClauses, MaybeElseClause, SwitchClauses, MaybeContinuing, MaybeStatement, BreakIfStatement, CaseSelector}
+use Rattle.wgsl_model.specs.Trees.Statements.{Statement, statement, void, CompoundStatement, compound_statement, IfStatement, if_else, IfClause, if_clause, ElseIfClause, else_if_clause, ElseClause, else_clause, SwitchStatement, switch, SwitchClause, switch_clause, LoopStatement, repeat, ContinuingStatement, continuing, ForStatement, repeat_for, StatementNodes, ElseIfClauses, MaybeElseClause, SwitchClauses, MaybeContinuing, MaybeStatement, BreakIfStatement, CaseSelector}
 use Rattle.wgsl_model.specs.Printed.Joining.{joined}
 use Rattle.wgsl_model.specs.Printed.Indentation.{indented}
 use Rattle.wgsl_model.specs.Printed.Expressions.{print_expression_node}
 use Rattle.wgsl_model.specs.Printed.Attributes.{print_attribute_line}
 use Rattle.wgsl_model.specs.Printed.Declarations.{print_attributed, print_condition, print_break_if, print_selector}
-use Rattle.wgsl_model.specs.Printed.Statements.{terminator_of, unended, print_statement, statement_texts, clause_texts, print_compound, print_opened, print_if, print_if_clause, print_else_if_clause, print_else_ifs, print_else_clause, print_else, print_switch, print_switch_clause, print_loop, continuing_line, print_continuing, break_if_line, print_for, unended_part, print_while}
+use Rattle.wgsl_model.specs.Printed.Statements.{terminator_of, unended, print_statement, statement_texts, clause_texts, print_compound, print_opened, print_if, print_if_clause, print_else_if_clause, print_else_ifs, print_else_clause, print_else, print_switch, print_switch_clause, print_loop, continuing_line, print_continuing, break_if_line, print_for, unended_part}
 use Rattle.wgsl_model.proofs.Filled.{IsFilled, right_filled}
 use Rattle.wgsl_writer.specs.LineEnds.{is_one_line}
 
@@ -85,8 +85,3 @@ pub for_is : (s : Attributed ForStatement) (attributes : Attributes) (init : May
 for_is s attributes init condition update block same =
     let whole : print_attribute_line attributes ++ codes "for (" ++ unended_part init ++ (codes "; " ++ print_condition condition ++ codes "; ") ++ unended_part update ++ codes ") " ++ print_compound block ≡ print_attributed print_for (with_attributes attributes (repeat_for init condition update block)) = simp append_assoc in
     whole ∙ sym (ap (λ s. print_attributed print_for s) same)
-
-pub while_is : (s : Attributed WhileStatement) (attributes : Attributes) (e : ExpressionNode) (block : CompoundStatement) → s ≡ with_attributes attributes (repeat_while e block) → print_attribute_line attributes ++ (codes "while " ++ print_expression_node e ++ codes " ") ++ print_compound block ≡ print_attributed print_while s
-while_is s attributes e block same =
-    let whole : print_attribute_line attributes ++ (codes "while " ++ print_expression_node e ++ codes " ") ++ print_compound block ≡ print_attributed print_while (with_attributes attributes (repeat_while e block)) = simp append_assoc in
-    whole ∙ sym (ap (λ s. print_attributed print_while s) same)

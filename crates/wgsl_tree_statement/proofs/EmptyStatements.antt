@@ -52,25 +52,25 @@ abbrev pub full_node : plain.StatementNode → plain.StatementNode
 full_node (plain.statement_node s span) = plain.statement_node (full_statement s) span
 
 -- the statements that are not empty
-abbrev without_empty : List plain.StatementNode → plain.StatementNodes
-without_empty [] = plain.no_statements
-without_empty (plain.statement_node s span ∷ ns) = if is_void s then without_empty ns else plain.statement_before (plain.statement_node s span) (without_empty ns)
+abbrev not_empty_of : List plain.StatementNode → plain.StatementNodes
+not_empty_of [] = plain.no_statements
+not_empty_of (plain.statement_node s span ∷ ns) = if is_void s then not_empty_of ns else plain.statement_before (plain.statement_node s span) (not_empty_of ns)
 
 empty_full : (s : plain.Statement) → is_void (full_statement s) ≡ is_void s
 empty_full (plain.statement attributes plain.void) = refl
 empty_full (plain.statement attributes s) = refl
 
-without_full : (ys : List (Spanned Statement)) → without_empty (map full_node (map statement_node_view ys)) ≡ full_statements (statement_nodes_view ys)
+without_full : (ys : List (Spanned Statement)) → not_empty_of (map full_node (map statement_node_view ys)) ≡ full_statements (statement_nodes_view ys)
 without_full [] = refl
 without_full (y ∷ ys) =
     let s = statement_view (spanned_node y) in
     λ i. if empty_full s i then without_full ys i else plain.statement_before (full_node (statement_node_view y)) (without_full ys i)
 
-filtered : (xs : List (Spanned Statement)) → statement_nodes_view (filter (λ node. not (is_void (statement_view (spanned_node node)))) xs) ≡ without_empty (map statement_node_view xs)
+filtered : (xs : List (Spanned Statement)) → statement_nodes_view (filter (λ node. not (is_void (statement_view (spanned_node node)))) xs) ≡ not_empty_of (map statement_node_view xs)
 filtered [] = refl
 filtered (x ∷ xs) =
     let kept = filter (λ (node : Spanned Statement). not (is_void (statement_view (spanned_node node)))) xs in
-    let rest = without_empty (map statement_node_view xs) in
+    let rest = not_empty_of (map statement_node_view xs) in
     elim (is_void (statement_view (spanned_node x))) as (λ b. statement_nodes_view (cond (not b) (x ∷ kept) kept) ≡ (if b then rest else plain.statement_before (statement_node_view x) rest)) [
       | true ↦ filtered xs
       | false ↦ ap (plain.statement_before (statement_node_view x)) (filtered xs)
@@ -78,4 +78,4 @@ filtered (x ∷ xs) =
 
 pub list_full : (xs ys : List (Spanned Statement)) → map statement_node_view xs ≡ map full_node (map statement_node_view ys)
     → statement_nodes_view (filter (λ node. not (is_void (statement_view (spanned_node node)))) xs) ≡ full_statements (statement_nodes_view ys)
-list_full xs ys e = filtered xs ∙ ap without_empty e ∙ without_full ys
+list_full xs ys e = filtered xs ∙ ap not_empty_of e ∙ without_full ys

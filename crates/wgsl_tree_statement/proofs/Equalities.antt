@@ -35,8 +35,7 @@ use Rattle.wgsl_tree_statement.specs.declared.loop_statement.LoopStatement.{Loop
 use Rattle.wgsl_tree_statement.specs.declared.switch.SwitchStatement.{SwitchStatement}
 use Rattle.wgsl_tree_statement.specs.declared.while_statement.WhileStatement.{WhileStatement}
 use Rattle.wgsl_tree_statement.specs.declared.statement.Statement.TheViews as layers
-use Rattle.wgsl_tree_statement.proofs.ClauseViews.{else_if_clause_out, else_clause_out, continuing_statement_out}
-use Rattle.wgsl_tree_statement.proofs.Views.{compound_statement_out, if_statement_out, switch_statement_out, loop_statement_out, for_statement_out, switch_clause_out, while_statement_out}
+use Rattle.wgsl_tree_statement.proofs.Views.{else_if_clause_out, else_clause_out, continuing_statement_out, compound_statement_out, if_statement_out, switch_statement_out, loop_statement_out, for_statement_out, switch_clause_out, while_statement_out}
 
 -- a conjunction, from what its first test answered
 pub and_true : (r A B x : Bool) → r ≡ true → r ≡ A → x ≡ B → x ≡ A && B

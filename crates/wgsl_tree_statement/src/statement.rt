@@ -1,4 +1,5 @@
 //! Statements: their copies, equality, prints and conversions, by their variants.
+#![tactic(auto, using(crate::proofs::Views::variants, crate::proofs::Views::whiles))]
 
 ghost use Rattle.std.specs.Prelude.{◌≡◌, IfOk, Some};
 ghost use Rattle.wgsl_tree_statement.specs.View.{statement_view};

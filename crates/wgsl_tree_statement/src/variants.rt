@@ -2,8 +2,7 @@
 
 ghost use Rattle.std.specs.Prelude.{◌≡◌, IsTrue};
 ghost use Rattle.wgsl_model.specs.Printed.Statements.{is_void};
-ghost use Rattle.wgsl_tree_statement.specs.View.{statement_view};
-ghost use Rattle.wgsl_tree_statement.specs.Variants.{is_compound, is_assignment, is_increment, is_decrement, is_if, is_switch, is_loop, is_for, is_while, is_break, is_continue, is_return, is_discard, is_function_call, is_const_assert, is_declaration};
+ghost use Rattle.wgsl_tree_statement.specs.View.{statement_view, is_compound, is_assignment, is_increment, is_decrement, is_if, is_switch, is_loop, is_for, is_while, is_break, is_continue, is_return, is_discard, is_function_call, is_const_assert, is_declaration};
 ghost use Rattle.wgsl_tree_statement.specs.declared.statement.Statement.TheVariants as statement;
 
 use crate::compound::CompoundStatement;

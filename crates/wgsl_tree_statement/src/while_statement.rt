@@ -1,4 +1,5 @@
 //! `while` statements.
+#![tactic(auto, using(crate::proofs::Views::whiles))]
 
 ghost use Rattle.std.specs.Prelude.{◌≡◌, IfOk, Some};
 ghost use Rattle.wgsl_tree_statement.specs.View.{while_statement_view};
@@ -17,7 +18,7 @@ use std::fmt;
 use wgsl_span::CloneWith;
 use wgsl_tree_attribute::Attributes;
 use wgsl_tree_expression::ExpressionNode;
-use wgsl_tree_simple::{write_attribute_line, write_head};
+use wgsl_tree_simple::{clone_attributes, write_attribute_line, write_head};
 use wgsl_writer::Indented;
 
 #[cycle(statement)]
@@ -42,7 +43,7 @@ impl CloneWith for WhileStatement {
     #[cycle(clone)]
     fn clone_with(&self, alloc: Global) -> Result<Self, AllocError> {
         Ok(WhileStatement {
-            attributes: self.attributes.clone_with(alloc)?,
+            attributes: clone_attributes(&self.attributes, alloc)?,
             condition: self.condition.clone_with(alloc)?,
             body: self.body.clone_with(alloc)?,
         })

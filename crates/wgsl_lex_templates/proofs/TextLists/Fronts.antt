@@ -6,9 +6,8 @@ use Rattle.wgsl_model.specs.Tokens.Templates.{begins_with_greater}
 use Rattle.wgsl_theory_grammar.proofs.Tokens.Bare.{behind_trivia}
 use Rattle.wgsl_theory_grammar.proofs.Tokens.Classes.{all_pass}
 use Rattle.wgsl_theory_grammar.proofs.Tokens.Symbols.{each_passes, found_passes, none_passes, other_classes, is_symbol}
-use Rattle.wgsl_model.specs.Tokens.Classes.{SymLessThan}
+use Rattle.wgsl_model.specs.Tokens.Classes.{SymLessThan, symbols, keywords}
 use Rattle.wgsl_model.specs.Tokens.Kind.{Kind}
-use Rattle.wgsl_model.specs.Tokens.Words.{symbols, keywords}
 use Rattle.wgsl_model.specs.Tokens.Pattern.{after_spelling}
 use Rattle.wgsl_model.specs.Tokens.Spelling.{spelling}
 use Rattle.wgsl_model.specs.Tokens.Trivia.{outside, first_or_zero, after_trivia}

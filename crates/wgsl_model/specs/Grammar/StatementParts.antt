@@ -1,15 +1,15 @@
--- The trees that the rules of statements make, and the parts that these rules share.
-use Rattle.std.specs.Prelude.{ℕ, List, [], Option, codes}
+-- The parts that the rules of statements share.
+use Rattle.std.specs.Prelude.{List, [], codes}
 use Rattle.grammar.specs.Tokens.{Token, Span}
 use Rattle.grammar.specs.Grammar.{Grammar.empty, Grammar.symbol, Grammar.left_chain}
 use Rattle.grammar.specs.Notation.{◌means◌, ◌or◌, ◌then◌, ◌gives◌, ◌makes◌, ◌▹◌, ◌◃◌, many}
 use Rattle.wgsl_model.specs.Tokens.Classes.{SymAnd, SymAndEqual, SymDivisionEqual, SymEqual, SymMinusEqual, SymModuloEqual, SymOrEqual, SymParenLeft, SymParenRight, SymPlusEqual, SymSemicolon, SymShiftLeftAssign, SymShiftRightAssign, SymStar, SymTimesEqual, SymXorEqual, KwBreak, KwElse, KwIf}
 use Rattle.wgsl_model.specs.Trees.Operators.{UnaryOperator.address_of, UnaryOperator.indirection, AssignmentOperator, AssignmentOperator.equal, AssignmentOperator.plus_equal, AssignmentOperator.minus_equal, AssignmentOperator.times_equal, AssignmentOperator.division_equal, AssignmentOperator.modulo_equal, AssignmentOperator.and_equal, AssignmentOperator.or_equal, AssignmentOperator.xor_equal, AssignmentOperator.shift_right_assign, AssignmentOperator.shift_left_assign}
-use Rattle.wgsl_model.specs.Trees.Expressions.{ExpressionNode, ExpressionNode.expression_node, Expression.parenthesized, TypeExpression, FunctionCall}
+use Rattle.wgsl_model.specs.Trees.Expressions.{ExpressionNode, ExpressionNode.expression_node, Expression.parenthesized}
 use Rattle.wgsl_model.specs.Trees.Attributes.{Attributes}
 use Rattle.wgsl_model.specs.Trees.Attributed.{Attributed, with_attributes}
 use Rattle.wgsl_model.specs.Trees.Statements as tree
-use Rattle.wgsl_model.specs.Trees.Statements.{DeclarationKind, Declaration, ElseIfClause, ElseClause, BreakIfStatement, ContinuingStatement, CompoundStatement, StatementNode, Statement, UnattributedStatement, CaseSelector, SwitchClause, ConstAssert, as_statement, statements_of, else_ifs_of, else_of, clauses_of, continuing_of, maybe_statement}
+use Rattle.wgsl_model.specs.Trees.Statements.{DeclarationKind, Declaration, ElseIfClause, ElseClause, BreakIfStatement, ContinuingStatement, CompoundStatement, StatementNode, Statement, UnattributedStatement, CaseSelector, SwitchClause, ConstAssert, as_statement, break_if_of}
 use Rattle.wgsl_model.specs.Grammar.Checks.{attribute_node, var_kind_of}
 use Rattle.wgsl_model.specs.Grammar.TokenValues.{text_of}
 use Rattle.wgsl_model.specs.Grammar.ExpressionParts.{variable, unary_of, with_component}
@@ -48,35 +48,11 @@ initializer = SymEqual ▹ symbol expression
 abbrev pub var_kind : Rule DeclarationKind
 var_kind = symbol var_template gives var_kind_of
 
--- the declaration of a value: its kind, its name and type, and its first value
-abbrev pub declaration_of : DeclarationKind → List ℕ × Option TypeExpression → Option ExpressionNode → Declaration
-declaration_of kind (name, ty) initializer = record { kind = kind; ident = name; ty = ty; initializer = initializer }
-
--- the declaration of a value as a statement
-abbrev pub local_of : DeclarationKind → List ℕ × Option TypeExpression → Option ExpressionNode → UnattributedStatement
-local_of kind typed initializer = tree.declaration (declaration_of kind typed initializer)
-
--- attributes, and statements in braces
-abbrev pub compound_of : Attributes → List StatementNode → CompoundStatement
-compound_of attributes statements = tree.compound_statement attributes (statements_of statements)
-
 -- "=" or a compound operator
 abbrev pub assignment_operator : Rule AssignmentOperator
 assignment_operator = SymEqual means equal or SymPlusEqual means plus_equal or SymMinusEqual means minus_equal or SymTimesEqual means times_equal
     or SymDivisionEqual means division_equal or SymModuloEqual means modulo_equal or SymAndEqual means and_equal or SymOrEqual means or_equal
     or SymXorEqual means xor_equal or SymShiftRightAssign means shift_right_assign or SymShiftLeftAssign means shift_left_assign
-
--- what is assigned to a left side, by an operator
-abbrev pub assignment_of : ExpressionNode → AssignmentOperator → ExpressionNode → UnattributedStatement
-assignment_of lhs operator rhs = tree.assignment (record { operator = operator; lhs = lhs; rhs = rhs })
-
--- `++` behind a left side
-abbrev pub increment_of : ExpressionNode → UnattributedStatement
-increment_of e = tree.increment (record { expression = e })
-
--- `--` behind a left side
-abbrev pub decrement_of : ExpressionNode → UnattributedStatement
-decrement_of e = tree.decrement (record { expression = e })
 
 -- the left side of a phony assignment: the identifier `_`
 abbrev pub underscore_at : Token → Span → ExpressionNode
@@ -104,18 +80,6 @@ parenthesized_left_side = left_chain with_component (SymParenLeft ▹ symbol lhs
 abbrev pub left_side : Dialect → Rule (Attributes × ExpressionNode)
 left_side L = leading L then open_left_side or parenthesized_left_side gives λ e. ([], e)
 
--- a call as a statement
-abbrev pub call_statement_of : FunctionCall → UnattributedStatement
-call_statement_of c = tree.function_call_statement (record { call = c })
-
--- `return`, with a value if there is one
-abbrev pub return_of : Option ExpressionNode → UnattributedStatement
-return_of e = tree.return_statement (record { expression = e })
-
--- a condition and a block, the clauses with `else if`, and the block of a last `else`
-abbrev pub if_of : ExpressionNode → CompoundStatement → List ElseIfClause × Option ElseClause → UnattributedStatement
-if_of condition block (else_ifs, last) = tree.if_statement (tree.if_else (tree.if_clause condition block) (else_ifs_of else_ifs) (else_of last))
-
 -- `else if` Expression Block
 abbrev pub else_if : Rule ElseIfClause
 else_if = KwElse ▹ KwIf ▹ symbol expression then symbol compound_statement gives λ (condition, block). tree.else_if_clause [] condition block
@@ -124,42 +88,6 @@ else_if = KwElse ▹ KwIf ▹ symbol expression then symbol compound_statement g
 abbrev pub else_block : Rule ElseClause
 else_block = KwElse ▹ symbol compound_statement gives tree.else_clause []
 
--- `const_assert` of an expression
-abbrev pub assert_of : ExpressionNode → ConstAssert
-assert_of e = record { expression = e }
-
--- `const_assert` behind its attributes, as a statement
-abbrev pub assert_statement : Attributed ConstAssert → Statement
-assert_statement = as_statement tree.const_assert
-
--- attributes, what a clause selects, and its block
-abbrev pub clause_of : Attributes → List CaseSelector × CompoundStatement → SwitchClause
-clause_of attributes (selectors, block) = tree.switch_clause attributes selectors block
-
--- what is compared, the attributes of the body, and the clauses
-abbrev pub switch_of : ExpressionNode → Attributes → List SwitchClause → UnattributedStatement
-switch_of selected body_attributes clauses = tree.switch_statement (tree.switch selected body_attributes (clauses_of clauses))
-
--- the attributes and statements of the body, and its `continuing`
-abbrev pub loop_of : Attributes → List StatementNode → Option ContinuingStatement → UnattributedStatement
-loop_of body_attributes statements continuing = tree.loop_statement (tree.repeat (compound_of body_attributes statements) (continuing_of continuing))
-
--- `break if` with its condition
-abbrev pub break_if_of : ExpressionNode → BreakIfStatement
-break_if_of e = record { expression = e }
-
 -- A* `break if` Expression ";"
 abbrev pub break_if : Dialect → Rule (Attributed BreakIfStatement)
 break_if L = led L with_attributes (KwBreak ▹ KwIf ▹ symbol expression ◃ SymSemicolon gives break_if_of)
-
--- attributes, the body, and its `break if`
-abbrev pub continuing_statement_of : Attributes → CompoundStatement × Option (Attributed BreakIfStatement) → ContinuingStatement
-continuing_statement_of attributes (body, break_if) = tree.continuing attributes body break_if
-
--- the three parts of the header, and the block
-abbrev pub for_of : Option StatementNode → Option ExpressionNode → Option StatementNode → CompoundStatement → UnattributedStatement
-for_of init condition update block = tree.for_statement (tree.repeat_for (maybe_statement init) condition (maybe_statement update) block)
-
--- the condition and the block
-abbrev pub while_of : ExpressionNode → CompoundStatement → UnattributedStatement
-while_of condition block = tree.while_statement (tree.repeat_while condition block)

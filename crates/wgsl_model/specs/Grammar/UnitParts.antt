@@ -8,12 +8,12 @@ use Rattle.wgsl_model.specs.Trees.Spanned.{Spanned, spanned}
 use Rattle.wgsl_model.specs.Trees.Expressions.{ExpressionNode, TypeExpression}
 use Rattle.wgsl_model.specs.Trees.Attributes.{Attributes}
 use Rattle.wgsl_model.specs.Trees.Attributed.{Attributed}
-use Rattle.wgsl_model.specs.Trees.Statements.{DeclarationKind, CompoundStatement, ConstAssert}
+use Rattle.wgsl_model.specs.Trees.Statements.{DeclarationKind, CompoundStatement, ConstAssert, declaration_of}
 use Rattle.wgsl_model.specs.Trees.Units as tree
 use Rattle.wgsl_model.specs.Trees.Units.{UnattributedDirective, StructMember, FormalParameter, Function, GlobalDeclaration, UnattributedDeclaration, as_declaration}
 use Rattle.wgsl_model.specs.Grammar.Checks.{severity_of}
 use Rattle.wgsl_model.specs.Grammar.TokenValues.{text_of}
-use Rattle.wgsl_model.specs.Grammar.StatementParts.{attributes, declaration_of}
+use Rattle.wgsl_model.specs.Grammar.StatementParts.{attributes}
 use Rattle.wgsl_model.specs.Grammar.Symbols.{Rule, Symbol.ident, Symbol.type_specifier}
 
 -- A* Ident ":" TypeSpecifier

@@ -8,12 +8,12 @@ use Rattle.wgsl_model.specs.Trees.Operators.{BinaryOperator.short_circuit_or, Bi
 use Rattle.wgsl_model.specs.Trees.Spanned.{spanned}
 use Rattle.wgsl_model.specs.Trees.Expressions.{Expression}
 use Rattle.wgsl_model.specs.Trees.Attributed.{with_attributes, without_attributes}
-use Rattle.wgsl_model.specs.Trees.Statements.{DeclarationKind, CaseSelector, statement, UnattributedStatement, unattributed, block_statement}
+use Rattle.wgsl_model.specs.Trees.Statements.{DeclarationKind, CaseSelector, statement, UnattributedStatement, unattributed, block_statement, local_of, compound_of, assignment_of, increment_of, decrement_of, call_statement_of, return_of, if_of, assert_of, assert_statement, clause_of, switch_of, loop_of, continuing_statement_of, for_of, while_of}
 use Rattle.wgsl_model.specs.Trees.Units.{UnattributedDeclaration}
 use Rattle.wgsl_model.specs.Grammar.TokenValues.{text_of, literal_of}
 use Rattle.wgsl_model.specs.Grammar.Checks.{unreserved, severity_fault, var_fault, attribute_parts, attribute_fault}
 use Rattle.wgsl_model.specs.Grammar.ExpressionParts.{placed_expression, type_of, call_of, index_of, component_of, with_component, unary_of, binary_of, operation_of, negation_of, negated_product_of, unary_operator, multiplicative_operator, relational_operator, summand, two, two_or_more}
-use Rattle.wgsl_model.specs.Grammar.StatementParts.{placed_statement, attributes, attributed, led, statements, initializer, var_kind, local_of, compound_of, assignment_operator, assignment_of, increment_of, decrement_of, underscore_at, open_left_side, parenthesized_left_side, left_side, call_statement_of, return_of, if_of, else_if, else_block, assert_of, assert_statement, clause_of, switch_of, loop_of, break_if, continuing_statement_of, for_of, while_of}
+use Rattle.wgsl_model.specs.Grammar.StatementParts.{placed_statement, attributes, attributed, led, statements, initializer, var_kind, assignment_operator, underscore_at, open_left_side, parenthesized_left_side, left_side, else_if, else_block, break_if}
 use Rattle.wgsl_model.specs.Grammar.UnitParts.{attributed_ident, member_of, parameter_of, value_of, assert_declaration, alias_of, struct_of, return_part, function_of, enable_of, requires_of, diagnostic_of}
 use Rattle.wgsl_model.specs.Grammar.Symbols.{Dialect, Dialect.whole, Dialect.alone, Symbol, Symbol.ident, Symbol.type_specifier, Symbol.template_list, Symbol.expressions, Symbol.call, Symbol.arguments, Symbol.literal, Symbol.primary_expression, Symbol.singular_expression, Symbol.component, Symbol.unary_expression, Symbol.multiplicative_expression, Symbol.negated_expression, Symbol.additive_expression, Symbol.shift_expression, Symbol.relational_expression, Symbol.expression, Symbol.lhs_expression, Symbol.attribute, Symbol.compound_statement, Symbol.statement, Symbol.return_statement, Symbol.if_statement, Symbol.switch_statement, Symbol.loop_statement, Symbol.for_statement, Symbol.while_statement, Symbol.call_statement, Symbol.var_statement, Symbol.value_statement, Symbol.break_statement, Symbol.continue_statement, Symbol.discard_statement, Symbol.assignment, Symbol.phony_assignment, Symbol.increment, Symbol.decrement, Symbol.const_assert, Symbol.switch_clause, Symbol.case_selector, Symbol.continuing_statement, Symbol.for_init, Symbol.for_update, Symbol.var_template, Symbol.typed_ident, Symbol.struct_member, Symbol.formal_parameter, Symbol.global_declaration, Symbol.var_declaration, Symbol.const_declaration, Symbol.override_declaration, Symbol.alias_declaration, Symbol.struct_declaration, Symbol.function_declaration, Symbol.diagnostic_severity, Symbol.global_directive, Symbol.enable_directive, Symbol.requires_directive, Symbol.diagnostic_directive, Symbol.unit, Value, Rule}
 

@@ -1,5 +1,5 @@
--- The classes of tokens, as numbers: 46 symbols, 26 keywords, and the others (WGSL, "Tokens").
-use Rattle.std.specs.Prelude.{ℕ}
+-- The classes of tokens, as numbers: 46 symbols and 26 keywords, with how they are spelled, and the others (WGSL, "Tokens", "Keyword and Token Summary").
+use Rattle.std.specs.Prelude.{ℕ, Bool, ◌&&◌, nat_le, nat_lt, List, [], ◌∷◌, codes}
 
 -- the symbol `&`
 abbrev pub SymAnd : ℕ
@@ -336,3 +336,29 @@ LineComment = 82
 -- a block comment
 abbrev pub BlockComment : ℕ
 BlockComment = 83
+
+-- a keyword: the classes from that of `alias` on, up to that of identifiers
+abbrev pub is_keyword : ℕ → Bool
+is_keyword class = nat_le KwAlias class && nat_lt class Ident
+
+-- the symbols with their classes
+abbrev pub symbols : List (List ℕ × ℕ)
+symbols =
+    (codes "&", SymAnd) ∷ (codes "&&", SymAndAnd) ∷ (codes "->", SymArrow) ∷ (codes "@", SymAttr) ∷ (codes "/", SymForwardSlash) ∷ (codes "!", SymBang) ∷
+    (codes "[", SymBracketLeft) ∷ (codes "]", SymBracketRight) ∷ (codes "{", SymBraceLeft) ∷ (codes "}", SymBraceRight) ∷ (codes ":", SymColon) ∷ (codes ",", SymComma) ∷
+    (codes "=", SymEqual) ∷ (codes "==", SymEqualEqual) ∷ (codes "!=", SymNotEqual) ∷ (codes ">", SymGreaterThan) ∷ (codes ">=", SymGreaterThanEqual) ∷ (codes ">>", SymShiftRight) ∷
+    (codes "<", SymLessThan) ∷ (codes "<=", SymLessThanEqual) ∷ (codes "<<", SymShiftLeft) ∷ (codes "%", SymModulo) ∷ (codes "-", SymMinus) ∷ (codes "--", SymMinusMinus) ∷
+    (codes ".", SymPeriod) ∷ (codes "+", SymPlus) ∷ (codes "++", SymPlusPlus) ∷ (codes "|", SymOr) ∷ (codes "||", SymOrOr) ∷ (codes "(", SymParenLeft) ∷
+    (codes ")", SymParenRight) ∷ (codes ";", SymSemicolon) ∷ (codes "*", SymStar) ∷ (codes "~", SymTilde) ∷ (codes "_", SymUnderscore) ∷ (codes "^", SymXor) ∷
+    (codes "+=", SymPlusEqual) ∷ (codes "-=", SymMinusEqual) ∷ (codes "*=", SymTimesEqual) ∷ (codes "/=", SymDivisionEqual) ∷ (codes "%=", SymModuloEqual) ∷ (codes "&=", SymAndEqual) ∷
+    (codes "|=", SymOrEqual) ∷ (codes "^=", SymXorEqual) ∷ (codes ">>=", SymShiftRightAssign) ∷ (codes "<<=", SymShiftLeftAssign) ∷ []
+
+-- the keywords with their classes
+abbrev pub keywords : List (List ℕ × ℕ)
+keywords =
+    (codes "alias", KwAlias) ∷ (codes "break", KwBreak) ∷ (codes "case", KwCase) ∷ (codes "const", KwConst) ∷ (codes "const_assert", KwConstAssert) ∷
+    (codes "continue", KwContinue) ∷ (codes "continuing", KwContinuing) ∷ (codes "default", KwDefault) ∷ (codes "diagnostic", KwDiagnostic) ∷ (codes "discard", KwDiscard) ∷
+    (codes "else", KwElse) ∷ (codes "enable", KwEnable) ∷ (codes "false", KwFalse) ∷ (codes "fn", KwFn) ∷ (codes "for", KwFor) ∷
+    (codes "if", KwIf) ∷ (codes "let", KwLet) ∷ (codes "loop", KwLoop) ∷ (codes "override", KwOverride) ∷ (codes "requires", KwRequires) ∷
+    (codes "return", KwReturn) ∷ (codes "struct", KwStruct) ∷ (codes "switch", KwSwitch) ∷ (codes "true", KwTrue) ∷ (codes "var", KwVar) ∷
+    (codes "while", KwWhile) ∷ []

@@ -4,9 +4,9 @@ use Rattle.std.specs.Str.{encode_utf8_all}
 use Rattle.std.specs.Char.{is_ascii_digit}
 use Rattle.unicode_ident.specs.Ident.{is_xid_start}
 use Rattle.grammar.specs.Tables.{is_empty}
-use Rattle.wgsl_model.specs.Tokens.Classes.{Ident, ReservedWord, SymUnderscore}
+use Rattle.wgsl_model.specs.Tokens.Classes.{Ident, ReservedWord, SymUnderscore, symbols, keywords}
 use Rattle.wgsl_model.specs.Tokens.Kind.{Kind, plain, named}
-use Rattle.wgsl_model.specs.Tokens.Words.{look_up, is_word_among, symbols, keywords, reserved_words}
+use Rattle.wgsl_model.specs.Tokens.Words.{look_up, is_word_among, reserved_words}
 use Rattle.wgsl_model.specs.Tokens.Numbers.{number_of}
 use Rattle.wgsl_model.specs.Tokens.Pattern.{after_spelling}
 use Rattle.wgsl_model.specs.Tokens.Spelling.{spelling}

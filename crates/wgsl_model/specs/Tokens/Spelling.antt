@@ -3,7 +3,7 @@ use Rattle.std.specs.Prelude.{ℕ, List, map}
 use Rattle.unicode_ident.specs.Ident.{is_xid_start, is_xid_continue}
 use Rattle.wgsl_model.specs.Tokens.Pattern.{Pattern, one, any, ◌then◌, ◌or◌, code, any_of}
 use Rattle.wgsl_model.specs.Tokens.Numbers.{number_spelling}
-use Rattle.wgsl_model.specs.Tokens.Words.{symbols}
+use Rattle.wgsl_model.specs.Tokens.Classes.{symbols}
 
 -- a character that may start an identifier and those that may continue it, or `_` with at least one of these behind it
 abbrev pub identifier : Pattern

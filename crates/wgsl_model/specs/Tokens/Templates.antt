@@ -1,8 +1,8 @@
 -- Where a template list stands in a text, and its tokens (WGSL, "Template Lists").
-use Rattle.std.specs.Prelude.{◌≡◌, ℕ, zero, suc, Bool, true, not, ◌&&◌, ◌||◌, ◌==◌, nat_le, List, [], ◌∷◌, ◌++◌, drop, length}
+use Rattle.std.specs.Prelude.{◌≡◌, ℕ, zero, suc, Bool, true, not, ◌||◌, ◌==◌, List, [], ◌∷◌, ◌++◌, drop, length}
 use Rattle.grammar.specs.Tokens.{Token}
 use Rattle.grammar.specs.Grammar.{Mode.checking, Derives, is_among}
-use Rattle.wgsl_model.specs.Tokens.Classes.{SymAndAnd, SymBracketLeft, SymBracketRight, SymGreaterThan, SymGreaterThanEqual, SymShiftRight, SymLessThan, SymOrOr, SymParenLeft, SymParenRight, SymShiftRightAssign, KwAlias, KwWhile, Ident, TemplateArgsStart, TemplateArgsEnd}
+use Rattle.wgsl_model.specs.Tokens.Classes.{SymAndAnd, SymBracketLeft, SymBracketRight, SymGreaterThan, SymGreaterThanEqual, SymShiftRight, SymLessThan, SymOrOr, SymParenLeft, SymParenRight, SymShiftRightAssign, Ident, TemplateArgsStart, TemplateArgsEnd, is_keyword}
 use Rattle.wgsl_model.specs.Tokens.Kind.{Kind, plain, placed}
 use Rattle.wgsl_model.specs.Tokens.Raw.{raw, Raw.token}
 use Rattle.wgsl_model.specs.Tokens.Places.{place}
@@ -12,7 +12,7 @@ use Rattle.wgsl_model.specs.Grammar.Written.{written}
 
 -- a word that a template list may follow: an identifier or a keyword, no reserved word
 abbrev pub is_word : ℕ → Bool
-is_word class = class == Ident || (nat_le KwAlias class && nat_le class KwWhile)
+is_word class = class == Ident || is_keyword class
 
 -- `(` or `[`
 abbrev pub is_opening : ℕ → Bool

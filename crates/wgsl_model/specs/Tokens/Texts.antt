@@ -2,8 +2,7 @@
 use Rattle.std.specs.Prelude.{ℕ, ◌==◌, if◌then◌else◌, List, [], ◌∷◌, ◌++◌, codes}
 use Rattle.std.specs.Fmt.{signed_decimal}
 use Rattle.grammar.specs.Tokens.{Token, Payload, Payload.nothing, Payload.name, Payload.number}
-use Rattle.wgsl_model.specs.Tokens.Classes.{Ident, ReservedWord, AbstractInt, I32, U32, AbstractFloat, F32, F16, TemplateArgsStart, TemplateArgsEnd, LineComment, BlockComment}
-use Rattle.wgsl_model.specs.Tokens.Words.{symbols, keywords}
+use Rattle.wgsl_model.specs.Tokens.Classes.{Ident, ReservedWord, AbstractInt, I32, U32, AbstractFloat, F32, F16, TemplateArgsStart, TemplateArgsEnd, LineComment, BlockComment, symbols, keywords}
 
 -- the word of a class in a table
 abbrev pub word_in : List (List ℕ × ℕ) → ℕ → List ℕ

@@ -1,6 +1,5 @@
--- The spellings of symbols and keywords (WGSL, "Keyword and Token Summary"), and the words that this library reserves.
+-- Looking words up, and the words that this library reserves (WGSL, "Reserved Words").
 use Rattle.std.specs.Prelude.{ℕ, Bool, true, false, if◌then◌else◌, List, [], ◌∷◌, Option, Some, None, codes, bytes_eq}
-use Rattle.wgsl_model.specs.Tokens.Classes.{SymAnd, SymAndAnd, SymArrow, SymAttr, SymForwardSlash, SymBang, SymBracketLeft, SymBracketRight, SymBraceLeft, SymBraceRight, SymColon, SymComma, SymEqual, SymEqualEqual, SymNotEqual, SymGreaterThan, SymGreaterThanEqual, SymShiftRight, SymLessThan, SymLessThanEqual, SymShiftLeft, SymModulo, SymMinus, SymMinusMinus, SymPeriod, SymPlus, SymPlusPlus, SymOr, SymOrOr, SymParenLeft, SymParenRight, SymSemicolon, SymStar, SymTilde, SymUnderscore, SymXor, SymPlusEqual, SymMinusEqual, SymTimesEqual, SymDivisionEqual, SymModuloEqual, SymAndEqual, SymOrEqual, SymXorEqual, SymShiftRightAssign, SymShiftLeftAssign, KwAlias, KwBreak, KwCase, KwConst, KwConstAssert, KwContinue, KwContinuing, KwDefault, KwDiagnostic, KwDiscard, KwElse, KwEnable, KwFalse, KwFn, KwFor, KwIf, KwLet, KwLoop, KwOverride, KwRequires, KwReturn, KwStruct, KwSwitch, KwTrue, KwVar, KwWhile}
 
 -- what a table has for a word
 abbrev pub look_up : {A : Type 0} → List (List ℕ × A) → List ℕ → Option A
@@ -11,28 +10,6 @@ look_up (entry ∷ entries) word = if bytes_eq entry.0 word then Some entry.1 el
 abbrev pub is_word_among : List (List ℕ) → List ℕ → Bool
 is_word_among [] word = false
 is_word_among (entry ∷ entries) word = if bytes_eq entry word then true else is_word_among entries word
-
--- the symbols with their classes
-abbrev pub symbols : List (List ℕ × ℕ)
-symbols =
-    (codes "&", SymAnd) ∷ (codes "&&", SymAndAnd) ∷ (codes "->", SymArrow) ∷ (codes "@", SymAttr) ∷ (codes "/", SymForwardSlash) ∷ (codes "!", SymBang) ∷
-    (codes "[", SymBracketLeft) ∷ (codes "]", SymBracketRight) ∷ (codes "{", SymBraceLeft) ∷ (codes "}", SymBraceRight) ∷ (codes ":", SymColon) ∷ (codes ",", SymComma) ∷
-    (codes "=", SymEqual) ∷ (codes "==", SymEqualEqual) ∷ (codes "!=", SymNotEqual) ∷ (codes ">", SymGreaterThan) ∷ (codes ">=", SymGreaterThanEqual) ∷ (codes ">>", SymShiftRight) ∷
-    (codes "<", SymLessThan) ∷ (codes "<=", SymLessThanEqual) ∷ (codes "<<", SymShiftLeft) ∷ (codes "%", SymModulo) ∷ (codes "-", SymMinus) ∷ (codes "--", SymMinusMinus) ∷
-    (codes ".", SymPeriod) ∷ (codes "+", SymPlus) ∷ (codes "++", SymPlusPlus) ∷ (codes "|", SymOr) ∷ (codes "||", SymOrOr) ∷ (codes "(", SymParenLeft) ∷
-    (codes ")", SymParenRight) ∷ (codes ";", SymSemicolon) ∷ (codes "*", SymStar) ∷ (codes "~", SymTilde) ∷ (codes "_", SymUnderscore) ∷ (codes "^", SymXor) ∷
-    (codes "+=", SymPlusEqual) ∷ (codes "-=", SymMinusEqual) ∷ (codes "*=", SymTimesEqual) ∷ (codes "/=", SymDivisionEqual) ∷ (codes "%=", SymModuloEqual) ∷ (codes "&=", SymAndEqual) ∷
-    (codes "|=", SymOrEqual) ∷ (codes "^=", SymXorEqual) ∷ (codes ">>=", SymShiftRightAssign) ∷ (codes "<<=", SymShiftLeftAssign) ∷ []
-
--- the keywords with their classes
-abbrev pub keywords : List (List ℕ × ℕ)
-keywords =
-    (codes "alias", KwAlias) ∷ (codes "break", KwBreak) ∷ (codes "case", KwCase) ∷ (codes "const", KwConst) ∷ (codes "const_assert", KwConstAssert) ∷
-    (codes "continue", KwContinue) ∷ (codes "continuing", KwContinuing) ∷ (codes "default", KwDefault) ∷ (codes "diagnostic", KwDiagnostic) ∷ (codes "discard", KwDiscard) ∷
-    (codes "else", KwElse) ∷ (codes "enable", KwEnable) ∷ (codes "false", KwFalse) ∷ (codes "fn", KwFn) ∷ (codes "for", KwFor) ∷
-    (codes "if", KwIf) ∷ (codes "let", KwLet) ∷ (codes "loop", KwLoop) ∷ (codes "override", KwOverride) ∷ (codes "requires", KwRequires) ∷
-    (codes "return", KwReturn) ∷ (codes "struct", KwStruct) ∷ (codes "switch", KwSwitch) ∷ (codes "true", KwTrue) ∷ (codes "var", KwVar) ∷
-    (codes "while", KwWhile) ∷ []
 
 -- the words that no name may be; the list is the library's own, close to the draft's
 abbrev pub reserved_words : List (List ℕ)

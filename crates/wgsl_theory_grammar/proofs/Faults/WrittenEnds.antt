@@ -1,11 +1,11 @@
 -- Which tokens expressions take, and with which tokens sentences end.
-use Rattle.std.proofs.Common.{◌≡◌, ℕ, Bool, true, false, not, ◌||◌, List, [], ◌∷◌, ◌++◌, refl}
+use Rattle.std.proofs.Common.{◌≡◌, ℕ, zero, suc, Bool, true, false, not, ◌||◌, List, [], ◌∷◌, ◌++◌, refl}
 use Rattle.grammar.specs.Grammar.{Mode.unchecked, Part}
 use Rattle.grammar.specs.Tokens.{Token}
 use Rattle.grammar.specs.Tables.{disjoint}
 use Rattle.grammar.proofs.Reading.Sets.{implied}
 use Rattle.wgsl_model.specs.Tokens.Classes.{SymAttr, SymBraceRight, SymParenRight, SymSemicolon, KwVar, TemplateArgsEnd}
-use Rattle.wgsl_model.specs.Grammar.Symbols.{Dialect.whole, Symbol, Symbol.ident, Symbol.type_specifier, Symbol.template_list, Symbol.expressions, Symbol.call, Symbol.arguments, Symbol.literal, Symbol.primary_expression, Symbol.singular_expression, Symbol.component, Symbol.unary_expression, Symbol.multiplicative_expression, Symbol.negated_expression, Symbol.additive_expression, Symbol.shift_expression, Symbol.relational_expression, Symbol.expression, Symbol.compound_statement, Symbol.statement, Symbol.if_statement, Symbol.switch_statement, Symbol.loop_statement, Symbol.for_statement, Symbol.while_statement, Symbol.switch_clause, Symbol.continuing_statement, Symbol.global_declaration, Symbol.var_declaration, Symbol.const_declaration, Symbol.override_declaration, Symbol.alias_declaration, Symbol.struct_declaration, Symbol.function_declaration, Symbol.global_directive, Symbol.enable_directive, Symbol.requires_directive, Symbol.diagnostic_directive, Symbol.unit, Value}
+use Rattle.wgsl_model.specs.Grammar.Symbols.{Dialect.whole, Symbol, Symbol.ident, Symbol.type_specifier, Symbol.template_list, Symbol.expressions, Symbol.call, Symbol.arguments, Symbol.literal, Symbol.primary_expression, Symbol.singular_expression, Symbol.component, Symbol.unary_expression, Symbol.multiplicative_expression, Symbol.negated_expression, Symbol.additive_expression, Symbol.shift_expression, Symbol.relational_expression, Symbol.expression, Symbol.unit, Value}
 use Rattle.wgsl_model.specs.Grammar.Written.{written}
 use Rattle.wgsl_theory_grammar.proofs.Forms.LevelLinks.{taking, written_takes}
 use Rattle.wgsl_theory_grammar.proofs.Faults.Avoids.{NoneOf, none_of, takes_only, only_part, EndsWith, ends, ending_part}
@@ -66,32 +66,17 @@ pub template_closes : (v : Value template_list) (xs ys : List Token) → Part un
 template_closes = ending_part unchecked written (TemplateArgsEnd ∷ []) templates taking (written_takes whole) templates_end template_list refl
 
 -- ---- statements, clauses, declarations, directives and modules end with `;` or `}`
-abbrev pub closing : Symbol → Bool
-closing compound_statement = true
-closing statement = true
-closing if_statement = true
-closing switch_statement = true
-closing loop_statement = true
-closing for_statement = true
-closing while_statement = true
-closing switch_clause = true
-closing continuing_statement = true
-closing global_declaration = true
-closing var_declaration = true
-closing const_declaration = true
-closing override_declaration = true
-closing alias_declaration = true
-closing struct_declaration = true
-closing function_declaration = true
-closing global_directive = true
-closing enable_directive = true
-closing requires_directive = true
-closing diagnostic_directive = true
-closing unit = true
-closing n = false
-
 abbrev pub closers : List ℕ
 closers = SymSemicolon ∷ SymBraceRight ∷ []
+
+-- those whose own tokens end so, where the symbols do that stand last in them; and so on, some steps deep
+abbrev pub ends_by : ℕ → Symbol → Bool
+ends_by zero n = false
+ends_by (suc k) n = ends closers (ends_by k) taking (written n)
+
+-- a module ends with declarations, these with functions, which end with blocks, and a block with `}`
+abbrev pub closing : Symbol → Bool
+closing n = ends_by 4 n
 
 closing_end : (n : Symbol) → (not (closing n) || ends closers closing taking (written n)) ≡ true
 closing_end unit = refl

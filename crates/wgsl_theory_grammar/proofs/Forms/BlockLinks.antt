@@ -10,8 +10,8 @@ use Rattle.wgsl_model.specs.Tokens.Classes.{SymBraceRight, SymSemicolon, KwBreak
 use Rattle.wgsl_model.specs.Trees.Expressions.{ExpressionNode}
 use Rattle.wgsl_model.specs.Trees.Attributes.{Attributes}
 use Rattle.wgsl_model.specs.Trees.Attributed.{Attributed, with_attributes}
-use Rattle.wgsl_model.specs.Trees.Statements.{BreakIfStatement, StatementNode, Statement, UnattributedStatement, CompoundStatement, ElseIfClause, ElseClause, SwitchClause, ContinuingStatement, statement}
-use Rattle.wgsl_model.specs.Grammar.StatementParts.{placed_statement, else_if, else_block, switch_of, break_if, attributes, statements, break_if_of, continuing_statement_of}
+use Rattle.wgsl_model.specs.Trees.Statements.{BreakIfStatement, StatementNode, Statement, UnattributedStatement, CompoundStatement, ElseIfClause, ElseClause, SwitchClause, ContinuingStatement, statement, switch_of, break_if_of, continuing_statement_of}
+use Rattle.wgsl_model.specs.Grammar.StatementParts.{placed_statement, else_if, else_block, break_if, attributes, statements}
 use Rattle.wgsl_model.specs.Grammar.Symbols.{Dialect, Symbol.statement, Symbol.switch_clause, Symbol.continuing_statement, Rule, Symbol.expression}
 use Rattle.wgsl_model.specs.Grammar.Written.{rules}
 use Rattle.wgsl_theory_grammar.specs.Factored.{Further.attribute_list, Further.loop_rest, Further.continuing_rest, Further.clause_rest, Further.else_rest, Further.switch_part, FactoredSymbol.of, FactoredSymbol.further, with_break, factored, Further.braced_part, Further.ended_part, Further.plain_statement, Further.continuing_part, FactoredRule, attributes_before, leading_list, leading_before, begun_by, statement_behind, statement_first, break_part, with_condition, with_continuing}

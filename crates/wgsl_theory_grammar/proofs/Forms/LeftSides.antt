@@ -10,10 +10,10 @@ use Rattle.wgsl_model.specs.Tokens.Classes.{SymParenLeft, SymParenRight}
 use Rattle.wgsl_model.specs.Trees.Operators.{AssignmentOperator}
 use Rattle.wgsl_model.specs.Trees.Expressions.{ExpressionNode, Expression, FunctionCall, TypeExpression}
 use Rattle.wgsl_model.specs.Trees.Attributes.{Attributes}
-use Rattle.wgsl_model.specs.Trees.Statements.{Statement, statement, UnattributedStatement, unattributed}
+use Rattle.wgsl_model.specs.Trees.Statements.{Statement, statement, UnattributedStatement, unattributed, assignment_of, increment_of, decrement_of, call_statement_of}
 use Rattle.wgsl_model.specs.Grammar.TokenValues.{text_of}
 use Rattle.wgsl_model.specs.Grammar.ExpressionParts.{type_of, call_of, variable}
-use Rattle.wgsl_model.specs.Grammar.StatementParts.{assignment_of, increment_of, decrement_of, variable_at, parenthesized_at, call_statement_of, leading, open_left_side, parenthesized_left_side, left_side}
+use Rattle.wgsl_model.specs.Grammar.StatementParts.{variable_at, parenthesized_at, leading, open_left_side, parenthesized_left_side, left_side}
 use Rattle.wgsl_model.specs.Grammar.Symbols.{Dialect, Dialect.whole, Dialect.alone, Symbol.ident, Symbol.type_specifier, Symbol.call, Symbol.primary_expression, Symbol.component, Symbol.lhs_expression, Symbol.call_statement, Symbol.assignment, Symbol.increment, Symbol.decrement, Rule, Symbol.phony_assignment}
 use Rattle.wgsl_model.specs.Grammar.Written.{rules}
 use Rattle.wgsl_theory_grammar.specs.Factored.{Further.components, Further.left_side_rest, Further.name_rest_statement, FactoredSymbol.of, FactoredSymbol.further, Growth, call_or_type, variable_of, call_by_name, factored, Further.left_side_in_parentheses, Further.prefixed_left_side, Further.parenthesized_statement, Further.phony_part, Further.simple_part, FactoredRule, leading_before}

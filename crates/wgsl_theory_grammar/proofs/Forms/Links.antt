@@ -5,11 +5,11 @@ use Rattle.grammar.proofs.Reading.Depth.{Kept, same_mode, means_mono, roll, unro
 use Rattle.wgsl_model.specs.Tokens.Classes.{SymBraceRight, SymParenRight, SymSemicolon, TemplateArgsEnd, KwBreak, KwContinue, KwDiscard}
 use Rattle.wgsl_model.specs.Trees.Attributes.{Attributes}
 use Rattle.wgsl_model.specs.Trees.Attributed.{with_attributes}
-use Rattle.wgsl_model.specs.Trees.Statements.{statement, UnattributedStatement}
-use Rattle.wgsl_model.specs.Grammar.StatementParts.{led, call_statement_of, clause_of, continuing_statement_of}
+use Rattle.wgsl_model.specs.Trees.Statements.{statement, UnattributedStatement, call_statement_of, clause_of, continuing_statement_of}
+use Rattle.wgsl_model.specs.Grammar.StatementParts.{led}
 use Rattle.wgsl_model.specs.Grammar.Symbols.{Dialect, Symbol, Symbol.ident, Symbol.expressions, Symbol.primary_expression, Symbol.singular_expression, Symbol.additive_expression, Symbol.shift_expression, Symbol.relational_expression, Symbol.expression, Symbol.lhs_expression, Symbol.attribute, Symbol.statement, Symbol.switch_clause, Symbol.case_selector, Symbol.for_init, Symbol.for_update, Symbol.var_template, Symbol.struct_member, Symbol.formal_parameter, Symbol.global_declaration, Symbol.diagnostic_severity, Symbol.call, Symbol.assignment, Symbol.increment, Symbol.decrement, Symbol.global_directive, Symbol.return_statement, Symbol.call_statement, Symbol.var_statement, Symbol.value_statement, Symbol.break_statement, Symbol.continue_statement, Symbol.discard_statement, Symbol.phony_assignment, Symbol.const_assert, Symbol.continuing_statement, Symbol.const_declaration, Symbol.alias_declaration, Symbol.struct_declaration, Symbol.enable_directive, Symbol.requires_directive, Symbol.diagnostic_directive, Rule}
 use Rattle.wgsl_model.specs.Grammar.Written.{rules}
-use Rattle.wgsl_theory_grammar.specs.Factored.{Further.template_items, Further.template_rest, Further.template_more, Further.argument_rest, Further.argument_more, Further.member_items, Further.member_rest, Further.member_more, Further.parameter_rest, Further.parameter_more, Further.name_items, Further.name_rest, Further.name_more, Further.selectors, Further.components, Further.factors, Further.summands, Further.sum_rest, Further.relation_rest, Further.and_rest, Further.or_rest, Further.bitwise_and_rest, Further.bitwise_or_rest, Further.bitwise_xor_rest, Further.expression_rest, Further.attribute_list, Further.statement_rest, Further.loop_rest, Further.continuing_rest, Further.clause_rest, Further.else_rest, Further.init_part, Further.condition_part, Further.update_part, Further.if_part, Further.switch_part, Further.loop_part, Further.for_part, Further.while_part, Further.block_part, Further.braced_part, Further.returning_part, Further.local_part, Further.value_part, Further.phony_part, Further.simple_part, Further.ended_part, Further.assert_part, Further.clause_part, Further.continuing_part, Further.left_side_rest, Further.left_side_in_parentheses, Further.prefixed_left_side, Further.name_rest_statement, Further.parenthesized_statement, Further.plain_statement, Further.var_part, Further.override_part, Further.function_part, Further.const_part, Further.alias_part, Further.struct_part, Further.enable_part, Further.requires_part, Further.diagnostic_part, Further.attributed_part, Further.led_part, Further.directive_part, Further.declaration_list, Further.front, FactoredSymbol, FactoredSymbol.of, FactoredSymbol.further, factored, FactoredRule, leading_before}
+use Rattle.wgsl_theory_grammar.specs.Factored.{Further.template_items, Further.template_rest, Further.template_more, Further.argument_rest, Further.argument_more, Further.member_items, Further.member_rest, Further.member_more, Further.parameter_rest, Further.parameter_more, Further.name_items, Further.name_rest, Further.name_more, Further.selectors, Further.components, Further.factors, Further.summands, Further.sum_rest, Further.relation_rest, Further.and_rest, Further.or_rest, Further.bitwise_and_rest, Further.bitwise_or_rest, Further.bitwise_xor_rest, Further.expression_rest, Further.attribute_list, Further.statement_rest, Further.loop_rest, Further.continuing_rest, Further.clause_rest, Further.else_rest, Further.init_part, Further.condition_part, Further.update_part, Further.switch_part, Further.braced_part, Further.returning_part, Further.local_part, Further.value_part, Further.phony_part, Further.simple_part, Further.ended_part, Further.assert_part, Further.clause_part, Further.continuing_part, Further.left_side_rest, Further.left_side_in_parentheses, Further.prefixed_left_side, Further.parenthesized_statement, Further.plain_statement, Further.const_part, Further.alias_part, Further.struct_part, Further.enable_part, Further.requires_part, Further.diagnostic_part, Further.attributed_part, Further.led_part, Further.directive_part, Further.declaration_list, Further.front, FactoredSymbol, FactoredSymbol.of, FactoredSymbol.further, factored, FactoredRule, leading_before}
 use Rattle.wgsl_theory_grammar.specs.Meaning.{meaning, return_kind, local_kind, value_kind, phony_kind, assert_kind, clause_kinds, continuing_kind, global_const_kind, alias_kind, struct_kind, enable_kind, requires_kind, diagnostic_kind}
 use Rattle.wgsl_theory_grammar.proofs.Forms.ListLinks.{Closing, items_in, rest_in, more_in, items_out, rest_out, more_out, listed_in, listed_out, optional_in, optional_out, until_in, until_out}
 use Rattle.wgsl_theory_grammar.proofs.Forms.Lifted.{FactoredRelation, lifted_in, lifted_out}
@@ -129,33 +129,7 @@ based_in L M (further prefixed_left_side) v xs ys d = roll M (factored L) (furth
 based_in L M (further const_part) v xs ys d = roll M (factored L) (further const_part) v xs ys d
 based_in L M (further alias_part) v xs ys d = roll M (factored L) (further alias_part) v xs ys d
 based_in L M (further diagnostic_part) v xs ys d = roll M (factored L) (further diagnostic_part) v xs ys d
-based_in L M (further sum_rest) v xs ys d = absurd d
-based_in L M (further expression_rest) v xs ys d = absurd d
-based_in L M (further if_part) v xs ys d = absurd d
-based_in L M (further switch_part) v xs ys d = absurd d
-based_in L M (further loop_part) v xs ys d = absurd d
-based_in L M (further for_part) v xs ys d = absurd d
-based_in L M (further while_part) v xs ys d = absurd d
-based_in L M (further block_part) v xs ys d = absurd d
-based_in L M (further name_rest_statement) v xs ys d = absurd d
-based_in L M (further braced_part) v xs ys d = absurd d
-based_in L M (further simple_part) v xs ys d = absurd d
-based_in L M (further ended_part) v xs ys d = absurd d
-based_in L M (further clause_part) v xs ys d = absurd d
-based_in L M (further continuing_part) v xs ys d = absurd d
-based_in L M (further left_side_in_parentheses) v xs ys d = absurd d
-based_in L M (further parenthesized_statement) v xs ys d = absurd d
-based_in L M (further plain_statement) v xs ys d = absurd d
-based_in L M (further var_part) v xs ys d = absurd d
-based_in L M (further override_part) v xs ys d = absurd d
-based_in L M (further function_part) v xs ys d = absurd d
-based_in L M (further struct_part) v xs ys d = absurd d
-based_in L M (further enable_part) v xs ys d = absurd d
-based_in L M (further requires_part) v xs ys d = absurd d
-based_in L M (further attributed_part) v xs ys d = absurd d
-based_in L M (further led_part) v xs ys d = absurd d
-based_in L M (further directive_part) v xs ys d = absurd d
-based_in L M (further front) v xs ys d = absurd d
+based_in L M n v xs ys d = absurd d
 
 -- and the others, save those that only the symbols read which lead to them
 abbrev Met : Dialect → Mode → FactoredRelation
@@ -179,20 +153,6 @@ met_in L M (further expression_rest) v xs ys d = expression_read L M v xs ys d
 met_in L M (further switch_part) v xs ys d = switch_part_in L M v xs ys d
 met_in L M (further left_side_in_parentheses) v xs ys d = parenthesized_in L M v xs ys d
 met_in L M (further front) v xs ys d = front_in L M v xs ys d
-met_in L M (further if_part) v xs ys d = part_in L M (further if_part) v xs ys d
-met_in L M (further loop_part) v xs ys d = part_in L M (further loop_part) v xs ys d
-met_in L M (further for_part) v xs ys d = part_in L M (further for_part) v xs ys d
-met_in L M (further while_part) v xs ys d = part_in L M (further while_part) v xs ys d
-met_in L M (further block_part) v xs ys d = part_in L M (further block_part) v xs ys d
-met_in L M (further clause_part) v xs ys d = part_in L M (further clause_part) v xs ys d
-met_in L M (further continuing_part) v xs ys d = part_in L M (further continuing_part) v xs ys d
-met_in L M (further name_rest_statement) v xs ys d = part_in L M (further name_rest_statement) v xs ys d
-met_in L M (further var_part) v xs ys d = part_in L M (further var_part) v xs ys d
-met_in L M (further override_part) v xs ys d = part_in L M (further override_part) v xs ys d
-met_in L M (further function_part) v xs ys d = part_in L M (further function_part) v xs ys d
-met_in L M (further struct_part) v xs ys d = part_in L M (further struct_part) v xs ys d
-met_in L M (further enable_part) v xs ys d = part_in L M (further enable_part) v xs ys d
-met_in L M (further requires_part) v xs ys d = part_in L M (further requires_part) v xs ys d
 met_in L M (further braced_part) v xs ys d = absurd d
 met_in L M (further simple_part) v xs ys d = absurd d
 met_in L M (further ended_part) v xs ys d = absurd d
@@ -201,7 +161,50 @@ met_in L M (further plain_statement) v xs ys d = absurd d
 met_in L M (further attributed_part) v xs ys d = absurd d
 met_in L M (further led_part) v xs ys d = absurd d
 met_in L M (further directive_part) v xs ys d = absurd d
-met_in L M (further x) v xs ys d = based_in L M (further x) v xs ys d
+met_in L M (further template_items) v xs ys d = based_in L M (further template_items) v xs ys d
+met_in L M (further template_rest) v xs ys d = based_in L M (further template_rest) v xs ys d
+met_in L M (further template_more) v xs ys d = based_in L M (further template_more) v xs ys d
+met_in L M (further argument_rest) v xs ys d = based_in L M (further argument_rest) v xs ys d
+met_in L M (further argument_more) v xs ys d = based_in L M (further argument_more) v xs ys d
+met_in L M (further member_items) v xs ys d = based_in L M (further member_items) v xs ys d
+met_in L M (further member_rest) v xs ys d = based_in L M (further member_rest) v xs ys d
+met_in L M (further member_more) v xs ys d = based_in L M (further member_more) v xs ys d
+met_in L M (further parameter_rest) v xs ys d = based_in L M (further parameter_rest) v xs ys d
+met_in L M (further parameter_more) v xs ys d = based_in L M (further parameter_more) v xs ys d
+met_in L M (further name_items) v xs ys d = based_in L M (further name_items) v xs ys d
+met_in L M (further name_rest) v xs ys d = based_in L M (further name_rest) v xs ys d
+met_in L M (further name_more) v xs ys d = based_in L M (further name_more) v xs ys d
+met_in L M (further selectors) v xs ys d = based_in L M (further selectors) v xs ys d
+met_in L M (further components) v xs ys d = based_in L M (further components) v xs ys d
+met_in L M (further factors) v xs ys d = based_in L M (further factors) v xs ys d
+met_in L M (further summands) v xs ys d = based_in L M (further summands) v xs ys d
+met_in L M (further relation_rest) v xs ys d = based_in L M (further relation_rest) v xs ys d
+met_in L M (further and_rest) v xs ys d = based_in L M (further and_rest) v xs ys d
+met_in L M (further or_rest) v xs ys d = based_in L M (further or_rest) v xs ys d
+met_in L M (further bitwise_and_rest) v xs ys d = based_in L M (further bitwise_and_rest) v xs ys d
+met_in L M (further bitwise_or_rest) v xs ys d = based_in L M (further bitwise_or_rest) v xs ys d
+met_in L M (further bitwise_xor_rest) v xs ys d = based_in L M (further bitwise_xor_rest) v xs ys d
+met_in L M (further attribute_list) v xs ys d = based_in L M (further attribute_list) v xs ys d
+met_in L M (further left_side_rest) v xs ys d = based_in L M (further left_side_rest) v xs ys d
+met_in L M (further declaration_list) v xs ys d = based_in L M (further declaration_list) v xs ys d
+met_in L M (further statement_rest) v xs ys d = based_in L M (further statement_rest) v xs ys d
+met_in L M (further loop_rest) v xs ys d = based_in L M (further loop_rest) v xs ys d
+met_in L M (further clause_rest) v xs ys d = based_in L M (further clause_rest) v xs ys d
+met_in L M (further else_rest) v xs ys d = based_in L M (further else_rest) v xs ys d
+met_in L M (further init_part) v xs ys d = based_in L M (further init_part) v xs ys d
+met_in L M (further condition_part) v xs ys d = based_in L M (further condition_part) v xs ys d
+met_in L M (further update_part) v xs ys d = based_in L M (further update_part) v xs ys d
+met_in L M (further continuing_rest) v xs ys d = based_in L M (further continuing_rest) v xs ys d
+met_in L M (further returning_part) v xs ys d = based_in L M (further returning_part) v xs ys d
+met_in L M (further local_part) v xs ys d = based_in L M (further local_part) v xs ys d
+met_in L M (further value_part) v xs ys d = based_in L M (further value_part) v xs ys d
+met_in L M (further phony_part) v xs ys d = based_in L M (further phony_part) v xs ys d
+met_in L M (further assert_part) v xs ys d = based_in L M (further assert_part) v xs ys d
+met_in L M (further prefixed_left_side) v xs ys d = based_in L M (further prefixed_left_side) v xs ys d
+met_in L M (further const_part) v xs ys d = based_in L M (further const_part) v xs ys d
+met_in L M (further alias_part) v xs ys d = based_in L M (further alias_part) v xs ys d
+met_in L M (further diagnostic_part) v xs ys d = based_in L M (further diagnostic_part) v xs ys d
+met_in L M n v xs ys d = part_in L M n v xs ys d
 
 -- a rule whose two forms are alike
 alike_in : (L : Dialect) (M : Mode) (n : Symbol) → Kept (Means M (Met L M) (factored L (of n))) (ReadPart L M n)

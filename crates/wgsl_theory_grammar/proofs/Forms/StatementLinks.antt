@@ -7,8 +7,8 @@ use Rattle.grammar.proofs.Reading.Depth.{Kept, roll, unroll}
 use Rattle.wgsl_model.specs.Tokens.Classes.{SymSemicolon, KwBreak, KwContinue, KwDiscard}
 use Rattle.wgsl_model.specs.Trees.Attributes.{Attributes}
 use Rattle.wgsl_model.specs.Trees.Attributed.{Attributed, with_attributes}
-use Rattle.wgsl_model.specs.Trees.Statements.{StatementNode, Statement, statement, UnattributedStatement, ConstAssert, block_statement, unattributed, statements_of}
-use Rattle.wgsl_model.specs.Grammar.StatementParts.{placed_statement, leading, compound_of, assert_statement}
+use Rattle.wgsl_model.specs.Trees.Statements.{StatementNode, Statement, statement, UnattributedStatement, ConstAssert, block_statement, unattributed, statements_of, compound_of, assert_statement}
+use Rattle.wgsl_model.specs.Grammar.StatementParts.{placed_statement, leading}
 use Rattle.wgsl_model.specs.Grammar.Symbols.{Dialect, Symbol.compound_statement, Symbol.statement, Symbol.return_statement, Symbol.if_statement, Symbol.switch_statement, Symbol.loop_statement, Symbol.for_statement, Symbol.while_statement, Symbol.var_statement, Symbol.value_statement, Symbol.break_statement, Symbol.continue_statement, Symbol.discard_statement, Symbol.const_assert, Symbol.for_init, Symbol.for_update}
 use Rattle.wgsl_model.specs.Grammar.Written.{rules}
 use Rattle.wgsl_theory_grammar.specs.Factored.{Further.if_part, Further.switch_part, Further.loop_part, Further.for_part, Further.while_part, Further.block_part, Further.braced_part, Further.returning_part, Further.local_part, Further.value_part, Further.simple_part, Further.ended_part, Further.assert_part, Further.plain_statement, FactoredSymbol.of, FactoredSymbol.further, FactoredRule, attributes_before, leading_before, either_behind, break_part, factored}

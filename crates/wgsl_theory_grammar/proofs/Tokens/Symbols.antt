@@ -10,10 +10,10 @@ use Rattle.grammar.specs.Grammar.{is_among as among}
 use Rattle.grammar.specs.Tokens.{Payload.number}
 use Rattle.grammar.specs.Tables.{is_empty}
 use Rattle.grammar.proofs.Reading.Sets.{and_true, not_true, clash}
-use Rattle.wgsl_model.specs.Tokens.Classes.{SymUnderscore, Ident, ReservedWord, AbstractInt, I32, U32, AbstractFloat, F32, F16}
+use Rattle.wgsl_model.specs.Tokens.Classes.{SymUnderscore, Ident, ReservedWord, AbstractInt, I32, U32, AbstractFloat, F32, F16, symbols, keywords}
 use Rattle.wgsl_model.specs.Tokens.Kind.{Kind, plain, named}
 use Rattle.wgsl_model.specs.Tokens.Numbers.{whole_number, i_suffix, u_suffix, f_suffix, h_suffix, abstract_float, float, float_of, number_value, number_of, without_last, number_below}
-use Rattle.wgsl_model.specs.Tokens.Words.{look_up, is_word_among, symbols, keywords, reserved_words}
+use Rattle.wgsl_model.specs.Tokens.Words.{look_up, is_word_among, reserved_words}
 use Rattle.wgsl_model.specs.Tokens.Pattern.{empty, spells, after_spelling}
 use Rattle.wgsl_model.specs.Tokens.Spelling.{spelling}
 use Rattle.wgsl_model.specs.Tokens.Trivia.{after_trivia, outside}

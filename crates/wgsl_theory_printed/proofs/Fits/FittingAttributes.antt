@@ -1,4 +1,4 @@
--- The pieces of sound attributes fit.
+-- Attributes whose names and literals are spelled as they are printed: the pieces of these fit.
 use Rattle.std.proofs.Common.{ℕ, ◌==◌, Bool, true, false, cond, refl, List, [], ◌∷◌, ◌++◌, Option, Some, None}
 use Rattle.std.specs.Prelude.{codes}
 use Rattle.wgsl_model.specs.Tokens.Classes.{SymAttr, SymOr, SymParenLeft, SymParenRight, SymPeriod}
@@ -14,10 +14,46 @@ use Rattle.wgsl_theory_printed.proofs.Fits.FittingWords.{name_fits, point_fits, 
 use Rattle.wgsl_theory_printed.proofs.Fits.SoundExpressions.{IsSoundNode, IsSoundType, Closed, closed_name, closed_node, closed_type}
 use Rattle.wgsl_theory_printed.proofs.Fits.FittingSigns.{before_name, left_paren_fits, right_paren_fits, comma_fits}
 use Rattle.wgsl_theory_printed.proofs.Fits.FittingExpressions.{closed_by_paren, closed_by_comma, ends_at_paren, ends_at_point, expression_node_fits, type_fits}
-use Rattle.wgsl_theory_printed.proofs.Fits.SoundUnits.{IfSome, Every, Either, IsSoundRule, IsSoundAttribute, AreSoundAttributes}
 use Rattle.wgsl_theory_printed.proofs.Fits.WrittenWords.{builtin_value_name, severity_name, interpolation_type_name, interpolation_sampling_name, one_argument_name, no_argument_name, builtin_name, diagnostic_name, interpolate_name, workgroup_size_name, type_name}
 use Rattle.wgsl_theory_printed.proofs.TreePieces.PiecesOfExpressions.{sign, name, comma, expression_node_pieces, type_pieces}
 use Rattle.wgsl_theory_printed.proofs.TreePieces.PiecesOfAttributes.{optional_pieces, further_pieces, list_pieces, behind_comma_pieces, rule_pieces_from, rule_pieces, further_types_pieces, types_pieces, arguments_pieces, named_attribute_pieces, attribute_pieces, further_attributes_pieces, attributes_pieces}
+
+-- ---- attributes that are so spelled
+
+-- a part is so, if it is there
+abbrev pub IfSome : {A : Type 0} → (A → Type 0) → Option A → Type 0
+IfSome P None = Unit {0}
+IfSome P (Some a) = P a
+
+-- every part is so
+abbrev pub Every : {A : Type 0} → (A → Type 0) → List A → Type 0
+Every P [] = Unit {0}
+Every P (a ∷ more) = P a × Every P more
+
+pub Every-behind : {A : Type 0} (P : A → Type 0) (xs : List A) (x : A) → Every P xs → P x → Every P (xs ++ (x ∷ []))
+Every-behind P [] x h k = (k, tt)
+Every-behind P (y ∷ xs) x h k = (h.0, Every-behind P xs x h.1 k)
+
+-- one of two
+abbrev pub Either : Bool → Type 0 → Type 0 → Type 0
+Either true A B = A
+Either false A B = B
+
+-- the name of a rule: a name, or two with `.` between
+abbrev pub IsSoundRule : List ℕ → List ℕ → Type 0
+IsSoundRule before [] = IsNameText before
+IsSoundRule before (c ∷ cs) = Either (c == 46) (IsNameText before × IsNameText cs) (IsSoundRule (before ++ (c ∷ [])) cs)
+
+abbrev pub IsSoundAttribute : Attribute → Type 0
+IsSoundAttribute (with_argument name e) = IsSoundNode e
+IsSoundAttribute (diagnostic d) = IsSoundRule [] d.rule
+IsSoundAttribute (workgroup_size w) = IsSoundNode w.x × IfSome IsSoundNode w.y × IfSome IsSoundNode w.z
+IsSoundAttribute (type_constraint t) = IsNameText t.ident × Every IsSoundType t.variants
+IsSoundAttribute (custom c) = IsNameText c.name × IfSome (λ (es : List ExpressionNode). Every IsSoundNode es) c.arguments
+IsSoundAttribute a = Unit {0}
+
+abbrev pub AreSoundAttributes : Attributes → Type 0
+AreSoundAttributes = Every (λ (a : Spanned Attribute). IsSoundAttribute a.node)
 
 -- ---- lists
 

@@ -1,4 +1,4 @@
--- The pieces of sound declarations of values and statements fit.
+-- Declarations of values and statements whose names and literals are spelled as they are printed: the pieces of these fit.
 use Rattle.std.proofs.Common.{ℕ, zero, suc, Bool, true, false, cond, refl, List, [], ◌∷◌, Option, Some, None}
 use Rattle.std.specs.Prelude.{codes}
 use Rattle.wgsl_model.specs.Tokens.Classes.{SymAndEqual, SymBraceLeft, SymBraceRight, SymColon, SymEqual, SymMinusEqual, SymMinusMinus, SymModuloEqual, SymOrEqual, SymParenRight, SymPlusEqual, SymPlusPlus, SymSemicolon, SymShiftLeftAssign, SymShiftRightAssign, SymTimesEqual, SymXorEqual}
@@ -15,17 +15,116 @@ use Rattle.wgsl_theory_reread.specs.CanonicalStatements.{assignment_operator_cla
 use Rattle.wgsl_theory_printed.proofs.Spelling.Pieces.{Piece, space, closes, render, FitsBefore, Fits}
 use Rattle.wgsl_theory_printed.proofs.TreePieces.Printing.{Puts, four, line}
 use Rattle.wgsl_theory_printed.proofs.Spelling.Signs.{NotOn, goes_on-no_operator, name_no_operator}
-use Rattle.wgsl_theory_printed.proofs.Spelling.Ends.{EndsName}
+use Rattle.wgsl_theory_printed.proofs.Spelling.Ends.{EndsName, IsNameText}
 use Rattle.wgsl_theory_printed.proofs.Fits.FittingWords.{sign_fits, slash_equal_fits, not_on}
-use Rattle.wgsl_theory_printed.proofs.Fits.SoundExpressions.{IsSoundNode, IsSoundType, EndsExpression, EndsNode, Closed, closed_name}
+use Rattle.wgsl_theory_printed.proofs.Fits.SoundExpressions.{IsSoundNode, IsSoundCall, IsSoundType, EndsExpression, EndsNode, Closed, closed_name}
 use Rattle.wgsl_theory_printed.proofs.Fits.FittingSigns.{as_text, before_name, left_paren_fits, right_paren_fits}
 use Rattle.wgsl_theory_printed.proofs.Fits.FittingExpressions.{closed_by_paren, opens_stands, expression_node_fits, call_fits}
-use Rattle.wgsl_theory_printed.proofs.Fits.SoundUnits.{IfSome, AreSoundAttributes, IsSoundDeclaration, EndsWithName, EndsWithNameNode, IsSoundSelector, IsSoundStatement, IsSoundUnattributed, AreSoundStatements, IsSoundCompound, IsSoundIf, IsSoundIfClause, AreSoundElseIfs, IsSoundElseIf, IsSoundElse, IsSoundElseClause, IsSoundSwitch, AreSoundClauses, IsSoundClause, IsSoundLoop, IsSoundMaybeContinuing, IsSoundContinuing, IsSoundFor, IsSoundPart, IsSoundWhile, IsSoundBreakIf}
-use Rattle.wgsl_theory_printed.proofs.Fits.WrittenWords.{access_mode_name, address_space_name, break_fits, case_fits, const_fits, const_assert_fits, continue_fits, continuing_fits, default_fits, discard_fits, else_fits, for_fits as for_word_fits, if_fits as if_word_fits, let_fits, loop_fits as loop_word_fits, override_fits, return_fits, switch_fits as switch_word_fits, var_fits, while_fits as while_word_fits}
-use Rattle.wgsl_theory_printed.proofs.Fits.FittingAttributes.{list_fits, node_fits, closed_type_fits, plain_name_fits, optional_fits, attributes_fit}
+use Rattle.wgsl_theory_printed.proofs.Fits.WrittenWords.{access_mode_name, address_space_name, keyword_fits}
+use Rattle.wgsl_theory_printed.proofs.Fits.FittingAttributes.{IfSome, Every, AreSoundAttributes, list_fits, node_fits, closed_type_fits, plain_name_fits, optional_fits, attributes_fit}
 use Rattle.wgsl_theory_printed.proofs.TreePieces.PiecesOfExpressions.{sign, name, expression_node_pieces, type_pieces}
 use Rattle.wgsl_theory_printed.proofs.TreePieces.PiecesOfAttributes.{optional_pieces, behind_comma_pieces, attributes_pieces}
 use Rattle.wgsl_theory_printed.proofs.TreePieces.PiecesOfStatements.{var_template_pieces, kind_pieces, typed_pieces, initializer_pieces, declaration_pieces, returned_pieces, assert_pieces, selector_pieces, break_if_pieces, end_pieces, unended_pieces, unattributed_pieces, statements_pieces, compound_pieces, opened_pieces, if_pieces, if_clause_pieces, else_ifs_pieces, else_if_clause_pieces, else_pieces, else_clause_pieces, switch_pieces, clauses_pieces, switch_clause_pieces, loop_pieces, maybe_continuing_pieces, continuing_pieces, for_pieces, part_pieces, while_pieces}
+
+-- ---- statements that are so spelled
+
+abbrev pub IsSoundDeclaration : Declaration → Type 0
+IsSoundDeclaration d = IsNameText d.ident × IfSome IsSoundType d.ty × IfSome IsSoundNode d.initializer
+
+-- an expression that ends with a name or a bracket
+abbrev mutual
+  pub EndsWithName : Expression → Type 0
+  EndsWithName (literal l) = ⊥
+  EndsWithName (binary operator a b) = ⊥
+  EndsWithName (unary operator operand) = EndsWithNameNode operand
+  EndsWithName e = Unit {0}
+
+  pub EndsWithNameNode : ExpressionNode → Type 0
+  EndsWithNameNode (expression_node e span) = EndsWithName e
+
+abbrev pub IsSoundSelector : CaseSelector → Type 0
+IsSoundSelector default_selector = Unit {0}
+IsSoundSelector (expression_selector e) = IsSoundNode e
+
+abbrev pub IsSoundBreakIf : Attributed BreakIfStatement → Type 0
+IsSoundBreakIf b = AreSoundAttributes b.attributes × IsSoundNode b.node.expression
+
+abbrev mutual
+  pub IsSoundStatement : Statement → Type 0
+  IsSoundStatement (statement attributes s) = AreSoundAttributes attributes × IsSoundUnattributed s
+
+  pub IsSoundUnattributed : UnattributedStatement → Type 0
+  IsSoundUnattributed (compound ss) = AreSoundStatements ss
+  IsSoundUnattributed (assignment a) = IsSoundNode a.lhs × IsSoundNode a.rhs
+  IsSoundUnattributed (increment i) = EndsWithNameNode i.expression × IsSoundNode i.expression
+  IsSoundUnattributed (decrement d) = EndsWithNameNode d.expression × IsSoundNode d.expression
+  IsSoundUnattributed (if_statement s) = IsSoundIf s
+  IsSoundUnattributed (switch_statement s) = IsSoundSwitch s
+  IsSoundUnattributed (loop_statement s) = IsSoundLoop s
+  IsSoundUnattributed (for_statement s) = IsSoundFor s
+  IsSoundUnattributed (while_statement s) = IsSoundWhile s
+  IsSoundUnattributed (return_statement r) = IfSome IsSoundNode r.expression
+  IsSoundUnattributed (function_call_statement c) = IsSoundCall c.call
+  IsSoundUnattributed (const_assert c) = IsSoundNode c.expression
+  IsSoundUnattributed (declaration d) = IsSoundDeclaration d
+  IsSoundUnattributed s = Unit {0}
+
+  pub AreSoundStatements : StatementNodes → Type 0
+  AreSoundStatements no_statements = Unit {0}
+  AreSoundStatements (statement_before (statement_node s span) ss) = IsSoundStatement s × AreSoundStatements ss
+
+  pub IsSoundCompound : CompoundStatement → Type 0
+  IsSoundCompound (compound_statement attributes ss) = AreSoundAttributes attributes × AreSoundStatements ss
+
+  pub IsSoundIf : IfStatement → Type 0
+  IsSoundIf (if_else first others last) = IsSoundIfClause first × AreSoundElseIfs others × IsSoundElse last
+
+  pub IsSoundIfClause : IfClause → Type 0
+  IsSoundIfClause (if_clause e block) = IsSoundNode e × IsSoundCompound block
+
+  pub AreSoundElseIfs : ElseIfClauses → Type 0
+  AreSoundElseIfs no_else_ifs = Unit {0}
+  AreSoundElseIfs (else_if_before c cs) = IsSoundElseIf c × AreSoundElseIfs cs
+
+  pub IsSoundElseIf : ElseIfClause → Type 0
+  IsSoundElseIf (else_if_clause attributes e block) = AreSoundAttributes attributes × IsSoundNode e × IsSoundCompound block
+
+  pub IsSoundElse : MaybeElseClause → Type 0
+  IsSoundElse no_else = Unit {0}
+  IsSoundElse (one_else c) = IsSoundElseClause c
+
+  pub IsSoundElseClause : ElseClause → Type 0
+  IsSoundElseClause (else_clause attributes block) = AreSoundAttributes attributes × IsSoundCompound block
+
+  pub IsSoundSwitch : SwitchStatement → Type 0
+  IsSoundSwitch (switch e body_attributes cs) = IsSoundNode e × AreSoundAttributes body_attributes × AreSoundClauses cs
+
+  pub AreSoundClauses : SwitchClauses → Type 0
+  AreSoundClauses no_clauses = Unit {0}
+  AreSoundClauses (clause_before c cs) = IsSoundClause c × AreSoundClauses cs
+
+  pub IsSoundClause : SwitchClause → Type 0
+  IsSoundClause (switch_clause attributes selectors block) = AreSoundAttributes attributes × Every IsSoundSelector selectors × IsSoundCompound block
+
+  pub IsSoundLoop : LoopStatement → Type 0
+  IsSoundLoop (repeat body last) = IsSoundCompound body × IsSoundMaybeContinuing last
+
+  pub IsSoundMaybeContinuing : MaybeContinuing → Type 0
+  IsSoundMaybeContinuing no_continuing = Unit {0}
+  IsSoundMaybeContinuing (one_continuing c) = IsSoundContinuing c
+
+  pub IsSoundContinuing : ContinuingStatement → Type 0
+  IsSoundContinuing (continuing attributes body condition) = AreSoundAttributes attributes × IsSoundCompound body × IfSome IsSoundBreakIf condition
+
+  pub IsSoundFor : ForStatement → Type 0
+  IsSoundFor (repeat_for init condition update block) = IsSoundPart init × IfSome IsSoundNode condition × IsSoundPart update × IsSoundCompound block
+
+  pub IsSoundPart : MaybeStatement → Type 0
+  IsSoundPart no_statement = Unit {0}
+  IsSoundPart (one_statement (statement_node s span)) = IsSoundStatement s
+
+  pub IsSoundWhile : WhileStatement → Type 0
+  IsSoundWhile (repeat_while e block) = IsSoundNode e × IsSoundCompound block
 
 -- ---- lines and symbols
 
@@ -100,10 +199,10 @@ var_template_fits (Some p) rest e f =
     )
 
 kind_fits : (k : DeclarationKind) (rest : List Piece) → EndsName (render rest) → Fits rest → Fits (kind_pieces k rest)
-kind_fits const_kind rest e f = (const_fits (render rest) e, f)
-kind_fits override_kind rest e f = (override_fits (render rest) e, f)
-kind_fits let_kind rest e f = (let_fits (render rest) e, f)
-kind_fits (var_kind t) rest e f = let more = var_template_fits t rest e f in (var_fits _ more.1, more.0)
+kind_fits const_kind rest e f = (keyword_fits (render rest) refl e, f)
+kind_fits override_kind rest e f = (keyword_fits (render rest) refl e, f)
+kind_fits let_kind rest e f = (keyword_fits (render rest) refl e, f)
+kind_fits (var_kind t) rest e f = let more = var_template_fits t rest e f in (keyword_fits _ refl more.1, more.0)
 
 initializer_fits : (o : Option ExpressionNode) (rest : List Piece) → IfSome IsSoundNode o → Closed (render rest) → Fits rest → Fits (optional_pieces initializer_pieces o rest) × Closed (render (optional_pieces initializer_pieces o rest))
 initializer_fits None rest s c f = (f, c)
@@ -124,7 +223,7 @@ declaration_fits d rest s c f =
     kind_fits d.kind (space ∷ name d.ident last) refl (plain_name_fits d.ident last s.0 typed.1 typed.0)
 
 pub assert_fits : (c : ConstAssert) (rest : List Piece) → IsSoundNode c.expression → Closed (render rest) → Fits rest → Fits (assert_pieces c rest)
-assert_fits c rest s d f = (const_assert_fits _ refl, node_fits c.expression rest s d f)
+assert_fits c rest s d f = (keyword_fits _ refl refl, node_fits c.expression rest s d f)
 
 -- ---- statements that hold no others
 
@@ -162,14 +261,14 @@ condition_fits None rest s c f = f
 condition_fits (Some e) rest s c f = node_fits e rest s c f
 
 selector_fits : (x : CaseSelector) (rest : List Piece) → IsSoundSelector x → Closed (render rest) → Fits rest → Fits (selector_pieces x rest)
-selector_fits default_selector rest s c f = (default_fits (render rest) (closed_name (render rest) c), f)
+selector_fits default_selector rest s c f = (keyword_fits (render rest) refl (closed_name (render rest) c), f)
 selector_fits (expression_selector e) rest s c f = node_fits e rest s c f
 
 break_if_fits : (n : ℕ) (o : Option (Attributed BreakIfStatement)) (rest : List Piece) → IfSome IsSoundBreakIf o → Fits rest → Fits (optional_pieces (break_if_pieces n) o rest)
 break_if_fits n None rest s f = f
 break_if_fits n (Some b) rest s f =
     let condition = node_fits b.node.expression (sign (codes ";") SymSemicolon (line n rest)) s.1 (closed_by_semicolon (line n rest)) (semicolon_fits (render (line n rest)), line_fits n rest f) in
-    attribute_lines_fit (suc n) b.attributes _ s.0 (break_fits _ refl, (if_word_fits _ refl, condition))
+    attribute_lines_fit (suc n) b.attributes _ s.0 (keyword_fits _ refl refl, (keyword_fits _ refl refl, condition))
 
 -- what ends a statement, and what follows it
 end_fits : (s : Statement) (rest : List Piece) → Closed (render rest) → Fits rest → Fits (end_pieces s rest) × Closed (render (end_pieces s rest))
@@ -213,10 +312,10 @@ mutual
   unattributed_fits n (loop_statement x) rest s c f = loop_fits n x rest s f
   unattributed_fits n (for_statement x) rest s c f = for_fits n x rest s f
   unattributed_fits n (while_statement x) rest s c f = while_fits n x rest s f
-  unattributed_fits n break_statement rest s c f = (break_fits (render rest) (closed_name (render rest) c), f)
-  unattributed_fits n continue_statement rest s c f = (continue_fits (render rest) (closed_name (render rest) c), f)
-  unattributed_fits n discard_statement rest s c f = (discard_fits (render rest) (closed_name (render rest) c), f)
-  unattributed_fits n (return_statement r) rest s c f = let more = returned_fits r.expression rest s c f in (return_fits _ more.1, more.0)
+  unattributed_fits n break_statement rest s c f = (keyword_fits (render rest) refl (closed_name (render rest) c), f)
+  unattributed_fits n continue_statement rest s c f = (keyword_fits (render rest) refl (closed_name (render rest) c), f)
+  unattributed_fits n discard_statement rest s c f = (keyword_fits (render rest) refl (closed_name (render rest) c), f)
+  unattributed_fits n (return_statement r) rest s c f = let more = returned_fits r.expression rest s c f in (keyword_fits _ refl more.1, more.0)
   unattributed_fits n (function_call_statement x) rest s c f = call_fits x.call rest s f
   unattributed_fits n (const_assert x) rest s c f = assert_fits x rest s c f
   unattributed_fits n (declaration d) rest s c f = declaration_fits d rest s c f
@@ -241,26 +340,26 @@ mutual
   if_fits n (if_else first others last) rest s f = if_clause_fits n first _ s.0 (else_ifs_fit n others _ s.1 (last_else_fits n last rest s.2 f))
 
   if_clause_fits : (n : ℕ) (x : IfClause) (rest : List Piece) → IsSoundIfClause x → Fits rest → Fits (if_clause_pieces n x rest)
-  if_clause_fits n (if_clause e block) rest s f = (if_word_fits _ refl, node_fits e _ s.0 refl (compound_fits n block rest s.1 f))
+  if_clause_fits n (if_clause e block) rest s f = (keyword_fits _ refl refl, node_fits e _ s.0 refl (compound_fits n block rest s.1 f))
 
   else_ifs_fit : (n : ℕ) (cs : ElseIfClauses) (rest : List Piece) → AreSoundElseIfs cs → Fits rest → Fits (else_ifs_pieces n cs rest)
   else_ifs_fit n no_else_ifs rest s f = f
   else_ifs_fit n (else_if_before x cs) rest s f = line_fits n _ (else_if_fits n x _ s.0 (else_ifs_fit n cs rest s.1 f))
 
   else_if_fits : (n : ℕ) (x : ElseIfClause) (rest : List Piece) → IsSoundElseIf x → Fits rest → Fits (else_if_clause_pieces n x rest)
-  else_if_fits n (else_if_clause a e block) rest s f = attribute_lines_fit n a _ s.0 (else_fits _ refl, (if_word_fits _ refl, node_fits e _ s.1 refl (compound_fits n block rest s.2 f)))
+  else_if_fits n (else_if_clause a e block) rest s f = attribute_lines_fit n a _ s.0 (keyword_fits _ refl refl, (keyword_fits _ refl refl, node_fits e _ s.1 refl (compound_fits n block rest s.2 f)))
 
   last_else_fits : (n : ℕ) (x : MaybeElseClause) (rest : List Piece) → IsSoundElse x → Fits rest → Fits (else_pieces n x rest)
   last_else_fits n no_else rest s f = f
   last_else_fits n (one_else x) rest s f = line_fits n _ (else_clause_fits n x rest s f)
 
   else_clause_fits : (n : ℕ) (x : ElseClause) (rest : List Piece) → IsSoundElseClause x → Fits rest → Fits (else_clause_pieces n x rest)
-  else_clause_fits n (else_clause a block) rest s f = attribute_lines_fit n a _ s.0 (else_fits _ refl, compound_fits n block rest s.1 f)
+  else_clause_fits n (else_clause a block) rest s f = attribute_lines_fit n a _ s.0 (keyword_fits _ refl refl, compound_fits n block rest s.1 f)
 
   switch_fits : (n : ℕ) (x : SwitchStatement) (rest : List Piece) → IsSoundSwitch x → Fits rest → Fits (switch_pieces n x rest)
   switch_fits n (switch e body_attributes cs) rest s f =
       let last = sign (codes "}") SymBraceRight rest in (
-        switch_word_fits _ refl,
+        keyword_fits _ refl refl,
         node_fits e _ s.0 refl (attribute_lines_fit n body_attributes _ s.1
             (left_brace_fits _, line_fits n _ (clauses_fit (suc n) four (λ r g. g) cs (line n last) s.2 (closed_line n last) (line_fits n last (right_brace_fits _, f))))),
       )
@@ -271,10 +370,10 @@ mutual
 
   clause_fits : (n : ℕ) (x : SwitchClause) (rest : List Piece) → IsSoundClause x → Fits rest → Fits (switch_clause_pieces n x rest)
   clause_fits n (switch_clause a selectors block) rest s f =
-      attribute_lines_fit n a _ s.0 (case_fits _ refl, list_fits selector_pieces IsSoundSelector selector_fits selectors _ s.1 refl (compound_fits n block rest s.2 f))
+      attribute_lines_fit n a _ s.0 (keyword_fits _ refl refl, list_fits selector_pieces IsSoundSelector selector_fits selectors _ s.1 refl (compound_fits n block rest s.2 f))
 
   loop_fits : (n : ℕ) (x : LoopStatement) (rest : List Piece) → IsSoundLoop x → Fits rest → Fits (loop_pieces n x rest)
-  loop_fits n (repeat body last) rest s f = (loop_word_fits _ refl, opened_fits n body _ s.0 (maybe_continuing_fits n last (sign (codes "}") SymBraceRight rest) s.1 (right_brace_fits _, f)))
+  loop_fits n (repeat body last) rest s f = (keyword_fits _ refl refl, opened_fits n body _ s.0 (maybe_continuing_fits n last (sign (codes "}") SymBraceRight rest) s.1 (right_brace_fits _, f)))
 
   maybe_continuing_fits : (n : ℕ) (x : MaybeContinuing) (rest : List Piece) → IsSoundMaybeContinuing x → Fits rest → Fits (maybe_continuing_pieces n x rest)
   maybe_continuing_fits n no_continuing rest s f = f
@@ -282,14 +381,14 @@ mutual
 
   continuing_part_fits : (n : ℕ) (x : ContinuingStatement) (rest : List Piece) → IsSoundContinuing x → Fits rest → Fits (continuing_pieces n x rest)
   continuing_part_fits n (continuing a body condition) rest s f =
-      attribute_lines_fit n a _ s.0 (continuing_fits _ refl, opened_fits n body _ s.1 (break_if_fits n condition (sign (codes "}") SymBraceRight rest) s.2 (right_brace_fits _, f)))
+      attribute_lines_fit n a _ s.0 (keyword_fits _ refl refl, opened_fits n body _ s.1 (break_if_fits n condition (sign (codes "}") SymBraceRight rest) s.2 (right_brace_fits _, f)))
 
   for_fits : (n : ℕ) (x : ForStatement) (rest : List Piece) → IsSoundFor x → Fits rest → Fits (for_pieces n x rest)
   for_fits n (repeat_for init condition update block) rest s f =
       let fourth = space ∷ compound_pieces n block rest in
       let third = space ∷ part_pieces n update (sign (codes ")") SymParenRight fourth) in
       let second = space ∷ optional_pieces expression_node_pieces condition (sign (codes ";") SymSemicolon third) in (
-        for_word_fits _ refl,
+        keyword_fits _ refl refl,
         (
           left_paren_fits _,
           part_fits n init (sign (codes ";") SymSemicolon second) s.0 (closed_by_semicolon second) (
@@ -305,4 +404,4 @@ mutual
   part_fits n (one_statement (statement_node x span)) rest s c f = unended_fits n x rest s c f
 
   while_fits : (n : ℕ) (x : WhileStatement) (rest : List Piece) → IsSoundWhile x → Fits rest → Fits (while_pieces n x rest)
-  while_fits n (repeat_while e block) rest s f = (while_word_fits _ refl, node_fits e _ s.0 refl (compound_fits n block rest s.1 f))
+  while_fits n (repeat_while e block) rest s f = (keyword_fits _ refl refl, node_fits e _ s.0 refl (compound_fits n block rest s.1 f))

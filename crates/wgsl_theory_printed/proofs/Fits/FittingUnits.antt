@@ -1,4 +1,4 @@
--- The pieces of a sound module fit: its printed text is read along the tokens that are written from its tree.
+-- Modules whose names and literals are spelled as they are printed: their pieces fit, and the printed text is read along the tokens that are written from the tree.
 use Rattle.std.proofs.Common.{ℕ, refl, List, [], ◌∷◌, Option, Some, None}
 use Rattle.std.specs.Prelude.{codes}
 use Rattle.std.specs.Str.{IsUtf8, chars}
@@ -15,32 +15,66 @@ use Rattle.wgsl_theory_printed.proofs.TreePieces.Printing.{Puts, line}
 use Rattle.wgsl_theory_templates.proofs.Lexed.LexedAlong.{Along}
 use Rattle.wgsl_theory_printed.proofs.Spelling.Ends.{EndsName, IsNameText}
 use Rattle.wgsl_theory_printed.proofs.Fits.FittingWords.{name_fits, sign_fits}
-use Rattle.wgsl_theory_printed.proofs.Fits.SoundExpressions.{IsSoundType, Closed}
+use Rattle.wgsl_theory_printed.proofs.Fits.SoundExpressions.{IsSoundNode, IsSoundType, Closed}
 use Rattle.wgsl_theory_printed.proofs.Fits.FittingSigns.{as_text, left_paren_fits, right_paren_fits, comma_fits}
 use Rattle.wgsl_theory_printed.proofs.Fits.FittingExpressions.{closed_by_paren, closed_by_comma, ends_at_paren}
-use Rattle.wgsl_theory_printed.proofs.Fits.SoundUnits.{IfSome, Every, AreSoundAttributes, IsSoundUnattributedDirective, IsSoundDirective, IsSoundMember, IsSoundParameter, IsSoundFunction, IsSoundUnattributedDeclaration, IsSoundGlobal, IsSoundUnit}
-use Rattle.wgsl_theory_printed.proofs.Fits.WrittenWords.{severity_name, alias_fits, diagnostic_fits, enable_fits, fn_fits, requires_fits, struct_fits}
-use Rattle.wgsl_theory_printed.proofs.Fits.FittingAttributes.{list_fits, closed_type_fits, plain_name_fits, rule_fits, attributes_fit}
-use Rattle.wgsl_theory_printed.proofs.Fits.FittingStatements.{line_fits, closed_line, attribute_lines_fit, left_brace_fits, right_brace_fits, semicolon_fits, colon_fits, equal_fits, closed_by_semicolon, declaration_fits, assert_fits, compound_fits, one_fits}
+use Rattle.wgsl_theory_printed.proofs.Fits.WrittenWords.{severity_name, keyword_fits}
+use Rattle.wgsl_theory_printed.proofs.Fits.FittingAttributes.{IfSome, Every, IsSoundRule, AreSoundAttributes, list_fits, closed_type_fits, plain_name_fits, rule_fits, attributes_fit}
+use Rattle.wgsl_theory_printed.proofs.Fits.FittingStatements.{IsSoundDeclaration, IsSoundCompound, line_fits, closed_line, attribute_lines_fit, left_brace_fits, right_brace_fits, semicolon_fits, colon_fits, equal_fits, closed_by_semicolon, declaration_fits, assert_fits, compound_fits, one_fits}
 use Rattle.wgsl_theory_printed.proofs.TreePieces.PiecesOfExpressions.{sign, name, comma, type_pieces}
 use Rattle.wgsl_theory_printed.proofs.TreePieces.PiecesOfAttributes.{list_pieces, rule_pieces}
 use Rattle.wgsl_theory_printed.proofs.TreePieces.PiecesOfStatements.{compound_pieces}
 use Rattle.wgsl_theory_printed.proofs.TreePieces.PiecesOfUnits.{unattributed_directive_pieces, directive_pieces, member_pieces, further_members_pieces, members_pieces, one_space, parameter_pieces, result_pieces, function_pieces, unattributed_declaration_pieces, global_declaration_pieces, two_lines, declarations_pieces, further_directives_pieces, directives_pieces, nothing_before, unit_pieces}
 use Rattle.wgsl_theory_printed.proofs.TreePieces.PrintedAlong.{printed_utf8, printed_along}
 
+-- ---- modules that are so spelled
+
+abbrev pub IsSoundUnattributedDirective : UnattributedDirective → Type 0
+IsSoundUnattributedDirective (diagnostic d) = IsSoundRule [] d.rule_name
+IsSoundUnattributedDirective (enable d) = Every IsNameText d.extensions
+IsSoundUnattributedDirective (requires d) = Every IsNameText d.extensions
+
+abbrev pub IsSoundDirective : GlobalDirective → Type 0
+IsSoundDirective d = AreSoundAttributes d.attributes × IsSoundUnattributedDirective d.node
+
+abbrev pub IsSoundMember : Spanned StructMember → Type 0
+IsSoundMember m = AreSoundAttributes m.node.attributes × IsNameText m.node.ident × IsSoundType m.node.ty
+
+abbrev pub IsSoundParameter : FormalParameter → Type 0
+IsSoundParameter p = AreSoundAttributes p.attributes × IsNameText p.ident × IsSoundType p.ty
+
+abbrev pub IsSoundFunction : Function → Type 0
+IsSoundFunction f = IsNameText f.ident × Every IsSoundParameter f.parameters × AreSoundAttributes f.return_attributes × IfSome IsSoundType f.return_type × IsSoundCompound f.body
+
+abbrev pub IsSoundUnattributedDeclaration : UnattributedDeclaration → Type 0
+IsSoundUnattributedDeclaration void = Unit {0}
+IsSoundUnattributedDeclaration (declaration d) = IsSoundDeclaration d
+IsSoundUnattributedDeclaration (type_alias a) = IsNameText a.ident × IsSoundType a.ty
+IsSoundUnattributedDeclaration (structure s) = IsNameText s.ident × Every IsSoundMember s.members
+IsSoundUnattributedDeclaration (function f) = IsSoundFunction f
+IsSoundUnattributedDeclaration (const_assert c) = IsSoundNode c.expression
+
+abbrev pub IsSoundGlobal : GlobalDeclaration → Type 0
+IsSoundGlobal d = AreSoundAttributes d.attributes × IsSoundUnattributedDeclaration d.node
+
+abbrev pub IsSoundUnit : TranslationUnit → Type 0
+IsSoundUnit u = Every IsSoundDirective u.global_directives × Every (λ (d : Spanned GlobalDeclaration). IsSoundGlobal d.node) u.global_declarations
+
+-- ---- their pieces
+
 unattributed_directive_fits : (d : UnattributedDirective) (rest : List Piece) → IsSoundUnattributedDirective d → Fits rest → Fits (unattributed_directive_pieces d rest)
 unattributed_directive_fits (diagnostic d) rest s f =
     let last = sign (codes ";") SymSemicolon rest in
     let more = rule_pieces d.rule_name (sign (codes ")") SymParenRight last) in (
-      diagnostic_fits _ refl,
+      keyword_fits _ refl refl,
       (
         left_paren_fits _,
         plain_name_fits (severity_text d.severity) (comma more) (severity_name d.severity) (closed_by_comma more)
             (comma_fits _, rule_fits d.rule_name (sign (codes ")") SymParenRight last) s (closed_by_paren last) (right_paren_fits _, (semicolon_fits _, f))),
       ),
     )
-unattributed_directive_fits (enable d) rest s f = (enable_fits _ refl, list_fits name IsNameText plain_name_fits d.extensions (sign (codes ";") SymSemicolon rest) s (closed_by_semicolon rest) (semicolon_fits _, f))
-unattributed_directive_fits (requires d) rest s f = (requires_fits _ refl, list_fits name IsNameText plain_name_fits d.extensions (sign (codes ";") SymSemicolon rest) s (closed_by_semicolon rest) (semicolon_fits _, f))
+unattributed_directive_fits (enable d) rest s f = (keyword_fits _ refl refl, list_fits name IsNameText plain_name_fits d.extensions (sign (codes ";") SymSemicolon rest) s (closed_by_semicolon rest) (semicolon_fits _, f))
+unattributed_directive_fits (requires d) rest s f = (keyword_fits _ refl refl, list_fits name IsNameText plain_name_fits d.extensions (sign (codes ";") SymSemicolon rest) s (closed_by_semicolon rest) (semicolon_fits _, f))
 
 directive_fits : (d : GlobalDirective) (rest : List Piece) → IsSoundDirective d → Fits rest → Fits (directive_pieces d rest)
 directive_fits d rest s f = attribute_lines_fit 0 d.attributes _ s.0 (unattributed_directive_fits d.node rest s.1 f)
@@ -78,7 +112,7 @@ result_fits a (Some t) rest s y f =
 function_fits : (x : Function) (rest : List Piece) → IsSoundFunction x → Fits rest → Fits (function_pieces x rest)
 function_fits x rest s f =
     let last = space ∷ result_pieces x.return_attributes x.return_type (compound_pieces 0 x.body rest) in (
-      fn_fits _ refl,
+      keyword_fits _ refl refl,
       (
         name_fits x.ident _ s.0 (ends_at_paren (list_pieces parameter_pieces x.parameters (sign (codes ")") SymParenRight last))),
         (
@@ -93,10 +127,10 @@ unattributed_fits : (d : UnattributedDeclaration) (rest : List Piece) → IsSoun
 unattributed_fits void rest s f = (semicolon_fits _, f)
 unattributed_fits (declaration d) rest s f = declaration_fits d (sign (codes ";") SymSemicolon rest) s (closed_by_semicolon rest) (semicolon_fits _, f)
 unattributed_fits (type_alias a) rest s f =
-    (alias_fits _ refl, (name_fits a.ident _ s.0 refl, (equal_fits _, closed_type_fits a.ty (sign (codes ";") SymSemicolon rest) s.1 (closed_by_semicolon rest) (semicolon_fits _, f))))
+    (keyword_fits _ refl refl, (name_fits a.ident _ s.0 refl, (equal_fits _, closed_type_fits a.ty (sign (codes ";") SymSemicolon rest) s.1 (closed_by_semicolon rest) (semicolon_fits _, f))))
 unattributed_fits (structure x) rest s f =
     let last = sign (codes "}") SymBraceRight rest in
-    (struct_fits _ refl, (name_fits x.ident _ s.0 refl, (left_brace_fits _, line_fits 0 (members_pieces x.members (line 0 last)) (members_fit x.members (line 0 last) s.1 (closed_line 0 last) (line_fits 0 last (right_brace_fits _, f))))))
+    (keyword_fits _ refl refl, (name_fits x.ident _ s.0 refl, (left_brace_fits _, line_fits 0 (members_pieces x.members (line 0 last)) (members_fit x.members (line 0 last) s.1 (closed_line 0 last) (line_fits 0 last (right_brace_fits _, f))))))
 unattributed_fits (function x) rest s f = function_fits x rest s f
 unattributed_fits (const_assert x) rest s f = assert_fits x (sign (codes ";") SymSemicolon rest) s (closed_by_semicolon rest) (semicolon_fits _, f)
 

@@ -9,12 +9,12 @@ use Rattle.unicode_ident.specs.Ident.{is_xid_start, is_xid_continue}
 use Rattle.unicode_ident.proofs.IdentLemmas.{is_xid_start-ascii, is_xid_continue-ascii}
 use Rattle.grammar.specs.Grammar.{is_among}
 use Rattle.grammar.specs.Tables.{is_empty}
-use Rattle.wgsl_model.specs.Tokens.Classes.{Ident, ReservedWord, KwTrue, KwFalse, SymShiftRightAssign, SymUnderscore, SymForwardSlash, SymDivisionEqual, SymPeriod}
+use Rattle.wgsl_model.specs.Tokens.Classes.{Ident, ReservedWord, AbstractInt, TemplateArgsStart, TemplateArgsEnd, KwTrue, KwFalse, SymShiftRightAssign, SymUnderscore, SymForwardSlash, SymDivisionEqual, SymPeriod, symbols, keywords}
 use Rattle.wgsl_model.specs.Tokens.Kind.{plain, named}
 use Rattle.wgsl_model.specs.Tokens.Pattern.{begins, begins_any, spells}
 use Rattle.wgsl_model.specs.Tokens.Numbers.{number_spelling}
 use Rattle.wgsl_model.specs.Tokens.Spelling.{identifier, spelling}
-use Rattle.wgsl_model.specs.Tokens.Words.{look_up, is_word_among, symbols, keywords, reserved_words}
+use Rattle.wgsl_model.specs.Tokens.Words.{look_up, is_word_among, reserved_words}
 use Rattle.wgsl_model.specs.Tokens.Raw.{kind_of_word, keyword_or_name}
 use Rattle.wgsl_model.specs.Tokens.Templates.{is_word, is_opening, is_closing, begins_with_greater, is_short_circuit}
 use Rattle.wgsl_model.specs.Tokens.Trivia.{after_trivia}
@@ -60,39 +60,39 @@ not_equal : (c n : ℕ) → c < n → (c == n) ≡ false
 not_equal c n h = false_from_ne_true (c == n) (λ e. (let same : c ≡ n = eqb-true c n e in omega (arith, same, h)))
 
 -- a class that is no end of a template list
-ordinary_class : (c : ℕ) → c < 80 → IsOrdinaryRole (role c)
+ordinary_class : (c : ℕ) → c < TemplateArgsStart → IsOrdinaryRole (role c)
 ordinary_class c h =
-    rw (not_equal c 80 h, not_equal c 81 (omega (arith, h))) (ordinary_role (is_among c (Ident ∷ KwTrue ∷ KwFalse ∷ [])) (is_word c) (is_among c (SymShiftRightAssign ∷ [])) (begins_with_greater c) (is_opening c) (is_closing c) (is_short_circuit c) (is_of_expressions c))
+    rw (not_equal c TemplateArgsStart h, not_equal c TemplateArgsEnd (omega (arith, h))) (ordinary_role (is_among c (Ident ∷ KwTrue ∷ KwFalse ∷ [])) (is_word c) (is_among c (SymShiftRightAssign ∷ [])) (begins_with_greater c) (is_opening c) (is_closing c) (is_short_circuit c) (is_of_expressions c))
 
 -- each class of a table is below that of identifiers
 abbrev pub all_below : List (List ℕ × ℕ) → Bool
 all_below [] = true
-all_below (e ∷ es) = nat_lt e.1 72 && all_below es
+all_below (e ∷ es) = nat_lt e.1 Ident && all_below es
 
-pub looked_up_below : (es : List (List ℕ × ℕ)) (w : List ℕ) (c : ℕ) → all_below es ≡ true → look_up es w ≡ Some c → c < 72
+pub looked_up_below : (es : List (List ℕ × ℕ)) (w : List ℕ) (c : ℕ) → all_below es ≡ true → look_up es w ≡ Some c → c < Ident
 looked_up_below [] w c s h = absurd (cc)
 looked_up_below (e ∷ es) w c s h = go (looked_up_below es w c parts.1) (bytes_eq e.0 w) h
   where
-    parts : (nat_lt e.1 72 ≡ true) × (all_below es ≡ true)
-    parts = and_parts (nat_lt e.1 72) (all_below es) s
+    parts : (nat_lt e.1 Ident ≡ true) × (all_below es ≡ true)
+    parts = and_parts (nat_lt e.1 Ident) (all_below es) s
 
-    go : (look_up es w ≡ Some c → c < 72) → (b : Bool) → cond b (Some e.1) (look_up es w) ≡ Some c → c < 72
-    go more true k = let same : e.1 ≡ c = cc in let low : e.1 < 72 = ltb-true e.1 72 parts.0 in omega (arith, same, low)
+    go : (look_up es w ≡ Some c → c < Ident) → (b : Bool) → cond b (Some e.1) (look_up es w) ≡ Some c → c < Ident
+    go more true k = let same : e.1 ≡ c = cc in let low : e.1 < Ident = ltb-true e.1 Ident parts.0 in omega (arith, same, low)
     go more false k = more k
 
 -- the class of a word is below those of numbers
-pub word_class : (bytes : List ℕ) → (kind_of_word bytes).class < 74
+pub word_class : (bytes : List ℕ) → (kind_of_word bytes).class < AbstractInt
 word_class bytes = by_underscore (bytes_eq bytes (codes "_"))
   where
-    by_reserved : (b : Bool) → (cond b (named ReservedWord bytes) (named Ident bytes)).class < 74
+    by_reserved : (b : Bool) → (cond b (named ReservedWord bytes) (named Ident bytes)).class < AbstractInt
     by_reserved true = omega arith
     by_reserved false = omega arith
 
-    by_keyword : (o : Option ℕ) → look_up keywords bytes ≡ o → (keyword_or_name o bytes).class < 74
+    by_keyword : (o : Option ℕ) → look_up keywords bytes ≡ o → (keyword_or_name o bytes).class < AbstractInt
     by_keyword (Some c) e = omega (arith, looked_up_below keywords bytes c refl e)
     by_keyword None e = by_reserved (is_word_among reserved_words bytes)
 
-    by_underscore : (b : Bool) → (cond b (plain SymUnderscore) (keyword_or_name (look_up keywords bytes) bytes)).class < 74
+    by_underscore : (b : Bool) → (cond b (plain SymUnderscore) (keyword_or_name (look_up keywords bytes) bytes)).class < AbstractInt
     by_underscore true = omega arith
     by_underscore false = by_keyword (look_up keywords bytes) refl
 

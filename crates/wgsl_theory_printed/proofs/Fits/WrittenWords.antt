@@ -1,13 +1,17 @@
 -- The words that are written out in printed modules are names: keywords, names of attributes and of values.
-use Rattle.std.proofs.Common.{ℕ, refl, List}
+use Rattle.std.proofs.Common.{◌≡◌, ℕ, Bool, true, false, cond, ◌&&◌, List, [], ◌∷◌, Some, bytes_eq, refl, sym, ap, subst, ◌∙◌}
 use Rattle.std.specs.Prelude.{codes}
-use Rattle.wgsl_model.specs.Tokens.Classes.{KwAlias, KwBreak, KwCase, KwConst, KwConstAssert, KwContinue, KwContinuing, KwDefault, KwDiagnostic, KwDiscard, KwElse, KwEnable, KwFn, KwFor, KwIf, KwLet, KwLoop, KwOverride, KwRequires, KwReturn, KwStruct, KwSwitch, KwVar, KwWhile}
+use Rattle.std.proofs.lemmas.Bool.{and_parts, true≢false}
+use Rattle.std.proofs.lemmas.Slice.Eq.{bytes_eq-Decides}
+use Rattle.wgsl_model.specs.Tokens.Classes.{SymUnderscore, keywords}
 use Rattle.wgsl_model.specs.Tokens.Kind.{plain}
+use Rattle.wgsl_model.specs.Tokens.Words.{look_up}
+use Rattle.wgsl_model.specs.Tokens.Raw.{kind_of_word, keyword_or_name}
 use Rattle.wgsl_model.specs.Trees.NamedValues.{BuiltinValue, vertex_index, builtin_value_text, DiagnosticSeverity, error, severity_text, AccessMode, read, access_mode_text, AddressSpace, function, address_space_text, InterpolationType, perspective, interpolation_type_text, InterpolationSampling, center, interpolation_sampling_text}
 use Rattle.wgsl_model.specs.Trees.Attributes.{OneArgument, align, one_argument_text, NoArgument, const_attribute, no_argument_text}
 use Rattle.wgsl_theory_printed.proofs.Spelling.Pieces.{FitsBefore}
 use Rattle.wgsl_theory_printed.proofs.Spelling.Ends.{EndsName, IsNameText}
-use Rattle.wgsl_theory_printed.proofs.Fits.FittingWords.{name_fits, word_name}
+use Rattle.wgsl_theory_printed.proofs.Fits.FittingWords.{is_ascii_word, name_fits, word_name}
 
 -- ---- names of values
 
@@ -62,74 +66,32 @@ type_name = word_name (codes "type") refl
 
 -- ---- keywords
 
-pub alias_fits : (rest : List ℕ) → EndsName rest → FitsBefore (codes "alias") (plain KwAlias) rest
-alias_fits rest e = name_fits (codes "alias") rest (word_name (codes "alias") refl) e
+-- each word of a table is a name by its letters
+abbrev are_words : List (List ℕ × ℕ) → Bool
+are_words [] = true
+are_words (e ∷ es) = is_ascii_word e.0 && are_words es
 
-pub break_fits : (rest : List ℕ) → EndsName rest → FitsBefore (codes "break") (plain KwBreak) rest
-break_fits rest e = name_fits (codes "break") rest (word_name (codes "break") refl) e
+looked_up_word : (es : List (List ℕ × ℕ)) (w : List ℕ) (c : ℕ) → are_words es ≡ true → look_up es w ≡ Some c → is_ascii_word w ≡ true
+looked_up_word [] w c s h = absurd (cc)
+looked_up_word (e ∷ es) w c s h = go (looked_up_word es w c parts.1) (bytes_eq e.0 w) refl h
+  where
+    parts : (is_ascii_word e.0 ≡ true) × (are_words es ≡ true)
+    parts = and_parts (is_ascii_word e.0) (are_words es) s
 
-pub case_fits : (rest : List ℕ) → EndsName rest → FitsBefore (codes "case") (plain KwCase) rest
-case_fits rest e = name_fits (codes "case") rest (word_name (codes "case") refl) e
+    go : (look_up es w ≡ Some c → is_ascii_word w ≡ true) → (b : Bool) → bytes_eq e.0 w ≡ b → cond b (Some e.1) (look_up es w) ≡ Some c → is_ascii_word w ≡ true
+    go more true q k = subst (λ x. is_ascii_word x ≡ true) ((bytes_eq-Decides e.0 w).0 q) parts.0
+    go more false q k = more k
 
-pub const_fits : (rest : List ℕ) → EndsName rest → FitsBefore (codes "const") (plain KwConst) rest
-const_fits rest e = name_fits (codes "const") rest (word_name (codes "const") refl) e
+-- the token of a keyword has its class
+keyword_kind : (w : List ℕ) (c : ℕ) → is_ascii_word w ≡ true → look_up keywords w ≡ Some c → kind_of_word w ≡ plain c
+keyword_kind w c n h = go (bytes_eq w (codes "_")) refl
+  where
+    go : (b : Bool) → bytes_eq w (codes "_") ≡ b → cond b (plain SymUnderscore) (keyword_or_name (look_up keywords w) w) ≡ plain c
+    go true q = absurd (true≢false (sym n ∙ ap is_ascii_word ((bytes_eq-Decides w (codes "_")).0 q)))
+    go false q = ap (λ o. keyword_or_name o w) h
 
-pub const_assert_fits : (rest : List ℕ) → EndsName rest → FitsBefore (codes "const_assert") (plain KwConstAssert) rest
-const_assert_fits rest e = name_fits (codes "const_assert") rest (word_name (codes "const_assert") refl) e
-
-pub continue_fits : (rest : List ℕ) → EndsName rest → FitsBefore (codes "continue") (plain KwContinue) rest
-continue_fits rest e = name_fits (codes "continue") rest (word_name (codes "continue") refl) e
-
-pub continuing_fits : (rest : List ℕ) → EndsName rest → FitsBefore (codes "continuing") (plain KwContinuing) rest
-continuing_fits rest e = name_fits (codes "continuing") rest (word_name (codes "continuing") refl) e
-
-pub default_fits : (rest : List ℕ) → EndsName rest → FitsBefore (codes "default") (plain KwDefault) rest
-default_fits rest e = name_fits (codes "default") rest (word_name (codes "default") refl) e
-
-pub diagnostic_fits : (rest : List ℕ) → EndsName rest → FitsBefore (codes "diagnostic") (plain KwDiagnostic) rest
-diagnostic_fits rest e = name_fits (codes "diagnostic") rest (word_name (codes "diagnostic") refl) e
-
-pub discard_fits : (rest : List ℕ) → EndsName rest → FitsBefore (codes "discard") (plain KwDiscard) rest
-discard_fits rest e = name_fits (codes "discard") rest (word_name (codes "discard") refl) e
-
-pub else_fits : (rest : List ℕ) → EndsName rest → FitsBefore (codes "else") (plain KwElse) rest
-else_fits rest e = name_fits (codes "else") rest (word_name (codes "else") refl) e
-
-pub enable_fits : (rest : List ℕ) → EndsName rest → FitsBefore (codes "enable") (plain KwEnable) rest
-enable_fits rest e = name_fits (codes "enable") rest (word_name (codes "enable") refl) e
-
-pub fn_fits : (rest : List ℕ) → EndsName rest → FitsBefore (codes "fn") (plain KwFn) rest
-fn_fits rest e = name_fits (codes "fn") rest (word_name (codes "fn") refl) e
-
-pub for_fits : (rest : List ℕ) → EndsName rest → FitsBefore (codes "for") (plain KwFor) rest
-for_fits rest e = name_fits (codes "for") rest (word_name (codes "for") refl) e
-
-pub if_fits : (rest : List ℕ) → EndsName rest → FitsBefore (codes "if") (plain KwIf) rest
-if_fits rest e = name_fits (codes "if") rest (word_name (codes "if") refl) e
-
-pub let_fits : (rest : List ℕ) → EndsName rest → FitsBefore (codes "let") (plain KwLet) rest
-let_fits rest e = name_fits (codes "let") rest (word_name (codes "let") refl) e
-
-pub loop_fits : (rest : List ℕ) → EndsName rest → FitsBefore (codes "loop") (plain KwLoop) rest
-loop_fits rest e = name_fits (codes "loop") rest (word_name (codes "loop") refl) e
-
-pub override_fits : (rest : List ℕ) → EndsName rest → FitsBefore (codes "override") (plain KwOverride) rest
-override_fits rest e = name_fits (codes "override") rest (word_name (codes "override") refl) e
-
-pub requires_fits : (rest : List ℕ) → EndsName rest → FitsBefore (codes "requires") (plain KwRequires) rest
-requires_fits rest e = name_fits (codes "requires") rest (word_name (codes "requires") refl) e
-
-pub return_fits : (rest : List ℕ) → EndsName rest → FitsBefore (codes "return") (plain KwReturn) rest
-return_fits rest e = name_fits (codes "return") rest (word_name (codes "return") refl) e
-
-pub struct_fits : (rest : List ℕ) → EndsName rest → FitsBefore (codes "struct") (plain KwStruct) rest
-struct_fits rest e = name_fits (codes "struct") rest (word_name (codes "struct") refl) e
-
-pub switch_fits : (rest : List ℕ) → EndsName rest → FitsBefore (codes "switch") (plain KwSwitch) rest
-switch_fits rest e = name_fits (codes "switch") rest (word_name (codes "switch") refl) e
-
-pub var_fits : (rest : List ℕ) → EndsName rest → FitsBefore (codes "var") (plain KwVar) rest
-var_fits rest e = name_fits (codes "var") rest (word_name (codes "var") refl) e
-
-pub while_fits : (rest : List ℕ) → EndsName rest → FitsBefore (codes "while") (plain KwWhile) rest
-while_fits rest e = name_fits (codes "while") rest (word_name (codes "while") refl) e
+-- a keyword fits before what no name goes on with
+pub keyword_fits : {w : List ℕ} {c : ℕ} (rest : List ℕ) → look_up keywords w ≡ Some c → EndsName rest → FitsBefore w (plain c) rest
+keyword_fits {w} {c} rest h e =
+    let n = looked_up_word keywords w c refl h in
+    subst (λ k. FitsBefore w k rest) (keyword_kind w c n h) (name_fits w rest (word_name w n) e)

@@ -1,26 +1,33 @@
 -- What a text derives is sound: its names and literals are spelled as they are printed, and it is printed as it is read.
-use Rattle.std.proofs.Common.{◌≡◌, ℕ, ◌==◌, Bool, true, false, cond, refl, List, [], ◌∷◌, Option, Some, None}
+use Rattle.std.proofs.Common.{◌≡◌, ℕ, ◌==◌, Bool, true, false, cond, refl, List, [], ◌∷◌, Option, Some, None, lit<}
+use Rattle.std.specs.Prelude.{codes}
+use Rattle.std.proofs.lemmas.Str.{IsUtf8-from_ascii, chars-IsAscii}
+use Rattle.unicode_ident.proofs.IdentLemmas.{is_xid_start-ascii}
 use Rattle.grammar.specs.Tokens.{Token}
-use Rattle.grammar.specs.Grammar.{Grammar.symbol, Grammar.left_chain}
+use Rattle.grammar.specs.Grammar.{Grammar.symbol, Grammar.left_chain, Grammar.token}
 use Rattle.grammar.specs.Notation.{◌or◌, ◌means◌, list}
-use Rattle.wgsl_model.specs.Tokens.Classes.{SymBraceLeft, SymBraceRight, SymSemicolon, SymEqual, KwConst, KwElse, KwFor, KwIf, KwLet, KwLoop, KwReturn, KwSwitch, KwWhile, SymAnd, SymAndAnd, SymAttr, SymBracketLeft, SymBracketRight, SymComma, SymMinusMinus, SymOr, SymOrOr, SymParenLeft, SymParenRight, SymPeriod, SymShiftLeft, SymShiftRight, SymStar, SymXor, Ident, ReservedWord, TemplateArgsStart, TemplateArgsEnd}
-use Rattle.wgsl_model.specs.Trees.Operators.{address_of, indirection, BinaryOperator, short_circuit_or, short_circuit_and, subtraction, bitwise_or, bitwise_and, bitwise_xor, shift_left, shift_right}
+use Rattle.wgsl_model.specs.Tokens.Classes.{SymBraceLeft, SymBraceRight, SymSemicolon, SymEqual, KwConst, KwElse, KwFor, KwIf, KwLet, KwLoop, KwReturn, KwSwitch, KwWhile, SymAnd, SymAndAnd, SymAttr, SymBracketLeft, SymBracketRight, SymComma, SymMinusMinus, SymOr, SymOrOr, SymParenLeft, SymParenRight, SymPeriod, SymShiftLeft, SymShiftRight, SymStar, SymXor, Ident, ReservedWord, TemplateArgsStart, TemplateArgsEnd, SymPlusPlus, SymUnderscore, KwBreak, KwContinue, KwDiscard, symbols}
+use Rattle.wgsl_model.specs.Trees.Operators.{address_of, indirection, BinaryOperator, short_circuit_or, short_circuit_and, subtraction, bitwise_or, bitwise_and, bitwise_xor, shift_left, shift_right, AssignmentOperator.equal}
 use Rattle.wgsl_model.specs.Trees.Spanned.{Spanned}
 use Rattle.wgsl_model.specs.Trees.Expressions.{ExpressionNode, expression_node, Expression, expressions_of, template_of}
 use Rattle.wgsl_model.specs.Trees.Attributes.{Attribute}
 use Rattle.wgsl_model.specs.Trees.Statements as tree
-use Rattle.wgsl_model.specs.Trees.Statements.{DeclarationKind, StatementNode, statement_node, UnattributedStatement, CompoundStatement, ElseIfClause, ElseClause, else_clause, SwitchClause, ContinuingStatement, statements_of, else_ifs_of, else_of, clauses_of, continuing_of, maybe_statement}
+use Rattle.wgsl_model.specs.Trees.Statements.{DeclarationKind, StatementNode, statement_node, UnattributedStatement, CompoundStatement, ElseIfClause, ElseClause, else_clause, SwitchClause, ContinuingStatement, statements_of, else_ifs_of, else_of, clauses_of, continuing_of, maybe_statement, local_of, compound_of, assignment_of, call_statement_of, return_of, if_of, assert_statement, switch_of, loop_of, for_of, while_of, increment_of, decrement_of}
 use Rattle.wgsl_model.specs.Grammar.TokenValues.{text_of, literal_of}
 use Rattle.wgsl_model.specs.Grammar.Checks.{unreserved, attribute_parts, attribute_fault, attribute_node}
 use Rattle.wgsl_model.specs.Grammar.ExpressionParts.{placed_expression, type_of, call_of, index_of, component_of, with_component, unary_of, binary_of, operation_of, negation_of, negated_product_of, two, two_or_more, unary_operator, multiplicative_operator, additive_operator, relational_operator}
-use Rattle.wgsl_model.specs.Grammar.StatementParts.{placed_statement, variable_at, parenthesized_at, attributed, local_of, compound_of, assignment_of, call_statement_of, return_of, if_of, assert_statement, switch_of, loop_of, for_of, while_of, attributes, statements, initializer, var_kind, assignment_operator, else_if, else_block, open_left_side, parenthesized_left_side, left_side}
+use Rattle.wgsl_model.specs.Grammar.StatementParts.{placed_statement, variable_at, parenthesized_at, attributed, attributes, statements, initializer, var_kind, assignment_operator, else_if, else_block, open_left_side, parenthesized_left_side, left_side, underscore_at, led}
 use Rattle.wgsl_model.specs.Grammar.UnitParts.{rule_of, texts_of}
-use Rattle.wgsl_model.specs.Grammar.Symbols.{Rule, ident, type_specifier, template_list, call, arguments, literal, primary_expression, singular_expression, component, unary_expression, multiplicative_expression, negated_expression, additive_expression, shift_expression, relational_expression, expression, lhs_expression, attribute, compound_statement, statement, return_statement, if_statement, switch_statement, loop_statement, for_statement, while_statement, call_statement, var_statement, value_statement, break_statement, continue_statement, discard_statement, assignment, phony_assignment, increment, decrement, const_assert, switch_clause, continuing_statement, for_init, for_update, typed_ident, Dialect.whole}
+use Rattle.wgsl_model.specs.Grammar.Symbols.{Dialect.whole, Symbol, Rule, ident, type_specifier, template_list, call, arguments, literal, primary_expression, singular_expression, component, unary_expression, multiplicative_expression, negated_expression, additive_expression, shift_expression, relational_expression, expression, lhs_expression, attribute, compound_statement, statement, return_statement, if_statement, switch_statement, loop_statement, for_statement, while_statement, call_statement, var_statement, value_statement, break_statement, continue_statement, discard_statement, assignment, phony_assignment, increment, decrement, const_assert, switch_clause, continuing_statement, for_init, for_update, typed_ident}
 use Rattle.wgsl_model.specs.Grammar.Written.{written}
+use Rattle.wgsl_theory_reread.proofs.Again.{IsKind}
 use Rattle.wgsl_theory_reread.proofs.EachRule.ExpressionRules.{literal_classes}
+use Rattle.wgsl_theory_printed.proofs.Spelling.Signs.{looked_up, spelled_symbol}
 use Rattle.wgsl_theory_printed.proofs.Spelling.Ends.{IsNameText}
+use Rattle.wgsl_theory_printed.proofs.Fits.FittingWords.{plain_ascii}
 use Rattle.wgsl_theory_printed.proofs.Fits.SoundExpressions.{IsSoundLiteral, IsPrimary, IsPrimaryNode, IsOperand, IsOperandNode, IsSoundExpression, IsSoundNode, IsSoundCall, AreSoundNodes, IsSoundTemplate, IsSoundType}
-use Rattle.wgsl_theory_printed.proofs.Fits.SoundUnits.{EndsWithNameNode, IfSome, Every, IsSoundRule, IsSoundAttribute, AreSoundAttributes, IsSoundStatement, IsSoundUnattributed, AreSoundStatements, IsSoundCompound, AreSoundElseIfs, IsSoundElseIf, IsSoundElse, IsSoundElseClause, AreSoundClauses, IsSoundClause, IsSoundMaybeContinuing, IsSoundContinuing, IsSoundPart}
+use Rattle.wgsl_theory_printed.proofs.Fits.FittingAttributes.{IfSome, Every, IsSoundRule, IsSoundAttribute, AreSoundAttributes}
+use Rattle.wgsl_theory_printed.proofs.Fits.FittingStatements.{EndsWithNameNode, IsSoundStatement, IsSoundUnattributed, AreSoundStatements, IsSoundCompound, AreSoundElseIfs, IsSoundElseIf, IsSoundElse, IsSoundElseClause, AreSoundClauses, IsSoundClause, IsSoundMaybeContinuing, IsSoundContinuing, IsSoundPart}
 use Rattle.wgsl_theory_printed.proofs.Sound.Scanned.{word_classes}
 use Rattle.wgsl_theory_printed.proofs.Sound.SoundAttributes.{one_name_rule, two_names_rule, attribute_sound}
 use Rattle.wgsl_theory_reread.proofs.Gives.{anything, token_sound, symbol_sound, then_sound, or_sound, gives_sound, makes_sound, check_sound, weaker_sound, chain_sound, sign_before, sign_behind, means_sound}
@@ -240,7 +247,7 @@ statement_gives = makes_sound
 pub attributed_gives : {g : Rule UnattributedStatement} → Gives g IsSoundUnattributed → Gives (attributed tree.statement g) IsSoundStatement
 attributed_gives G = gives_sound (then_sound attributes_give G) (λ p. tree.statement p.0 p.1) IsSoundStatement (λ p h. h)
 
-pub return_statement_gives : Gives (written return_statement) (Sound return_statement)
+return_statement_gives : Gives (written return_statement) (Sound return_statement)
 return_statement_gives = attributed_gives (gives_sound (sign_before KwReturn (optional_sound (symbol_sound expression))) return_of IsSoundUnattributed (λ o h. h))
 
 else_if_gives : Gives else_if IsSoundElseIf
@@ -249,38 +256,38 @@ else_if_gives = gives_sound (sign_before KwElse (sign_before KwIf (then_sound (s
 else_block_gives : Gives else_block IsSoundElseClause
 else_block_gives = gives_sound (sign_before KwElse (symbol_sound compound_statement)) (tree.else_clause []) IsSoundElseClause (λ b h. (tt, h))
 
-pub if_statement_gives : Gives (written if_statement) (Sound if_statement)
+if_statement_gives : Gives (written if_statement) (Sound if_statement)
 if_statement_gives = attributed_gives (gives_sound
     (sign_before KwIf (then_sound (symbol_sound expression) (then_sound (symbol_sound compound_statement) (then_sound (many_sound else_if_gives) (optional_sound else_block_gives)))))
     (λ p. if_of p.0 p.1.0 p.1.1) IsSoundUnattributed (λ p h. ((h.0, h.1.0), else_ifs_sound p.1.1.0 h.1.1.0, else_sound p.1.1.1 h.1.1.1)))
 
-pub switch_statement_gives : Gives (written switch_statement) (Sound switch_statement)
+switch_statement_gives : Gives (written switch_statement) (Sound switch_statement)
 switch_statement_gives = attributed_gives (gives_sound
     (sign_before KwSwitch (then_sound (symbol_sound expression) (then_sound attributes_give (sign_before SymBraceLeft (sign_behind SymBraceRight (several_sound (symbol_sound switch_clause)))))))
     (λ p. switch_of p.0 p.1.0 p.1.1) IsSoundUnattributed (λ p h. (h.0, h.1.0, clauses_sound p.1.1 h.1.1)))
 
-pub loop_statement_gives : Gives (written loop_statement) (Sound loop_statement)
+loop_statement_gives : Gives (written loop_statement) (Sound loop_statement)
 loop_statement_gives = attributed_gives (gives_sound
     (sign_before KwLoop (then_sound attributes_give (sign_before SymBraceLeft (sign_behind SymBraceRight (then_sound statements_give (optional_sound (symbol_sound continuing_statement)))))))
     (λ p. loop_of p.0 p.1.0 p.1.1) IsSoundUnattributed (λ p h. ((h.0, statements_sound p.1.0 h.1.0), continuing_sound p.1.1 h.1.1)))
 
-pub for_statement_gives : Gives (written for_statement) (Sound for_statement)
+for_statement_gives : Gives (written for_statement) (Sound for_statement)
 for_statement_gives = attributed_gives (gives_sound
     (sign_before KwFor (sign_before SymParenLeft (then_sound (sign_behind SymSemicolon (optional_sound (symbol_sound for_init))) (then_sound (sign_behind SymSemicolon (optional_sound (symbol_sound expression)))
     (then_sound (sign_behind SymParenRight (optional_sound (symbol_sound for_update))) (symbol_sound compound_statement))))))
     (λ p. for_of p.0 p.1.0 p.1.1.0 p.1.1.1) IsSoundUnattributed (λ p h. (part_sound p.0 h.0, h.1.0, part_sound p.1.1.0 h.1.1.0, h.1.1.1)))
 
-pub while_statement_gives : Gives (written while_statement) (Sound while_statement)
+while_statement_gives : Gives (written while_statement) (Sound while_statement)
 while_statement_gives = attributed_gives (gives_sound (sign_before KwWhile (then_sound (symbol_sound expression) (symbol_sound compound_statement))) (λ p. while_of p.0 p.1) IsSoundUnattributed (λ p h. h))
 
-pub call_statement_gives : Gives (written call_statement) (Sound call_statement)
+call_statement_gives : Gives (written call_statement) (Sound call_statement)
 call_statement_gives = attributed_gives (gives_sound (symbol_sound call) call_statement_of IsSoundUnattributed (λ c h. h))
 
-pub var_statement_gives : Gives (written var_statement) (Sound var_statement)
+var_statement_gives : Gives (written var_statement) (Sound var_statement)
 var_statement_gives = attributed_gives (gives_sound (then_sound (anything var_kind) (then_sound (symbol_sound typed_ident) (optional_sound initializer_gives)))
     (λ p. local_of p.0 p.1.0 p.1.1) IsSoundUnattributed (λ p h. (h.1.0.0, h.1.0.1, h.1.1)))
 
-pub value_statement_gives : Gives (written value_statement) (Sound value_statement)
+value_statement_gives : Gives (written value_statement) (Sound value_statement)
 value_statement_gives = attributed_gives (gives_sound (then_sound (anything (KwLet means DeclarationKind.let_kind or KwConst means DeclarationKind.const_kind)) (then_sound (symbol_sound typed_ident) initializer_gives))
     (λ p. local_of p.0 p.1.0 (Some p.1.1)) IsSoundUnattributed (λ p h. (h.1.0.0, h.1.0.1, h.1.1)))
 
@@ -288,6 +295,50 @@ value_statement_gives = attributed_gives (gives_sound (then_sound (anything (KwL
 pub left_side_gives : Gives (left_side whole) (λ p. AreSoundAttributes p.0 × Sound lhs_expression p.1)
 left_side_gives = or_sound (then_sound attributes_give open_left_side_gives) (gives_sound parenthesized_left_side_gives (λ e. ([], e)) (λ p. AreSoundAttributes p.0 × Sound lhs_expression p.1) (λ e h. (tt, h)))
 
-pub assignment_gives : Gives (written assignment) (Sound assignment)
+assignment_gives : Gives (written assignment) (Sound assignment)
 assignment_gives = gives_sound (then_sound left_side_gives (then_sound (anything assignment_operator) (symbol_sound expression)))
     (λ p. tree.statement p.0.0 (assignment_of p.0.1 p.1.0 p.1.1)) IsSoundStatement (λ p h. (h.0.0, (h.0.1.2, h.1.1)))
+
+-- attributes and a word
+word_gives : (class : ℕ) (s : UnattributedStatement) → IsSoundUnattributed s → Gives (led whole tree.statement (class means s)) IsSoundStatement
+word_gives class s h = attributed_gives (means_sound class s IsSoundUnattributed h)
+
+-- the name `_`
+underscore_name : IsNameText (codes "_")
+underscore_name = record {
+  utf8 = IsUtf8-from_ascii (codes "_") (plain_ascii (codes "_") refl);
+  first = 95;
+  others = [];
+  characters = chars-IsAscii (codes "_") (plain_ascii (codes "_") refl);
+  begins = rw (is_xid_start-ascii 95 (lit< tt)) refl;
+  spelled = spelled_symbol (codes "_") (looked_up symbols (codes "_") SymUnderscore refl);
+}
+
+phony_assignment_gives : Gives (written phony_assignment) (Sound phony_assignment)
+phony_assignment_gives = attributed_gives (gives_sound (then_sound (makes_sound (anything (token (SymUnderscore ∷ []))) underscore_at IsSoundNode (λ t s h. (underscore_name, tt))) initializer_gives) (λ p. assignment_of p.0 equal p.1) IsSoundUnattributed (λ p h. h))
+
+increment_gives : Gives (written increment) (Sound increment)
+increment_gives = gives_sound (sign_behind SymPlusPlus left_side_gives) (λ p. tree.statement p.0 (increment_of p.1)) IsSoundStatement (λ p h. (h.0, (h.1.1, h.1.2)))
+
+decrement_gives : Gives (written decrement) (Sound decrement)
+decrement_gives = gives_sound (sign_behind SymMinusMinus left_side_gives) (λ p. tree.statement p.0 (decrement_of p.1)) IsSoundStatement (λ p h. (h.0, (h.1.1, h.1.2)))
+
+-- each kind of statements
+pub kind_gives : (n : Symbol) → IsKind n → Gives (written n) (Sound n)
+kind_gives return_statement kind = return_statement_gives
+kind_gives if_statement kind = if_statement_gives
+kind_gives switch_statement kind = switch_statement_gives
+kind_gives loop_statement kind = loop_statement_gives
+kind_gives for_statement kind = for_statement_gives
+kind_gives while_statement kind = while_statement_gives
+kind_gives call_statement kind = call_statement_gives
+kind_gives var_statement kind = var_statement_gives
+kind_gives value_statement kind = value_statement_gives
+kind_gives break_statement kind = word_gives KwBreak UnattributedStatement.break_statement tt
+kind_gives continue_statement kind = word_gives KwContinue UnattributedStatement.continue_statement tt
+kind_gives discard_statement kind = word_gives KwDiscard UnattributedStatement.discard_statement tt
+kind_gives assignment kind = assignment_gives
+kind_gives phony_assignment kind = phony_assignment_gives
+kind_gives increment kind = increment_gives
+kind_gives decrement kind = decrement_gives
+kind_gives n kind = absurd kind

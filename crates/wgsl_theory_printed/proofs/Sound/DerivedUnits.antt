@@ -1,22 +1,15 @@
 -- A module that a text derives is sound: its printed text is UTF-8, and is read along the tokens that are written from the module.
-use Rattle.std.proofs.Common.{ℕ, refl, List, [], ◌∷◌, Option, Some, None, lit<}
-use Rattle.std.specs.Prelude.{codes}
+use Rattle.std.proofs.Common.{ℕ, List, [], ◌∷◌, Option, Some, None}
 use Rattle.std.specs.Str.{IsUtf8, chars}
-use Rattle.std.proofs.lemmas.Str.{IsUtf8-from_ascii, chars-IsAscii}
-use Rattle.unicode_ident.proofs.IdentLemmas.{is_xid_start-ascii}
 use Rattle.grammar.specs.Tokens.{Token}
 use Rattle.grammar.specs.Grammar.{Mode.checking, Grammar.token}
-use Rattle.grammar.specs.Notation.{◌means◌}
 use Rattle.grammar.proofs.Reading.Depth.{least}
-use Rattle.wgsl_model.specs.Tokens.Classes.{SymArrow, SymBraceLeft, SymBraceRight, SymColon, SymComma, SymEqual, SymMinusMinus, SymParenLeft, SymParenRight, SymPeriod, SymPlusPlus, SymSemicolon, SymUnderscore, KwAlias, KwBreak, KwCase, KwConst, KwConstAssert, KwContinue, KwContinuing, KwDefault, KwDiagnostic, KwDiscard, KwEnable, KwFn, KwIf, KwOverride, KwRequires, KwStruct, KwVar}
-use Rattle.wgsl_model.specs.Trees.Operators.{AssignmentOperator.equal}
+use Rattle.wgsl_model.specs.Tokens.Classes.{SymArrow, SymBraceLeft, SymBraceRight, SymColon, SymComma, SymEqual, SymParenLeft, SymParenRight, SymPeriod, SymSemicolon, KwAlias, KwBreak, KwCase, KwConst, KwConstAssert, KwContinuing, KwDefault, KwDiagnostic, KwEnable, KwFn, KwIf, KwOverride, KwRequires, KwStruct, KwVar}
 use Rattle.wgsl_model.specs.Trees.Spanned.{spanned}
-use Rattle.wgsl_model.specs.Tokens.Words.{symbols}
 use Rattle.wgsl_model.specs.Trees.Expressions.{TypeExpression}
 use Rattle.wgsl_model.specs.Trees.Attributes.{Attributes}
 use Rattle.wgsl_model.specs.Trees.Attributed.{with_attributes, without_attributes, Attributed}
-use Rattle.wgsl_model.specs.Trees.Statements as statements
-use Rattle.wgsl_model.specs.Trees.Statements.{DeclarationKind, UnattributedStatement, CompoundStatement, CaseSelector, BreakIfStatement, ConstAssert}
+use Rattle.wgsl_model.specs.Trees.Statements.{DeclarationKind, CompoundStatement, CaseSelector, BreakIfStatement, ConstAssert, assert_of, clause_of, break_if_of, continuing_statement_of, compound_of}
 use Rattle.wgsl_model.specs.Trees.Units.{UnattributedDeclaration, TranslationUnit, FormalParameter, UnattributedDirective}
 use Rattle.wgsl_model.specs.Printed.Units.{print_unit}
 use Rattle.wgsl_model.specs.Program.{IsUnit}
@@ -24,48 +17,23 @@ use Rattle.wgsl_model.specs.Tokens.TokenList.{width}
 use Rattle.grammar.specs.Endings.{Ending.finished}
 use Rattle.wgsl_model.specs.Grammar.TokenValues.{text_of}
 use Rattle.wgsl_model.specs.Grammar.Checks.{var_fault, severity_fault}
-use Rattle.wgsl_model.specs.Grammar.StatementParts.{placed_statement, underscore_at, assignment_of, increment_of, decrement_of, assert_of, clause_of, break_if, var_kind, attributed, break_if_of, continuing_statement_of, compound_of, led}
+use Rattle.wgsl_model.specs.Grammar.StatementParts.{placed_statement, break_if, var_kind, attributed}
 use Rattle.wgsl_model.specs.Grammar.UnitParts.{attributed_ident, member_of, parameter_of, value_of, alias_of, struct_of, return_part, function_of, enable_of, requires_of, diagnostic_of, assert_declaration}
-use Rattle.wgsl_model.specs.Grammar.Symbols.{Symbol, ident, type_specifier, template_list, expressions, call, arguments, literal, primary_expression, singular_expression, component, unary_expression, multiplicative_expression, negated_expression, additive_expression, shift_expression, relational_expression, expression, lhs_expression, attribute, compound_statement, statement, return_statement, if_statement, switch_statement, loop_statement, for_statement, while_statement, call_statement, var_statement, value_statement, break_statement, continue_statement, discard_statement, assignment, phony_assignment, increment, decrement, const_assert, switch_clause, case_selector, continuing_statement, for_init, for_update, var_template, typed_ident, struct_member, formal_parameter, global_declaration, var_declaration, const_declaration, override_declaration, alias_declaration, struct_declaration, function_declaration, diagnostic_severity, global_directive, enable_directive, requires_directive, diagnostic_directive, unit, Rule, Dialect.whole}
+use Rattle.wgsl_model.specs.Grammar.Symbols.{Symbol, ident, type_specifier, template_list, expressions, call, arguments, literal, primary_expression, singular_expression, component, unary_expression, multiplicative_expression, negated_expression, additive_expression, shift_expression, relational_expression, expression, lhs_expression, attribute, compound_statement, statement, call_statement, var_statement, value_statement, assignment, phony_assignment, increment, decrement, const_assert, switch_clause, case_selector, continuing_statement, for_init, for_update, var_template, typed_ident, struct_member, formal_parameter, global_declaration, var_declaration, const_declaration, override_declaration, alias_declaration, struct_declaration, function_declaration, diagnostic_severity, global_directive, enable_directive, requires_directive, diagnostic_directive, unit, Rule, Dialect.whole}
 use Rattle.wgsl_model.specs.Grammar.Written.{written}
 use Rattle.wgsl_theory_reread.specs.CanonicalUnits.{canonical}
 use Rattle.wgsl_theory_templates.proofs.Lexed.LexedAlong.{Along}
-use Rattle.wgsl_theory_printed.proofs.Spelling.Signs.{looked_up, spelled_symbol}
 use Rattle.wgsl_theory_printed.proofs.Spelling.Ends.{IsNameText}
-use Rattle.wgsl_theory_printed.proofs.Fits.FittingWords.{plain_ascii}
 use Rattle.wgsl_theory_printed.proofs.Fits.SoundExpressions.{IsSoundNode, IsSoundType}
-use Rattle.wgsl_theory_printed.proofs.Fits.SoundUnits.{IfSome, Every, AreSoundAttributes, IsSoundSelector, IsSoundStatement, IsSoundClause, IsSoundContinuing, IsSoundDirective, IsSoundMember, IsSoundParameter, IsSoundUnattributedDeclaration, IsSoundGlobal, IsSoundUnit, IsSoundUnattributed, IsSoundUnattributedDirective, IsSoundBreakIf, IsSoundCompound}
-use Rattle.wgsl_theory_printed.proofs.Fits.FittingUnits.{sound_utf8, sound_along}
+use Rattle.wgsl_theory_printed.proofs.Fits.FittingAttributes.{IfSome, Every, AreSoundAttributes}
+use Rattle.wgsl_theory_printed.proofs.Fits.FittingStatements.{IsSoundSelector, IsSoundClause, IsSoundContinuing, IsSoundBreakIf, IsSoundCompound}
+use Rattle.wgsl_theory_printed.proofs.Fits.FittingUnits.{IsSoundDirective, IsSoundMember, IsSoundParameter, IsSoundUnattributedDeclaration, IsSoundGlobal, IsSoundUnit, IsSoundUnattributedDirective, sound_utf8, sound_along}
 use Rattle.wgsl_theory_printed.proofs.Sound.Scanned.{tokens_scanned}
 use Rattle.wgsl_theory_reread.proofs.Gives.{Given, symbol_sound, then_sound, or_sound, gives_sound, makes_sound, check_sound, weaker_sound, anything, sign_before, sign_behind, means_sound}
 use Rattle.wgsl_theory_printed.proofs.Sound.SoundRules.{IsSoundStatementNode, IsFromText, Sound, Gives, optional_sound, many_sound, list_sound, list_or_none_sound}
-use Rattle.wgsl_theory_printed.proofs.Sound.DerivedSound.{texts_sound, rule_of_sound, statements_sound, list_gives, attributes_give, statements_give, initializer_gives, additive_expression_gives, arguments_gives, assignment_gives, attribute_gives, call_gives, call_statement_gives, component_gives, compound_statement_gives, expression_gives, for_statement_gives, ident_gives, if_statement_gives, lhs_expression_gives, literal_gives, loop_statement_gives, multiplicative_expression_gives, negated_expression_gives, primary_expression_gives, relational_expression_gives, return_statement_gives, shift_expression_gives, singular_expression_gives, statement_gives, switch_statement_gives, template_list_gives, type_specifier_gives, unary_expression_gives, value_statement_gives, var_statement_gives, while_statement_gives, attributed_gives, left_side_gives}
+use Rattle.wgsl_theory_printed.proofs.Sound.DerivedSound.{texts_sound, rule_of_sound, statements_sound, list_gives, attributes_give, statements_give, initializer_gives, additive_expression_gives, arguments_gives, attribute_gives, call_gives, component_gives, compound_statement_gives, expression_gives, ident_gives, lhs_expression_gives, literal_gives, multiplicative_expression_gives, negated_expression_gives, primary_expression_gives, relational_expression_gives, shift_expression_gives, singular_expression_gives, statement_gives, template_list_gives, type_specifier_gives, unary_expression_gives, kind_gives}
 
 -- ---- statements
-
--- attributes and a word
-word_gives : (class : ℕ) (s : UnattributedStatement) → IsSoundUnattributed s → Gives (led whole statements.statement (class means s)) IsSoundStatement
-word_gives class s h = attributed_gives (means_sound class s IsSoundUnattributed h)
-
--- the name `_`
-underscore_name : IsNameText (codes "_")
-underscore_name = record {
-  utf8 = IsUtf8-from_ascii (codes "_") (plain_ascii (codes "_") refl);
-  first = 95;
-  others = [];
-  characters = chars-IsAscii (codes "_") (plain_ascii (codes "_") refl);
-  begins = rw (is_xid_start-ascii 95 (lit< tt)) refl;
-  spelled = spelled_symbol (codes "_") (looked_up symbols (codes "_") SymUnderscore refl);
-}
-
-phony_assignment_gives : Gives (written phony_assignment) (Sound phony_assignment)
-phony_assignment_gives = attributed_gives (gives_sound (then_sound (makes_sound (anything (token (SymUnderscore ∷ []))) underscore_at IsSoundNode (λ t s h. (underscore_name, tt))) initializer_gives) (λ p. assignment_of p.0 equal p.1) IsSoundUnattributed (λ p h. h))
-
-increment_gives : Gives (written increment) (Sound increment)
-increment_gives = gives_sound (sign_behind SymPlusPlus left_side_gives) (λ p. statements.statement p.0 (increment_of p.1)) IsSoundStatement (λ p h. (h.0, (h.1.1, h.1.2)))
-
-decrement_gives : Gives (written decrement) (Sound decrement)
-decrement_gives = gives_sound (sign_behind SymMinusMinus left_side_gives) (λ p. statements.statement p.0 (decrement_of p.1)) IsSoundStatement (λ p h. (h.0, (h.1.1, h.1.2)))
 
 const_assert_gives : Gives (written const_assert) (Sound const_assert)
 const_assert_gives = gives_sound (then_sound attributes_give (gives_sound (sign_before KwConstAssert (symbol_sound expression)) assert_of (λ (c : ConstAssert). IsSoundNode c.expression) (λ e h. h)))
@@ -214,22 +182,6 @@ rules lhs_expression = lhs_expression_gives
 rules attribute = attribute_gives
 rules compound_statement = compound_statement_gives
 rules statement = statement_gives
-rules return_statement = return_statement_gives
-rules if_statement = if_statement_gives
-rules switch_statement = switch_statement_gives
-rules loop_statement = loop_statement_gives
-rules for_statement = for_statement_gives
-rules while_statement = while_statement_gives
-rules call_statement = call_statement_gives
-rules var_statement = var_statement_gives
-rules value_statement = value_statement_gives
-rules break_statement = word_gives KwBreak UnattributedStatement.break_statement tt
-rules continue_statement = word_gives KwContinue UnattributedStatement.continue_statement tt
-rules discard_statement = word_gives KwDiscard UnattributedStatement.discard_statement tt
-rules assignment = assignment_gives
-rules phony_assignment = phony_assignment_gives
-rules increment = increment_gives
-rules decrement = decrement_gives
 rules const_assert = const_assert_gives
 rules switch_clause = switch_clause_gives
 rules case_selector = case_selector_gives
@@ -253,6 +205,7 @@ rules enable_directive = enable_directive_gives
 rules requires_directive = requires_directive_gives
 rules diagnostic_directive = diagnostic_directive_gives
 rules unit = unit_gives
+rules n = kind_gives n tt
 
 -- a module that a text derives
 unit_sound : (source : List ℕ) (u : TranslationUnit) → IsUnit source u → IsSoundUnit u

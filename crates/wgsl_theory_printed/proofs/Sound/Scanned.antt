@@ -12,10 +12,10 @@ use Rattle.grammar.specs.Grammar.{is_among}
 use Rattle.grammar.specs.Endings.{Ending}
 use Rattle.grammar.specs.Tables.{is_empty}
 use Rattle.wgsl_model.specs.Tokens.Characters.{is_blank}
-use Rattle.wgsl_model.specs.Tokens.Classes.{Ident, ReservedWord, AbstractInt, I32, U32, AbstractFloat, F32, F16, KwTrue, KwFalse, SymUnderscore, TemplateArgsStart, TemplateArgsEnd}
+use Rattle.wgsl_model.specs.Tokens.Classes.{Ident, ReservedWord, AbstractInt, I32, U32, AbstractFloat, F32, F16, KwTrue, KwFalse, SymUnderscore, TemplateArgsStart, TemplateArgsEnd, symbols, keywords}
 use Rattle.wgsl_model.specs.Trees.Expressions.{LiteralExpression, boolean}
 use Rattle.wgsl_model.specs.Tokens.Kind.{Kind, plain, named, placed}
-use Rattle.wgsl_model.specs.Tokens.Words.{look_up, is_word_among, symbols, keywords, reserved_words}
+use Rattle.wgsl_model.specs.Tokens.Words.{look_up, is_word_among, reserved_words}
 use Rattle.wgsl_model.specs.Tokens.Texts.{word_in}
 use Rattle.wgsl_model.specs.Tokens.Numbers.{whole_number, i_suffix, u_suffix, f_suffix, h_suffix, abstract_float, float, float_of, number_value, number_of, without_last, number_below}
 use Rattle.wgsl_model.specs.Tokens.Pattern.{empty, spells, after_spelling}
@@ -72,7 +72,7 @@ word_text word h = go (bytes_eq word (codes "_")) h where
   go false e = keyword_text (look_up keywords word) word refl
 
 -- a word that is a literal is `true` or `false`
-low_literal : (k : Kind) → k.class < 74 → is_among k.class literal_classes ≡ true → IsSoundLiteral (literal_of (placed k 0 0))
+low_literal : (k : Kind) → k.class < AbstractInt → is_among k.class literal_classes ≡ true → IsSoundLiteral (literal_of (placed k 0 0))
 low_literal k h m = go _ (k.class == KwTrue) (k.class == KwFalse) (k.class == AbstractInt) (k.class == I32) (k.class == U32) (k.class == AbstractFloat) (k.class == F32) (k.class == F16) refl refl refl refl refl refl m
   where
     go : (l : LiteralExpression) (a b d e f g i j : Bool) → (k.class == AbstractInt) ≡ d → (k.class == I32) ≡ e → (k.class == U32) ≡ f → (k.class == AbstractFloat) ≡ g → (k.class == F32) ≡ i → (k.class == F16) ≡ j
@@ -108,7 +108,7 @@ word_scanned c cs b h =
 -- ---- numbers
 
 -- the value of the characters of a number
-number_text : (k : Kind) (text : List ℕ) → 73 < k.class → IsSpelled k text → IsNumberText k text
+number_text : (k : Kind) (text : List ℕ) → ReservedWord < k.class → IsSpelled k text → IsNumberText k text
 number_text k text h n = go (chars text) refl n.word
   where
     go : (w : List ℕ) → chars text ≡ w → IsSpelling k w → IsNumberText k text

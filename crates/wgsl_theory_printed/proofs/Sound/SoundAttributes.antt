@@ -13,7 +13,7 @@ use Rattle.wgsl_theory_reread.proofs.Names.AttributeNames.{of_each_name}
 use Rattle.wgsl_theory_printed.proofs.Spelling.NoPeriods.{name_has_no_period}
 use Rattle.wgsl_theory_printed.proofs.Spelling.Ends.{IsNameText}
 use Rattle.wgsl_theory_printed.proofs.Fits.SoundExpressions.{IsSoundNode, IsSoundExpression, IsSoundType}
-use Rattle.wgsl_theory_printed.proofs.Fits.SoundUnits.{IfSome, Every, IsSoundRule, IsSoundAttribute, Every-behind}
+use Rattle.wgsl_theory_printed.proofs.Fits.FittingAttributes.{IfSome, Every, IsSoundRule, IsSoundAttribute, Every-behind}
 
 -- ---- names of rules
 

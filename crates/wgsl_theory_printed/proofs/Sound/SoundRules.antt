@@ -11,7 +11,9 @@ use Rattle.wgsl_theory_reread.specs.CanonicalUnits.{without_place}
 use Rattle.wgsl_theory_reread.proofs.Gives.{GivesBy, none_sound, or_sound, gives_sound, chain_sound, sign_before, sign_behind}
 use Rattle.wgsl_theory_printed.proofs.Spelling.Ends.{IsNameText}
 use Rattle.wgsl_theory_printed.proofs.Fits.SoundExpressions.{IsSoundLiteral, IsPrimary, IsPrimaryNode, IsOperandNode, IsSoundExpression, IsSoundNode, IsSoundCall, IsSoundType}
-use Rattle.wgsl_theory_printed.proofs.Fits.SoundUnits.{IfSome, Every, IsSoundAttribute, EndsWithName, EndsWithNameNode, IsSoundSelector, IsSoundStatement, IsSoundCompound, IsSoundClause, IsSoundContinuing, IsSoundDirective, IsSoundMember, IsSoundParameter, IsSoundGlobal, IsSoundUnit, Every-behind, AreSoundAttributes}
+use Rattle.wgsl_theory_printed.proofs.Fits.FittingAttributes.{IfSome, Every, IsSoundAttribute, Every-behind, AreSoundAttributes}
+use Rattle.wgsl_theory_printed.proofs.Fits.FittingStatements.{EndsWithName, EndsWithNameNode, IsSoundSelector, IsSoundStatement, IsSoundCompound, IsSoundClause, IsSoundContinuing}
+use Rattle.wgsl_theory_printed.proofs.Fits.FittingUnits.{IsSoundDirective, IsSoundMember, IsSoundParameter, IsSoundGlobal, IsSoundUnit}
 use Rattle.wgsl_theory_printed.proofs.Sound.Scanned.{IsScanned}
 
 abbrev pub IsSoundStatementNode : StatementNode → Type 0

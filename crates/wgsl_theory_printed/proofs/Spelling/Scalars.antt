@@ -12,7 +12,7 @@ use Rattle.wgsl_model.specs.Tokens.Pattern.{Pattern, empty, literal, any_of, spe
 use Rattle.wgsl_model.specs.Tokens.Numbers as numbers
 use Rattle.wgsl_model.specs.Tokens.Numbers.{is_nonzero_digit, is_x, is_e, is_p, is_sign, whole_number, i_suffix, u_suffix, f_suffix, h_suffix, abstract_float, float, number_spelling}
 use Rattle.wgsl_model.specs.Tokens.Spelling.{identifier, symbol, spelling}
-use Rattle.wgsl_model.specs.Tokens.Words.{symbols}
+use Rattle.wgsl_model.specs.Tokens.Classes.{symbols}
 use Rattle.wgsl_theory_printed.proofs.Spelling.Characters.{xid_continue-scalar}
 use Rattle.wgsl_theory_printed.proofs.Spelling.Split.{Each, Lets, Stricter, spelled_each}
 

@@ -12,7 +12,8 @@ use Rattle.wgsl_model.specs.Tokens.Kind.{plain}
 use Rattle.wgsl_model.specs.Tokens.Pattern.{Pattern, empty, begins, literal, any_of, spells}
 use Rattle.wgsl_model.specs.Tokens.Numbers.{number_spelling, is_nonzero_digit, whole_number, i_suffix, u_suffix, f_suffix, h_suffix, float}
 use Rattle.wgsl_model.specs.Tokens.Spelling.{identifier, symbol, spelling}
-use Rattle.wgsl_model.specs.Tokens.Words.{look_up, symbols}
+use Rattle.wgsl_model.specs.Tokens.Words.{look_up}
+use Rattle.wgsl_model.specs.Tokens.Classes.{symbols}
 use Rattle.wgsl_theory_printed.proofs.Spelling.Split.{Stricter, by_either}
 use Rattle.wgsl_theory_printed.proofs.Spelling.Fronts.{BeginsWith, spelled_first, words_begin}
 use Rattle.wgsl_theory_printed.proofs.Spelling.Pieces.{Stands}

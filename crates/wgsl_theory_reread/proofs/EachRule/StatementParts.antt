@@ -9,9 +9,9 @@ use Rattle.wgsl_model.specs.Tokens.Kind.{Kind, plain}
 use Rattle.wgsl_model.specs.Trees.Operators.{AssignmentOperator}
 use Rattle.wgsl_model.specs.Trees.Attributed.{with_attributes}
 use Rattle.wgsl_model.specs.Trees.Statements as tree
-use Rattle.wgsl_model.specs.Trees.Statements.{BreakIfStatement, ElseIfClause, StatementNode, StatementNode.statement_node, Statement, SwitchClause, StatementNodes, StatementNodes.no_statements, StatementNodes.statement_before, ElseIfClauses.else_if_before, SwitchClauses.clause_before, statements_of, else_ifs_of, else_of, clauses_of, continuing_of, maybe_statement}
+use Rattle.wgsl_model.specs.Trees.Statements.{BreakIfStatement, ElseIfClause, StatementNode, StatementNode.statement_node, Statement, SwitchClause, StatementNodes, StatementNodes.no_statements, StatementNodes.statement_before, ElseIfClauses.else_if_before, SwitchClauses.clause_before, statements_of, else_ifs_of, else_of, clauses_of, continuing_of, maybe_statement, break_if_of}
 use Rattle.wgsl_model.specs.Printed.Statements.{is_void}
-use Rattle.wgsl_model.specs.Grammar.StatementParts.{statements, assignment_operator, else_if, else_block, break_if_of, break_if}
+use Rattle.wgsl_model.specs.Grammar.StatementParts.{statements, assignment_operator, else_if, else_block, break_if}
 use Rattle.wgsl_model.specs.Trees.StatementsWithoutSpans.{bare_attributed, bare_break_if, bare_statement_node, bare_statements, bare_else_if_clause, bare_else_ifs, bare_else_clause, bare_else, bare_switch_clause, bare_clauses, bare_maybe_continuing, bare_part}
 use Rattle.wgsl_model.specs.Trees.EmptyItems.{full_statement, full_statements, full_else_if_clause, full_else_ifs, full_else_clause, full_else, full_switch_clause, full_clauses, full_maybe_continuing, full_part}
 use Rattle.wgsl_model.specs.Grammar.Symbols.{Dialect.whole, Symbol.statement, Symbol.switch_clause, Symbol.continuing_statement, Rule, compound_statement, expression}

@@ -5,26 +5,26 @@ use Rattle.grammar.specs.Tokens.{Token}
 use Rattle.grammar.specs.Grammar.{Grammar.symbol, Mode.checking, Chain.base, Means, is_among}
 use Rattle.grammar.specs.Notation.{one_token, ◌then◌, ◌or◌, ◌gives◌, ◌makes◌, ◌▹◌, ◌◃◌, ◌means◌, optional, list}
 use Rattle.grammar.proofs.Reading.Depth.{roll}
-use Rattle.wgsl_model.specs.Tokens.Classes.{SymBraceLeft, SymBraceRight, SymColon, SymComma, SymMinusMinus, SymParenLeft, SymParenRight, SymPlusPlus, SymSemicolon, SymUnderscore, KwCase, KwConst, KwConstAssert, KwContinuing, KwDefault, KwFor, KwIf, KwLet, KwLoop, KwReturn, KwSwitch, KwWhile}
+use Rattle.wgsl_model.specs.Tokens.Classes.{SymBraceLeft, SymBraceRight, SymColon, SymComma, SymMinusMinus, SymParenLeft, SymParenRight, SymPlusPlus, SymSemicolon, SymUnderscore, KwBreak, KwCase, KwConst, KwConstAssert, KwContinue, KwContinuing, KwDefault, KwDiscard, KwFor, KwIf, KwLet, KwLoop, KwReturn, KwSwitch, KwWhile}
 use Rattle.wgsl_model.specs.Tokens.Kind.{plain, Kind}
 use Rattle.wgsl_model.specs.Trees.Operators.{AssignmentOperator.equal}
 use Rattle.wgsl_model.specs.Trees.Attributed.{Attributed, with_attributes}
 use Rattle.wgsl_model.specs.Trees.Statements as tree
-use Rattle.wgsl_model.specs.Trees.Statements.{DeclarationKind.let_kind, DeclarationKind.const_kind, CompoundStatement, Statement, UnattributedStatement, StatementNode.statement_node, CaseSelector.default_selector, CaseSelector.expression_selector, BreakIfStatement, CaseSelector}
+use Rattle.wgsl_model.specs.Trees.Statements.{DeclarationKind.let_kind, DeclarationKind.const_kind, CompoundStatement, Statement, UnattributedStatement, StatementNode.statement_node, CaseSelector.default_selector, CaseSelector.expression_selector, BreakIfStatement, CaseSelector, compound_of, assert_of}
 use Rattle.wgsl_model.specs.Grammar.StatementParts as parts
-use Rattle.wgsl_model.specs.Grammar.StatementParts.{attributed, underscore_at, statements, compound_of, left_side, assert_of, break_if}
+use Rattle.wgsl_model.specs.Grammar.StatementParts.{attributed, underscore_at, statements, left_side, break_if}
 use Rattle.wgsl_model.specs.Trees.WithoutSpans.{no_span, bare_expression_node, bare_attributes}
 use Rattle.wgsl_model.specs.Trees.StatementsWithoutSpans.{bare_statement, bare_compound, bare_unattributed, bare_attributed, bare_assert, bare_break_if, bare_selector}
 use Rattle.wgsl_model.specs.Trees.EmptyItems.{full_statement, full_compound, full_unattributed}
-use Rattle.wgsl_model.specs.Grammar.Symbols.{Symbol.compound_statement, Symbol.statement, Symbol.return_statement, Symbol.if_statement, Symbol.switch_statement, Symbol.loop_statement, Symbol.for_statement, Symbol.while_statement, Symbol.call_statement, Symbol.var_statement, Symbol.value_statement, Symbol.break_statement, Symbol.continue_statement, Symbol.discard_statement, Symbol.assignment, Symbol.phony_assignment, Symbol.increment, Symbol.decrement, Symbol.const_assert, Symbol.switch_clause, Symbol.case_selector, Symbol.continuing_statement, Symbol.for_init, Symbol.for_update, Symbol.typed_ident, Rule, call, expression, ident, type_specifier, Dialect.whole}
+use Rattle.wgsl_model.specs.Grammar.Symbols.{Symbol, Symbol.compound_statement, Symbol.statement, Symbol.return_statement, Symbol.if_statement, Symbol.switch_statement, Symbol.loop_statement, Symbol.for_statement, Symbol.while_statement, Symbol.call_statement, Symbol.var_statement, Symbol.value_statement, Symbol.break_statement, Symbol.continue_statement, Symbol.discard_statement, Symbol.assignment, Symbol.phony_assignment, Symbol.increment, Symbol.decrement, Symbol.const_assert, Symbol.switch_clause, Symbol.case_selector, Symbol.continuing_statement, Symbol.for_init, Symbol.for_update, Symbol.typed_ident, Rule, call, expression, ident, type_specifier, Dialect.whole, Value}
 use Rattle.wgsl_model.specs.Grammar.Written.{written}
 use Rattle.wgsl_theory_reread.specs.CanonicalExpressions.{Writer, expression_node_tokens, optional_tokens, list_tokens}
 use Rattle.wgsl_theory_reread.specs.CanonicalAttributes.{attributes_tokens}
 use Rattle.wgsl_theory_reread.specs.CanonicalStatements.{kind_tokens, end_token, unended_tokens, unattributed_tokens, compound_tokens, assert_tokens, selector_tokens, break_if_tokens, opened_tokens}
 use Rattle.wgsl_theory_reread.proofs.Words.{AllWords}
-use Rattle.wgsl_theory_reread.proofs.Again.{D, write, Same, Ended, Unended, Finds, Again}
+use Rattle.wgsl_theory_reread.proofs.Again.{D, write, Same, Ended, Unended, Finds, Again, IsKind}
 use Rattle.wgsl_theory_reread.proofs.Ways.{Outcome, Reads, found_in, first_of, class_of, then_reads, or_reads, gives_reads, makes_reads, sign_reads, before_reads, behind_reads, means_reads, optional_reads, no_sign_reads, list_reads}
-use Rattle.wgsl_theory_reread.proofs.Rules.{AttributeReads, attributes_read, initializer_reads, var_kind_reads, without_known, symbol_reads}
+use Rattle.wgsl_theory_reread.proofs.Rules.{AttributeReads, attributes_read, initializer_reads, var_kind_reads, without_known, symbol_reads, known_by}
 use Rattle.wgsl_theory_reread.proofs.EachRule.ExpressionRules.{open_left_side_reads, parenthesized_left_side_reads}
 use Rattle.wgsl_theory_reread.proofs.EachRule.StatementParts.{break_if_reads, assignment_operator_reads, else_reads, maybe_continuing_reads, part_reads, else_ifs_read, clauses_read, statements_read}
 
@@ -63,46 +63,46 @@ attributed_reads : AttributeReads → {g : Rule UnattributedStatement} → Reads
 attributed_reads one G = gives_reads (then_reads (attributes_read one) G) (λ a rest. refl) (λ w a h. λ i. tree.statement (h.0 i) (h.1 i))
 
 -- ---- statements that no `;` ends
-pub written_if_statement_reads : AttributeReads → Reads (written if_statement) (write if_statement) (Same if_statement)
+written_if_statement_reads : AttributeReads → Reads (written if_statement) (write if_statement) (Same if_statement)
 written_if_statement_reads one = attributed_reads one (gives_reads (before_reads KwIf refl (then_reads (symbol_reads expression) (then_reads (symbol_reads compound_statement) (then_reads else_ifs_read else_reads))))
     (λ a rest. refl) (λ w a h. λ i. tree.if_statement (tree.if_else (tree.if_clause (h.0 i) (h.1.0 i)) (h.1.1.0 i) (h.1.1.1 i))))
 
-pub written_switch_statement_reads : AttributeReads → Reads (written switch_statement) (write switch_statement) (Same switch_statement)
+written_switch_statement_reads : AttributeReads → Reads (written switch_statement) (write switch_statement) (Same switch_statement)
 written_switch_statement_reads one = attributed_reads one (gives_reads (before_reads KwSwitch refl (then_reads (symbol_reads expression) (then_reads (attributes_read one) (before_reads SymBraceLeft refl (behind_reads SymBraceRight refl clauses_read)))))
     (λ a rest. refl) (λ w a h. λ i. tree.switch_statement (tree.switch (h.0 i) (h.1.0 i) (h.1.1 i))))
 
-pub written_loop_statement_reads : AttributeReads → Reads (written loop_statement) (write loop_statement) (Same loop_statement)
+written_loop_statement_reads : AttributeReads → Reads (written loop_statement) (write loop_statement) (Same loop_statement)
 written_loop_statement_reads one = attributed_reads one (gives_reads (before_reads KwLoop refl (then_reads (attributes_read one) (before_reads SymBraceLeft refl (behind_reads SymBraceRight refl (then_reads statements_read maybe_continuing_reads)))))
     (λ a rest. refl) (λ w a h. λ i. tree.loop_statement (tree.repeat (tree.compound_statement (h.0 i) (h.1.0 i)) (h.1.1 i))))
 
-pub written_for_statement_reads : AttributeReads → Reads (written for_statement) (write for_statement) (Same for_statement)
+written_for_statement_reads : AttributeReads → Reads (written for_statement) (write for_statement) (Same for_statement)
 written_for_statement_reads one = attributed_reads one (gives_reads (before_reads KwFor refl (before_reads SymParenLeft refl (then_reads (behind_reads SymSemicolon refl (part_reads (symbol_reads for_init)))
     (then_reads (behind_reads SymSemicolon refl (optional_reads (symbol_reads expression))) (then_reads (behind_reads SymParenRight refl (part_reads (symbol_reads for_update))) (symbol_reads compound_statement))))))
     (λ a rest. refl) (λ w a h. λ i. tree.for_statement (tree.repeat_for (h.0 i) (h.1.0 i) (h.1.1.0 i) (h.1.1.1 i))))
 
-pub written_while_statement_reads : AttributeReads → Reads (written while_statement) (write while_statement) (Same while_statement)
+written_while_statement_reads : AttributeReads → Reads (written while_statement) (write while_statement) (Same while_statement)
 written_while_statement_reads one = attributed_reads one (gives_reads (before_reads KwWhile refl (then_reads (symbol_reads expression) (symbol_reads compound_statement))) (λ a rest. refl) (λ w a h. λ i. tree.while_statement (tree.repeat_while (h.0 i) (h.1 i))))
 
 -- ---- statements that a `;` ends
-pub written_return_statement_reads : AttributeReads → Reads (written return_statement) (write return_statement) (Same return_statement)
+written_return_statement_reads : AttributeReads → Reads (written return_statement) (write return_statement) (Same return_statement)
 written_return_statement_reads one = attributed_reads one (gives_reads (before_reads KwReturn refl (optional_reads (symbol_reads expression))) (λ a rest. refl) (λ w a h. λ i. tree.return_statement (record { expression = h i })))
 
-pub written_call_statement_reads : AttributeReads → Reads (written call_statement) (write call_statement) (Same call_statement)
+written_call_statement_reads : AttributeReads → Reads (written call_statement) (write call_statement) (Same call_statement)
 written_call_statement_reads one = attributed_reads one (gives_reads (symbol_reads call) (λ a rest. refl) (λ w a h. λ i. tree.function_call_statement (record { call = h i })))
 
-pub written_var_statement_reads : AttributeReads → Reads (written var_statement) (write var_statement) (Same var_statement)
+written_var_statement_reads : AttributeReads → Reads (written var_statement) (write var_statement) (Same var_statement)
 written_var_statement_reads one = attributed_reads one (gives_reads (then_reads var_kind_reads (then_reads (symbol_reads typed_ident) (optional_reads initializer_reads))) (λ a rest. refl)
     (λ w a h. λ i. tree.declaration (record { kind = h.0 i; ident = h.1.0.0 i; ty = h.1.0.1 i; initializer = h.1.1 i })))
 
 value_kind_reads : Reads (KwLet means let_kind or KwConst means const_kind) kind_tokens (λ w v. w ≡ v)
 value_kind_reads = or_reads (means_reads KwLet refl (λ rest. refl) refl) (means_reads KwConst refl (λ rest. refl) refl)
 
-pub written_value_statement_reads : AttributeReads → Reads (written value_statement) (write value_statement) (Same value_statement)
+written_value_statement_reads : AttributeReads → Reads (written value_statement) (write value_statement) (Same value_statement)
 written_value_statement_reads one = attributed_reads one (gives_reads (then_reads value_kind_reads (then_reads (symbol_reads typed_ident) initializer_reads)) (λ a rest. refl)
     (λ w a h. λ i. tree.declaration (record { kind = h.0 i; ident = h.1.0.0 i; ty = h.1.0.1 i; initializer = Some (h.1.1 i) })))
 
 -- a statement of one word
-pub word_statement_reads : AttributeReads → (c : ℕ) {s : UnattributedStatement} → is_among c (c ∷ []) ≡ true → ((rest : List Kind) → unattributed_tokens s rest ≡ plain c ∷ rest) → bare_unattributed s ≡ bare_unattributed (full_unattributed s)
+word_statement_reads : AttributeReads → (c : ℕ) {s : UnattributedStatement} → is_among c (c ∷ []) ≡ true → ((rest : List Kind) → unattributed_tokens s rest ≡ plain c ∷ rest) → bare_unattributed s ≡ bare_unattributed (full_unattributed s)
     → Reads (attributed tree.statement (c means s)) unended_tokens Like
 word_statement_reads one c known s t = attributed_reads one (means_reads c known s t)
 
@@ -110,14 +110,14 @@ word_statement_reads one c known s t = attributed_reads one (means_reads c known
 left_side_reads : AttributeReads → Reads (left_side whole) (λ p rest. attributes_tokens p.0 (expression_node_tokens p.1 rest)) (λ w v. (bare_attributes w.0 ≡ bare_attributes v.0) × (bare_expression_node w.1 ≡ bare_expression_node v.1))
 left_side_reads one = or_reads (then_reads (attributes_read one) open_left_side_reads) (gives_reads parenthesized_left_side_reads (λ a rest. refl) (λ w a h. (refl, h)))
 
-pub written_assignment_reads : AttributeReads → Reads (written assignment) (write assignment) (Same assignment)
+written_assignment_reads : AttributeReads → Reads (written assignment) (write assignment) (Same assignment)
 written_assignment_reads one = gives_reads (then_reads (left_side_reads one) (then_reads assignment_operator_reads (symbol_reads expression))) (λ a rest. refl)
     (λ w a h. λ i. tree.statement (h.0.0 i) (tree.assignment (record { operator = h.1.0 i; lhs = h.0.1 i; rhs = h.1.1 i })))
 
-pub written_increment_reads : AttributeReads → Reads (written increment) (write increment) (Same increment)
+written_increment_reads : AttributeReads → Reads (written increment) (write increment) (Same increment)
 written_increment_reads one = gives_reads (behind_reads SymPlusPlus refl (left_side_reads one)) (λ a rest. refl) (λ w a h. λ i. tree.statement (h.0 i) (tree.increment (record { expression = h.1 i })))
 
-pub written_decrement_reads : AttributeReads → Reads (written decrement) (write decrement) (Same decrement)
+written_decrement_reads : AttributeReads → Reads (written decrement) (write decrement) (Same decrement)
 written_decrement_reads one = gives_reads (behind_reads SymMinusMinus refl (left_side_reads one)) (λ a rest. refl) (λ w a h. λ i. tree.statement (h.0 i) (tree.decrement (record { expression = h.1 i })))
 
 assert_reads : Reads (KwConstAssert ▹ symbol expression gives assert_of) assert_tokens (λ w v. bare_assert w ≡ bare_assert v)
@@ -137,7 +137,7 @@ written_case_selector_reads = or_reads (means_reads KwDefault refl (λ rest. ref
 underscore_reads : Reads (one_token SymUnderscore makes underscore_at) expression_node_tokens (λ w v. bare_expression_node w ≡ bare_expression_node v)
 underscore_reads = makes_reads (sign_reads SymUnderscore refl) (λ a span rest. refl) (λ w a s r h. refl)
 
-pub written_phony_assignment_reads : AttributeReads → Reads (written phony_assignment) (write phony_assignment) (Same phony_assignment)
+written_phony_assignment_reads : AttributeReads → Reads (written phony_assignment) (write phony_assignment) (Same phony_assignment)
 written_phony_assignment_reads one =
     attributed_reads one (gives_reads (then_reads underscore_reads initializer_reads) (λ a rest. refl) (λ w a h. λ i. tree.assignment (record { operator = equal; lhs = h.0 i; rhs = h.1 i })))
 
@@ -220,14 +220,14 @@ ended_reads {g} f = record {
   again = λ v xs ys d words.
       let found = (behind_reads SymSemicolon refl (header_reads {P = Ended} {g = g} f)).again v xs ys d words in
       let ended : Ended v = subst Ended d.1 (f d.0.0 xs d.2.0 d.2.1 words).1 in
-      (found.0, λ us ks e. found.1 us ks (e ∙ ap (unended_tokens v) (ended ks)));
+      (found.0, λ us ks e. found.1 us ks (e ∙ ap (unended_tokens v) (ended.1 ks)));
 }
 
 unended_reads : {g : Rule Statement} → ReadsWith Unended g → Reads g ended_tokens Like
 unended_reads {g} f = record {
   again = λ v xs ys d words.
       let found = f v xs ys d words in
-      (found.0, λ us ks e. found.2 us ks (e ∙ ap (unended_tokens v) (found.1 ks)));
+      (found.0, λ us ks e. found.2 us ks (e ∙ ap (unended_tokens v) (found.1.1 ks)));
 }
 
 -- a block as a statement
@@ -285,3 +285,23 @@ pub written_for_init_reads : Reads (written for_init) (write for_init) (Same for
 written_for_init_reads = makes_reads {writes = unended_tokens} {like = Like}
     (or_reads (header_reads {P = Ended} {g = symbol var_statement} (λ v xs ys h. h)) (or_reads (header_reads {P = Ended} {g = symbol value_statement} (λ v xs ys h. h)) update_reads))
     (λ a span rest. refl) (λ w a s r h. λ i. statement_node (h i) no_span)
+
+-- ---- each kind of statements
+pub kind_rules : AttributeReads → (n : Symbol) → IsKind n → (v : Value n) (xs ys : List Token) → D n v xs ys → Means checking Again (written n) v xs ys → Again n v xs ys
+kind_rules one return_statement kind v xs ys here d = known_by return_statement (written_return_statement_reads one) v (subst Ended (ap (tree.statement d.0.0) d.2.2.1 ∙ d.1) (refl, λ rest. refl)) xs ys d
+kind_rules one if_statement kind v xs ys here d = known_by if_statement (written_if_statement_reads one) v (subst Unended (ap (tree.statement d.0.0) d.2.2.1 ∙ d.1) (refl, λ rest. refl)) xs ys d
+kind_rules one switch_statement kind v xs ys here d = known_by switch_statement (written_switch_statement_reads one) v (subst Unended (ap (tree.statement d.0.0) d.2.2.1 ∙ d.1) (refl, λ rest. refl)) xs ys d
+kind_rules one loop_statement kind v xs ys here d = known_by loop_statement (written_loop_statement_reads one) v (subst Unended (ap (tree.statement d.0.0) d.2.2.1 ∙ d.1) (refl, λ rest. refl)) xs ys d
+kind_rules one for_statement kind v xs ys here d = known_by for_statement (written_for_statement_reads one) v (subst Unended (ap (tree.statement d.0.0) d.2.2.1 ∙ d.1) (refl, λ rest. refl)) xs ys d
+kind_rules one while_statement kind v xs ys here d = known_by while_statement (written_while_statement_reads one) v (subst Unended (ap (tree.statement d.0.0) d.2.2.1 ∙ d.1) (refl, λ rest. refl)) xs ys d
+kind_rules one call_statement kind v xs ys here d = known_by call_statement (written_call_statement_reads one) v (subst Ended (ap (tree.statement d.0.0) d.2.2.1 ∙ d.1) (refl, λ rest. refl)) xs ys d
+kind_rules one var_statement kind v xs ys here d = known_by var_statement (written_var_statement_reads one) v (subst Ended (ap (tree.statement d.0.0) d.2.2.1 ∙ d.1) (refl, λ rest. refl)) xs ys d
+kind_rules one value_statement kind v xs ys here d = known_by value_statement (written_value_statement_reads one) v (subst Ended (ap (tree.statement d.0.0) d.2.2.1 ∙ d.1) (refl, λ rest. refl)) xs ys d
+kind_rules one break_statement kind v xs ys here d = known_by break_statement (word_statement_reads one KwBreak refl (λ rest. refl) refl) v (subst Ended (ap (tree.statement d.0.0) d.2.2.1 ∙ d.1) (refl, λ rest. refl)) xs ys d
+kind_rules one continue_statement kind v xs ys here d = known_by continue_statement (word_statement_reads one KwContinue refl (λ rest. refl) refl) v (subst Ended (ap (tree.statement d.0.0) d.2.2.1 ∙ d.1) (refl, λ rest. refl)) xs ys d
+kind_rules one discard_statement kind v xs ys here d = known_by discard_statement (word_statement_reads one KwDiscard refl (λ rest. refl) refl) v (subst Ended (ap (tree.statement d.0.0) d.2.2.1 ∙ d.1) (refl, λ rest. refl)) xs ys d
+kind_rules one assignment kind v xs ys here d = known_by assignment (written_assignment_reads one) v (subst Ended d.1 (refl, λ rest. refl)) xs ys d
+kind_rules one phony_assignment kind v xs ys here d = known_by phony_assignment (written_phony_assignment_reads one) v (subst Ended (ap (tree.statement d.0.0) d.2.2.1 ∙ d.1) (refl, λ rest. refl)) xs ys d
+kind_rules one increment kind v xs ys here d = known_by increment (written_increment_reads one) v (subst Ended d.1 (refl, λ rest. refl)) xs ys d
+kind_rules one decrement kind v xs ys here d = known_by decrement (written_decrement_reads one) v (subst Ended d.1 (refl, λ rest. refl)) xs ys d
+kind_rules one n kind v xs ys here d = absurd kind

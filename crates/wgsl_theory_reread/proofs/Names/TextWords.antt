@@ -6,9 +6,9 @@ use Rattle.std.proofs.lemmas.Bool.{true≢false}
 use Rattle.grammar.specs.Tokens.{Token, Payload.number}
 use Rattle.grammar.specs.Grammar.{is_among}
 use Rattle.grammar.specs.Endings.{Ending}
-use Rattle.wgsl_model.specs.Tokens.Classes.{Ident, ReservedWord, SymUnderscore, AbstractInt, I32, U32, AbstractFloat, F32, F16}
+use Rattle.wgsl_model.specs.Tokens.Classes.{Ident, ReservedWord, SymUnderscore, AbstractInt, I32, U32, AbstractFloat, F32, F16, symbols, keywords}
 use Rattle.wgsl_model.specs.Tokens.Kind.{Kind, plain, named}
-use Rattle.wgsl_model.specs.Tokens.Words.{look_up, is_word_among, symbols, keywords, reserved_words}
+use Rattle.wgsl_model.specs.Tokens.Words.{look_up, is_word_among, reserved_words}
 use Rattle.wgsl_model.specs.Tokens.Texts.{word_in}
 use Rattle.wgsl_model.specs.Trees.NamedValues.{WordTable}
 use Rattle.wgsl_model.specs.Tokens.Numbers.{whole_number, i_suffix, u_suffix, f_suffix, h_suffix, abstract_float, float, number_below, float_of, number_of, number_value, without_last}

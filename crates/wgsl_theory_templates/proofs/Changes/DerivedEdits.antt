@@ -3,11 +3,9 @@ use Rattle.std.proofs.Common.{◌≡◌, true, false, List, [], refl, ap, subst,
 use Rattle.grammar.specs.Tokens.{Token}
 use Rattle.grammar.specs.Grammar.{Mode.checking, Means, Derives}
 use Rattle.wgsl_model.specs.Trees.Attributed.{with_attributes}
-use Rattle.wgsl_model.specs.Trees.Statements as trees
-use Rattle.wgsl_model.specs.Printed.Statements as statements
 use Rattle.wgsl_model.specs.Printed.Units as units
 use Rattle.wgsl_model.specs.Trees.Units.{TranslationUnit}
-use Rattle.wgsl_model.specs.Grammar.Symbols.{Symbol, ident, type_specifier, template_list, expressions, call, arguments, literal, primary_expression, singular_expression, component, unary_expression, multiplicative_expression, negated_expression, additive_expression, shift_expression, relational_expression, expression, lhs_expression, attribute, compound_statement, statement, return_statement, if_statement, switch_statement, loop_statement, for_statement, while_statement, call_statement, var_statement, value_statement, break_statement, continue_statement, discard_statement, assignment, phony_assignment, increment, decrement, const_assert, switch_clause, case_selector, continuing_statement, for_init, for_update, var_template, typed_ident, struct_member, formal_parameter, global_declaration, var_declaration, const_declaration, override_declaration, alias_declaration, struct_declaration, function_declaration, diagnostic_severity, global_directive, enable_directive, requires_directive, diagnostic_directive, unit, Value}
+use Rattle.wgsl_model.specs.Grammar.Symbols.{Symbol, ident, type_specifier, template_list, expressions, call, arguments, literal, primary_expression, singular_expression, component, unary_expression, multiplicative_expression, negated_expression, additive_expression, shift_expression, relational_expression, expression, lhs_expression, attribute, compound_statement, statement, const_assert, switch_clause, case_selector, continuing_statement, for_init, for_update, var_template, typed_ident, struct_member, formal_parameter, global_declaration, var_declaration, const_declaration, override_declaration, alias_declaration, struct_declaration, function_declaration, diagnostic_severity, global_directive, enable_directive, requires_directive, diagnostic_directive, unit, Value}
 use Rattle.wgsl_model.specs.Grammar.Written.{written}
 use Rattle.wgsl_theory_reread.specs.CanonicalUnits.{canonical}
 use Rattle.wgsl_theory_reread.proofs.Words.{AllWords}
@@ -20,7 +18,7 @@ use Rattle.wgsl_theory_templates.proofs.Changes.EditWays.{Edited}
 use Rattle.wgsl_theory_templates.proofs.Changes.EditSymbols.{finished}
 use Rattle.wgsl_theory_templates.proofs.Changes.EditRules.{ident_right, type_specifier_right, template_list_right, call_right, arguments_right, literal_right, primary_expression_right, component_right, singular_expression_right, unary_expression_right, multiplicative_expression_right, negated_expression_right, additive_expression_right, shift_expression_right, relational_expression_right, expression_right, lhs_expression_right}
 use Rattle.wgsl_theory_templates.proofs.Changes.EditAttributeRules.{attribute_right, var_template_right, diagnostic_severity_right}
-use Rattle.wgsl_theory_templates.proofs.Changes.EditStatementRules.{compound_statement_right, continuing_statement_right, if_statement_right, switch_statement_right, loop_statement_right, for_statement_right, while_statement_right, return_statement_right, call_statement_right, var_statement_right, value_statement_right, break_statement_right, continue_statement_right, discard_statement_right, assignment_right, increment_right, decrement_right, const_assert_right, phony_assignment_right, typed_ident_right, case_selector_right, switch_clause_right, statement_right, for_update_right, for_init_right}
+use Rattle.wgsl_theory_templates.proofs.Changes.EditStatementRules.{compound_statement_right, continuing_statement_right, const_assert_right, typed_ident_right, case_selector_right, switch_clause_right, statement_right, for_update_right, for_init_right, kind_right}
 use Rattle.wgsl_theory_templates.proofs.Changes.EditUnitRules.{struct_member_right, formal_parameter_right, var_declaration_right, const_declaration_right, override_declaration_right, alias_declaration_right, struct_declaration_right, function_declaration_right, global_declaration_right, enable_directive_right, requires_directive_right, global_directive_right, diagnostic_directive_right, unit_right}
 
 -- each rule of the grammar
@@ -46,22 +44,6 @@ edit_rules lhs_expression v xs ys here d words = finished (again lhs_expression 
 edit_rules attribute v xs ys here d words = finished (again attribute v xs ys here words) tt ((attribute_right {b = false}).edit v xs ys d words)
 edit_rules compound_statement v xs ys here d words = finished (again compound_statement v xs ys here words) tt ((compound_statement_right {b = false}).edit v xs ys d words)
 edit_rules statement v xs ys here d words = finished (again statement v xs ys here words) tt (statement_right.edit v xs ys d words)
-edit_rules return_statement v xs ys here d words = finished (again return_statement v xs ys here words) (subst (λ z. statements.is_void z ≡ false) (ap (trees.statement d.0.0) d.2.2.1 ∙ d.1) refl) ((return_statement_right {b = false}).edit v xs ys d words)
-edit_rules if_statement v xs ys here d words = finished (again if_statement v xs ys here words) (subst (λ z. statements.is_void z ≡ false) (ap (trees.statement d.0.0) d.2.2.1 ∙ d.1) refl) ((if_statement_right {b = false}).edit v xs ys d words)
-edit_rules switch_statement v xs ys here d words = finished (again switch_statement v xs ys here words) (subst (λ z. statements.is_void z ≡ false) (ap (trees.statement d.0.0) d.2.2.1 ∙ d.1) refl) ((switch_statement_right {b = false}).edit v xs ys d words)
-edit_rules loop_statement v xs ys here d words = finished (again loop_statement v xs ys here words) (subst (λ z. statements.is_void z ≡ false) (ap (trees.statement d.0.0) d.2.2.1 ∙ d.1) refl) ((loop_statement_right {b = false}).edit v xs ys d words)
-edit_rules for_statement v xs ys here d words = finished (again for_statement v xs ys here words) (subst (λ z. statements.is_void z ≡ false) (ap (trees.statement d.0.0) d.2.2.1 ∙ d.1) refl) ((for_statement_right {b = false}).edit v xs ys d words)
-edit_rules while_statement v xs ys here d words = finished (again while_statement v xs ys here words) (subst (λ z. statements.is_void z ≡ false) (ap (trees.statement d.0.0) d.2.2.1 ∙ d.1) refl) ((while_statement_right {b = false}).edit v xs ys d words)
-edit_rules call_statement v xs ys here d words = finished (again call_statement v xs ys here words) (subst (λ z. statements.is_void z ≡ false) (ap (trees.statement d.0.0) d.2.2.1 ∙ d.1) refl) ((call_statement_right {b = false}).edit v xs ys d words)
-edit_rules var_statement v xs ys here d words = finished (again var_statement v xs ys here words) (subst (λ z. statements.is_void z ≡ false) (ap (trees.statement d.0.0) d.2.2.1 ∙ d.1) refl) ((var_statement_right {b = false}).edit v xs ys d words)
-edit_rules value_statement v xs ys here d words = finished (again value_statement v xs ys here words) (subst (λ z. statements.is_void z ≡ false) (ap (trees.statement d.0.0) d.2.2.1 ∙ d.1) refl) ((value_statement_right {b = false}).edit v xs ys d words)
-edit_rules break_statement v xs ys here d words = finished (again break_statement v xs ys here words) (subst (λ z. statements.is_void z ≡ false) (ap (trees.statement d.0.0) d.2.2.1 ∙ d.1) refl) ((break_statement_right {b = false}).edit v xs ys d words)
-edit_rules continue_statement v xs ys here d words = finished (again continue_statement v xs ys here words) (subst (λ z. statements.is_void z ≡ false) (ap (trees.statement d.0.0) d.2.2.1 ∙ d.1) refl) ((continue_statement_right {b = false}).edit v xs ys d words)
-edit_rules discard_statement v xs ys here d words = finished (again discard_statement v xs ys here words) (subst (λ z. statements.is_void z ≡ false) (ap (trees.statement d.0.0) d.2.2.1 ∙ d.1) refl) ((discard_statement_right {b = false}).edit v xs ys d words)
-edit_rules assignment v xs ys here d words = finished (again assignment v xs ys here words) (subst (λ z. statements.is_void z ≡ false) d.1 refl) ((assignment_right {b = false}).edit v xs ys d words)
-edit_rules phony_assignment v xs ys here d words = finished (again phony_assignment v xs ys here words) (subst (λ z. statements.is_void z ≡ false) (ap (trees.statement d.0.0) d.2.2.1 ∙ d.1) refl) ((phony_assignment_right {b = false}).edit v xs ys d words)
-edit_rules increment v xs ys here d words = finished (again increment v xs ys here words) (subst (λ z. statements.is_void z ≡ false) d.1 refl) ((increment_right {b = false}).edit v xs ys d words)
-edit_rules decrement v xs ys here d words = finished (again decrement v xs ys here words) (subst (λ z. statements.is_void z ≡ false) d.1 refl) ((decrement_right {b = false}).edit v xs ys d words)
 edit_rules const_assert v xs ys here d words = finished (again const_assert v xs ys here words) tt ((const_assert_right {b = false}).edit v xs ys d words)
 edit_rules switch_clause v xs ys here d words = finished (again switch_clause v xs ys here words) tt ((switch_clause_right {b = false}).edit v xs ys d words)
 edit_rules case_selector v xs ys here d words = finished (again case_selector v xs ys here words) tt ((case_selector_right {b = false}).edit v xs ys d words)
@@ -85,6 +67,7 @@ edit_rules enable_directive v xs ys here d words = finished (again enable_direct
 edit_rules requires_directive v xs ys here d words = finished (again requires_directive v xs ys here words) tt ((requires_directive_right {b = false}).edit v xs ys d words)
 edit_rules diagnostic_directive v xs ys here d words = finished (again diagnostic_directive v xs ys here words) tt ((diagnostic_directive_right {b = false}).edit v xs ys d words)
 edit_rules unit v xs ys here d words = finished (again unit v xs ys here words) tt (unit_right.edit v xs ys d words)
+edit_rules n v xs ys here d words = finished (again n v xs ys here words) tt ((kind_right n tt).edit v xs ys d words)
 
 -- what is written from a symbol's value in place of its tokens
 edited : (n : Symbol) (v : Value n) (xs ys : List Token) → D n v xs ys → Edited n v xs ys

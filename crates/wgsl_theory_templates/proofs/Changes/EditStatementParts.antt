@@ -8,8 +8,8 @@ use Rattle.wgsl_model.specs.Tokens.Classes.{SymAndEqual, SymColon, SymDivisionEq
 use Rattle.wgsl_model.specs.Tokens.Kind.{Kind, plain}
 use Rattle.wgsl_model.specs.Trees.Operators.{AssignmentOperator}
 use Rattle.wgsl_model.specs.Trees.Statements as tree
-use Rattle.wgsl_model.specs.Trees.Statements.{CompoundStatement, StatementNode, statements_of, else_ifs_of, else_of, clauses_of, continuing_of, maybe_statement}
-use Rattle.wgsl_model.specs.Grammar.StatementParts.{statements, initializer, var_kind, assignment_operator, else_if, else_block, break_if, break_if_of}
+use Rattle.wgsl_model.specs.Trees.Statements.{CompoundStatement, StatementNode, statements_of, else_ifs_of, else_of, clauses_of, continuing_of, maybe_statement, break_if_of}
+use Rattle.wgsl_model.specs.Grammar.StatementParts.{statements, initializer, var_kind, assignment_operator, else_if, else_block, break_if}
 use Rattle.wgsl_model.specs.Grammar.Symbols.{compound_statement, switch_clause, continuing_statement, Rule, expression, var_template, Dialect.whole}
 use Rattle.wgsl_theory_grammar.proofs.Faults.PlainFaults.{one_class}
 use Rattle.wgsl_theory_reread.specs.CanonicalExpressions.{Writer}

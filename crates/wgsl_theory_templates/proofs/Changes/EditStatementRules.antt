@@ -7,18 +7,19 @@ use Rattle.grammar.specs.Notation.{one_token, ◌then◌, ◌or◌, ◌makes◌,
 use Rattle.wgsl_model.specs.Tokens.Classes.{SymBraceLeft, SymBraceRight, SymColon, SymMinusMinus, SymParenLeft, SymParenRight, SymPlusPlus, SymSemicolon, SymUnderscore, KwBreak, KwCase, KwConst, KwConstAssert, KwContinue, KwContinuing, KwDefault, KwDiscard, KwFor, KwIf, KwLet, KwLoop, KwReturn, KwSwitch, KwWhile}
 use Rattle.wgsl_model.specs.Tokens.Kind.{Kind, plain}
 use Rattle.wgsl_model.specs.Trees.Statements as tree
-use Rattle.wgsl_model.specs.Trees.Statements.{DeclarationKind.let_kind, DeclarationKind.const_kind, CompoundStatement, Statement, UnattributedStatement}
+use Rattle.wgsl_model.specs.Trees.Statements.{DeclarationKind.let_kind, DeclarationKind.const_kind, CompoundStatement, Statement, UnattributedStatement, assert_of}
 use Rattle.wgsl_model.specs.Printed.Statements.{is_void}
-use Rattle.wgsl_model.specs.Grammar.StatementParts.{underscore_at, attributed, left_side, assert_of}
-use Rattle.wgsl_model.specs.Grammar.Symbols.{compound_statement, statement, return_statement, if_statement, switch_statement, loop_statement, for_statement, while_statement, call_statement, var_statement, value_statement, break_statement, continue_statement, discard_statement, assignment, phony_assignment, increment, decrement, const_assert, switch_clause, case_selector, continuing_statement, for_init, for_update, typed_ident, Rule, call, expression, ident, type_specifier, Dialect.whole}
+use Rattle.wgsl_model.specs.Grammar.StatementParts.{underscore_at, attributed, left_side}
+use Rattle.wgsl_model.specs.Grammar.Symbols.{Symbol, compound_statement, statement, return_statement, if_statement, switch_statement, loop_statement, for_statement, while_statement, call_statement, var_statement, value_statement, break_statement, continue_statement, discard_statement, assignment, phony_assignment, increment, decrement, const_assert, switch_clause, case_selector, continuing_statement, for_init, for_update, typed_ident, Rule, call, expression, ident, type_specifier, Dialect.whole}
 use Rattle.wgsl_model.specs.Grammar.Written.{written}
 use Rattle.wgsl_theory_grammar.proofs.Faults.PlainFaults.{one_class}
+use Rattle.wgsl_theory_grammar.proofs.Faults.WrittenEnds.{closing}
 use Rattle.wgsl_theory_reread.specs.CanonicalExpressions.{Writer, expression_node_tokens}
 use Rattle.wgsl_theory_reread.specs.CanonicalAttributes.{attributes_tokens}
 use Rattle.wgsl_theory_reread.specs.CanonicalStatements.{kind_tokens, end_token, unended_tokens, unattributed_tokens, compound_tokens, assert_tokens}
 use Rattle.wgsl_theory_reread.specs.CanonicalUnits.{without_place}
 use Rattle.wgsl_theory_reread.proofs.Words.{AllWords}
-use Rattle.wgsl_theory_reread.proofs.Again.{write, Ended, Unended}
+use Rattle.wgsl_theory_reread.proofs.Again.{write, Ended, Unended, IsKind}
 use Rattle.wgsl_theory_reread.proofs.Ways.{words_behind}
 use Rattle.wgsl_theory_reread.proofs.EachRule.StatementRules.{clause_body, case_clause, default_clause, clause_tokens, continuing_part, continuing_part_tokens}
 use Rattle.wgsl_theory_reread.proofs.EachRule.StatementParts.{kept_tokens}
@@ -46,58 +47,58 @@ attributed_edits : {e b : Bool} {g : Rule UnattributedStatement} → Changes e f
 attributed_edits G = gives_edits (then_edits attributes_edits G) (λ a rest. refl)
 
 -- ---- statements that no `;` ends
-pub if_statement_right : {b : Bool} → Changes true b (written if_statement) (write if_statement)
+if_statement_right : {b : Bool} → Changes true b (written if_statement) (write if_statement)
 if_statement_right = attributed_edits (gives_edits (before_edits KwIf (then_edits (symbol_edits expression tt) (then_edits (symbol_edits compound_statement tt) (then_edits else_ifs_edits else_edits)))) (λ a rest. refl))
 
-pub switch_statement_right : {b : Bool} → Changes true b (written switch_statement) (write switch_statement)
+switch_statement_right : {b : Bool} → Changes true b (written switch_statement) (write switch_statement)
 switch_statement_right = attributed_edits (gives_edits (before_edits KwSwitch (then_edits (symbol_edits expression tt) (then_edits attributes_edits (before_edits SymBraceLeft (behind_edits {m = true} SymBraceRight clauses_edits))))) (λ a rest. refl))
 
-pub loop_statement_right : {b : Bool} → Changes true b (written loop_statement) (write loop_statement)
+loop_statement_right : {b : Bool} → Changes true b (written loop_statement) (write loop_statement)
 loop_statement_right = attributed_edits (gives_edits (before_edits KwLoop (then_edits attributes_edits (before_edits SymBraceLeft (behind_edits {m = true} SymBraceRight (then_edits statements_edits maybe_continuing_edits))))) (λ a rest. refl))
 
-pub for_statement_right : {b : Bool} → Changes true b (written for_statement) (write for_statement)
+for_statement_right : {b : Bool} → Changes true b (written for_statement) (write for_statement)
 for_statement_right = attributed_edits (gives_edits (before_edits KwFor (before_edits SymParenLeft (then_edits (behind_edits {m = false} SymSemicolon (part_edits (symbol_edits for_init tt)))
     (then_edits (behind_edits {m = false} SymSemicolon (optional_edits {e = false} tt (symbol_edits expression tt))) (then_edits (behind_edits {m = false} SymParenRight (part_edits (symbol_edits for_update tt))) (symbol_edits compound_statement tt)))))) (λ a rest. refl))
 
-pub while_statement_right : {b : Bool} → Changes true b (written while_statement) (write while_statement)
+while_statement_right : {b : Bool} → Changes true b (written while_statement) (write while_statement)
 while_statement_right = attributed_edits (gives_edits (before_edits KwWhile (then_edits (symbol_edits expression tt) (symbol_edits compound_statement tt))) (λ a rest. refl))
 
 -- ---- statements that a `;` ends
-pub return_statement_right : {b : Bool} → Changes false b (written return_statement) (write return_statement)
+return_statement_right : {b : Bool} → Changes false b (written return_statement) (write return_statement)
 return_statement_right = attributed_edits (gives_edits (before_edits KwReturn (optional_edits {e = false} tt (symbol_edits expression tt))) (λ a rest. refl))
 
-pub call_statement_right : {b : Bool} → Changes false b (written call_statement) (write call_statement)
+call_statement_right : {b : Bool} → Changes false b (written call_statement) (write call_statement)
 call_statement_right = attributed_edits (gives_edits (symbol_edits call tt) (λ a rest. refl))
 
-pub var_statement_right : {b : Bool} → Changes false b (written var_statement) (write var_statement)
+var_statement_right : {b : Bool} → Changes false b (written var_statement) (write var_statement)
 var_statement_right = attributed_edits (gives_edits (then_edits var_kind_edits (then_edits (symbol_edits typed_ident tt) (optional_edits {e = false} tt initializer_edits))) (λ a rest. refl))
 
 value_kind_edits : {b : Bool} → Changes false b (KwLet means let_kind or KwConst means const_kind) kind_tokens
 value_kind_edits = or_edits (means_edits KwLet (λ rest. refl)) (means_edits KwConst (λ rest. refl))
 
-pub value_statement_right : {b : Bool} → Changes false b (written value_statement) (write value_statement)
+value_statement_right : {b : Bool} → Changes false b (written value_statement) (write value_statement)
 value_statement_right = attributed_edits (gives_edits (then_edits value_kind_edits (then_edits (symbol_edits typed_ident tt) initializer_edits)) (λ a rest. refl))
 
-pub break_statement_right : {b : Bool} → Changes false b (written break_statement) (write break_statement)
+break_statement_right : {b : Bool} → Changes false b (written break_statement) (write break_statement)
 break_statement_right = attributed_edits (means_edits KwBreak (λ rest. refl))
 
-pub continue_statement_right : {b : Bool} → Changes false b (written continue_statement) (write continue_statement)
+continue_statement_right : {b : Bool} → Changes false b (written continue_statement) (write continue_statement)
 continue_statement_right = attributed_edits (means_edits KwContinue (λ rest. refl))
 
-pub discard_statement_right : {b : Bool} → Changes false b (written discard_statement) (write discard_statement)
+discard_statement_right : {b : Bool} → Changes false b (written discard_statement) (write discard_statement)
 discard_statement_right = attributed_edits (means_edits KwDiscard (λ rest. refl))
 
 -- a left side behind attributes
 left_side_edits : {b : Bool} → Changes false b (left_side whole) (λ p rest. attributes_tokens p.0 (expression_node_tokens p.1 rest))
 left_side_edits = or_edits (then_edits attributes_edits open_left_side_edits) (gives_edits parenthesized_left_side_edits (λ a rest. refl))
 
-pub assignment_right : {b : Bool} → Changes false b (written assignment) (write assignment)
+assignment_right : {b : Bool} → Changes false b (written assignment) (write assignment)
 assignment_right = gives_edits (then_edits left_side_edits (then_edits assignment_operator_edits (symbol_edits expression tt))) (λ a rest. refl)
 
-pub increment_right : {b : Bool} → Changes false b (written increment) (write increment)
+increment_right : {b : Bool} → Changes false b (written increment) (write increment)
 increment_right = narrow_edits {e = true} (gives_edits (behind_edits {m = false} SymPlusPlus left_side_edits) (λ a rest. refl))
 
-pub decrement_right : {b : Bool} → Changes false b (written decrement) (write decrement)
+decrement_right : {b : Bool} → Changes false b (written decrement) (write decrement)
 decrement_right = gives_edits (behind_edits {m = false} SymMinusMinus left_side_edits) (λ a rest. refl)
 
 assert_edits : {b : Bool} → Changes false b (KwConstAssert ▹ symbol expression gives assert_of) assert_tokens
@@ -110,7 +111,7 @@ const_assert_right = gives_edits (then_edits attributes_edits assert_edits) (λ 
 underscore_edits : {b : Bool} → Changes true b (one_token SymUnderscore makes underscore_at) expression_node_tokens
 underscore_edits = makes_edits (sign_edits SymUnderscore) (λ a span rest. refl)
 
-pub phony_assignment_right : {b : Bool} → Changes false b (written phony_assignment) (write phony_assignment)
+phony_assignment_right : {b : Bool} → Changes false b (written phony_assignment) (write phony_assignment)
 phony_assignment_right = attributed_edits (gives_edits (then_edits underscore_edits initializer_edits) (λ a rest. refl))
 
 -- ---- a name with its type, and what a clause selects
@@ -152,7 +153,7 @@ block_kept (tree.compound_statement attributes ss) rest = refl
 
 -- what is known of a statement without its `;`, which one does or does not end
 abbrev EditsWith : (Statement → Type 0) → Bool → Rule Statement → Type 0
-EditsWith P e g = (v : Statement) (xs ys : List Token) → Means checking Edited g v xs ys → AllWords xs → AllWords ys × P v × (is_void v ≡ false) × Turns e false unended_tokens v xs ys
+EditsWith P e g = (v : Statement) (xs ys : List Token) → Means checking Edited g v xs ys → AllWords xs → AllWords ys × P v × Unit {0} × Turns e false unended_tokens v xs ys
 
 ended_edits : {g : Rule Statement} → EditsWith Ended false g → Changes true false (g ◃ SymSemicolon) kept_plain
 ended_edits {g} f = record {
@@ -160,7 +161,7 @@ ended_edits {g} f = record {
       subst (λ (z : Statement). Changed true false kept_plain z xs ys) d.1 (
       let found = f d.0.0 xs d.2.0 d.2.1 words in (
         words_behind d.0.1 d.2.0 ys d.2.2.1 found.0,
-        λ ks r. subst (λ (z : List Kind). Edits false (kinds xs) z) (sym (kept_is d.0.0 ks found.2 ∙ ap (unended_tokens d.0.0) (found.1 ks)))
+        λ ks r. subst (λ (z : List Kind). Edits false (kinds xs) z) (sym (kept_is d.0.0 ks found.1.0 ∙ ap (unended_tokens d.0.0) (found.1.1 ks)))
             (found.3 (plain SymSemicolon ∷ ks) (token_turns {b = false} {c = SymSemicolon} d.0.1 d.2.0 ys ks d.2.2.0 d.2.2.1 r)),
       )
       );
@@ -170,7 +171,7 @@ unended_edits : {g : Rule Statement} → EditsWith Unended true g → Changes tr
 unended_edits {g} f = record {
   edit = λ v xs ys d words.
       let found = f v xs ys d words in
-      (found.0, λ ks r. subst (λ (z : List Kind). Edits false (kinds xs) z) (sym (kept_is v ks found.2 ∙ ap (unended_tokens v) (found.1 ks))) (found.3 ks r));
+      (found.0, λ ks r. subst (λ (z : List Kind). Edits false (kinds xs) z) (sym (kept_is v ks found.1.0 ∙ ap (unended_tokens v) (found.1.1 ks))) (found.3 ks r));
 }
 
 pub statement_right : Changes true true (written statement) kept_tokens
@@ -205,3 +206,23 @@ for_update_right = makes_edits update_edits (λ a span rest. refl)
 
 pub for_init_right : {b : Bool} → Changes false b (written for_init) (write for_init)
 for_init_right = makes_edits {writes = unended_tokens} (or_edits (symbol_edits var_statement tt) (or_edits (symbol_edits value_statement tt) update_edits)) (λ a span rest. refl)
+
+-- ---- each kind of statements
+pub kind_right : (n : Symbol) → IsKind n → Changes (closing n) false (written n) (write n)
+kind_right return_statement kind = return_statement_right
+kind_right if_statement kind = if_statement_right
+kind_right switch_statement kind = switch_statement_right
+kind_right loop_statement kind = loop_statement_right
+kind_right for_statement kind = for_statement_right
+kind_right while_statement kind = while_statement_right
+kind_right call_statement kind = call_statement_right
+kind_right var_statement kind = var_statement_right
+kind_right value_statement kind = value_statement_right
+kind_right break_statement kind = break_statement_right
+kind_right continue_statement kind = continue_statement_right
+kind_right discard_statement kind = discard_statement_right
+kind_right assignment kind = assignment_right
+kind_right phony_assignment kind = phony_assignment_right
+kind_right increment kind = increment_right
+kind_right decrement kind = decrement_right
+kind_right n kind = absurd kind

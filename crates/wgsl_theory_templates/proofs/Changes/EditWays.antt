@@ -6,9 +6,8 @@ use Rattle.grammar.specs.Notation.{one_token, ◌then◌, ◌or◌, ◌gives◌,
 use Rattle.wgsl_model.specs.Tokens.Classes.{SymComma, SymMinus}
 use Rattle.wgsl_model.specs.Tokens.Kind.{Kind, plain}
 use Rattle.wgsl_model.specs.Trees.Expressions.{ExpressionNode, Expression}
-use Rattle.wgsl_model.specs.Printed.Statements as statements
 use Rattle.wgsl_model.specs.Printed.Units as units
-use Rattle.wgsl_model.specs.Grammar.Symbols.{Symbol, expressions, component, negated_expression, statement, return_statement, if_statement, switch_statement, loop_statement, for_statement, while_statement, call_statement, var_statement, value_statement, break_statement, continue_statement, discard_statement, assignment, phony_assignment, increment, decrement, global_declaration, var_declaration, const_declaration, override_declaration, alias_declaration, struct_declaration, function_declaration, unit, Value, Rule}
+use Rattle.wgsl_model.specs.Grammar.Symbols.{Symbol, expressions, component, negated_expression, statement, global_declaration, var_declaration, const_declaration, override_declaration, alias_declaration, struct_declaration, function_declaration, unit, Value, Rule}
 use Rattle.wgsl_theory_grammar.proofs.Faults.WrittenEnds.{closing}
 use Rattle.wgsl_theory_grammar.proofs.Faults.PlainFaults.{one_class}
 use Rattle.wgsl_theory_reread.specs.CanonicalExpressions.{Writer, optional_tokens, all_tokens, list_tokens, expression_tokens, expression_node_tokens}
@@ -43,24 +42,8 @@ Turns e b writes v xs ys = (ks : List Kind) → Edits e (kinds ys) ks → Edits 
 abbrev pub TurnsComponent : (ExpressionNode → Expression) → List Token → List Token → Type 0
 TurnsComponent v xs ys = (ks : List Kind) → Edits false (kinds ys) ks → (ms : List Kind) × ((base : ExpressionNode) → expression_tokens (v base) ks ≡ expression_node_tokens base ms) × Edits false (kinds xs) ms
 
--- a statement or a declaration that is not empty
+-- a declaration that is not empty
 abbrev pub Filled : (n : Symbol) → Value n → Type 0
-Filled return_statement v = statements.is_void v ≡ false
-Filled if_statement v = statements.is_void v ≡ false
-Filled switch_statement v = statements.is_void v ≡ false
-Filled loop_statement v = statements.is_void v ≡ false
-Filled for_statement v = statements.is_void v ≡ false
-Filled while_statement v = statements.is_void v ≡ false
-Filled call_statement v = statements.is_void v ≡ false
-Filled var_statement v = statements.is_void v ≡ false
-Filled value_statement v = statements.is_void v ≡ false
-Filled break_statement v = statements.is_void v ≡ false
-Filled continue_statement v = statements.is_void v ≡ false
-Filled discard_statement v = statements.is_void v ≡ false
-Filled assignment v = statements.is_void v ≡ false
-Filled phony_assignment v = statements.is_void v ≡ false
-Filled increment v = statements.is_void v ≡ false
-Filled decrement v = statements.is_void v ≡ false
 Filled var_declaration v = units.is_void v ≡ false
 Filled const_declaration v = units.is_void v ≡ false
 Filled override_declaration v = units.is_void v ≡ false

@@ -3,11 +3,11 @@ use Rattle.std.proofs.Common.{◌≡◌, ◌⊎◌, inl, inr, ℕ, zero, suc, �
 use Rattle.std.specs.Prelude.{option_map}
 use Rattle.std.proofs.lemmas.Bool.{true≢false}
 use Rattle.unicode_ident.proofs.IdentLemmas.{is_xid_start-ascii}
-use Rattle.wgsl_model.specs.Tokens.Classes.{SymForwardSlash, SymDivisionEqual, SymLessThan, TemplateArgsEnd}
+use Rattle.wgsl_model.specs.Tokens.Classes.{SymForwardSlash, SymDivisionEqual, SymLessThan, TemplateArgsEnd, symbols}
 use Rattle.wgsl_model.specs.Tokens.Kind.{Kind, plain}
 use Rattle.wgsl_model.specs.Tokens.Raw.{Raw.token as raw_token, raw, raw_at}
 use Rattle.wgsl_model.specs.Tokens.Trivia.{first_or_zero, after_trivia}
-use Rattle.wgsl_model.specs.Tokens.Words.{look_up, symbols}
+use Rattle.wgsl_model.specs.Tokens.Words.{look_up}
 use Rattle.wgsl_theory_templates.proofs.Reaching.Reach.{role}
 use Rattle.wgsl_theory_templates.proofs.Lexed.RoleClasses.{is_mark_role}
 use Rattle.wgsl_theory_printed.proofs.Spelling.Spellings.{IsSpelling, EndsBefore, spelling_at, spelling_stands}

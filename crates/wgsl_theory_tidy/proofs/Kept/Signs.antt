@@ -5,12 +5,12 @@ use Rattle.std.proofs.lemmas.Bool.{eqb-true}
 use Rattle.std.proofs.lemmas.Slice.Eq.{bytes_eq-Decides}
 use Rattle.unicode_ident.proofs.IdentLemmas.{is_xid_start-ascii}
 use Rattle.grammar.proofs.Reading.Sets.{and_true, implied}
-use Rattle.wgsl_model.specs.Tokens.Classes.{SymForwardSlash, SymDivisionEqual, SymGreaterThan, SymGreaterThanEqual, SymShiftRight, SymShiftRightAssign, SymLessThan, SymUnderscore}
+use Rattle.wgsl_model.specs.Tokens.Classes.{SymForwardSlash, SymDivisionEqual, SymGreaterThan, SymGreaterThanEqual, SymShiftRight, SymShiftRightAssign, SymLessThan, SymUnderscore, symbols}
 use Rattle.wgsl_model.specs.Tokens.Kind.{Kind, plain}
 use Rattle.wgsl_model.specs.Tokens.Raw.{kind_of_spelling}
 use Rattle.wgsl_model.specs.Tokens.Templates.{begins_with_greater}
 use Rattle.wgsl_model.specs.Tokens.Trivia.{first_or_zero}
-use Rattle.wgsl_model.specs.Tokens.Words.{look_up, symbols}
+use Rattle.wgsl_model.specs.Tokens.Words.{look_up}
 use Rattle.wgsl_theory_grammar.proofs.Tokens.Classes.{passes_on}
 use Rattle.wgsl_theory_grammar.proofs.Tokens.Symbols.{found_passes, is_symbol}
 use Rattle.wgsl_theory_printed.proofs.Spelling.Split.{by_either}

@@ -8,12 +8,12 @@ use Rattle.std.proofs.lemmas.Slice.Eq.{bytes_eq-Decides}
 use Rattle.unicode_ident.specs.Ident.{is_xid_start}
 use Rattle.grammar.specs.Tokens.{Payload.number as number_payload}
 use Rattle.grammar.specs.Tables.{is_empty}
-use Rattle.wgsl_model.specs.Tokens.Classes.{Ident, ReservedWord, SymUnderscore, AbstractInt, I32, U32, AbstractFloat, F32, F16, TemplateArgsEnd}
+use Rattle.wgsl_model.specs.Tokens.Classes.{Ident, ReservedWord, SymUnderscore, AbstractInt, I32, U32, AbstractFloat, F32, F16, TemplateArgsEnd, symbols, keywords}
 use Rattle.wgsl_model.specs.Tokens.Kind.{Kind, plain, named}
 use Rattle.wgsl_model.specs.Tokens.Numbers.{number_of, number_below, float_of, number_value, without_last, whole_number, i_suffix, u_suffix, f_suffix, h_suffix, abstract_float, float}
 use Rattle.wgsl_model.specs.Tokens.Pattern.{empty, spells}
 use Rattle.wgsl_model.specs.Tokens.Raw.{kind_of_spelling, kind_of_word, keyword_or_name}
-use Rattle.wgsl_model.specs.Tokens.Words.{look_up, is_word_among, symbols, keywords, reserved_words}
+use Rattle.wgsl_model.specs.Tokens.Words.{look_up, is_word_among, reserved_words}
 use Rattle.wgsl_theory_printed.proofs.Spelling.Split.{by_either}
 use Rattle.wgsl_theory_printed.proofs.Spelling.Signs.{begins_name, begins_number}
 use Rattle.wgsl_model_tidy.specs.Roles.{Role, name, number, word, else_word, opening, closing, block_start, block_end, comma, semicolon, colon, period, at, minus, ampersand, prefix, binary, step, role_of}

@@ -5,7 +5,7 @@ use Rattle.grammar.specs.Grammar.{Mode.checking, Derives}
 use Rattle.wgsl_model.specs.Trees.Expressions.{ExpressionNode}
 use Rattle.wgsl_model.specs.Trees.Units.{TranslationUnit}
 use Rattle.wgsl_model.specs.Trees.StatementsWithoutSpans.{bare_unit}
-use Rattle.wgsl_model.specs.Grammar.Symbols.{Symbol, ident, type_specifier, template_list, expressions, call, arguments, literal, primary_expression, singular_expression, component, unary_expression, multiplicative_expression, negated_expression, additive_expression, shift_expression, relational_expression, expression, lhs_expression, attribute, compound_statement, statement, return_statement, if_statement, switch_statement, loop_statement, for_statement, while_statement, call_statement, var_statement, value_statement, break_statement, continue_statement, discard_statement, assignment, phony_assignment, increment, decrement, const_assert, switch_clause, case_selector, continuing_statement, for_init, for_update, var_template, typed_ident, struct_member, formal_parameter, global_declaration, var_declaration, const_declaration, override_declaration, alias_declaration, struct_declaration, function_declaration, diagnostic_severity, global_directive, enable_directive, requires_directive, diagnostic_directive, unit, Value}
+use Rattle.wgsl_model.specs.Grammar.Symbols.{Symbol, ident, type_specifier, template_list, expressions, call, arguments, literal, primary_expression, singular_expression, component, unary_expression, multiplicative_expression, negated_expression, additive_expression, shift_expression, relational_expression, expression, lhs_expression, attribute, compound_statement, statement, const_assert, switch_clause, case_selector, continuing_statement, for_init, for_update, var_template, typed_ident, struct_member, formal_parameter, global_declaration, var_declaration, const_declaration, override_declaration, alias_declaration, struct_declaration, function_declaration, diagnostic_severity, global_directive, enable_directive, requires_directive, diagnostic_directive, unit, Value}
 use Rattle.wgsl_model.specs.Grammar.Written.{written}
 use Rattle.wgsl_theory_reread.specs.CanonicalUnits.{without_place}
 use Rattle.wgsl_theory_reread.proofs.Again.{D, Found}
@@ -16,7 +16,7 @@ use Rattle.wgsl_theory_tidy.proofs.Moved.Alike.{Alike, Moved}
 use Rattle.wgsl_theory_tidy.proofs.Moved.Ways.{MovesBy}
 use Rattle.wgsl_theory_tidy.proofs.Moved.ExpressionRules.{ident_moves, type_specifier_moves, template_list_moves, expressions_moves, call_moves, arguments_moves, literal_moves, primary_expression_moves, singular_expression_moves, component_moves, unary_expression_moves, multiplicative_expression_moves, negated_expression_moves, additive_expression_moves, shift_expression_moves, relational_expression_moves, expression_moves, lhs_expression_moves}
 use Rattle.wgsl_theory_tidy.proofs.Moved.AttributeRules.{attribute_moves, var_template_moves, diagnostic_severity_moves}
-use Rattle.wgsl_theory_tidy.proofs.Moved.StatementRules.{compound_statement_moves, statement_moves, return_statement_moves, if_statement_moves, switch_statement_moves, loop_statement_moves, for_statement_moves, while_statement_moves, call_statement_moves, var_statement_moves, value_statement_moves, break_statement_moves, continue_statement_moves, discard_statement_moves, assignment_moves, phony_assignment_moves, increment_moves, decrement_moves, const_assert_moves, switch_clause_moves, case_selector_moves, continuing_statement_moves, for_init_moves, for_update_moves, typed_ident_moves}
+use Rattle.wgsl_theory_tidy.proofs.Moved.StatementRules.{compound_statement_moves, statement_moves, const_assert_moves, switch_clause_moves, case_selector_moves, continuing_statement_moves, for_init_moves, for_update_moves, typed_ident_moves, kind_moves}
 use Rattle.wgsl_theory_tidy.proofs.Moved.UnitRules.{struct_member_moves, formal_parameter_moves, global_declaration_moves, var_declaration_moves, const_declaration_moves, override_declaration_moves, alias_declaration_moves, struct_declaration_moves, function_declaration_moves, global_directive_moves, enable_directive_moves, requires_directive_moves, diagnostic_directive_moves, unit_moves}
 
 -- each rule of the grammar
@@ -42,22 +42,6 @@ rules lhs_expression = lhs_expression_moves
 rules attribute = attribute_moves
 rules compound_statement = compound_statement_moves
 rules statement = statement_moves
-rules return_statement = return_statement_moves
-rules if_statement = if_statement_moves
-rules switch_statement = switch_statement_moves
-rules loop_statement = loop_statement_moves
-rules for_statement = for_statement_moves
-rules while_statement = while_statement_moves
-rules call_statement = call_statement_moves
-rules var_statement = var_statement_moves
-rules value_statement = value_statement_moves
-rules break_statement = break_statement_moves
-rules continue_statement = continue_statement_moves
-rules discard_statement = discard_statement_moves
-rules assignment = assignment_moves
-rules phony_assignment = phony_assignment_moves
-rules increment = increment_moves
-rules decrement = decrement_moves
 rules const_assert = const_assert_moves
 rules switch_clause = switch_clause_moves
 rules case_selector = case_selector_moves
@@ -81,6 +65,7 @@ rules enable_directive = enable_directive_moves
 rules requires_directive = requires_directive_moves
 rules diagnostic_directive = diagnostic_directive_moves
 rules unit = unit_moves
+rules n = kind_moves n tt
 
 -- what a symbol derives is derived wherever the tokens stand
 pub moved : (n : Symbol) (v : Value n) (xs ys : List Token) → D n v xs ys → Moved n v xs ys

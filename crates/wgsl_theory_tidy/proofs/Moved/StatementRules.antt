@@ -11,9 +11,10 @@ use Rattle.wgsl_model.specs.Trees.Statements.{BreakIfStatement, CaseSelector, St
 use Rattle.wgsl_model.specs.Trees.WithoutSpans.{no_span, bare_expression_node, bare_attributes}
 use Rattle.wgsl_model.specs.Trees.StatementsWithoutSpans.{bare_attributed, bare_assert, bare_break_if, bare_selector, bare_statement, bare_unattributed, bare_statement_node, bare_statements, bare_compound, bare_else_if_clause, bare_else_ifs, bare_else_clause, bare_else, bare_clauses, bare_maybe_continuing, bare_part}
 use Rattle.wgsl_model.specs.Grammar.StatementParts.{attributed, statements, initializer, var_kind, assignment_operator, left_side, else_if, else_block, break_if}
-use Rattle.wgsl_model.specs.Grammar.Symbols.{Dialect.whole, type_specifier, call, expression, compound_statement, statement, return_statement, if_statement, switch_statement, loop_statement, for_statement, while_statement, call_statement, var_statement, value_statement, break_statement, continue_statement, discard_statement, assignment, phony_assignment, increment, decrement, const_assert, switch_clause, case_selector, continuing_statement, for_init, for_update, var_template, typed_ident, Rule}
+use Rattle.wgsl_model.specs.Grammar.Symbols.{Dialect.whole, type_specifier, call, expression, compound_statement, statement, return_statement, if_statement, switch_statement, loop_statement, for_statement, while_statement, call_statement, var_statement, value_statement, break_statement, continue_statement, discard_statement, assignment, phony_assignment, increment, decrement, const_assert, switch_clause, case_selector, continuing_statement, for_init, for_update, var_template, typed_ident, Rule, Symbol}
 use Rattle.wgsl_model.specs.Grammar.Written.{written}
 use Rattle.wgsl_theory_reread.specs.CanonicalUnits.{without_place}
+use Rattle.wgsl_theory_reread.proofs.Again.{IsKind}
 use Rattle.wgsl_theory_reread.proofs.EachRule.StatementRules.{block_bare}
 use Rattle.wgsl_theory_reread.proofs.EachRule.StatementParts.{else_ifs_bare, clauses_bare}
 use Rattle.wgsl_theory_tidy.proofs.Moved.Alike.{Alike}
@@ -61,21 +62,21 @@ else_moves : MovesBy (optional else_block) (λ w v. bare_else (else_of w) ≡ ba
 else_moves = or_moves (gives_moves (gives_moves {same = λ w v. bare_else_clause w ≡ bare_else_clause v} (before_moves KwElse (symbol_moves compound_statement)) (λ w v h. λ i. tree.else_clause [] (h i))) (λ w v h. λ i. tree.one_else (h i)))
     (none_moves _ refl)
 
-pub if_statement_moves : MovesBy (written if_statement) (Alike if_statement)
+if_statement_moves : MovesBy (written if_statement) (Alike if_statement)
 if_statement_moves = attributed_moves (gives_moves (before_moves KwIf (then_moves (symbol_moves expression) (then_moves (symbol_moves compound_statement) (then_moves else_ifs_move else_moves))))
     (λ w v h. λ i. tree.if_statement (tree.if_else (tree.if_clause (h.0 i) (h.1.0 i)) (h.1.1.0 i) (h.1.1.1 i))))
 
 clauses_move : MovesBy (several (symbol switch_clause)) (λ w v. bare_clauses (clauses_of w) ≡ bare_clauses (clauses_of v))
 clauses_move = alike_moves (several_moves (symbol_moves switch_clause)) (λ w v h. clauses_bare w ∙ ap clauses_of h ∙ sym (clauses_bare v))
 
-pub switch_statement_moves : MovesBy (written switch_statement) (Alike switch_statement)
+switch_statement_moves : MovesBy (written switch_statement) (Alike switch_statement)
 switch_statement_moves = attributed_moves (gives_moves (before_moves KwSwitch (then_moves (symbol_moves expression) (then_moves attributes_move (before_moves SymBraceLeft (behind_moves SymBraceRight clauses_move)))))
     (λ w v h. λ i. tree.switch_statement (tree.switch (h.0 i) (h.1.0 i) (h.1.1 i))))
 
 maybe_continuing_moves : MovesBy (optional (symbol continuing_statement)) (λ w v. bare_maybe_continuing (continuing_of w) ≡ bare_maybe_continuing (continuing_of v))
 maybe_continuing_moves = or_moves (gives_moves (symbol_moves continuing_statement) (λ w v h. λ i. tree.one_continuing (h i))) (none_moves _ refl)
 
-pub loop_statement_moves : MovesBy (written loop_statement) (Alike loop_statement)
+loop_statement_moves : MovesBy (written loop_statement) (Alike loop_statement)
 loop_statement_moves = attributed_moves (gives_moves (before_moves KwLoop (then_moves attributes_move (before_moves SymBraceLeft (behind_moves SymBraceRight (then_moves statements_move maybe_continuing_moves)))))
     (λ w v h. λ i. tree.loop_statement (tree.repeat (tree.compound_statement (h.0 i) (h.1.0 i)) (h.1.1 i))))
 
@@ -83,37 +84,37 @@ loop_statement_moves = attributed_moves (gives_moves (before_moves KwLoop (then_
 part_moves : {g : Rule StatementNode} → MovesBy g (λ w v. bare_statement_node w ≡ bare_statement_node v) → MovesBy (optional g) (λ w v. bare_part (maybe_statement w) ≡ bare_part (maybe_statement v))
 part_moves G = or_moves (gives_moves G (λ w v h. λ i. tree.one_statement (h i))) (none_moves _ refl)
 
-pub for_statement_moves : MovesBy (written for_statement) (Alike for_statement)
+for_statement_moves : MovesBy (written for_statement) (Alike for_statement)
 for_statement_moves = attributed_moves (gives_moves
     (before_moves KwFor (before_moves SymParenLeft (then_moves (behind_moves SymSemicolon (part_moves (symbol_moves for_init))) (then_moves (behind_moves SymSemicolon (optional_moves (symbol_moves expression)))
     (then_moves (behind_moves SymParenRight (part_moves (symbol_moves for_update))) (symbol_moves compound_statement))))))
     (λ w v h. λ i. tree.for_statement (tree.repeat_for (h.0 i) (h.1.0 i) (h.1.1.0 i) (h.1.1.1 i))))
 
-pub while_statement_moves : MovesBy (written while_statement) (Alike while_statement)
+while_statement_moves : MovesBy (written while_statement) (Alike while_statement)
 while_statement_moves = attributed_moves (gives_moves (before_moves KwWhile (then_moves (symbol_moves expression) (symbol_moves compound_statement))) (λ w v h. λ i. tree.while_statement (tree.repeat_while (h.0 i) (h.1 i))))
 
 -- ---- statements that end with a `;`
-pub return_statement_moves : MovesBy (written return_statement) (Alike return_statement)
+return_statement_moves : MovesBy (written return_statement) (Alike return_statement)
 return_statement_moves = attributed_moves (gives_moves (before_moves KwReturn (optional_moves (symbol_moves expression))) (λ w v h. λ i. tree.return_statement (record { expression = h i })))
 
-pub call_statement_moves : MovesBy (written call_statement) (Alike call_statement)
+call_statement_moves : MovesBy (written call_statement) (Alike call_statement)
 call_statement_moves = attributed_moves (gives_moves (symbol_moves call) (λ w v h. λ i. tree.function_call_statement (record { call = h i })))
 
-pub var_statement_moves : MovesBy (written var_statement) (Alike var_statement)
+var_statement_moves : MovesBy (written var_statement) (Alike var_statement)
 var_statement_moves = attributed_moves (gives_moves (then_moves var_kind_moves (then_moves (symbol_moves typed_ident) (optional_moves initializer_moves)))
     (λ w v h. λ i. tree.declaration (record { kind = h.0 i; ident = h.1.0.0 i; ty = h.1.0.1 i; initializer = h.1.1 i })))
 
-pub value_statement_moves : MovesBy (written value_statement) (Alike value_statement)
+value_statement_moves : MovesBy (written value_statement) (Alike value_statement)
 value_statement_moves = attributed_moves (gives_moves (then_moves (or_moves {like = λ w v. w ≡ v} (means_moves KwLet refl) (means_moves KwConst refl)) (then_moves (symbol_moves typed_ident) initializer_moves))
     (λ w v h. λ i. tree.declaration (record { kind = h.0 i; ident = h.1.0.0 i; ty = h.1.0.1 i; initializer = Some (h.1.1 i) })))
 
-pub break_statement_moves : MovesBy (written break_statement) (Alike break_statement)
+break_statement_moves : MovesBy (written break_statement) (Alike break_statement)
 break_statement_moves = attributed_moves (means_moves KwBreak refl)
 
-pub continue_statement_moves : MovesBy (written continue_statement) (Alike continue_statement)
+continue_statement_moves : MovesBy (written continue_statement) (Alike continue_statement)
 continue_statement_moves = attributed_moves (means_moves KwContinue refl)
 
-pub discard_statement_moves : MovesBy (written discard_statement) (Alike discard_statement)
+discard_statement_moves : MovesBy (written discard_statement) (Alike discard_statement)
 discard_statement_moves = attributed_moves (means_moves KwDiscard refl)
 
 -- a left side behind attributes
@@ -125,18 +126,18 @@ assignment_operator_moves = or_moves (means_moves SymEqual refl) (or_moves (mean
     (or_moves (means_moves SymDivisionEqual refl) (or_moves (means_moves SymModuloEqual refl) (or_moves (means_moves SymAndEqual refl) (or_moves (means_moves SymOrEqual refl)
     (or_moves (means_moves SymXorEqual refl) (or_moves (means_moves SymShiftRightAssign refl) (means_moves SymShiftLeftAssign refl))))))))))
 
-pub assignment_moves : MovesBy (written assignment) (Alike assignment)
+assignment_moves : MovesBy (written assignment) (Alike assignment)
 assignment_moves = gives_moves (then_moves left_side_moves (then_moves assignment_operator_moves (symbol_moves expression)))
     (λ w v h. λ i. tree.statement (h.0.0 i) (tree.assignment (record { operator = h.1.0 i; lhs = h.0.1 i; rhs = h.1.1 i })))
 
-pub phony_assignment_moves : MovesBy (written phony_assignment) (Alike phony_assignment)
+phony_assignment_moves : MovesBy (written phony_assignment) (Alike phony_assignment)
 phony_assignment_moves = attributed_moves (gives_moves (then_moves (makes_moves {same = λ w v. bare_expression_node w ≡ bare_expression_node v} (token_moves _) (λ w v s r h. refl)) initializer_moves)
     (λ w v h. λ i. tree.assignment (record { operator = equal; lhs = h.0 i; rhs = h.1 i })))
 
-pub increment_moves : MovesBy (written increment) (Alike increment)
+increment_moves : MovesBy (written increment) (Alike increment)
 increment_moves = gives_moves (behind_moves SymPlusPlus left_side_moves) (λ w v h. λ i. tree.statement (h.0 i) (tree.increment (record { expression = h.1 i })))
 
-pub decrement_moves : MovesBy (written decrement) (Alike decrement)
+decrement_moves : MovesBy (written decrement) (Alike decrement)
 decrement_moves = gives_moves (behind_moves SymMinusMinus left_side_moves) (λ w v h. λ i. tree.statement (h.0 i) (tree.decrement (record { expression = h.1 i })))
 
 pub const_assert_moves : MovesBy (written const_assert) (Alike const_assert)
@@ -209,3 +210,23 @@ for_update_moves = makes_moves update_moves (λ w v s r h. λ i. statement_node 
 
 pub for_init_moves : MovesBy (written for_init) (Alike for_init)
 for_init_moves = makes_moves {like = SameStatement} (or_moves (symbol_moves var_statement) (or_moves (symbol_moves value_statement) update_moves)) (λ w v s r h. λ i. statement_node (h i) no_span)
+
+-- ---- each kind of statements
+pub kind_moves : (n : Symbol) → IsKind n → MovesBy (written n) (Alike n)
+kind_moves return_statement kind = return_statement_moves
+kind_moves if_statement kind = if_statement_moves
+kind_moves switch_statement kind = switch_statement_moves
+kind_moves loop_statement kind = loop_statement_moves
+kind_moves for_statement kind = for_statement_moves
+kind_moves while_statement kind = while_statement_moves
+kind_moves call_statement kind = call_statement_moves
+kind_moves var_statement kind = var_statement_moves
+kind_moves value_statement kind = value_statement_moves
+kind_moves break_statement kind = break_statement_moves
+kind_moves continue_statement kind = continue_statement_moves
+kind_moves discard_statement kind = discard_statement_moves
+kind_moves assignment kind = assignment_moves
+kind_moves phony_assignment kind = phony_assignment_moves
+kind_moves increment kind = increment_moves
+kind_moves decrement kind = decrement_moves
+kind_moves n kind = absurd kind

@@ -8,12 +8,10 @@ use Rattle.wgsl_tree_expression.specs.View.{expression_node_view}
 use Rattle.wgsl_tree_statement.specs.declared.statement.Statement.TheViews as layers
 use Rattle.wgsl_tree_statement.specs.declared.statement.Statement.{Statement}
 use Rattle.wgsl_tree_statement.specs.View as V
-use Rattle.wgsl_tree_statement.proofs.StatementViews.{is_compound, is_assignment, is_increment, is_decrement, is_if, is_switch, is_loop, is_for, is_while, is_break, is_continue, is_return, is_discard, is_function_call, is_const_assert, is_declaration}
-use Rattle.wgsl_tree_statement.proofs.Views.{compound_statement_roll, compound_statement_out, if_statement_roll, if_statement_out, switch_statement_roll, switch_statement_out, loop_statement_roll, loop_statement_out, for_statement_roll, for_statement_out, switch_clause_roll, switch_clause_out, while_statement_roll, while_statement_out}
+use Rattle.wgsl_tree_statement.proofs.Views.{is_compound, compound_statement_roll, compound_statement_out, if_statement_roll, if_statement_out, switch_statement_roll, switch_statement_out, loop_statement_roll, loop_statement_out, for_statement_roll, for_statement_out, switch_clause_roll, switch_clause_out, else_if_clause_roll, else_if_clause_out, else_clause_roll, else_clause_out, continuing_statement_roll, continuing_statement_out}
 use Rattle.wgsl_tree_simple.specs.View.{break_if_view}
 use Rattle.wgsl_tree_simple.proofs.Copies.{attributes_shown, maybe_node_shown}
 use Rattle.wgsl_span.proofs.Copies.{option_shown}
-use Rattle.wgsl_tree_statement.proofs.ClauseViews.{else_if_clause_roll, else_if_clause_out, else_clause_roll, else_clause_out, continuing_statement_roll, continuing_statement_out}
 use Rattle.wgsl_tree_statement.proofs.Copies.{selectors_shown, node_more, item_more}
 use Rattle.wgsl_tree_statement.proofs.+clone.Goals as goal
 
@@ -123,63 +121,8 @@ continuing::ContinuingStatementCloneWith::clone_with-returns t c =
           ∙ sym (continuing_statement_out c.args.self.now);
     }
 
-pub while_statement::WhileStatementCloneWith::clone_with-returns : goal.while_statement::WhileStatementCloneWith::clone_with-returns
-while_statement::WhileStatementCloneWith::clone_with-returns t c =
-    let original = layers.out-WhileStatement c.args.self.now in
-    let attributes = attributes_shown original.attributes.items _ c.in_ok-clone_with.ensures.copy in
-    let condition : expression_node_view c.in_ok-clone_with-2.field-0 ≡ expression_node_view original.condition = search rules in record {
-      copy = while_statement_roll _
-          ∙ (λ i. with_attributes (attributes i) (plain.repeat_while (condition i) (c.in_ok-clone_with-3.ensures.copy i)))
-          ∙ sym (while_statement_out c.args.self.now);
-    }
-
 pub statement::StatementCloneWith::clone_with-returns-in_ok-clone_with-in-Compound : goal.statement::StatementCloneWith::clone_with-returns-in_ok-clone_with-in-Compound
 statement::StatementCloneWith::clone_with-returns-in_ok-clone_with-in-Compound t c = record { copy = is_compound _ ∙ ap plain.block_statement c.in_ok-clone_with-in-Compound.ensures.copy ∙ sym (ap (λ (s : Statement). V.statement_view s) c.in-Compound.is ∙ is_compound _) }
-
-pub statement::StatementCloneWith::clone_with-returns-in_ok-clone_with-in-Assignment : goal.statement::StatementCloneWith::clone_with-returns-in_ok-clone_with-in-Assignment
-statement::StatementCloneWith::clone_with-returns-in_ok-clone_with-in-Assignment t c = record { copy = is_assignment _ ∙ ap (plain.as_statement plain.assignment) c.in_ok-clone_with-in-Assignment.ensures.copy ∙ sym (ap (λ (s : Statement). V.statement_view s) c.in-Assignment.is ∙ is_assignment _) }
-
-pub statement::StatementCloneWith::clone_with-returns-in_ok-clone_with-in-Increment : goal.statement::StatementCloneWith::clone_with-returns-in_ok-clone_with-in-Increment
-statement::StatementCloneWith::clone_with-returns-in_ok-clone_with-in-Increment t c = record { copy = is_increment _ ∙ ap (plain.as_statement plain.increment) c.in_ok-clone_with-in-Increment.ensures.copy ∙ sym (ap (λ (s : Statement). V.statement_view s) c.in-Increment.is ∙ is_increment _) }
-
-pub statement::StatementCloneWith::clone_with-returns-in_ok-clone_with-in-Decrement : goal.statement::StatementCloneWith::clone_with-returns-in_ok-clone_with-in-Decrement
-statement::StatementCloneWith::clone_with-returns-in_ok-clone_with-in-Decrement t c = record { copy = is_decrement _ ∙ ap (plain.as_statement plain.decrement) c.in_ok-clone_with-in-Decrement.ensures.copy ∙ sym (ap (λ (s : Statement). V.statement_view s) c.in-Decrement.is ∙ is_decrement _) }
-
-pub statement::StatementCloneWith::clone_with-returns-in_ok-clone_with-in-If : goal.statement::StatementCloneWith::clone_with-returns-in_ok-clone_with-in-If
-statement::StatementCloneWith::clone_with-returns-in_ok-clone_with-in-If t c = record { copy = is_if _ ∙ ap (plain.as_statement plain.if_statement) c.in_ok-clone_with-in-If.ensures.copy ∙ sym (ap (λ (s : Statement). V.statement_view s) c.in-If.is ∙ is_if _) }
-
-pub statement::StatementCloneWith::clone_with-returns-in_ok-clone_with-in-Switch : goal.statement::StatementCloneWith::clone_with-returns-in_ok-clone_with-in-Switch
-statement::StatementCloneWith::clone_with-returns-in_ok-clone_with-in-Switch t c = record { copy = is_switch _ ∙ ap (plain.as_statement plain.switch_statement) c.in_ok-clone_with-in-Switch.ensures.copy ∙ sym (ap (λ (s : Statement). V.statement_view s) c.in-Switch.is ∙ is_switch _) }
-
-pub statement::StatementCloneWith::clone_with-returns-in_ok-clone_with-in-Loop : goal.statement::StatementCloneWith::clone_with-returns-in_ok-clone_with-in-Loop
-statement::StatementCloneWith::clone_with-returns-in_ok-clone_with-in-Loop t c = record { copy = is_loop _ ∙ ap (plain.as_statement plain.loop_statement) c.in_ok-clone_with-in-Loop.ensures.copy ∙ sym (ap (λ (s : Statement). V.statement_view s) c.in-Loop.is ∙ is_loop _) }
-
-pub statement::StatementCloneWith::clone_with-returns-in_ok-clone_with-in-For : goal.statement::StatementCloneWith::clone_with-returns-in_ok-clone_with-in-For
-statement::StatementCloneWith::clone_with-returns-in_ok-clone_with-in-For t c = record { copy = is_for _ ∙ ap (plain.as_statement plain.for_statement) c.in_ok-clone_with-in-For.ensures.copy ∙ sym (ap (λ (s : Statement). V.statement_view s) c.in-For.is ∙ is_for _) }
-
-pub statement::StatementCloneWith::clone_with-returns-in_ok-clone_with-in-While : goal.statement::StatementCloneWith::clone_with-returns-in_ok-clone_with-in-While
-statement::StatementCloneWith::clone_with-returns-in_ok-clone_with-in-While t c = record { copy = is_while _ ∙ ap (plain.as_statement plain.while_statement) c.in_ok-clone_with-in-While.ensures.copy ∙ sym (ap (λ (s : Statement). V.statement_view s) c.in-While.is ∙ is_while _) }
-
-pub statement::StatementCloneWith::clone_with-returns-in_ok-clone_with-in-Break : goal.statement::StatementCloneWith::clone_with-returns-in_ok-clone_with-in-Break
-statement::StatementCloneWith::clone_with-returns-in_ok-clone_with-in-Break t c = record { copy = is_break _ ∙ c.in_ok-clone_with-in-Break.ensures.copy ∙ sym (ap (λ (s : Statement). V.statement_view s) c.in-Break.is ∙ is_break _) }
-
-pub statement::StatementCloneWith::clone_with-returns-in_ok-clone_with-in-Continue : goal.statement::StatementCloneWith::clone_with-returns-in_ok-clone_with-in-Continue
-statement::StatementCloneWith::clone_with-returns-in_ok-clone_with-in-Continue t c = record { copy = is_continue _ ∙ c.in_ok-clone_with-in-Continue.ensures.copy ∙ sym (ap (λ (s : Statement). V.statement_view s) c.in-Continue.is ∙ is_continue _) }
-
-pub statement::StatementCloneWith::clone_with-returns-in_ok-clone_with-in-Return : goal.statement::StatementCloneWith::clone_with-returns-in_ok-clone_with-in-Return
-statement::StatementCloneWith::clone_with-returns-in_ok-clone_with-in-Return t c = record { copy = is_return _ ∙ ap (plain.as_statement plain.return_statement) c.in_ok-clone_with-in-Return.ensures.copy ∙ sym (ap (λ (s : Statement). V.statement_view s) c.in-Return.is ∙ is_return _) }
-
-pub statement::StatementCloneWith::clone_with-returns-in_ok-clone_with-in-Discard : goal.statement::StatementCloneWith::clone_with-returns-in_ok-clone_with-in-Discard
-statement::StatementCloneWith::clone_with-returns-in_ok-clone_with-in-Discard t c = record { copy = is_discard _ ∙ c.in_ok-clone_with-in-Discard.ensures.copy ∙ sym (ap (λ (s : Statement). V.statement_view s) c.in-Discard.is ∙ is_discard _) }
-
-pub statement::StatementCloneWith::clone_with-returns-in_ok-clone_with-in-FunctionCall : goal.statement::StatementCloneWith::clone_with-returns-in_ok-clone_with-in-FunctionCall
-statement::StatementCloneWith::clone_with-returns-in_ok-clone_with-in-FunctionCall t c = record { copy = is_function_call _ ∙ ap (plain.as_statement plain.function_call_statement) c.in_ok-clone_with-in-FunctionCall.ensures.copy ∙ sym (ap (λ (s : Statement). V.statement_view s) c.in-FunctionCall.is ∙ is_function_call _) }
-
-pub statement::StatementCloneWith::clone_with-returns-in_ok-clone_with-in-ConstAssert : goal.statement::StatementCloneWith::clone_with-returns-in_ok-clone_with-in-ConstAssert
-statement::StatementCloneWith::clone_with-returns-in_ok-clone_with-in-ConstAssert t c = record { copy = is_const_assert _ ∙ ap (plain.as_statement plain.const_assert) c.in_ok-clone_with-in-ConstAssert.ensures.copy ∙ sym (ap (λ (s : Statement). V.statement_view s) c.in-ConstAssert.is ∙ is_const_assert _) }
-
-pub statement::StatementCloneWith::clone_with-returns-in_ok-clone_with-in-Declaration : goal.statement::StatementCloneWith::clone_with-returns-in_ok-clone_with-in-Declaration
-statement::StatementCloneWith::clone_with-returns-in_ok-clone_with-in-Declaration t c = record { copy = is_declaration _ ∙ ap (plain.as_statement plain.declaration) c.in_ok-clone_with-in-Declaration.ensures.copy ∙ sym (ap (λ (s : Statement). V.statement_view s) c.in-Declaration.is ∙ is_declaration _) }
 
 -- an error, handed on
 
@@ -264,54 +207,6 @@ loop_statement::LoopStatementCloneWith::clone_with-returns-in_err-clone_with t c
 pub loop_statement::LoopStatementCloneWith::clone_with-returns-in_err-clone_with-2 : goal.loop_statement::LoopStatementCloneWith::clone_with-returns-in_err-clone_with-2
 loop_statement::LoopStatementCloneWith::clone_with-returns-in_err-clone_with-2 t c = record { copy = IfOk-from_err _ _ c.from_residual-in_err-clone_with-2.ensures.0 }
 
-pub statement::StatementCloneWith::clone_with-returns-in_err-clone_with-in-Assignment : goal.statement::StatementCloneWith::clone_with-returns-in_err-clone_with-in-Assignment
-statement::StatementCloneWith::clone_with-returns-in_err-clone_with-in-Assignment t c = record { copy = IfOk-from_err _ _ c.from_residual-in_err-clone_with-in-Assignment.ensures.0 }
-
-pub statement::StatementCloneWith::clone_with-returns-in_err-clone_with-in-Break : goal.statement::StatementCloneWith::clone_with-returns-in_err-clone_with-in-Break
-statement::StatementCloneWith::clone_with-returns-in_err-clone_with-in-Break t c = record { copy = IfOk-from_err _ _ c.from_residual-in_err-clone_with-in-Break.ensures.0 }
-
-pub statement::StatementCloneWith::clone_with-returns-in_err-clone_with-in-Compound : goal.statement::StatementCloneWith::clone_with-returns-in_err-clone_with-in-Compound
-statement::StatementCloneWith::clone_with-returns-in_err-clone_with-in-Compound t c = record { copy = IfOk-from_err _ _ c.from_residual.ensures.0 }
-
-pub statement::StatementCloneWith::clone_with-returns-in_err-clone_with-in-ConstAssert : goal.statement::StatementCloneWith::clone_with-returns-in_err-clone_with-in-ConstAssert
-statement::StatementCloneWith::clone_with-returns-in_err-clone_with-in-ConstAssert t c = record { copy = IfOk-from_err _ _ c.from_residual-in_err-clone_with-in-ConstAssert.ensures.0 }
-
-pub statement::StatementCloneWith::clone_with-returns-in_err-clone_with-in-Continue : goal.statement::StatementCloneWith::clone_with-returns-in_err-clone_with-in-Continue
-statement::StatementCloneWith::clone_with-returns-in_err-clone_with-in-Continue t c = record { copy = IfOk-from_err _ _ c.from_residual-in_err-clone_with-in-Continue.ensures.0 }
-
-pub statement::StatementCloneWith::clone_with-returns-in_err-clone_with-in-Declaration : goal.statement::StatementCloneWith::clone_with-returns-in_err-clone_with-in-Declaration
-statement::StatementCloneWith::clone_with-returns-in_err-clone_with-in-Declaration t c = record { copy = IfOk-from_err _ _ c.from_residual-in_err-clone_with-in-Declaration.ensures.0 }
-
-pub statement::StatementCloneWith::clone_with-returns-in_err-clone_with-in-Decrement : goal.statement::StatementCloneWith::clone_with-returns-in_err-clone_with-in-Decrement
-statement::StatementCloneWith::clone_with-returns-in_err-clone_with-in-Decrement t c = record { copy = IfOk-from_err _ _ c.from_residual-in_err-clone_with-in-Decrement.ensures.0 }
-
-pub statement::StatementCloneWith::clone_with-returns-in_err-clone_with-in-Discard : goal.statement::StatementCloneWith::clone_with-returns-in_err-clone_with-in-Discard
-statement::StatementCloneWith::clone_with-returns-in_err-clone_with-in-Discard t c = record { copy = IfOk-from_err _ _ c.from_residual-in_err-clone_with-in-Discard.ensures.0 }
-
-pub statement::StatementCloneWith::clone_with-returns-in_err-clone_with-in-For : goal.statement::StatementCloneWith::clone_with-returns-in_err-clone_with-in-For
-statement::StatementCloneWith::clone_with-returns-in_err-clone_with-in-For t c = record { copy = IfOk-from_err _ _ c.from_residual-in_err-clone_with-in-For.ensures.0 }
-
-pub statement::StatementCloneWith::clone_with-returns-in_err-clone_with-in-FunctionCall : goal.statement::StatementCloneWith::clone_with-returns-in_err-clone_with-in-FunctionCall
-statement::StatementCloneWith::clone_with-returns-in_err-clone_with-in-FunctionCall t c = record { copy = IfOk-from_err _ _ c.from_residual-in_err-clone_with-in-FunctionCall.ensures.0 }
-
-pub statement::StatementCloneWith::clone_with-returns-in_err-clone_with-in-If : goal.statement::StatementCloneWith::clone_with-returns-in_err-clone_with-in-If
-statement::StatementCloneWith::clone_with-returns-in_err-clone_with-in-If t c = record { copy = IfOk-from_err _ _ c.from_residual-in_err-clone_with-in-If.ensures.0 }
-
-pub statement::StatementCloneWith::clone_with-returns-in_err-clone_with-in-Increment : goal.statement::StatementCloneWith::clone_with-returns-in_err-clone_with-in-Increment
-statement::StatementCloneWith::clone_with-returns-in_err-clone_with-in-Increment t c = record { copy = IfOk-from_err _ _ c.from_residual-in_err-clone_with-in-Increment.ensures.0 }
-
-pub statement::StatementCloneWith::clone_with-returns-in_err-clone_with-in-Loop : goal.statement::StatementCloneWith::clone_with-returns-in_err-clone_with-in-Loop
-statement::StatementCloneWith::clone_with-returns-in_err-clone_with-in-Loop t c = record { copy = IfOk-from_err _ _ c.from_residual-in_err-clone_with-in-Loop.ensures.0 }
-
-pub statement::StatementCloneWith::clone_with-returns-in_err-clone_with-in-Return : goal.statement::StatementCloneWith::clone_with-returns-in_err-clone_with-in-Return
-statement::StatementCloneWith::clone_with-returns-in_err-clone_with-in-Return t c = record { copy = IfOk-from_err _ _ c.from_residual-in_err-clone_with-in-Return.ensures.0 }
-
-pub statement::StatementCloneWith::clone_with-returns-in_err-clone_with-in-Switch : goal.statement::StatementCloneWith::clone_with-returns-in_err-clone_with-in-Switch
-statement::StatementCloneWith::clone_with-returns-in_err-clone_with-in-Switch t c = record { copy = IfOk-from_err _ _ c.from_residual-in_err-clone_with-in-Switch.ensures.0 }
-
-pub statement::StatementCloneWith::clone_with-returns-in_err-clone_with-in-While : goal.statement::StatementCloneWith::clone_with-returns-in_err-clone_with-in-While
-statement::StatementCloneWith::clone_with-returns-in_err-clone_with-in-While t c = record { copy = IfOk-from_err _ _ c.from_residual-in_err-clone_with-in-While.ensures.0 }
-
 pub switch::SwitchClauseCloneWith::clone_with-returns-in_err-clone_with : goal.switch::SwitchClauseCloneWith::clone_with-returns-in_err-clone_with
 switch::SwitchClauseCloneWith::clone_with-returns-in_err-clone_with t c = record { copy = IfOk-from_err _ _ c.from_residual.ensures.0 }
 
@@ -335,15 +230,6 @@ switch::SwitchStatementCloneWith::clone_with-returns-in_err-expression t c = rec
 
 pub switch::SwitchStatementCloneWith::clone_with-returns-in_err-push : goal.switch::SwitchStatementCloneWith::clone_with-returns-in_err-push
 switch::SwitchStatementCloneWith::clone_with-returns-in_err-push t c = record { copy = IfOk-from_err _ _ c.from_residual-in_err-push.ensures.0 }
-
-pub while_statement::WhileStatementCloneWith::clone_with-returns-in_err-clone_with : goal.while_statement::WhileStatementCloneWith::clone_with-returns-in_err-clone_with
-while_statement::WhileStatementCloneWith::clone_with-returns-in_err-clone_with t c = record { copy = IfOk-from_err _ _ c.from_residual.ensures.0 }
-
-pub while_statement::WhileStatementCloneWith::clone_with-returns-in_err-clone_with-2 : goal.while_statement::WhileStatementCloneWith::clone_with-returns-in_err-clone_with-2
-while_statement::WhileStatementCloneWith::clone_with-returns-in_err-clone_with-2 t c = record { copy = IfOk-from_err _ _ c.from_residual-in_err-clone_with-2.ensures.0 }
-
-pub while_statement::WhileStatementCloneWith::clone_with-returns-in_err-clone_with-3 : goal.while_statement::WhileStatementCloneWith::clone_with-returns-in_err-clone_with-3
-while_statement::WhileStatementCloneWith::clone_with-returns-in_err-clone_with-3 t c = record { copy = IfOk-from_err _ _ c.from_residual-in_err-clone_with-3.ensures.0 }
 
 pub continuing::clone_continuing-returns-in_err-clone_with-in-Some : goal.continuing::clone_continuing-returns-in_err-clone_with-in-Some
 continuing::clone_continuing-returns-in_err-clone_with-in-Some t c = IfOk-from_err _ _ c.from_residual.ensures.0

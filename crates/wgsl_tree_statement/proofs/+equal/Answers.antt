@@ -9,7 +9,7 @@ use Rattle.wgsl_tree_statement.specs.declared.statement.Statement.{Statement}
 use Rattle.wgsl_tree_statement.specs.declared.statement.Statement.TheViews as layers
 use Rattle.wgsl_tree_simple.specs.View.{break_if_view, selector_view}
 use Rattle.wgsl_tree_statement.specs.View.{statement_view, compound_statement_view}
-use Rattle.wgsl_tree_statement.proofs.StatementViews.{is_compound, is_assignment, is_increment, is_decrement, is_if, is_switch, is_loop, is_for, is_while, is_break, is_continue, is_return, is_discard, is_function_call, is_const_assert, is_declaration}
+use Rattle.wgsl_tree_statement.proofs.Views.{is_compound, is_assignment, is_increment, is_decrement, is_if, is_switch, is_loop, is_for, is_while, is_break, is_continue, is_return, is_discard, is_function_call, is_const_assert, is_declaration}
 use Rattle.wgsl_tree_simple.proofs.Equalities.{declarations_same, assignments_same, increments_same, decrements_same, call_statements_same, asserts_same, returns_same, breaks_same, continues_same, discards_same, break_ifs_same, selectors_same}
 use Rattle.wgsl_tree_statement.proofs.BlockStatements.{blocks_same}
 use Rattle.wgsl_tree_statement.proofs.Equalities.{of_one_kind, and_true, and_false, attributes_part, expression_part, condition_part, selectors_part, break_if_part, block_part, statements_part, if_clause_part, else_ifs_part, else_part, clauses_part, continuing_part, header_part, compounds_same, ifs_same, switches_same, else_if_clauses_same, else_clauses_same, switch_clauses_same, loops_same, continuings_same, fors_same, whiles_same, node_code, else_if_view_code, switch_clause_view_code, nodes_same, else_ifs_same, clauses_same}

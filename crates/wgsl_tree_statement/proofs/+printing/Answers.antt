@@ -1,16 +1,20 @@
 use Rattle.std.proofs.Common.{rules, ◌≡◌, refl, sym, ap, ◌∙◌, Bool, true, false, true≢false, ℕ, List, ◌+◌, ◌++◌, codes, take, map, Option}
-use Rattle.std.proofs.lemmas.List.{take_all}
+use Rattle.std.proofs.lemmas.List.{take_all, append_assoc}
 use Rattle.std.specs.Option.{option_map}
 use Rattle.std.specs.Prelude.{Result, Ok, Err, IsOk, IsErr}
 use Rattle.wgsl_model.specs.Printed.Joining.{joined}
 use Rattle.wgsl_model.specs.Trees.Statements.{else_of, clauses_of, continuing_of, maybe_statement}
-use Rattle.wgsl_model.specs.Printed.Statements.{is_void, unended, unended_part, print_statement, statement_texts, clause_texts, print_switch_clause, print_continuing, print_else, continuing_line}
+use Rattle.wgsl_model.specs.Printed.Statements.{is_void, unended, unended_part, print_statement, statement_texts, clause_texts, print_switch_clause, print_continuing, print_else, print_compound, print_while, continuing_line}
 use Rattle.wgsl_span.specs.Spanned.{spanned_node}
 use Rattle.wgsl_span.specs.declared.Spanned.{Spanned}
 use Rattle.wgsl_writer.specs.LineEnds.{is_one_line}
 use Rattle.wgsl_writer.proofs.Through.{wrote_nothing, wrote_of_eq}
 use Rattle.wgsl_writer.proofs.Within.{begun_filled, wrote_within}
-use Rattle.wgsl_model.specs.Printed.Declarations.{print_selector}
+use Rattle.wgsl_model.specs.Printed.Declarations.{print_attributed, print_selector}
+use Rattle.wgsl_model.specs.Printed.Attributes.{print_attribute_line}
+use Rattle.wgsl_model.specs.Printed.Expressions.{print_expression_node}
+use Rattle.wgsl_tree_attribute.specs.View.{attributes_view}
+use Rattle.wgsl_tree_expression.specs.View.{expression_node_view}
 use Rattle.wgsl_model.proofs.Filled.{statement_filled, clause_filled, continuing_filled}
 use Rattle.wgsl_tree_simple.specs.declared.case_selector.CaseSelector.{CaseSelector}
 use Rattle.wgsl_tree_statement.specs.declared.statement.Statement.{Statement}
@@ -19,12 +23,10 @@ use Rattle.wgsl_tree_statement.specs.declared.switch.SwitchClause.{SwitchClause}
 use Rattle.wgsl_tree_statement.specs.declared.continuing.ContinuingStatement.{ContinuingStatement}
 use Rattle.wgsl_tree_simple.specs.View.{selector_view}
 use Rattle.wgsl_tree_statement.specs.View.{statement_view, statement_node_view, statement_nodes_view, compound_statement_view, else_clause_view, switch_clause_view, continuing_statement_view}
-use Rattle.wgsl_tree_statement.proofs.StatementViews.{is_empty, is_compound, is_assignment, is_increment, is_decrement, is_if, is_switch, is_loop, is_for, is_while, is_break, is_continue, is_return, is_discard, is_function_call, is_const_assert, is_declaration}
+use Rattle.wgsl_tree_statement.proofs.Views.{is_empty, is_compound, compound_statement_out, if_statement_out, switch_statement_out, switch_clause_out, loop_statement_out, for_statement_out, while_statement_out, if_clause_out, else_if_clause_out, else_clause_out, continuing_statement_out}
 use Rattle.wgsl_tree_statement.proofs.BlockStatements.{block_unended}
-use Rattle.wgsl_tree_statement.proofs.Views.{compound_statement_out, if_statement_out, switch_statement_out, switch_clause_out, loop_statement_out, for_statement_out, while_statement_out}
-use Rattle.wgsl_tree_statement.proofs.ClauseViews.{if_clause_out, else_if_clause_out, else_clause_out, continuing_statement_out}
 use Rattle.wgsl_tree_simple.proofs.Blocks.{is_nil, not_nil, before_line, block_lines, block_more, statements_filled, clauses_filled}
-use Rattle.wgsl_tree_simple.proofs.Pieces.{compound_is, continuing_is, else_clause_is, else_if_clause_is, end_one_line, for_is, if_clause_is, if_is, loop_is, opened_is, statement_is, switch_clause_is, switch_is, while_is}
+use Rattle.wgsl_tree_simple.proofs.Pieces.{compound_is, continuing_is, else_clause_is, else_if_clause_is, end_one_line, for_is, if_clause_is, if_is, loop_is, opened_is, statement_is, switch_clause_is, switch_is}
 use Rattle.wgsl_tree_simple.proofs.Writes.{◌▸◌}
 use Rattle.wgsl_tree_statement.proofs.Lines.{statement_lines, empty_more, statement_more, clause_lines, clause_more, else_if_text, else_if_more}
 use Rattle.wgsl_tree_statement.specs.declared.statement.Statement.TheViews as layers
@@ -37,51 +39,6 @@ statement::write_unended-returns-in-Void g t c = λ ok. wrote_of_eq _ _ _ _ _ (s
 
 pub statement::write_unended-returns-in-Compound : goal.statement::write_unended-returns-in-Compound
 statement::write_unended-returns-in-Compound g t c = let e = ap (λ (s : Statement). unended (statement_view s)) c.in-Compound.is ∙ ap unended (is_compound _) ∙ block_unended (compound_statement_view c.in-Compound.inner) in search rules
-
-pub statement::write_unended-returns-in-Assignment : goal.statement::write_unended-returns-in-Assignment
-statement::write_unended-returns-in-Assignment g t c = let e = ap (λ (s : Statement). statement_view s) c.in-Assignment.is ∙ is_assignment _ in search rules
-
-pub statement::write_unended-returns-in-Increment : goal.statement::write_unended-returns-in-Increment
-statement::write_unended-returns-in-Increment g t c = let e = ap (λ (s : Statement). statement_view s) c.in-Increment.is ∙ is_increment _ in search rules
-
-pub statement::write_unended-returns-in-Decrement : goal.statement::write_unended-returns-in-Decrement
-statement::write_unended-returns-in-Decrement g t c = let e = ap (λ (s : Statement). statement_view s) c.in-Decrement.is ∙ is_decrement _ in search rules
-
-pub statement::write_unended-returns-in-If : goal.statement::write_unended-returns-in-If
-statement::write_unended-returns-in-If g t c = let e = ap (λ (s : Statement). statement_view s) c.in-If.is ∙ is_if _ in search rules
-
-pub statement::write_unended-returns-in-Switch : goal.statement::write_unended-returns-in-Switch
-statement::write_unended-returns-in-Switch g t c = let e = ap (λ (s : Statement). statement_view s) c.in-Switch.is ∙ is_switch _ in search rules
-
-pub statement::write_unended-returns-in-Loop : goal.statement::write_unended-returns-in-Loop
-statement::write_unended-returns-in-Loop g t c = let e = ap (λ (s : Statement). statement_view s) c.in-Loop.is ∙ is_loop _ in search rules
-
-pub statement::write_unended-returns-in-For : goal.statement::write_unended-returns-in-For
-statement::write_unended-returns-in-For g t c = let e = ap (λ (s : Statement). statement_view s) c.in-For.is ∙ is_for _ in search rules
-
-pub statement::write_unended-returns-in-While : goal.statement::write_unended-returns-in-While
-statement::write_unended-returns-in-While g t c = let e = ap (λ (s : Statement). statement_view s) c.in-While.is ∙ is_while _ in search rules
-
-pub statement::write_unended-returns-in-Break : goal.statement::write_unended-returns-in-Break
-statement::write_unended-returns-in-Break g t c = let e = ap (λ (s : Statement). statement_view s) c.in-Break.is ∙ is_break _ in search rules
-
-pub statement::write_unended-returns-in-Continue : goal.statement::write_unended-returns-in-Continue
-statement::write_unended-returns-in-Continue g t c = let e = ap (λ (s : Statement). statement_view s) c.in-Continue.is ∙ is_continue _ in search rules
-
-pub statement::write_unended-returns-in-Return : goal.statement::write_unended-returns-in-Return
-statement::write_unended-returns-in-Return g t c = let e = ap (λ (s : Statement). statement_view s) c.in-Return.is ∙ is_return _ in search rules
-
-pub statement::write_unended-returns-in-Discard : goal.statement::write_unended-returns-in-Discard
-statement::write_unended-returns-in-Discard g t c = let e = ap (λ (s : Statement). statement_view s) c.in-Discard.is ∙ is_discard _ in search rules
-
-pub statement::write_unended-returns-in-FunctionCall : goal.statement::write_unended-returns-in-FunctionCall
-statement::write_unended-returns-in-FunctionCall g t c = let e = ap (λ (s : Statement). statement_view s) c.in-FunctionCall.is ∙ is_function_call _ in search rules
-
-pub statement::write_unended-returns-in-ConstAssert : goal.statement::write_unended-returns-in-ConstAssert
-statement::write_unended-returns-in-ConstAssert g t c = let e = ap (λ (s : Statement). statement_view s) c.in-ConstAssert.is ∙ is_const_assert _ in search rules
-
-pub statement::write_unended-returns-in-Declaration : goal.statement::write_unended-returns-in-Declaration
-statement::write_unended-returns-in-Declaration g t c = let e = ap (λ (s : Statement). statement_view s) c.in-Declaration.is ∙ is_declaration _ in search rules
 
 -- texts one after another
 
@@ -144,9 +101,17 @@ for_statement::write_for-returns g t c = λ ok.
     ▸ c.in_ok-write_piece.ensures refl
     ▸ c.write_compound.ensures ok)
 
+-- an expression and a block behind a word
+headed_is : (line word e block : List ℕ) → line ++ (word ++ e ++ codes " ") ++ block ≡ line ++ (word ++ e ++ codes " " ++ block)
+headed_is line word e block = simp append_assoc
+
 pub while_statement::write_while-returns : goal.while_statement::write_while-returns
 while_statement::write_while-returns g t c = λ ok.
-    wrote_of_eq _ _ _ _ _ (while_is _ _ _ _ (while_statement_out c.args.statement.now))
+    let statement = layers.out-WhileStatement c.args.statement.now in
+    let line = print_attribute_line (attributes_view statement.attributes.items) in
+    let condition = print_expression_node (expression_node_view statement.condition) in
+    let block = print_compound (compound_statement_view statement.body) in
+    wrote_of_eq _ _ _ _ _ (headed_is line (codes "while ") condition block ∙ sym (ap (λ s. print_attributed print_while s) (while_statement_out c.args.statement.now)))
     (c.in_ok-write_attribute_line.ensures refl
     ▸ c.in_ok-write_head.ensures refl
     ▸ c.write_compound.ensures ok)
@@ -374,12 +339,6 @@ loop_statement::write_loop-returns-in_err-write_opened g t c = λ ok. absurd (er
 
 pub loop_statement::write_loop-returns-in_err-write_start : goal.loop_statement::write_loop-returns-in_err-write_start
 loop_statement::write_loop-returns-in_err-write_start g t c = λ ok. absurd (error_not_ok _ c.from_residual.ensures.0 ok)
-
-pub while_statement::write_while-returns-in_err-write_attribute_line : goal.while_statement::write_while-returns-in_err-write_attribute_line
-while_statement::write_while-returns-in_err-write_attribute_line g t c = λ ok. absurd (error_not_ok _ c.from_residual.ensures.0 ok)
-
-pub while_statement::write_while-returns-in_err-write_head : goal.while_statement::write_while-returns-in_err-write_head
-while_statement::write_while-returns-in_err-write_head g t c = λ ok. absurd (error_not_ok _ c.from_residual-in_err-write_head.ensures.0 ok)
 
 pub switch::write_switch-returns-in_err-write_attribute_line : goal.switch::write_switch-returns-in_err-write_attribute_line
 switch::write_switch-returns-in_err-write_attribute_line g t c = λ ok. absurd (error_not_ok _ c.from_residual.ensures.0 ok)

@@ -17,9 +17,7 @@ use Rattle.wgsl_tree_statement.specs.declared.statement.Statement.TheViews as la
 use Rattle.wgsl_tree_statement.specs.declared.statement.Statement.TheViews.{roll-Statement}
 use denote.Hole.Carrier as Carrier
 use Rattle.wgsl_span.specs.declared.Spanned.{Spanned}
-use Rattle.wgsl_tree_statement.proofs.StatementViews.{is_compound, is_if, is_switch, is_loop, is_for, is_while}
-use Rattle.wgsl_tree_statement.proofs.Views.{compound_statement_roll, compound_statement_out, part_view, for_statement_roll, for_statement_out, if_statement_roll, if_statement_out, loop_statement_roll, loop_statement_out, switch_statement_roll, switch_statement_out, switch_clause_roll, switch_clause_out, while_statement_roll, while_statement_out}
-use Rattle.wgsl_tree_statement.proofs.ClauseViews.{if_clause_roll, if_clause_out, else_if_clause_roll, else_if_clause_out, else_clause_roll, else_clause_out, continuing_statement_roll, continuing_statement_out}
+use Rattle.wgsl_tree_statement.proofs.Views.{is_compound, is_if, is_switch, is_loop, is_for, is_while, compound_statement_roll, compound_statement_out, part_view, for_statement_roll, for_statement_out, if_statement_roll, if_statement_out, loop_statement_roll, loop_statement_out, switch_statement_roll, switch_statement_out, switch_clause_roll, switch_clause_out, while_statement_roll, while_statement_out, if_clause_roll, if_clause_out, else_if_clause_roll, else_if_clause_out, else_clause_roll, else_clause_out, continuing_statement_roll, continuing_statement_out}
 use Rattle.wgsl_tree_statement.specs.declared.statement.Statement.TheOpen as layer
 use Rattle.wgsl_tree_statement.specs.declared.statement.Statement.{Statement}
 use Rattle.wgsl_tree_statement.specs.declared.compound.CompoundStatement.{CompoundStatement}

@@ -191,61 +191,13 @@ pub returns-in-UpdatePart : goal.returns-in-UpdatePart
 unfolding rule_steps
 returns-in-UpdatePart c = simp (c.in-UpdatePart.is, choice_is)
 
-pub returns-in-IfPart : goal.returns-in-IfPart
-unfolding rule_steps
-returns-in-IfPart c = simp c.in-IfPart.is
-
-pub returns-in-SwitchPart : goal.returns-in-SwitchPart
-unfolding rule_steps
-returns-in-SwitchPart c = simp c.in-SwitchPart.is
-
-pub returns-in-LoopPart : goal.returns-in-LoopPart
-unfolding rule_steps
-returns-in-LoopPart c = simp c.in-LoopPart.is
-
-pub returns-in-ForPart : goal.returns-in-ForPart
-unfolding rule_steps
-returns-in-ForPart c = simp c.in-ForPart.is
-
-pub returns-in-WhilePart : goal.returns-in-WhilePart
-unfolding rule_steps
-returns-in-WhilePart c = simp c.in-WhilePart.is
-
-pub returns-in-BlockPart : goal.returns-in-BlockPart
-unfolding rule_steps
-returns-in-BlockPart c = simp c.in-BlockPart.is
-
 pub returns-in-BracedPart : goal.returns-in-BracedPart
 unfolding rule_steps
 returns-in-BracedPart c = simp (c.in-BracedPart.is, choice_is)
 
-pub returns-in-ReturningPart : goal.returns-in-ReturningPart
-unfolding rule_steps
-returns-in-ReturningPart c = simp (c.in-ReturningPart.is, choice_is)
-
-pub returns-in-LocalPart : goal.returns-in-LocalPart
-unfolding rule_steps
-returns-in-LocalPart c = simp (c.in-LocalPart.is, choice_is)
-
-pub returns-in-ValuePart : goal.returns-in-ValuePart
-unfolding rule_steps
-returns-in-ValuePart c = simp (c.in-ValuePart.is, choice_is)
-
-pub returns-in-PhonyPart : goal.returns-in-PhonyPart
-unfolding rule_steps
-returns-in-PhonyPart c = simp c.in-PhonyPart.is
-
-pub returns-in-SimplePart : goal.returns-in-SimplePart
-unfolding rule_steps
-returns-in-SimplePart c = simp (c.in-SimplePart.is, choice_is)
-
 pub returns-in-EndedPart : goal.returns-in-EndedPart
 unfolding rule_steps
 returns-in-EndedPart c = simp (c.in-EndedPart.is, choice_is)
-
-pub returns-in-AssertPart : goal.returns-in-AssertPart
-unfolding rule_steps
-returns-in-AssertPart c = simp c.in-AssertPart.is
 
 pub returns-in-ClausePart : goal.returns-in-ClausePart
 unfolding rule_steps
@@ -254,22 +206,6 @@ returns-in-ClausePart c = simp (c.in-ClausePart.is, choice_is)
 pub returns-in-ContinuingPart : goal.returns-in-ContinuingPart
 unfolding rule_steps
 returns-in-ContinuingPart c = simp c.in-ContinuingPart.is
-
-pub returns-in-LeftSideRest : goal.returns-in-LeftSideRest
-unfolding rule_steps
-returns-in-LeftSideRest c = simp (c.in-LeftSideRest.is, choice_is)
-
-pub returns-in-NameRestStatement : goal.returns-in-NameRestStatement
-unfolding rule_steps
-returns-in-NameRestStatement c = simp (c.in-NameRestStatement.is, choice_is)
-
-pub returns-in-ParenthesizedStatement : goal.returns-in-ParenthesizedStatement
-unfolding rule_steps
-returns-in-ParenthesizedStatement c = simp c.in-ParenthesizedStatement.is
-
-pub returns-in-PlainStatement : goal.returns-in-PlainStatement
-unfolding rule_steps
-returns-in-PlainStatement c = simp (c.in-PlainStatement.is, choice_is)
 
 pub returns-in-Attribute : goal.returns-in-Attribute
 unfolding rule_steps
@@ -394,3 +330,43 @@ returns-in-DeclarationList c = simp (c.in-DeclarationList.is, repeat_is)
 pub returns-in-Front : goal.returns-in-Front
 unfolding rule_steps
 returns-in-Front c = simp (c.in-Front.is, choice_is)
+
+pub returns-in-ReturningPart : goal.returns-in-ReturningPart
+unfolding rule_steps
+returns-in-ReturningPart c = simp (c.in-ReturningPart.is, choice_is)
+
+pub returns-in-LocalPart : goal.returns-in-LocalPart
+unfolding rule_steps
+returns-in-LocalPart c = simp (c.in-LocalPart.is, choice_is)
+
+pub returns-in-ValuePart : goal.returns-in-ValuePart
+unfolding rule_steps
+returns-in-ValuePart c = simp (c.in-ValuePart.is, choice_is)
+
+pub returns-in-PhonyPart : goal.returns-in-PhonyPart
+unfolding rule_steps
+returns-in-PhonyPart c = simp c.in-PhonyPart.is
+
+pub returns-in-SimplePart : goal.returns-in-SimplePart
+unfolding rule_steps
+returns-in-SimplePart c = simp (c.in-SimplePart.is, choice_is)
+
+pub returns-in-AssertPart : goal.returns-in-AssertPart
+unfolding rule_steps
+returns-in-AssertPart c = simp c.in-AssertPart.is
+
+pub returns-in-LeftSideRest : goal.returns-in-LeftSideRest
+unfolding rule_steps
+returns-in-LeftSideRest c = simp (c.in-LeftSideRest.is, choice_is)
+
+pub returns-in-NameRestStatement : goal.returns-in-NameRestStatement
+unfolding rule_steps
+returns-in-NameRestStatement c = simp (c.in-NameRestStatement.is, choice_is)
+
+pub returns-in-ParenthesizedStatement : goal.returns-in-ParenthesizedStatement
+unfolding rule_steps
+returns-in-ParenthesizedStatement c = simp c.in-ParenthesizedStatement.is
+
+pub returns-in-PlainStatement : goal.returns-in-PlainStatement
+unfolding rule_steps
+returns-in-PlainStatement c = simp (c.in-PlainStatement.is, choice_is)

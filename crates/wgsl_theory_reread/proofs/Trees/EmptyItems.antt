@@ -1,14 +1,56 @@
--- Modules without their empty items.
+-- Trees without their empty items: the printed text is the same, and removing twice is removing once.
 use Rattle.std.proofs.Common.{ℕ, ◌≡◌, refl, ◌∙◌, ap, Bool, true, false, List, [], ◌∷◌, ◌++◌, map, codes, if◌then◌else◌}
 use Rattle.wgsl_model.specs.Trees.Spanned.{Spanned}
+use Rattle.wgsl_model.specs.Trees.Statements.{StatementNode, statement_node, Statement, CompoundStatement, changed_node}
 use Rattle.wgsl_model.specs.Trees.Units as tree
 use Rattle.wgsl_model.specs.Printed.Joining.{joined}
 use Rattle.wgsl_model.specs.Printed.Attributes.{print_attribute_line}
+use Rattle.wgsl_model.specs.Printed.Statements.{print_statement, print_compound}
 use Rattle.wgsl_model.specs.Printed.Units as printed
 use Rattle.wgsl_model.specs.Trees.EmptyItems as items
-use Rattle.wgsl_theory_reread.proofs.Trees.Twice.{compound_twice}
-use Rattle.wgsl_theory_reread.proofs.Trees.Printed.{compound_printed}
+use Rattle.wgsl_theory_reread.proofs.Trees.Changed as changed
 
+print_is_kept : changed.KeepsPrint items.without_empty
+print_is_kept = record {
+  attributes = λ attributes. refl;
+  expression = λ e. refl;
+  condition = λ e. refl;
+  selectors = λ ss. refl;
+  break_if = λ b. refl;
+  simple = λ s. refl;
+  simple_end = λ attributes s. refl;
+  left_out = λ s void. void;
+}
+
+pub statement_printed : (s : Statement) → print_statement (items.full_statement s) ≡ print_statement s
+statement_printed = changed.statement_kept items.without_empty print_is_kept
+
+pub compound_printed : (b : CompoundStatement) → print_compound (items.full_compound b) ≡ print_compound b
+compound_printed = changed.compound_kept items.without_empty print_is_kept
+
+-- a statement that is not empty does not become so
+node_kept : (s : StatementNode) → items.is_void_node (changed_node items.without_empty s) ≡ items.is_void_node s
+node_kept (statement_node s span) = ap (λ (e : List ℕ × Bool). e.1) (changed.end_kept items.without_empty print_is_kept s)
+
+parts_twice : changed.PartsTwice items.without_empty
+parts_twice = record {
+  attributes = λ attributes. refl;
+  expression = λ e. refl;
+  condition = λ e. refl;
+  selectors = λ ss. refl;
+  break_if = λ b. refl;
+  simple = λ s same. same;
+  span = λ span. refl;
+  left_out = node_kept;
+}
+
+pub statement_twice : (s : Statement) → items.full_statement (items.full_statement s) ≡ items.full_statement s
+statement_twice = changed.statement_twice items.without_empty parts_twice
+
+pub compound_twice : (b : CompoundStatement) → items.full_compound (items.full_compound b) ≡ items.full_compound b
+compound_twice = changed.compound_twice items.without_empty parts_twice
+
+-- ---- declarations and modules
 void_kept : (d : tree.UnattributedDeclaration) → printed.is_void_declaration (items.full_unattributed_declaration d) ≡ printed.is_void_declaration d
 void_kept tree.void = refl
 void_kept d = refl
