@@ -1,0 +1,95 @@
+"""The crates of the repository, and a check of one of them over the libraries that `rt ci` left."""
+import re
+import shutil
+import subprocess
+from functools import cache
+from pathlib import Path
+
+TOP = Path(__file__).resolve().parent.parent
+
+# the parts of a crate that the prover reads, and those that neither its proof nor its program does
+READ = ("src", "specs", "proofs")
+LEFT_OUT = ("out", "must-fail")
+
+
+def listed():
+    """The lines of crates.txt, each by the name of its crate."""
+    lines = [line.partition("#")[0].strip() for line in (TOP / "crates.txt").open()]
+    return {re.match(r"\w+", line)[0]: line for line in lines if line}
+
+
+def named_by(crate, lines):
+    """What a crate's line names: libraries of the repository, and of the kit."""
+    names = lines[crate].partition(":")[2].split()
+    return [it for it in names if it in lines], [it for it in names if it not in lines]
+
+
+def with_those_below(names, lines):
+    """Some crates and each crate of the repository that they depend on."""
+    found, left = set(), list(names)
+    while left:
+        crate = left.pop()
+        if crate in lines and crate not in found:
+            found.add(crate)
+            left += lines[crate].partition(":")[2].split()
+    return sorted(found)
+
+
+def files_of(crate):
+    """The files that a crate is proved and built from, and its line of crates.txt is in."""
+    parts = [it for it in (TOP / "crates" / crate).iterdir() if it.name not in LEFT_OUT]
+    inside = [it for part in parts for it in ([part] if part.is_file() else part.rglob("*"))]
+    return [TOP / "crates.txt", *(it for it in inside if it.is_file())]
+
+
+def copy_crate(crate, to):
+    """Copies the files that a crate is proved and built from to a new folder."""
+    to.mkdir(parents=True)
+    for part in (TOP / "crates" / crate).iterdir():
+        if part.name not in LEFT_OUT:
+            copied = shutil.copytree if part.is_dir() else shutil.copy
+            copied(part, to / part.name)
+
+
+def copy(crates, lines, to):
+    """Copies these crates to a new folder, which `rt ci` takes for the top of a repository."""
+    (to / ".git").mkdir(parents=True)
+    (to / "crates.txt").write_text("".join(f"{lines[crate]}\n" for crate in crates))
+    shutil.copy(TOP / "HANDLES", to)
+    for crate in crates:
+        copy_crate(crate, to / "crates" / crate)
+
+
+@cache
+def kit():
+    """The folder of the kit."""
+    told = subprocess.run(["rt", "doc"], capture_output=True, text=True, check=True).stdout
+    return Path(told.strip()).parent
+
+
+def is_static(crate, lines):
+    """Whether a crate is a static library."""
+    return "staticlib" in lines[crate].partition(":")[0].split()
+
+
+def rlib(crate, folder):
+    """The library that `rt ci` left of a crate in a folder of crates."""
+    return folder / crate / "out" / "rlib" / f"{crate}.rlib"
+
+
+def words(crate, lines, folder):
+    """What the prover is told of a crate, whose libraries are in a folder of crates."""
+    own, of_kit = named_by(crate, lines)
+    is_program = (folder / crate / "src/main.rt").is_file()
+    found = ["--crate-name", crate, f"src/{'main' if is_program else 'lib'}.rt"]
+    if is_static(crate, lines):
+        found += ["--crate-type", "staticlib"]
+    found += ["--links", f"{crate}="]
+    for name in ["std", *of_kit]:
+        found += ["--extern", f"{name}={kit()}/rlibs/{name}.rlib"]
+    for name in own:
+        found += ["--extern", f"{name}={rlib(name, folder)}"]
+    for name in with_those_below(own, lines):
+        found += ["-L", f"dependency={rlib(name, folder).parent}"]
+    found += ["-L", f"dependency={kit()}/rlibs", "--logic-built", f"{kit()}/logic_built"]
+    return [*found, "--antt-project", f"{kit()}/rattle/logic/antt-project.json"]
