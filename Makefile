@@ -34,17 +34,19 @@ tables:
 	@tools/make_tables
 
 # What README.md and CALLING.md quote has to stand in the sources, and what tools write from the
-# definitions has to be what they would write again; what rt ci runs, with no edit that can't be
-# tried; each shader of examples/ has to print as examples/printed/ has it, and what is there as it
-# stands; the built programs are run on made texts, wgsltidy on its worked texts too; each request
-# for memory of each call is refused; and the library is tried from C, and from Rust where there is
-# cargo.
+# definitions has to be what they would write again; what rt ci runs; each wrong body has to be
+# refused; each shader of examples/ has to print as examples/printed/ has it, and what is there as
+# it stands; the built programs are run on made texts, wgsltidy on its worked texts too; each
+# request for memory of each call is refused; the worked rows are run over the library and the
+# programs; and the library is tried from C, and from Rust where there is cargo. ANEW=--anew takes
+# nothing from earlier runs.
 test:
 	@test "$$(cat HANDLES)" = "Handles allowed: none." \
 	    || { echo "Failed: the file HANDLES."; exit 1; }
 	@tools/snippets || { echo "Failed: tools/snippets, as the lines above say."; exit 1; }
 	@tools/make_tables --check || { echo "Failed: run \`make tables\`."; exit 1; }
-	@tools/prove_all || { echo "Failed: rt ci, as the lines above say."; exit 1; }
+	@tools/prove_all $(ANEW) || { echo "Failed: rt ci, as the lines above say."; exit 1; }
+	@tools/edits $(ANEW) || { echo "Failed: tools/edits, as the lines above say."; exit 1; }
 	@cd examples && for shader in *.wgsl printed/*.wgsl; do \
 	    ../crates/wgslfmt/out/wgslfmt < $$shader | cmp - printed/$${shader##*/} \
 	        || { echo "Failed: the print of examples/$$shader."; exit 1; }; \
@@ -55,6 +57,7 @@ test:
 	    || { echo "Failed: tools/tidy_texts, as the lines above say."; exit 1; }
 	@tools/refused_memory || { echo "Failed: tools/refused_memory, as above."; exit 1; }
 	@tools/build lib || { echo "Failed: tools/build lib, as above."; exit 1; }
+	@tools/rows || { echo "Failed: tools/rows, as the lines above say."; exit 1; }
 	@tools/library_tests || { echo "Failed: tools/library_tests, as above."; exit 1; }
 	@echo "All passed."
 
