@@ -23,11 +23,11 @@ placed_statement s span = tree.statement_node s span
 abbrev pub attributes : Rule Attributes
 attributes = many (symbol attribute gives attribute_node)
 
--- A*, and what stands behind
+-- A* where the draft has attributes too, and what stands behind
 abbrev pub attributed : {A B : Type 0} → (Attributes → A → B) → Rule A → Rule B
 attributed make g = attributes then g gives λ (a, x). make a x
 
--- A*; where a text is recognised alone, none
+-- A* where the draft has no attributes; where a text is recognised alone, none
 abbrev pub leading : Dialect → Rule Attributes
 leading whole = attributes
 leading alone = empty []

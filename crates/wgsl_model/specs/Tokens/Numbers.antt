@@ -1,4 +1,4 @@
--- The spellings of numbers and what they stand for (WGSL, "Numeric Literals").
+-- The spellings of numbers and what they stand for (WGSL, "Numeric Literals"). More than in the draft, the digits before the suffix `f` or `h` may begin with 0, as in `01f`.
 use Rattle.std.specs.Prelude.{ℕ, ◌+◌, ◌*◌, ◌^◌, Bool, not, ◌&&◌, ◌||◌, ◌==◌, nat_lt, if◌then◌else◌, List, [], ◌∷◌, Option, Some, None, pos}
 use Rattle.std.specs.Char.{is_ascii_digit, is_ascii_hexdigit, digit_value}
 use Rattle.std.specs.Str.{encode_utf8_all}

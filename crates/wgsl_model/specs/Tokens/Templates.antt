@@ -1,4 +1,4 @@
--- Where a template list stands in a text, and its tokens (WGSL, "Template Lists").
+-- Where a template list stands in a text, and its tokens (WGSL, "Template Lists"). The draft finds template lists by brackets alone; here what stands between `<` and `>` has to derive a list of expressions too.
 use Rattle.std.specs.Prelude.{◌≡◌, ℕ, zero, suc, Bool, true, not, ◌||◌, ◌==◌, List, [], ◌∷◌, ◌++◌, drop, length}
 use Rattle.grammar.specs.Tokens.{Token}
 use Rattle.grammar.specs.Grammar.{Mode.checking, Derives, is_among}

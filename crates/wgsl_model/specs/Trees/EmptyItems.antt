@@ -1,4 +1,4 @@
--- Trees without the empty items of their lists. An empty item that is itself the value, or the part of a `for` header, stays.
+-- Trees without the empty items of their lists. An empty item is a `;` alone where a statement or a declaration may stand (`void`). One that is itself the value, or the part of a `for` header, stays.
 use Rattle.std.specs.Prelude.{Bool, List, [], ◌∷◌, if◌then◌else◌}
 use Rattle.wgsl_model.specs.Trees.Spanned.{Spanned}
 use Rattle.wgsl_model.specs.Trees.Attributed.{Attributed}
