@@ -1,4 +1,5 @@
-//! The rows of texts with what is wanted of them, which `crates/wgsl_test_texts` checks too.
+//! The rows of texts with what is wanted of them, which `tools/rows` and `crates/wgsl_test_texts`
+//! check too.
 
 mod text;
 
@@ -65,11 +66,12 @@ fn rows_of(name: &str, data: &str) -> Vec<Row> {
 
 /// All rows.
 fn rows() -> Vec<Row> {
-    let folder =
-        PathBuf::from(env!("CARGO_MANIFEST_DIR")).join("../../crates/wgsl_test_texts/data");
-    let mut names: Vec<_> = fs::read_dir(folder)
-        .expect("the rows are there")
+    let top = PathBuf::from(env!("CARGO_MANIFEST_DIR")).join("../..");
+    let mut names: Vec<_> = ["tests/rows", "crates/wgsl_test_texts/data"]
+        .iter()
+        .flat_map(|folder| fs::read_dir(top.join(folder)).expect("the rows are there"))
         .map(|entry| entry.expect("a file").path())
+        .filter(|path| path.extension().is_some_and(|extension| extension == "txt"))
         .collect();
     names.sort();
     let rows = |path: &PathBuf| {

@@ -31,58 +31,49 @@ impl Facts {
     }
 
     /// A fact that a row may ask for.
-    pub fn tell(&mut self, words: String, value: String) -> Result<(), AllocError> {
-        Ok(
-            self.seen.push(Fact {
-                words,
-                value,
-                is_required: false,
-            })?,
-        )
+    pub fn tell(&mut self, words: &str, value: String) -> Result<(), AllocError> {
+        self.see(words, value, false)
     }
 
     /// A fact that each row has to ask for.
-    pub fn answer(&mut self, words: String, value: String) -> Result<(), AllocError> {
+    pub fn answer(&mut self, words: &str, value: String) -> Result<(), AllocError> {
+        self.see(words, value, true)
+    }
+
+    fn see(&mut self, words: &str, value: String, is_required: bool) -> Result<(), AllocError> {
+        let words = String::from_str(self.alloc, words)?;
         Ok(
             self.seen.push(Fact {
                 words,
                 value,
-                is_required: true,
+                is_required,
             })?,
         )
     }
 
     /// Tells of something that has to hold of every text and does not.
-    pub fn refuse(&mut self, what: &str, path: &str) -> Result<(), AllocError> {
-        self.broken.push_str("  does not hold: ")?;
-        self.broken.push_str(what)?;
-        if !path.is_empty() {
-            self.broken.push_str(" at ")?;
-            self.broken.push_str(path)?;
-        }
-        self.broken.push('\n')
+    pub fn refuse(&mut self, what: &str) -> Result<(), AllocError> {
+        write!(self.broken, "  does not hold: {what}\n")
     }
 
     /// Tells of it where it does not hold.
-    pub fn expect(&mut self, holds: bool, what: &str, path: &str) -> Result<(), AllocError> {
+    pub fn expect(&mut self, holds: bool, what: &str) -> Result<(), AllocError> {
         if holds {
             return Ok(());
         }
-        self.refuse(what, path)
+        self.refuse(what)
     }
 
-    /// The value of a fact with these words: one that is not wanted, if there is such a one.
-    fn value(&self, words: &str, wanted: &[u8]) -> Option<&str> {
-        let mut found = None;
-        for fact in &self.seen {
-            if fact.words.as_str() == words {
-                found = Some(fact.value.as_str());
-                if fact.value.as_bytes() != wanted {
-                    return found;
-                }
-            }
-        }
-        found
+    /// Compares a value with its copy: they are equal, and the text is that of both.
+    pub fn compare<T: fmt::Display + PartialEq>(
+        &mut self,
+        value: &T,
+        copy: &T,
+        text: &str,
+    ) -> Result<(), AllocError> {
+        self.expect(copy == value, "a copy is equal")?;
+        let copied = copy.to_string(self.alloc)?;
+        self.expect(copied.as_str() == text, "a copy prints alike")
     }
 
     /// What the row wants and the facts do not have, and the reverse; nothing where the row holds.
@@ -93,8 +84,7 @@ impl Facts {
         }
         for fact in &self.seen {
             if fact.is_required && !row.wants(&fact.words) {
-                let line = format!(in self.alloc; "  got    {} {:?}\n", fact.words, fact.value)?;
-                report.push_str(&line)?;
+                write!(report, "  got    {} {:?}\n", fact.words, fact.value)?;
             }
         }
         Ok(report)
@@ -102,21 +92,21 @@ impl Facts {
 
     /// What a line of the row wants, and what was got instead, unless it is there.
     fn report_field(&self, field: &Field<'_>, report: &mut String) -> Result<(), AllocError> {
-        let got = self.value(field.words, &field.value);
+        let got = self.value(field.words);
         if got.is_some_and(|got| got.as_bytes() == field.value.as_slice()) {
             return Ok(());
         }
-        self.report_wanted(field, report)?;
+        let wanted = String::from_utf8_lossy(self.alloc, &field.value)?;
+        write!(report, "  wanted {} {wanted:?}\n", field.words)?;
         let Some(got) = got else {
             return Ok(());
         };
-        let line = format!(in self.alloc; "  got    {} {got:?}\n", field.words)?;
-        report.push_str(&line)
+        write!(report, "  got    {} {got:?}\n", field.words)
     }
 
-    fn report_wanted(&self, field: &Field<'_>, report: &mut String) -> Result<(), AllocError> {
-        let wanted = String::from_utf8_lossy(self.alloc, &field.value)?;
-        let line = format!(in self.alloc; "  wanted {} {wanted:?}\n", field.words)?;
-        report.push_str(&line)
+    /// The value of the fact with these words.
+    fn value(&self, words: &str) -> Option<&str> {
+        let fact = self.seen.iter().find(|fact| fact.words.as_str() == words)?;
+        Some(fact.value.as_str())
     }
 }

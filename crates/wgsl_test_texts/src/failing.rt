@@ -1,5 +1,6 @@
 //! Readers and writers in memory that give or take little at a call, and fail at one.
 
+use std::alloc::Global;
 use std::io;
 use std::io::{ErrorKind, Read, Write};
 
@@ -30,6 +31,11 @@ impl Calls {
             bytes,
             fault: None,
         }
+    }
+
+    /// Calls that do not fail, at which all bytes go.
+    pub fn whole() -> Calls {
+        Calls::new(usize::MAX)
     }
 
     /// The same, of which one fails.
@@ -77,27 +83,23 @@ impl Read for Source<'_> {
     }
 }
 
-/// Takes a text that is due.
+/// Takes a text.
 #[derive(Drop)]
-pub struct Sink<'d> {
+pub struct Sink {
     pub calls: Calls,
-    /// What of the text has not come.
-    pub left: &'d [u8],
-    /// Whether something else came.
-    pub is_wrong: bool,
+    pub text: Vec<u8>,
 }
 
-impl<'d> Sink<'d> {
-    pub fn new(due: &'d [u8], calls: Calls) -> Sink<'d> {
+impl Sink {
+    pub fn new(alloc: Global, calls: Calls) -> Sink {
         Sink {
             calls,
-            left: due,
-            is_wrong: false,
+            text: Vec::new(alloc),
         }
     }
 }
 
-impl Write for Sink<'_> {
+impl Write for Sink {
     fn write(&mut self, buffer: &[u8]) -> io::Result<usize> {
         match self.calls.count() {
             Some(Failure::Error) => return Err(io::Error::from(ErrorKind::Other)),
@@ -105,10 +107,7 @@ impl Write for Sink<'_> {
             None => {}
         }
         let count = self.calls.bytes.min(buffer.len());
-        match self.left.strip_prefix(&buffer[..count]) {
-            Some(left) => self.left = left,
-            None => self.is_wrong = true,
-        }
+        self.text.extend_from_slice(&buffer[..count])?;
         Ok(count)
     }
 

@@ -1,7 +1,6 @@
 //! Paths of modules, and what they are joined with.
 
 use crate::facts::Facts;
-use crate::nodes::item_path;
 use crate::row::Row;
 use std::alloc::{AllocError, Global};
 use wgsl_parse::syntax::{ModulePath, PathOrigin};
@@ -16,70 +15,73 @@ pub fn see_path(text: &str, row: &Row<'_>, facts: &mut Facts) -> Result<(), Allo
             see_laws(&path, facts)?;
             see_joined(&path, row, facts)
         }
-        Err(error) => {
-            let words = String::from_str(alloc, "refused")?;
-            facts.answer(words, error.to_string(alloc)?)
-        }
+        Err(error) => facts.answer("refused", error.to_string(alloc)?),
     }
 }
 
 /// What is printed of a path, and of its copy: the text that was read.
 fn see_printed(path: &ModulePath, text: &str, facts: &mut Facts) -> Result<(), AllocError> {
     let printed = path.to_string(facts.alloc)?;
-    facts.expect(printed.as_str() == text, "a path prints as its text", "")?;
-    facts.compare("", path, &path.clone(facts.alloc)?, text)?;
-    facts.answer(String::from_str(facts.alloc, "printed")?, printed)
+    facts.expect(printed.as_str() == text, "a path prints as its text")?;
+    facts.compare(path, &path.clone(facts.alloc)?, text)?;
+    facts.answer("printed", printed)
 }
 
 /// The origin and the components of a path.
 fn see_parts(path: &ModulePath, facts: &mut Facts) -> Result<(), AllocError> {
+    let alloc = facts.alloc;
     let variant = match path.origin {
         PathOrigin::Absolute => "Absolute",
         PathOrigin::Relative(_) => "Relative",
         PathOrigin::Package(_) => "Package",
     };
-    facts.variant("origin", variant)?;
-    facts.count(".", "components", path.components.len())?;
+    facts.tell("variant origin", String::from_str(alloc, variant)?)?;
+    let count = format!(in alloc; "{}", path.components.len())?;
+    facts.tell("count components", count)?;
     for (place, component) in path.components.iter().enumerate() {
-        let name = item_path(facts.alloc, ".", "components", place)?;
-        facts.part(".", &name, component)?;
+        let words = format!(in alloc; "part components.{place}")?;
+        facts.tell(&words, component.clone()?)?;
     }
     Ok(())
 }
 
 /// Every path starts with itself, and the path `self` changes nothing on either side of it.
 fn see_laws(path: &ModulePath, facts: &mut Facts) -> Result<(), AllocError> {
-    facts.expect(path.starts_with(path), "a path starts with itself", "")?;
+    facts.expect(path.starts_with(path), "a path starts with itself")?;
     let this = ModulePath::new(PathOrigin::Relative(0), Vec::new(facts.alloc));
     let behind = joined(facts.alloc, path, &this)?;
     let is_same = behind.is_some_and(|other| other == *path);
-    facts.expect(is_same, "`self` behind a path changes nothing", "")?;
+    facts.expect(is_same, "`self` behind a path changes nothing")?;
     let before = joined(facts.alloc, &this, path)?;
     let is_same = before.is_some_and(|other| other == *path);
-    facts.expect(is_same, "`self` before a path changes nothing", "")
+    facts.expect(is_same, "`self` before a path changes nothing")
 }
 
 /// The path joined with each suffix that the row asks for.
 fn see_joined(path: &ModulePath, row: &Row<'_>, facts: &mut Facts) -> Result<(), AllocError> {
     for field in row.fields.iter().skip(1) {
         if let Some(suffix) = field.words.strip_prefix("joined ") {
-            see_suffix(path, suffix, facts)?;
+            see_suffix(path, field.words, suffix, facts)?;
         }
     }
     Ok(())
 }
 
-/// The path joined with the suffix of this text.
-fn see_suffix(path: &ModulePath, text: &str, facts: &mut Facts) -> Result<(), AllocError> {
+/// The path joined with the suffix of this text, under these words.
+fn see_suffix(
+    path: &ModulePath,
+    words: &str,
+    text: &str,
+    facts: &mut Facts,
+) -> Result<(), AllocError> {
     let alloc = facts.alloc;
     let Ok(suffix) = ModulePath::from_str(alloc, text) else {
-        return facts.refuse("a suffix is a path", text);
+        return facts.refuse("a suffix is a path");
     };
-    let Some(whole) = joined(alloc, path, &suffix)? else {
-        return facts.refuse("the levels of a joined path fit", text);
-    };
-    let words = format!(in alloc; "joined {text}")?;
-    facts.tell(words, whole.to_string(alloc)?)
+    match joined(alloc, path, &suffix)? {
+        Some(whole) => facts.tell(words, whole.to_string(alloc)?),
+        None => facts.refuse("the levels of a joined path fit"),
+    }
 }
 
 /// The path joined with the suffix, unless its levels are too many.

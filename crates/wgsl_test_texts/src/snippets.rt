@@ -10,21 +10,21 @@ use wgsl_parse::syntax::Span;
 pub fn snippet_of(error: Error, source: &str, facts: &mut Facts) -> Result<String, AllocError> {
     let error = error.with_source(CowStr::Borrowed(source));
     let snippet = error.to_string(facts.alloc)?;
-    facts.compare("", &error, &error.clone(facts.alloc)?, &snippet)?;
+    facts.compare(&error, &error.clone(facts.alloc)?, &snippet)?;
     Ok(snippet)
 }
 
 /// The snippet of an invalid token at the places `START..END` of a source.
 pub fn see_snippet(source: &str, places: &str, facts: &mut Facts) -> Result<(), AllocError> {
     let Some(span) = span_of(places) else {
-        return facts.refuse("a snippet has a span", places);
+        return facts.refuse("a snippet has a span");
     };
     let error = Error {
         error: ErrorKind::InvalidToken,
         span,
     };
     let snippet = snippet_of(error, source, facts)?;
-    facts.answer(String::from_str(facts.alloc, "printed")?, snippet)
+    facts.answer("printed", snippet)
 }
 
 /// The span of a text `START..END`.

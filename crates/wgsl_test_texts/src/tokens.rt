@@ -1,17 +1,18 @@
-//! The tokens of a text, and whether a text begins with a template list.
+//! The tokens of a text, from a lexer and from copies of it, and whether they are a list of
+//! expressions.
 
 use crate::facts::Facts;
 use std::alloc::{AllocError, Global};
 use wgsl_lex_templates::is_expression_list;
 use wgsl_parse::error::ErrorKind;
-use wgsl_parse::lexer::{Lexer, TokenItem, recognize_template_list};
+use wgsl_parse::lexer::{Lexer, TokenItem};
 
-/// A token with its place, or the fault that ends the tokens.
+/// A token with its place, or the fault that ends the tokens, on a line.
 fn line_of(alloc: Global, item: TokenItem) -> Result<String, AllocError> {
     match item {
-        Ok((start, token, end)) => format!(in alloc; "{start}..{end} {token}"),
+        Ok((start, token, end)) => format!(in alloc; "{start}..{end} {token}\n"),
         Err((start, error, end)) => {
-            format!(in alloc; "{start}..{end} {}", ErrorKind::from(error))
+            format!(in alloc; "{start}..{end} {}\n", ErrorKind::from(error))
         }
     }
 }
@@ -20,9 +21,6 @@ fn line_of(alloc: Global, item: TokenItem) -> Result<String, AllocError> {
 fn lines_of(alloc: Global, lexer: Lexer<'_>) -> Result<String, AllocError> {
     let mut lines = String::new(alloc);
     for item in lexer {
-        if !lines.is_empty() {
-            lines.push('\n')?;
-        }
         lines.push_str(&line_of(alloc, item)?)?;
     }
     Ok(lines)
@@ -31,67 +29,38 @@ fn lines_of(alloc: Global, lexer: Lexer<'_>) -> Result<String, AllocError> {
 /// The tokens of a text; copies of a lexer give what is left, and nothing follows the end.
 pub fn see_tokens(text: &str, facts: &mut Facts) -> Result<(), AllocError> {
     let alloc = facts.alloc;
-    let whole = lines_of(alloc, Lexer::new(alloc, text)?)?;
     let mut lexer = Lexer::new(alloc, text)?;
-    let mut given = String::new(alloc);
+    let whole = lines_of(alloc, lexer.clone(alloc)?)?;
+    let mut left = whole.as_str();
     for _ in 0..text.len() {
-        see_copy(&lexer, &given, &whole, facts)?;
+        let copied = lines_of(alloc, lexer.clone(alloc)?)?;
+        facts.expect(copied.as_str() == left, "a copy gives what is left")?;
         let Some(item) = lexer.next() else {
             break;
         };
-        see_copied(&item, &given, facts)?;
-        given.push_str(&line_of(alloc, item)?)?;
-        if given.len() < whole.len() {
-            given.push('\n')?;
-        }
+        left = left
+            .strip_prefix(line_of(alloc, item)?.as_str())
+            .unwrap_or("");
     }
     let is_over = lexer.next().is_none() && lexer.next().is_none();
-    facts.expect(is_over, "nothing follows the end", "")?;
-    facts.answer(String::from_str(alloc, "items")?, whole)
-}
-
-/// A copy of a lexer gives what is left of the whole behind what was given.
-fn see_copy(
-    lexer: &Lexer<'_>,
-    given: &str,
-    whole: &str,
-    facts: &mut Facts,
-) -> Result<(), AllocError> {
-    let left = lines_of(facts.alloc, lexer.clone(facts.alloc)?)?;
-    let is_left = whole.strip_prefix(given) == Some(left.as_str());
-    facts.expect(is_left, "a copy gives what is left", given)
-}
-
-/// A token, or the fault that ends the tokens, is equal to its copy.
-fn see_copied(item: &TokenItem, given: &str, facts: &mut Facts) -> Result<(), AllocError> {
-    let is_equal = match item {
-        Ok((_, token, _)) => token.clone(facts.alloc)? == *token,
-        Err((_, error, _)) => error.clone(facts.alloc)? == *error,
-    };
-    facts.expect(is_equal, "a copy is equal", given)
-}
-
-/// Whether something is a list.
-fn tell_list(is_list: bool, facts: &mut Facts) -> Result<(), AllocError> {
-    let word = if is_list { "yes" } else { "no" };
-    let words = String::from_str(facts.alloc, "list")?;
-    facts.answer(words, String::from_str(facts.alloc, word)?)
-}
-
-/// Whether a text begins with a template list.
-pub fn see_template_list(text: &str, facts: &mut Facts) -> Result<(), AllocError> {
-    let is_list = recognize_template_list(facts.alloc, text)?;
-    tell_list(is_list, facts)
+    facts.expect(is_over, "nothing follows the end")?;
+    facts.answer("items", String::from_str(alloc, whole.trim_end())?)
 }
 
 /// Whether the tokens of a text are a list of expressions.
 pub fn see_list(text: &str, facts: &mut Facts) -> Result<(), AllocError> {
-    let mut kinds = Vec::new(facts.alloc);
-    for item in Lexer::new(facts.alloc, text)? {
+    let alloc = facts.alloc;
+    let mut kinds = Vec::new(alloc);
+    for item in Lexer::new(alloc, text)? {
         match item {
             Ok((_, token, _)) => kinds.push(token.kind())?,
-            Err(_) => return facts.refuse("the text has tokens", ""),
+            Err(_) => return facts.refuse("the text has tokens"),
         }
     }
-    tell_list(is_expression_list(&kinds), facts)
+    let word = if is_expression_list(&kinds) {
+        "yes"
+    } else {
+        "no"
+    };
+    facts.answer("list", String::from_str(alloc, word)?)
 }
