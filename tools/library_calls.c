@@ -16,6 +16,8 @@ static int is_answer(size_t size, size_t start, size_t end, size_t kind, size_t 
         && answer.expected == expected;
 }
 
+static int is_size(size_t size) { return is_answer(size, 0, 0, 0, 0); }
+
 /* The calls that read a text and write bytes. */
 typedef uint32_t text_call(const char *, size_t, char *, size_t, struct wgsl_answer *);
 
@@ -86,17 +88,11 @@ static int check_other_calls(void) {
     return 0;
 }
 
-int main(void) {
-    char room[256];
-    struct wgsl_token tokens[8];
-    struct wgsl_place lists[2];
-    int failed = check_text_calls();
-    if (failed == 0) failed = check_other_calls();
-    if (failed != 0) return failed;
-
-    /* a text of no bytes, at null and elsewhere, is the empty module, which prints as a line end */
-    CHECK(wgsl_format(NULL, 0, NULL, 0, &answer) == WGSL_TOO_SMALL && is_answer(1, 0, 0, 0, 0));
-    CHECK(wgsl_format(NULL, 0, room, 1, &answer) == WGSL_DONE && is_answer(1, 0, 0, 0, 0));
+/* A text of no bytes, at null and elsewhere, is the empty module, which prints as a line end. */
+static int check_no_bytes(void) {
+    char room[1];
+    CHECK(wgsl_format(NULL, 0, NULL, 0, &answer) == WGSL_TOO_SMALL && is_size(1));
+    CHECK(wgsl_format(NULL, 0, room, 1, &answer) == WGSL_DONE && is_size(1));
     CHECK(wgsl_format("", 0, room, 1, &answer) == WGSL_DONE && room[0] == '\n');
     CHECK(wgsl_check(NULL, 0, NULL, 0, &answer) == WGSL_DONE);
     CHECK(wgsl_recognize(NULL, 0, NULL, 0, &answer) == WGSL_DONE);
@@ -104,41 +100,117 @@ int main(void) {
     CHECK(wgsl_template_lists(NULL, 0, NULL, 0, &answer) == WGSL_DONE && answer.size == 0);
     CHECK(wgsl_begins_with_template_list(NULL, 0, &answer) == WGSL_DONE && answer.size == 0);
     CHECK(wgsl_nesting(NULL, 0, &answer) == WGSL_DONE && answer.size == 0);
+    return 0;
+}
 
-    /* a room that is too small is left alone, and the size is told */
+/* A room that is too small is left alone, and the size is told; so is the room behind a text. */
+static int check_rooms(void) {
+    char room[256];
     memset(room, '#', sizeof room);
-    CHECK(wgsl_format("const N=1;", 10, NULL, 0, &answer) == WGSL_TOO_SMALL);
-    CHECK(is_answer(13, 0, 0, 0, 0));
-    CHECK(wgsl_format("const N=1;", 10, room, 12, &answer) == WGSL_TOO_SMALL);
-    CHECK(is_answer(13, 0, 0, 0, 0) && is_filled(room, sizeof room));
-    CHECK(wgsl_format("const N=1;", 10, room, 13, &answer) == WGSL_DONE);
+    CHECK(wgsl_format("const N=1;", 10, NULL, 0, &answer) == WGSL_TOO_SMALL && is_size(13));
+    CHECK(wgsl_format("const N=1;", 10, room, 12, &answer) == WGSL_TOO_SMALL && is_size(13));
+    CHECK(is_filled(room, sizeof room));
+    CHECK(wgsl_format("const N=0x1f;", 13, room, 13, &answer) == WGSL_TOO_SMALL && is_size(14));
+    CHECK(is_filled(room, sizeof room));
+    CHECK(wgsl_format("const N=1;", 10, room, 13, &answer) == WGSL_DONE && is_size(13));
     CHECK(memcmp(room, "const N = 1;\n", 13) == 0 && is_filled(room + 13, sizeof room - 13));
+    memset(room, '#', sizeof room);
+    CHECK(wgsl_format("const N=0x1f;", 13, room, 32, &answer) == WGSL_DONE && is_size(14));
+    CHECK(memcmp(room, "const N = 31;\n", 14) == 0 && is_filled(room + 14, sizeof room - 14));
+    return 0;
+}
 
-    /* a fault has its place with and without room for its texts */
+/* A fault has its place with and without room for its texts, and a module has none. */
+static int check_faults(void) {
+    static const char texts[] = "unexpected token `=`, expected `identifier`\0identifier";
+    char room[256];
     CHECK(wgsl_check("const = 1;", 10, NULL, 0, &answer) == WGSL_REFUSED);
     CHECK(is_answer(55, 6, 7, WGSL_UNEXPECTED_TOKEN, 1));
+    memset(room, '#', sizeof room);
     CHECK(wgsl_check("const = 1;", 10, room, sizeof room, &answer) == WGSL_REFUSED);
-    CHECK(strcmp(room, "unexpected token `=`, expected `identifier`") == 0);
-    CHECK(strcmp(room + strlen(room) + 1, "identifier") == 0);
+    CHECK(is_answer(sizeof texts, 6, 7, WGSL_UNEXPECTED_TOKEN, 1));
+    CHECK(memcmp(room, texts, sizeof texts) == 0);
+    CHECK(is_filled(room + sizeof texts, sizeof room - sizeof texts));
+    CHECK(wgsl_check("const N = 1;", 12, NULL, 0, &answer) == WGSL_DONE && is_size(0));
+    CHECK(wgsl_check("// \xff", 4, NULL, 0, &answer) == WGSL_NOT_UTF8);
+    CHECK(is_answer(0, 3, 3, 0, 0));
+    CHECK(wgsl_nesting("\xff", 1, &answer) == WGSL_NOT_UTF8 && is_size(0));
+    CHECK(wgsl_recognize("@align fn f() {}", 16, NULL, 0, &answer) == WGSL_DONE && is_size(0));
+    CHECK(wgsl_recognize("const a", 7, NULL, 0, &answer) == WGSL_REFUSED);
+    CHECK(answer.start == 7 && answer.end == 8 && answer.kind == WGSL_UNEXPECTED_END);
+    return 0;
+}
 
-    /* tokens, the first ones where not all fit */
+static int is_token(const struct wgsl_token *token, size_t kind, size_t start, size_t end) {
+    return token->kind == kind && token->start == start && token->end == end;
+}
+
+/* Tokens have kinds and places, and where not all fit the first ones are there. */
+static int check_tokens(void) {
+    struct wgsl_token tokens[8];
+    tokens[4].kind = tokens[4].start = tokens[4].end = 9;
+    CHECK(wgsl_tokens(" a<b> #", 7, tokens, 3, &answer) == WGSL_TOO_SMALL && is_size(4));
+    CHECK(is_token(tokens, 72, 1, 2) && is_token(tokens + 1, 80, 2, 3));
+    CHECK(wgsl_tokens(" a<b> #", 7, tokens, 5, &answer) == WGSL_REFUSED);
+    CHECK(is_answer(4, 6, 7, WGSL_INVALID_TOKEN, 0));
+    CHECK(is_token(tokens + 3, 81, 4, 5) && is_token(tokens + 4, 9, 9, 9));
     CHECK(wgsl_tokens("a<b>", 4, tokens, 2, &answer) == WGSL_TOO_SMALL && answer.size == 4);
     CHECK(wgsl_tokens("a<b>", 4, tokens, 8, &answer) == WGSL_DONE && answer.size == 4);
     CHECK(tokens[0].kind == WGSL_IDENT && tokens[1].kind == WGSL_TEMPLATE_ARGS_START);
-    CHECK(tokens[3].kind == WGSL_TEMPLATE_ARGS_END && tokens[3].start == 3 && tokens[3].end == 4);
+    CHECK(is_token(tokens + 3, WGSL_TEMPLATE_ARGS_END, 3, 4));
     CHECK(wgsl_tokens("a #", 3, tokens, 8, &answer) == WGSL_REFUSED);
     CHECK(is_answer(1, 2, 3, WGSL_INVALID_TOKEN, 0));
-    CHECK(wgsl_tokens("a #", 3, tokens, 0, &answer) == WGSL_TOO_SMALL && is_answer(1, 0, 0, 0, 0));
+    CHECK(wgsl_tokens("a #", 3, tokens, 0, &answer) == WGSL_TOO_SMALL && is_size(1));
+    return 0;
+}
 
-    /* lists, trees, and what begins with a list */
+static int is_place(const struct wgsl_place *place, size_t start, size_t end) {
+    return place->start == start && place->end == end;
+}
+
+/* Template lists have places, one at the front is found, and nesting is a number. */
+static int check_lists(void) {
+    struct wgsl_place lists[3];
+    lists[2].start = lists[2].end = 9;
+    CHECK(wgsl_template_lists("a<b<c>> < d", 11, lists, 3, &answer) == WGSL_DONE && is_size(2));
+    CHECK(is_place(lists, 1, 7) && is_place(lists + 1, 3, 6) && is_place(lists + 2, 9, 9));
+    CHECK(wgsl_template_lists("a<b<c>> < d", 11, NULL, 0, &answer) == WGSL_TOO_SMALL);
+    CHECK(is_size(2));
     CHECK(wgsl_template_lists("a<b<c>>", 7, lists, 2, &answer) == WGSL_DONE && answer.size == 2);
-    CHECK(lists[0].start == 1 && lists[0].end == 7 && lists[1].start == 3 && lists[1].end == 6);
     CHECK(wgsl_begins_with_template_list(" <a>", 4, &answer) == WGSL_DONE && answer.size == 1);
-    CHECK(wgsl_nesting("const a = ((1));", 16, &answer) == WGSL_DONE && answer.size == 2);
+    CHECK(wgsl_begins_with_template_list(" /* */ <a>(b)", 13, &answer) == WGSL_DONE);
+    CHECK(is_size(1));
+    CHECK(wgsl_begins_with_template_list("< a", 3, &answer) == WGSL_DONE && is_size(0));
+    CHECK(wgsl_nesting("const a = ((1));", 16, &answer) == WGSL_DONE && is_size(2));
+    return 0;
+}
+
+/* A tree is written by its form, and no tree has another number. */
+static int check_trees(void) {
+    static const char form[] =
+        "{\"NamedComponent\":{\"component\":\"b\",\"base\":{\"span\":[0,1],\"node\":"
+        "{\"TypeOrIdentifier\":{\"ident\":\"a\",\"template_args\":null}}}}}";
+    size_t size = sizeof form - 1;
+    char room[256];
     CHECK(wgsl_tree(WGSL_STATEMENT, ";", 1, room, sizeof room, &answer) == WGSL_DONE);
     CHECK(answer.size == 6 && memcmp(room, "\"Void\"", 6) == 0);
+    CHECK(wgsl_tree(WGSL_EXPRESSION, "a.b", 3, room, sizeof room, &answer) == WGSL_DONE);
+    CHECK(is_size(size) && memcmp(room, form, size) == 0);
     memset(room, '#', sizeof room);
-    CHECK(wgsl_tree(5, ";", 1, room, sizeof room, &answer) == WGSL_UNKNOWN);
-    CHECK(is_answer(0, 0, 0, 0, 0) && is_filled(room, sizeof room));
+    CHECK(wgsl_tree(5, ";", 1, room, sizeof room, &answer) == WGSL_UNKNOWN && is_size(0));
+    CHECK(is_filled(room, sizeof room));
+    CHECK(wgsl_tree(5, "a.b", 3, NULL, 0, &answer) == WGSL_UNKNOWN && is_size(0));
     return 0;
+}
+
+static int (*const checks[])(void) = {
+    check_text_calls, check_other_calls, check_no_bytes, check_rooms,
+    check_faults,     check_tokens,      check_lists,    check_trees,
+};
+
+int main(void) {
+    int failed = 0;
+    size_t at;
+    for (at = 0; failed == 0 && at < sizeof checks / sizeof *checks; at++) failed = checks[at]();
+    return failed;
 }

@@ -1,7 +1,10 @@
-/* Makes each call of wgsl.h on a few texts with one request for memory refused, the first, the
+/* Makes each call of wgsl.h on each text with one request for memory refused, the first, the
    second, and so on, and exits with the line of the first check that fails, or 0. Each call has to
-   answer that memory was refused, or what it answers undisturbed, and to give back all it took. It
-   is linked with --wrap of malloc, realloc and free. */
+   answer that memory was refused, or what it answers undisturbed, to give back all it took, and to
+   make a request on some text. The texts are those below and those of
+   crates/wgsl_test_memory/data/texts.txt. It is run at the top of the repository, and linked with
+   --wrap of malloc, realloc and free. */
+#include <stdio.h>
 #include <stdlib.h>
 #include <string.h>
 
@@ -46,8 +49,10 @@ struct said {
     size_t room[4096];
 };
 
-enum { FORMAT, CHECKED, RECOGNIZED, TREE, TOKENS, LISTS, BEGINS, NESTING, CALLS };
+enum { FORMAT, CHECKED, RECOGNIZED, TOKENS, LISTS, BEGINS, NESTING, TREES };
+enum { CALLS = TREES + WGSL_EXPRESSION + 1 };
 
+/* Makes a call; those from TREES on ask for the kinds of trees, one after another. */
 static uint32_t make(int call, const char *text, size_t size, struct said *said) {
     char *room = (char *)said->room;
     size_t room_size = sizeof said->room;
@@ -60,16 +65,16 @@ static uint32_t make(int call, const char *text, size_t size, struct said *said)
         return wgsl_check(text, size, room, room_size, &said->answer);
     case RECOGNIZED:
         return wgsl_recognize(text, size, room, room_size, &said->answer);
-    case TREE:
-        return wgsl_tree(WGSL_UNIT, text, size, room, room_size, &said->answer);
     case TOKENS:
         return wgsl_tokens(text, size, tokens, room_size / sizeof *tokens, &said->answer);
     case LISTS:
         return wgsl_template_lists(text, size, places, room_size / sizeof *places, &said->answer);
     case BEGINS:
         return wgsl_begins_with_template_list(text, size, &said->answer);
-    default:
+    case NESTING:
         return wgsl_nesting(text, size, &said->answer);
+    default:
+        return wgsl_tree((uint32_t)(call - TREES), text, size, room, room_size, &said->answer);
     }
 }
 
@@ -100,26 +105,49 @@ static const char *const texts[] = {
     "fn f() { return",
 };
 
-int main(void) {
+/* How many requests of each call were refused. */
+static size_t refusals[CALLS];
+
+/* Makes each call on a text with each of its requests refused. */
+static int check(const char *text) {
     static struct said undisturbed, said;
     static const struct wgsl_answer nothing;
-    size_t at, which, count;
+    size_t which, count;
     int call;
-    for (at = 0; at < sizeof texts / sizeof *texts; at++) {
-        for (call = 0; call < CALLS; call++) {
-            ask(call, texts[at], SIZE_MAX, &undisturbed);
-            CHECK(undisturbed.status <= WGSL_REFUSED && blocks == 0);
-            count = requests;
-            for (which = 0; which < count; which++) {
-                ask(call, texts[at], which, &said);
-                CHECK(blocks == 0);
-                if (said.status == WGSL_OUT_OF_MEMORY) {
-                    CHECK(memcmp(&said.answer, &nothing, sizeof nothing) == 0);
-                } else {
-                    CHECK(is_same(&said, &undisturbed));
-                }
+    for (call = 0; call < CALLS; call++) {
+        ask(call, text, SIZE_MAX, &undisturbed);
+        CHECK(undisturbed.status <= WGSL_REFUSED && blocks == 0);
+        count = requests;
+        refusals[call] += count;
+        for (which = 0; which < count; which++) {
+            ask(call, text, which, &said);
+            CHECK(blocks == 0);
+            if (said.status == WGSL_OUT_OF_MEMORY) {
+                CHECK(memcmp(&said.answer, &nothing, sizeof nothing) == 0);
+            } else {
+                CHECK(is_same(&said, &undisturbed));
             }
         }
     }
+    return 0;
+}
+
+int main(void) {
+    char line[512];
+    int failed = 0, read = 0;
+    size_t at;
+    FILE *file = fopen("crates/wgsl_test_memory/data/texts.txt", "r");
+    CHECK(file != NULL);
+    for (at = 0; failed == 0 && at < sizeof texts / sizeof *texts; at++) failed = check(texts[at]);
+    while (failed == 0 && fgets(line, sizeof line, file) != NULL) {
+        line[strcspn(line, "\n")] = 0;
+        if (line[0] == '#' || line[0] == 0) continue;
+        failed = check(line);
+        read = 1;
+    }
+    fclose(file);
+    if (failed != 0) return failed;
+    CHECK(read);
+    for (at = 0; at < CALLS; at++) CHECK(refusals[at] > 0);
     return 0;
 }

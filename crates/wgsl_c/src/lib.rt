@@ -1,22 +1,106 @@
-//! The library for C and for Rust, as a static library: each export takes numbers and memory of the
-//! caller's, and passes on to a call of the library. `include/wgsl.h` declares them and says what a
-//! caller owes.
+//! The exports for C and for Rust, as a static library: each takes numbers and memory of the
+//! caller's, and returns what a call of `wgsl_buffers` does. `include/wgsl.h` declares them and says
+//! what a caller owes.
 #![tactic(auto)]
 
-mod answer;
-mod fault;
-mod lists;
-mod modules;
-mod tokens;
-mod trees;
+ghost use Rattle.wgsl_buffers.specs.Calls.{Formats, Checks, Recognizes, WritesTree, WritesTokens, WritesLists, FindsList, MeasuresNesting};
 
-pub use answer::Answer;
-pub use lists::{Place, wgsl_c_begins_with_list, wgsl_c_lists};
-pub use modules::{wgsl_c_check, wgsl_c_format, wgsl_c_nesting, wgsl_c_recognize};
-pub use tokens::{PlacedKind, wgsl_c_tokens};
-pub use trees::wgsl_c_tree;
+use std::alloc::Global;
+use wgsl_buffers::{Answer, Place, PlacedKind};
 
-#[cfg(test)]
-mod kinds;
-#[cfg(test)]
-mod tests;
+/// The canonical text of a module.
+#[unsafe(no_mangle)]
+pub extern "C" fn wgsl_c_format(
+    alloc: Global,
+    text: &[u8],
+    room: &mut [u8],
+    answer: &mut Answer,
+) -> u32
+    ensures { Formats text.now room.old room.new answer.new result }
+{
+    wgsl_buffers::format(alloc, text, room, answer)
+}
+
+/// Whether a text is a module.
+#[unsafe(no_mangle)]
+pub extern "C" fn wgsl_c_check(
+    alloc: Global,
+    text: &[u8],
+    room: &mut [u8],
+    answer: &mut Answer,
+) -> u32
+    ensures { Checks text.now room.old room.new answer.new result }
+{
+    wgsl_buffers::check(alloc, text, room, answer)
+}
+
+/// Whether a text is a module of the dialect that is recognised alone.
+#[unsafe(no_mangle)]
+pub extern "C" fn wgsl_c_recognize(
+    alloc: Global,
+    text: &[u8],
+    room: &mut [u8],
+    answer: &mut Answer,
+) -> u32
+    ensures { Recognizes text.now room.old room.new answer.new result }
+{
+    wgsl_buffers::recognize(alloc, text, room, answer)
+}
+
+/// The tree that a text is, by its text form: 0 asks for a module, 1 for a directive, 2 for a
+/// declaration, 3 for a statement, 4 for an expression.
+#[unsafe(no_mangle)]
+pub extern "C" fn wgsl_c_tree(
+    alloc: Global,
+    what: u32,
+    text: &[u8],
+    room: &mut [u8],
+    answer: &mut Answer,
+) -> u32
+    ensures { WritesTree what text.now room.old room.new answer.new result }
+{
+    wgsl_buffers::write_tree(alloc, what, text, room, answer)
+}
+
+/// The tokens of a text, as many as fit.
+#[unsafe(no_mangle)]
+pub extern "C" fn wgsl_c_tokens(
+    alloc: Global,
+    text: &[u8],
+    room: &mut [PlacedKind],
+    answer: &mut Answer,
+) -> u32
+    ensures { WritesTokens text.now room.new answer.new result }
+{
+    wgsl_buffers::write_tokens(alloc, text, room, answer)
+}
+
+/// The places of the template lists of a text, as many as fit.
+#[unsafe(no_mangle)]
+pub extern "C" fn wgsl_c_lists(
+    alloc: Global,
+    text: &[u8],
+    room: &mut [Place],
+    answer: &mut Answer,
+) -> u32
+    ensures { WritesLists text.now room.new answer.new result }
+{
+    wgsl_buffers::write_lists(alloc, text, room, answer)
+}
+
+/// Whether a text begins with a template list, behind blank space and comments.
+#[unsafe(no_mangle)]
+pub extern "C" fn wgsl_c_begins_with_list(alloc: Global, text: &[u8], answer: &mut Answer) -> u32
+    ensures { FindsList text.now answer.new result }
+{
+    wgsl_buffers::begins_with_list(alloc, text, answer)
+}
+
+/// The greatest number of brackets, blocks, template lists and prefix operators that are open at
+/// one place.
+#[unsafe(no_mangle)]
+pub extern "C" fn wgsl_c_nesting(alloc: Global, text: &[u8], answer: &mut Answer) -> u32
+    ensures { MeasuresNesting text.now answer.new result }
+{
+    wgsl_buffers::measure_nesting(alloc, text, answer)
+}

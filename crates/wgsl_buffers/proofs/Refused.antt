@@ -1,0 +1,22 @@
+-- What is told of an error that is answered of a text.
+use Rattle.std.proofs.Common.{◌≡◌, ◌⊎◌, inl, inr, ℕ, List, length, ap, subst}
+use Rattle.std.specs.Str.{chars}
+use Rattle.grammar.specs.Tokens.{Fault}
+use Rattle.wgsl_error.specs.declared.Error.{Error}
+use Rattle.wgsl_error.specs.declared.ErrorKind.TheVariants as kinds
+use Rattle.wgsl_error.specs.View.{fault_view}
+use Rattle.wgsl_read_cursor.specs.Answers.{IsOutOfMemory}
+use Rattle.wgsl_read_cursor.specs.Places.{StandsWithin}
+use Rattle.wgsl_buffers.specs.declared.answer.Answer.{Answer}
+use Rattle.wgsl_buffers.specs.Answers.{TellsError, Refuses}
+
+-- an error that is no want of memory is what else it may be
+other : {A : Type 0} (e : Error) → ¬ (e.error ≡ kinds.OutOfMemory) → IsOutOfMemory e ⊎ A → A
+other e not (inl is) = absurd (not (ap (λ (x : Error). x.error) is))
+other e not (inr a) = a
+
+-- a text is refused where an error of it is told
+pub refused_by : (IsNamed : List ℕ → Fault → Type 0) (source text before room : List ℕ) (a : Answer) (e : Error) → source ≡ text → IsOutOfMemory e ⊎ IsNamed (chars source) (fault_view e) → StandsWithin e.span (length source)
+    → ¬ (e.error ≡ kinds.OutOfMemory) → TellsError e before room a → Refuses IsNamed text before room a
+refused_by IsNamed source text before room a e same named placed not told =
+    (e, subst (λ s. IsNamed (chars s) (fault_view e)) same (other e not named), subst (λ s. StandsWithin e.span (length s)) same placed, told)

@@ -1,0 +1,90 @@
+-- What each call promises of a text, of the room before it and after it, of its answer and of its status.
+use Rattle.std.specs.Prelude.{◌≡◌, ◌⊎◌, ◌≤◌, ◌<◌, ℕ, List, chars, length}
+use Rattle.std.specs.Str.{IsUtf8}
+use Rattle.grammar.specs.Tokens as grammar
+use Rattle.grammar.specs.Endings.{Ending, Ending.finished, Ending.carried}
+use Rattle.wgsl_model.specs.Faults.Kinds.{invalid_token}
+use Rattle.wgsl_model.specs.Trees.Units as model
+use Rattle.wgsl_model.specs.Printed.Units.{print_unit}
+use Rattle.wgsl_model.specs.Program.{IsUnit, IsFaultOf}
+use Rattle.wgsl_model.specs.SourceTrees.{IsFaultIn}
+use Rattle.wgsl_model.specs.Tokens.TokenList.{IsTokenList}
+use Rattle.wgsl_lexer.specs.Left.{BeginsWithList}
+use Rattle.wgsl_read_dialect.specs.Recognized.{IsRecognized, IsRefused}
+use Rattle.wgsl_read_nesting.specs.Nesting.{nesting}
+use Rattle.wgsl_buffers.specs.declared.answer.Answer.{Answer}
+use Rattle.wgsl_buffers.specs.declared.lists.Place.{Place}
+use Rattle.wgsl_buffers.specs.declared.tokens.PlacedKind.{PlacedKind}
+use Rattle.wgsl_buffers.specs.Answers.{counted, Refuses, Holds, Lacks, IsNoText}
+use Rattle.wgsl_buffers.specs.Items.{count_of, counted_to, HoldItems, kind_and_place, token_items, start_and_end, ArePlaces}
+use Rattle.wgsl_buffers.specs.Trees.{symbol_of, IsTree}
+
+-- what each call promises: 2 only for bytes that are no text, and 3 with nothing in the answer
+pub record Reads (text : List ℕ) (answer : Answer) (result : ℕ) : Type 0 where
+  pub not_utf8 : result ≡ 2 → IsNoText text answer
+  pub memory : result ≡ 3 → answer ≡ counted 0
+  pub valid : ¬ (result ≡ 2) → IsUtf8 text
+
+-- the text that a module is printed as, or the fault that is named
+pub record Formats (text before room : List ℕ) (answer : Answer) (result : ℕ) : Type 0 where
+  pub printed : result ≡ 0 → (unit : model.TranslationUnit) × IsUnit (chars text) unit × Holds (print_unit unit) room answer
+  pub refused : result ≡ 1 → Refuses IsFaultOf text before room answer
+  pub small : result ≡ 4 → (unit : model.TranslationUnit) × IsUnit (chars text) unit × Lacks (print_unit unit) before room answer
+  pub status : result ≤ 4
+  pub reads : Reads text answer result
+
+-- that a text is a module, or the fault that is named
+pub record Checks (text before room : List ℕ) (answer : Answer) (result : ℕ) : Type 0 where
+  pub accepted : result ≡ 0 → (unit : model.TranslationUnit) × IsUnit (chars text) unit × (answer ≡ counted 0)
+  pub refused : result ≡ 1 → Refuses IsFaultOf text before room answer
+  pub status : result ≤ 3
+  pub reads : Reads text answer result
+
+-- that a text is a module of the dialect, or the fault that is named
+pub record Recognizes (text before room : List ℕ) (answer : Answer) (result : ℕ) : Type 0 where
+  pub accepted : result ≡ 0 → IsRecognized (chars text) × (answer ≡ counted 0)
+  pub refused : result ≡ 1 → Refuses IsRefused text before room answer
+  pub status : result ≤ 3
+  pub reads : Reads text answer result
+
+-- the text form of the tree with a number that a text is, or the fault that is named
+pub record WritesTree (what : ℕ) (text before room : List ℕ) (answer : Answer) (result : ℕ) : Type 0 where
+  pub accepted : result ≡ 0 → (form : List ℕ) × IsTree (symbol_of what) (chars text) × Holds form room answer
+  pub refused : result ≡ 1 → Refuses (IsFaultIn (symbol_of what)) text before room answer
+  pub small : result ≡ 4 → (form : List ℕ) × IsTree (symbol_of what) (chars text) × Lacks form before room answer
+  pub unknown : result ≡ 5 → (4 < what) × (answer ≡ counted 0)
+  pub known : 4 < what → (result ≡ 2) ⊎ (result ≡ 5)
+  pub status : result ≤ 5
+  pub reads : Reads text answer result
+
+-- the tokens of a text before its end or its first invalid token
+pub record WritesTokens (text : List ℕ) (room : List PlacedKind) (answer : Answer) (result : ℕ) : Type 0 where
+  pub all : result ≡ 0 → (ts : List grammar.Token) × IsTokenList (chars text) ts finished × HoldItems kind_and_place (token_items ts) room × (answer ≡ counted (length ts))
+  pub refused : result ≡ 1 → (ts : List grammar.Token) × (span : grammar.Span) × IsTokenList (chars text) ts (carried (invalid_token span))
+      × HoldItems kind_and_place (token_items ts) room × (answer ≡ counted_to (length ts) span)
+  pub small : result ≡ 4 → (ts : List grammar.Token) × (e : Ending) × IsTokenList (chars text) ts e
+      × HoldItems kind_and_place (token_items ts) room × (length room < length ts) × (answer ≡ counted (count_of (length ts)))
+  pub fits : result ≤ 1 → answer.size ≤ length room
+  pub status : result ≤ 4
+  pub reads : Reads text answer result
+
+-- the places of the template lists of a text, in the order of their starts
+pub record WritesLists (text : List ℕ) (room : List Place) (answer : Answer) (result : ℕ) : Type 0 where
+  pub all : result ≡ 0 → (places : List (ℕ × ℕ)) × ArePlaces (chars text) places
+      × HoldItems start_and_end places room × (length places ≤ length room) × (answer ≡ counted (length places))
+  pub small : result ≡ 4 → (places : List (ℕ × ℕ)) × ArePlaces (chars text) places
+      × HoldItems start_and_end places room × (length room < length places) × (answer ≡ counted (count_of (length places)))
+  pub status : (result ≡ 0) ⊎ ((2 ≤ result) × (result ≤ 4))
+  pub reads : Reads text answer result
+
+-- whether a text begins with a template list, behind blank space and comments
+pub record FindsList (text : List ℕ) (answer : Answer) (result : ℕ) : Type 0 where
+  pub found : result ≡ 0 → (BeginsWithList (chars text) × (answer ≡ counted 1)) ⊎ (¬ (BeginsWithList (chars text)) × (answer ≡ counted 0))
+  pub status : (result ≡ 0) ⊎ ((result ≡ 2) ⊎ (result ≡ 3))
+  pub reads : Reads text answer result
+
+-- how many brackets, blocks, template lists and prefix operators are open at one place of a text
+pub record MeasuresNesting (text : List ℕ) (answer : Answer) (result : ℕ) : Type 0 where
+  pub depth : result ≡ 0 → (ts : List grammar.Token) × (e : Ending) × IsTokenList (chars text) ts e × (answer ≡ counted (nesting ts))
+  pub status : (result ≡ 0) ⊎ ((result ≡ 2) ⊎ (result ≡ 3))
+  pub reads : Reads text answer result

@@ -1,0 +1,15 @@
+//! Calls that read a text and write what they give into memory of the caller's, with a status.
+#![tactic(auto)]
+
+mod answer;
+mod fault;
+mod lists;
+mod modules;
+mod tokens;
+mod trees;
+
+pub use answer::Answer;
+pub use lists::{Place, begins_with_list, write_lists};
+pub use modules::{check, format, measure_nesting, recognize};
+pub use tokens::{PlacedKind, write_tokens};
+pub use trees::write_tree;

@@ -1,6 +1,0 @@
-use Rattle.wgsl_c.specs.Items.{start_and_end, lists_before}
-use Rattle.wgsl_c.proofs.Written.{Stored}
-use Rattle.wgsl_c.proofs.lists.fill.Given as goal
-
-abbrev pub invariant-bytes : goal.invariant-bytes
-invariant-bytes l = Stored start_and_end (lists_before l.templates.lists.spans.items l.start) l.room l.count

@@ -1,7 +1,0 @@
-use Rattle.wgsl_model.specs.Program.{IsFaultOf}
-use Rattle.wgsl_c.proofs.Refused.{refused_by}
-use Rattle.wgsl_c.proofs.modules.wgsl_c_check.Goals as goal
-
-pub returns-in-Err-clause-refused : goal.returns-in-Err-clause-refused
-returns-in-Err-clause-refused c =
-    λ one. refused_by IsFaultOf c.in-Some.source.now c.args.text.now c.args.room.now c.tell_error.new.room c.tell_error.new.answer c.in-Err.error c.in-Some.ensures.0 c.in-Err.ensures.refused c.in-Err.ensures.placed (c.tell_error.ensures.named one) (c.tell_error.ensures.refused one)

@@ -1,3 +1,0 @@
-pub mod Answers
-pub mod Items
-pub mod Trees
