@@ -1,59 +1,58 @@
 //! Calls that copy a tree with its parts, or what is wrong with a text.
 
-use crate::answer::{Refusal, tell, tree};
+use crate::line::Line;
+use crate::refusal::Refusal;
 use crate::{nodes, statements};
-use std::alloc::AllocError;
 use std::borrow::CowStr;
-use std::io;
 use wgsl_parse::parse_str;
 
 /// Makes a call that copies, and tells whether there is one with this name.
-pub fn make_call<R: Print + AllocGlobal>(rt: &R, call: &str, text: &str) -> io::Result<bool> {
-    let alloc = rt.alloc();
+pub fn make_call<R: Print + AllocGlobal>(line: &mut Line<'_, R>, call: &str, text: &str) -> bool {
     match call {
         "TranslationUnit::clone" => {
-            if let Some(unit) = tree(alloc, text)? {
-                nodes::copy_unit(rt, &unit)?;
+            if let Some(unit) = line.tree(text) {
+                nodes::copy_unit(line, &unit);
             }
         }
         "GlobalDirective::clone" => {
-            if let Some(directive) = tree(alloc, text)? {
-                nodes::copy_directive(rt, &directive)?;
+            if let Some(directive) = line.tree(text) {
+                nodes::copy_directive(line, &directive);
             }
         }
         "GlobalDeclaration::clone" => {
-            if let Some(declaration) = tree(alloc, text)? {
-                nodes::copy_declaration(rt, &declaration)?;
+            if let Some(declaration) = line.tree(text) {
+                nodes::copy_declaration(line, &declaration);
             }
         }
         "Statement::clone" => {
-            if let Some(statement) = tree(alloc, text)? {
-                statements::copy_statement(rt, &statement)?;
+            if let Some(statement) = line.tree(text) {
+                statements::copy_statement(line, &statement);
             }
         }
         "Expression::clone" => {
-            if let Some(expression) = tree(alloc, text)? {
-                nodes::copy_expression(rt, &expression)?;
+            if let Some(expression) = line.tree(text) {
+                nodes::copy_expression(line, &expression);
             }
         }
-        "Error::clone" => copy_error(rt, text)?,
-        _ => return Ok(false),
+        "Error::clone" => copy_error(line, text),
+        _ => return false,
     }
-    Ok(true)
+    true
 }
 
 /// Prints copies of what is wrong with a module.
-fn copy_error<R: Print + AllocGlobal>(rt: &R, text: &str) -> io::Result<()> {
-    let alloc = rt.alloc();
+fn copy_error<R: Print + AllocGlobal>(line: &mut Line<'_, R>, text: &str) {
+    let alloc = line.alloc();
     let Err(error) = parse_str(alloc, text) else {
-        return Ok(());
+        return;
     };
     if error.is_want_of_memory() {
-        return Err(io::Error::from(AllocError));
+        line.refuse();
     }
-    tell(rt, || error.clone(alloc))?;
-    tell(rt, || error.error.clone(alloc))?;
-    let source = CowStr::Owned(String::from_str(alloc, text)?);
-    let error = error.with_source(source);
-    tell(rt, || error.clone(alloc))
+    line.call(|| error.clone(alloc));
+    line.call(|| error.error.clone(alloc));
+    if let Some(source) = line.given(String::from_str(alloc, text)) {
+        let error = error.with_source(CowStr::Owned(source));
+        line.call(|| error.clone(alloc));
+    }
 }

@@ -3,14 +3,16 @@
 //! behind that line. No memory is taken but what the call takes and what it is given.
 #![tactic(auto)]
 
-mod answer;
 mod copies;
+mod line;
 mod nodes;
+mod parsers;
+mod refusal;
 mod statements;
-mod texts;
 mod tokens;
 mod values;
 
+use line::Line;
 use std::io;
 use std::io::{ErrorKind, Read};
 use std::process::ExitCode;
@@ -46,14 +48,15 @@ fn read_all<I: Read>(input: &mut I, buffer: &mut [u8]) -> io::Result<usize> {
 fn make_call<R: Print + AllocGlobal>(rt: &R, input: &[u8]) -> io::Result<()> {
     let input = std::str::from_utf8(input).map_err(|_| invalid())?;
     let (call, text) = input.split_once('\n').ok_or(invalid())?;
-    let is_known = texts::make_call(rt, call, text)?
-        || tokens::make_call(rt, call, text)?
-        || values::make_call(rt, call, text)?
-        || copies::make_call(rt, call, text)?;
+    let mut line = Line::new(rt);
+    let is_known = parsers::make_call(&mut line, call, text)
+        || tokens::make_call(&mut line, call, text)
+        || values::make_call(&mut line, call, text)
+        || copies::make_call(&mut line, call, text);
     if !is_known {
         return Err(invalid());
     }
-    println!(rt)
+    line.end()
 }
 
 fn status_of(answer: io::Result<()>) -> ExitCode {

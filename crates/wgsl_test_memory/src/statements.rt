@@ -1,99 +1,93 @@
 //! Copies of statements and of their parts.
 
-use crate::answer::tell_copy;
+use crate::line::Line;
 use crate::nodes::{copy_attributes, copy_expression, copy_type};
-use std::io;
 use wgsl_parse::syntax::{
     CompoundStatement, Declaration, IfStatement, LoopStatement, Statement, SwitchStatement,
 };
 
 /// A block and its statements.
-pub fn copy_block<R: Print + AllocGlobal>(rt: &R, node: &CompoundStatement) -> io::Result<()> {
-    tell_copy(rt, node)?;
+pub fn copy_block<R: Print + AllocGlobal>(line: &mut Line<'_, R>, node: &CompoundStatement) {
+    line.copy(node);
     for statement in &node.statements {
-        copy_statement(rt, statement.node())?;
+        copy_statement(line, statement.node());
     }
-    Ok(())
 }
 
 /// The declaration of a value.
 pub fn copy_declaration_of_value<R: Print + AllocGlobal>(
-    rt: &R,
+    line: &mut Line<'_, R>,
     node: &Declaration,
-) -> io::Result<()> {
-    tell_copy(rt, node)?;
-    copy_attributes(rt, &node.attributes)?;
+) {
+    line.copy(node);
+    copy_attributes(line, &node.attributes);
     if let Some(ty) = &node.ty {
-        copy_type(rt, ty)?;
+        copy_type(line, ty);
     }
-    match &node.initializer {
-        Some(initializer) => copy_expression(rt, initializer.node()),
-        None => Ok(()),
+    if let Some(initializer) = &node.initializer {
+        copy_expression(line, initializer.node());
     }
 }
 
 /// A statement.
-pub fn copy_statement<R: Print + AllocGlobal>(rt: &R, node: &Statement) -> io::Result<()> {
-    tell_copy(rt, node)?;
+pub fn copy_statement<R: Print + AllocGlobal>(line: &mut Line<'_, R>, node: &Statement) {
+    line.copy(node);
     match node {
-        Statement::Compound(inner) => tell_copy(rt, inner),
-        Statement::If(inner) => copy_if(rt, inner),
-        Statement::Switch(inner) => copy_switch(rt, inner),
-        Statement::Loop(inner) => copy_loop(rt, inner),
-        Statement::For(inner) => tell_copy(rt, inner),
-        Statement::While(inner) => tell_copy(rt, inner),
-        Statement::Declaration(inner) => copy_declaration_of_value(rt, inner),
-        _ => copy_simple_statement(rt, node),
+        Statement::Compound(inner) => line.copy(inner),
+        Statement::If(inner) => copy_if(line, inner),
+        Statement::Switch(inner) => copy_switch(line, inner),
+        Statement::Loop(inner) => copy_loop(line, inner),
+        Statement::For(inner) => line.copy(inner),
+        Statement::While(inner) => line.copy(inner),
+        Statement::Declaration(inner) => copy_declaration_of_value(line, inner),
+        _ => copy_simple_statement(line, node),
     }
 }
 
 /// A statement that holds no other.
-fn copy_simple_statement<R: Print + AllocGlobal>(rt: &R, node: &Statement) -> io::Result<()> {
+fn copy_simple_statement<R: Print + AllocGlobal>(line: &mut Line<'_, R>, node: &Statement) {
     match node {
-        Statement::Assignment(inner) => tell_copy(rt, inner),
-        Statement::Increment(inner) => tell_copy(rt, inner),
-        Statement::Decrement(inner) => tell_copy(rt, inner),
-        Statement::Break(inner) => tell_copy(rt, inner),
-        Statement::Continue(inner) => tell_copy(rt, inner),
-        Statement::Return(inner) => tell_copy(rt, inner),
-        Statement::Discard(inner) => tell_copy(rt, inner),
-        Statement::FunctionCall(inner) => tell_copy(rt, inner),
-        Statement::ConstAssert(inner) => tell_copy(rt, inner),
-        _ => Ok(()),
+        Statement::Assignment(inner) => line.copy(inner),
+        Statement::Increment(inner) => line.copy(inner),
+        Statement::Decrement(inner) => line.copy(inner),
+        Statement::Break(inner) => line.copy(inner),
+        Statement::Continue(inner) => line.copy(inner),
+        Statement::Return(inner) => line.copy(inner),
+        Statement::Discard(inner) => line.copy(inner),
+        Statement::FunctionCall(inner) => line.copy(inner),
+        Statement::ConstAssert(inner) => line.copy(inner),
+        _ => {}
     }
 }
 
-fn copy_if<R: Print + AllocGlobal>(rt: &R, node: &IfStatement) -> io::Result<()> {
-    tell_copy(rt, node)?;
-    tell_copy(rt, &node.if_clause)?;
+fn copy_if<R: Print + AllocGlobal>(line: &mut Line<'_, R>, node: &IfStatement) {
+    line.copy(node);
+    line.copy(&node.if_clause);
     for clause in &node.else_if_clauses {
-        tell_copy(rt, clause)?;
+        line.copy(clause);
     }
-    match &node.else_clause {
-        Some(clause) => tell_copy(rt, clause),
-        None => Ok(()),
+    if let Some(clause) = &node.else_clause {
+        line.copy(clause);
     }
 }
 
-fn copy_switch<R: Print + AllocGlobal>(rt: &R, node: &SwitchStatement) -> io::Result<()> {
-    tell_copy(rt, node)?;
+fn copy_switch<R: Print + AllocGlobal>(line: &mut Line<'_, R>, node: &SwitchStatement) {
+    line.copy(node);
     for clause in &node.clauses {
-        tell_copy(rt, clause)?;
+        line.copy(clause);
         for selector in &clause.case_selectors {
-            tell_copy(rt, selector)?;
+            line.copy(selector);
         }
     }
-    Ok(())
 }
 
-fn copy_loop<R: Print + AllocGlobal>(rt: &R, node: &LoopStatement) -> io::Result<()> {
-    tell_copy(rt, node)?;
+fn copy_loop<R: Print + AllocGlobal>(line: &mut Line<'_, R>, node: &LoopStatement) {
+    line.copy(node);
     let Some(continuing) = &node.continuing else {
-        return Ok(());
+        return;
     };
-    tell_copy(rt, continuing)?;
-    match &continuing.break_if {
-        Some(break_if) => tell_copy(rt, break_if),
-        None => Ok(()),
+    line.copy(continuing);
+    if let Some(break_if) = &continuing.break_if {
+        line.copy(break_if);
     }
 }

@@ -1,26 +1,22 @@
 //! Calls on the tokens and the template lists of a text.
 
-use crate::answer::{Refusal, tell, tell_field};
+use crate::line::Line;
+use crate::refusal::Refusal;
 use std::alloc::{AllocError, Global};
-use std::{fmt, io};
+use std::fmt;
 use wgsl_parse::error::ParseError;
 use wgsl_parse::lexer::{Lexer, Templates, Token, TokenItem, discover};
 
 /// Makes a call on tokens, and tells whether there is one with this name.
-pub fn make_call<R: Print + AllocGlobal>(rt: &R, call: &str, text: &str) -> io::Result<bool> {
-    let alloc = rt.alloc();
+pub fn make_call<R: Print + AllocGlobal>(line: &mut Line<'_, R>, call: &str, text: &str) -> bool {
     match call {
-        "discover" => tell(rt, || lists_of(alloc, text))?,
-        "Templates::clone" => {
-            let lists = lists_of(alloc, text)?;
-            tell(rt, || lists.copy(alloc))?
-        }
-        "Lexer" => tell_items(rt, text)?,
-        "Lexer::clone" => tell_copies(rt, text)?,
-        "Token::clone" => tell_copied_tokens(rt, text)?,
-        _ => return Ok(false),
+        "Templates::clone" => copy_lists(line, text),
+        "Lexer" => tell_items(line, text),
+        "Lexer::clone" => copy_lexers(line, text),
+        "Token::clone" => copy_tokens(line, text),
+        _ => return false,
     }
-    Ok(true)
+    true
 }
 
 /// The template lists of a text of this length.
@@ -59,6 +55,14 @@ impl fmt::Debug for Lists {
     }
 }
 
+/// Prints a copy of the template lists of a text.
+fn copy_lists<R: Print + AllocGlobal>(line: &mut Line<'_, R>, text: &str) {
+    let alloc = line.alloc();
+    if let Some(lists) = line.given(lists_of(alloc, text)) {
+        line.call(|| lists.copy(alloc));
+    }
+}
+
 /// Whether an item is a want of memory.
 fn is_refusal(item: &Option<TokenItem>) -> bool {
     matches!(item, Some(Err((_, error, _))) if error.is_want_of_memory())
@@ -66,23 +70,24 @@ fn is_refusal(item: &Option<TokenItem>) -> bool {
 
 /// Prints what a lexer gives, and the `None` behind it; and what it gives behind a want of memory,
 /// unless that is nothing.
-fn tell_items<R: Print + AllocGlobal>(rt: &R, text: &str) -> io::Result<()> {
-    let mut lexer = Lexer::new(rt.alloc(), text)?;
+fn tell_items<R: Print + AllocGlobal>(line: &mut Line<'_, R>, text: &str) {
+    let Some(mut lexer) = line.given(Lexer::new(line.alloc(), text)) else {
+        return;
+    };
     for _ in 0..=text.len() {
         let item = lexer.next();
         if is_refusal(&item) {
             let behind = lexer.next();
             if behind.is_some() {
-                tell_field(rt, &behind)?;
+                line.tell(&behind);
             }
-            return Err(io::Error::from(AllocError));
+            return line.refuse();
         }
-        tell_field(rt, &item)?;
+        line.tell(&item);
         if item.is_none() {
             break;
         }
     }
-    Ok(())
 }
 
 /// What a copy of a lexer gives next.
@@ -97,33 +102,34 @@ fn next_of_copy(
 }
 
 /// Prints what a copy of a lexer gives next, before each item that the lexer itself gives.
-fn tell_copies<R: Print + AllocGlobal>(rt: &R, text: &str) -> io::Result<()> {
-    let alloc = rt.alloc();
-    let mut lexer = Lexer::new(alloc, text)?;
+fn copy_lexers<R: Print + AllocGlobal>(line: &mut Line<'_, R>, text: &str) {
+    let alloc = line.alloc();
+    let Some(mut lexer) = line.given(Lexer::new(alloc, text)) else {
+        return;
+    };
     for _ in 0..=text.len() {
-        tell(rt, || next_of_copy(&lexer, alloc))?;
+        line.call(|| next_of_copy(&lexer, alloc));
         let item = lexer.next();
         if is_refusal(&item) {
-            return Err(io::Error::from(AllocError));
+            return line.refuse();
         }
         if item.is_none() {
             break;
         }
     }
-    Ok(())
 }
 
 /// Prints a copy of each token, and of the fault that ends them.
-fn tell_copied_tokens<R: Print + AllocGlobal>(rt: &R, text: &str) -> io::Result<()> {
-    let alloc = rt.alloc();
-    for item in Lexer::new(alloc, text)? {
+fn copy_tokens<R: Print + AllocGlobal>(line: &mut Line<'_, R>, text: &str) {
+    let alloc = line.alloc();
+    let Some(lexer) = line.given(Lexer::new(alloc, text)) else {
+        return;
+    };
+    for item in lexer {
         match item {
-            Ok((_, token, _)) => tell(rt, || token.clone(alloc))?,
-            Err((_, error, _)) if error.is_want_of_memory() => {
-                return Err(io::Error::from(AllocError));
-            }
-            Err((_, error, _)) => tell(rt, || error.clone(alloc))?,
+            Ok((_, token, _)) => line.call(|| token.clone(alloc)),
+            Err((_, error, _)) if error.is_want_of_memory() => line.refuse(),
+            Err((_, error, _)) => line.call(|| error.clone(alloc)),
         }
     }
-    Ok(())
 }

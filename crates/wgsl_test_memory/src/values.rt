@@ -1,8 +1,7 @@
 //! Calls on paths, and calls that make a node of its parts.
 
-use crate::answer::{is_refused, tell, tell_field, tree};
+use crate::line::Line;
 use std::alloc::{AllocError, Global};
-use std::io;
 use wgsl_parse::SyntaxNode;
 use wgsl_parse::syntax::{
     ConstAssert, Expression, Ident, ModulePath, ModulePathParseError, ReturnStatement, Span,
@@ -10,21 +9,21 @@ use wgsl_parse::syntax::{
 };
 
 /// Makes a call on values, and tells whether there is one with this name.
-pub fn make_call<R: Print + AllocGlobal>(rt: &R, call: &str, text: &str) -> io::Result<bool> {
-    let alloc = rt.alloc();
+pub fn make_call<R: Print + AllocGlobal>(line: &mut Line<'_, R>, call: &str, text: &str) -> bool {
+    let alloc = line.alloc();
     match call {
-        "ModulePath::push" => tell_pushed(rt, text)?,
-        "ModulePath::join" => tell(rt, || joined(alloc, text))?,
-        "ModulePath::join_path" => tell_joined(rt, text)?,
-        "ModulePath::clone" => tell_copied(rt, text)?,
-        "SyntaxNode::ident" => tell_idents(rt, text)?,
-        "ReturnStatement::from_expression" => tell(rt, || returned(alloc, text))?,
-        "ConstAssert::new" => tell(rt, || asserted(alloc, text))?,
-        "Spanned::new" => tell(rt, || spanned(alloc, text))?,
-        "Spanned::with_default_span" => tell(rt, || unplaced(alloc, text))?,
-        _ => return Ok(false),
+        "ModulePath::push" => push(line, text),
+        "ModulePath::join" => line.call(|| joined(alloc, text)),
+        "ModulePath::join_path" => join_paths(line, text),
+        "ModulePath::clone" => copy_path(line, text),
+        "SyntaxNode::ident" => tell_names(line, text),
+        "ReturnStatement::from_expression" => line.call(|| returned(alloc, text)),
+        "ConstAssert::new" => line.call(|| asserted(alloc, text)),
+        "Spanned::new" => line.call(|| spanned(alloc, text)),
+        "Spanned::with_default_span" => line.call(|| unplaced(alloc, text)),
+        _ => return false,
     }
-    Ok(true)
+    true
 }
 
 /// The text as a name.
@@ -53,28 +52,25 @@ fn unplaced(alloc: Global, text: &str) -> Result<Spanned<Ident>, AllocError> {
 }
 
 /// The path of the text, if it has one.
-fn path_of(alloc: Global, text: &str) -> io::Result<Option<ModulePath>> {
-    match ModulePath::from_str(alloc, text) {
-        Ok(path) => Ok(Some(path)),
-        Err(ModulePathParseError::OutOfMemory) => Err(io::Error::from(AllocError)),
-        Err(_) => Ok(None),
-    }
+fn path_of<R: Print + AllocGlobal>(line: &mut Line<'_, R>, text: &str) -> Option<ModulePath> {
+    let path = ModulePath::from_str(line.alloc(), text);
+    line.given(path)
 }
 
 /// Prints what `push` answers, and the path behind it. A path that a refused call changed is
 /// printed too.
-fn tell_pushed<R: Print + AllocGlobal>(rt: &R, text: &str) -> io::Result<()> {
-    let alloc = rt.alloc();
-    let (Some(mut path), Some(before)) = (path_of(alloc, text)?, path_of(alloc, text)?) else {
-        return Ok(());
+fn push<R: Print + AllocGlobal>(line: &mut Line<'_, R>, text: &str) {
+    let alloc = line.alloc();
+    let (Some(mut path), Some(before)) = (path_of(line, text), path_of(line, text)) else {
+        return;
     };
-    if is_refused(rt, path.push(alloc, text))? {
+    if line.is_refused(path.push(alloc, text)) {
         if path != before {
-            tell_field(rt, &path)?;
+            line.tell(&path);
         }
-        is_refused(rt, path.push(alloc, text))?;
+        line.is_refused(path.push(alloc, text));
     }
-    tell_field(rt, &path)
+    line.tell(&path);
 }
 
 /// The path of the text with the text as two components behind it.
@@ -99,34 +95,33 @@ fn join_path(
 }
 
 /// Prints the path of the text joined with itself, and with one a level up.
-fn tell_joined<R: Print + AllocGlobal>(rt: &R, text: &str) -> io::Result<()> {
-    let alloc = rt.alloc();
-    let (Some(path), Some(above)) = (path_of(alloc, text)?, path_of(alloc, "super::a")?) else {
-        return Ok(());
+fn join_paths<R: Print + AllocGlobal>(line: &mut Line<'_, R>, text: &str) {
+    let alloc = line.alloc();
+    let (Some(path), Some(above)) = (path_of(line, text), path_of(line, "super::a")) else {
+        return;
     };
-    tell(rt, || join_path(alloc, &path, &path))?;
-    tell(rt, || join_path(alloc, &path, &above))?;
-    tell(rt, || join_path(alloc, &above, &path))
+    line.call(|| join_path(alloc, &path, &path));
+    line.call(|| join_path(alloc, &path, &above));
+    line.call(|| join_path(alloc, &above, &path));
 }
 
 /// Prints a copy of the path of the text, and of its origin.
-fn tell_copied<R: Print + AllocGlobal>(rt: &R, text: &str) -> io::Result<()> {
-    let alloc = rt.alloc();
-    let Some(path) = path_of(alloc, text)? else {
-        return Ok(());
+fn copy_path<R: Print + AllocGlobal>(line: &mut Line<'_, R>, text: &str) {
+    let alloc = line.alloc();
+    let Some(path) = path_of(line, text) else {
+        return;
     };
-    tell(rt, || path.clone(alloc))?;
-    tell(rt, || path.origin.clone(alloc))
+    line.call(|| path.clone(alloc));
+    line.call(|| path.origin.clone(alloc));
 }
 
 /// Prints the name of each declaration of a module.
-fn tell_idents<R: Print + AllocGlobal>(rt: &R, text: &str) -> io::Result<()> {
-    let alloc = rt.alloc();
-    let Some(unit) = tree::<TranslationUnit>(alloc, text)? else {
-        return Ok(());
+fn tell_names<R: Print + AllocGlobal>(line: &mut Line<'_, R>, text: &str) {
+    let alloc = line.alloc();
+    let Some(unit) = line.tree::<TranslationUnit>(text) else {
+        return;
     };
     for node in &unit.global_declarations {
-        tell(rt, || node.ident(alloc))?;
+        line.call(|| node.ident(alloc));
     }
-    Ok(())
 }

@@ -1,5 +1,5 @@
-//! Tests of values made by hand: spans, words, tokens, faults, paths, trees, lists and iterators of
-//! tokens, readers and writers that fail.
+//! Tests of values: spans, words, tokens, faults, paths, trees, names of nodes, lists and iterators
+//! of tokens, readers and writers that fail.
 #![tactic(auto)]
 
 #[cfg(test)]
@@ -13,6 +13,8 @@ mod making;
 #[cfg(test)]
 mod named_values;
 #[cfg(test)]
+mod names;
+#[cfg(test)]
 mod nodes;
 #[cfg(test)]
 mod own_node;
@@ -21,6 +23,8 @@ mod parsers;
 #[cfg(test)]
 mod paths;
 #[cfg(test)]
+mod readings;
+#[cfg(test)]
 mod spans;
 #[cfg(test)]
 mod streams;
@@ -28,3 +32,5 @@ mod streams;
 mod tokens;
 #[cfg(test)]
 mod trees;
+#[cfg(test)]
+mod watched;

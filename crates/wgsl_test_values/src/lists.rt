@@ -5,7 +5,7 @@ use wgsl_error::ParseError;
 use wgsl_lex_templates::is_expression_list;
 use wgsl_lex_token::kind::TokenKind;
 use wgsl_lex_token::token::Token;
-use wgsl_lexer::{TokenItem, collect_tokens, lex};
+use wgsl_lexer::{Lexer, TokenItem, collect_tokens, lex};
 use wgsl_span::Span;
 
 #[test]
@@ -28,6 +28,22 @@ fn reads_a_text_to_its_end(rt: HostRuntime) -> Result<(), Fail> {
     assert_eq!(rt; found.tokens.len(), 3);
     assert!(rt; found.tokens[1].token == Token::SymLessThan);
     assert!(rt; found.error.is_none());
+    Ok(())
+}
+
+/// Behind the fault that ends the tokens, a lexer and its copy give nothing.
+#[test]
+fn a_copy_of_a_lexer_gives_what_is_left(rt: HostRuntime) -> Result<(), Fail> {
+    let alloc = rt.alloc();
+    let mut lexer = Lexer::new(alloc, "a<b>#")?;
+    for left in [4, 3, 2, 1, 0] {
+        let rest = collect_tokens(alloc, lexer.clone(alloc)?)?;
+        assert_eq!(rt; rest.tokens.len(), left);
+        assert!(rt; rest.error == Some((4, ParseError::LexerError, 5)));
+        lexer.next();
+    }
+    let mut copy = lexer.clone(alloc)?;
+    assert!(rt; lexer.next().is_none() && copy.next().is_none());
     Ok(())
 }
 

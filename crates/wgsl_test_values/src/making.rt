@@ -48,7 +48,7 @@ pub(crate) fn size_and_align(alloc: Global) -> Result<Vec<AttributeNode>, AllocE
     Ok(attributes)
 }
 
-/// The text is printed of the value, and its copy is equal to it.
+/// The text is printed of the value and of its copy, which is equal to it.
 pub(crate) fn assert_text<
     T: fmt::Display + PartialEq + Drop,
     F: FnOnce(&T, Global) -> Result<T, AllocError>,
@@ -56,6 +56,8 @@ pub(crate) fn assert_text<
     requires { F.IsAlwaysCallable clone }
 {
     assert_eq!(rt; format!(in alloc; "{value}")?.as_str(), wanted);
-    assert!(rt; clone(&value, alloc)? == value, "the copy of {wanted}");
+    let copy = clone(&value, alloc)?;
+    assert!(rt; copy == value, "the copy of {wanted}");
+    assert_eq!(rt; format!(in alloc; "{copy}")?.as_str(), wanted);
     Ok(())
 }

@@ -11,8 +11,8 @@ use wgsl_lex_token::kind::TokenKind;
 use wgsl_parse::error::{Error, ErrorKind, ParseError};
 use wgsl_parse::lexer::{Token, TokenItem, TokenIterator};
 use wgsl_parse::parser::{
-    ExpressionParser, LiteralParser, StatementParser, TryTemplateListParser,
-    recognize_template_list,
+    ExpressionParser, GlobalDeclParser, GlobalDirectiveParser, LiteralParser, StatementParser,
+    TranslationUnitParser, TryTemplateListParser, recognize_template_list,
 };
 use wgsl_parse::syntax::{Expression, Span};
 
@@ -221,6 +221,24 @@ fn parsers_of_parts_stop_at_a_want_of_memory(rt: HostRuntime) {
     assert_eq!(rt; asked.get(), 3);
 }
 
+#[test]
+fn parsers_of_trees_stop_at_a_want_of_memory(rt: HostRuntime) {
+    let alloc = rt.alloc();
+    let asked = Cell::new(0u32);
+    let items = refused();
+    let unit = TranslationUnitParser::new().parse(alloc, Listed::new(alloc, &asked, &items));
+    assert!(rt; wants_memory(unit));
+    let directive = GlobalDirectiveParser::new().parse(alloc, Listed::new(alloc, &asked, &items));
+    assert!(rt; wants_memory(directive));
+    let declaration = GlobalDeclParser::new().parse(alloc, Listed::new(alloc, &asked, &items));
+    assert!(rt; wants_memory(declaration));
+    let statement = StatementParser::new().parse(alloc, Listed::new(alloc, &asked, &items));
+    assert!(rt; wants_memory(statement));
+    let expression = ExpressionParser::new().parse(alloc, Listed::new(alloc, &asked, &items));
+    assert!(rt; wants_memory(expression));
+    assert_eq!(rt; asked.get(), 5);
+}
+
 /// The tokens of a template list of one name.
 fn template_list() -> [(usize, Given, usize); 3] {
     [
@@ -238,6 +256,22 @@ fn a_template_list_is_read(rt: HostRuntime) -> Result<(), Fail> {
     let span = TryTemplateListParser::new().parse(alloc, Listed::new(alloc, &asked, &items))?;
     assert_eq!(rt; span, Span::new(0..3));
     recognize_template_list(alloc, Listed::new(alloc, &asked, &items))?;
+    Ok(())
+}
+
+/// In a text, no template list has a reserved word in it.
+#[test]
+fn a_reserved_word_in_a_template_list(rt: HostRuntime) -> Result<(), Fail> {
+    let asked = Cell::new(0u32);
+    let items = [
+        (0, Given::Kind(TokenKind::TemplateArgsStart), 1),
+        (1, Given::Kind(TokenKind::ReservedWord), 2),
+        (2, Given::Kind(TokenKind::TemplateArgsEnd), 3),
+    ];
+    let tokens = Listed::new(rt.alloc(), &asked, &items);
+    let span = TryTemplateListParser::new().parse(rt.alloc(), tokens);
+    let fault = told(rt.alloc(), span)?;
+    assert_eq!(rt; fault.as_str(), "chars 1..2: use of a reserved word ``");
     Ok(())
 }
 

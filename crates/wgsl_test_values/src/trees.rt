@@ -3,6 +3,7 @@
 use crate::making::{assert_text, ident, name, text, ty};
 use std::alloc::{AllocError, Global};
 use std::test::Fail;
+use wgsl_parse::FromSource;
 use wgsl_span::Spanned;
 use wgsl_tree_attribute::Attribute;
 use wgsl_tree_expression::{Expression, FunctionCall, Ident, LiteralExpression};
@@ -10,7 +11,7 @@ use wgsl_tree_statement::{
     CompoundStatement, ConstAssert, Declaration, DeclarationKind, ForStatement,
     FunctionCallStatement, ReturnStatement, Statement, StatementNode, WhileStatement,
 };
-use wgsl_tree_unit::{Struct, StructMember, TypeAlias};
+use wgsl_tree_unit::{GlobalDeclaration, Struct, StructMember, TypeAlias};
 
 fn call(alloc: Global, text: &str) -> Result<Statement, AllocError> {
     let call = FunctionCall {
@@ -120,6 +121,17 @@ fn empty_items_leave_the_blocks_of_a_header(rt: HostRuntime) -> Result<(), Fail>
     repeat.remove_voids();
     assert!(rt; repeat == wanted);
     Ok(())
+}
+
+#[test]
+fn empty_items_by_themselves_are_printed(rt: HostRuntime) -> Result<(), Fail> {
+    let alloc = rt.alloc();
+    let statement = Statement::from_str(alloc, ";")?;
+    assert!(rt; statement.is_void());
+    assert_text(&rt, alloc, statement, Statement::clone, ";")?;
+    let declaration = GlobalDeclaration::from_str(alloc, ";")?;
+    assert!(rt; declaration.is_void());
+    assert_text(&rt, alloc, declaration, GlobalDeclaration::clone, ";")
 }
 
 #[test]

@@ -1,0 +1,116 @@
+//! The line that is printed: a field for each answer, up to the first failure.
+
+use crate::refusal::Refusal;
+use std::alloc::{AllocError, Global};
+use std::io::ErrorKind;
+use std::{fmt, io};
+use wgsl_parse::FromSource;
+use wgsl_parse::span::CloneWith;
+
+/// Prints what calls answer, each answer with a tab behind it. Once a print fails, or memory is
+/// refused to what a call is given, no more calls are made and nothing more is printed.
+#[derive(Drop)]
+pub struct Line<'r, R> {
+    rt: &'r R,
+    failure: Option<ErrorKind>,
+}
+
+impl<'r, R: Print + AllocGlobal> Line<'r, R> {
+    pub fn new(rt: &'r R) -> Line<'r, R> {
+        Line { rt, failure: None }
+    }
+
+    pub fn alloc(&self) -> Global {
+        self.rt.alloc()
+    }
+
+    /// Ends the line, or tells what failed.
+    pub fn end(self) -> io::Result<()> {
+        match self.failure {
+            Some(kind) => Err(io::Error::from(kind)),
+            None => println!(self.rt),
+        }
+    }
+
+    /// Keeps the failure of a print.
+    fn keep(&mut self, printed: io::Result<()>) {
+        if let Err(error) = printed {
+            self.failure = Some(error.kind());
+        }
+    }
+
+    /// Keeps that memory was refused to what a call is given.
+    pub fn refuse(&mut self) {
+        if self.failure.is_none() {
+            self.failure = Some(ErrorKind::OutOfMemory);
+        }
+    }
+
+    /// What a call is given, unless memory is refused to it or the text has none.
+    pub fn given<T: Drop, E: Refusal>(&mut self, given: Result<T, E>) -> Option<T> {
+        match given {
+            Ok(value) => Some(value),
+            Err(refusal) => {
+                if refusal.is_want_of_memory() {
+                    self.refuse();
+                }
+                None
+            }
+        }
+    }
+
+    /// The tree of a text, if it has one.
+    pub fn tree<T: FromSource + Drop>(&mut self, text: &str) -> Option<T> {
+        let tree = T::from_str(self.alloc(), text);
+        self.given(tree)
+    }
+
+    /// Prints a field.
+    pub fn tell<T: fmt::Debug>(&mut self, field: &T) {
+        if self.failure.is_none() {
+            let printed = print!(self.rt; "{field:?}\t");
+            self.keep(printed);
+        }
+    }
+
+    /// Prints that memory was refused to a call.
+    fn tell_refusal(&mut self) {
+        if self.failure.is_none() {
+            let printed = print!(self.rt; "out of memory\t");
+            self.keep(printed);
+        }
+    }
+
+    /// Prints an answer, and tells whether it is a want of memory.
+    pub fn is_refused<T: fmt::Debug + Drop, E: Refusal>(&mut self, answer: Result<T, E>) -> bool {
+        let is_refused = answer
+            .as_ref()
+            .is_err_and(|refusal| refusal.is_want_of_memory());
+        if is_refused {
+            self.tell_refusal();
+        } else {
+            self.tell(&answer);
+        }
+        is_refused
+    }
+
+    /// Prints what a call answers; behind a want of memory it is made again, of the same values.
+    pub fn call<T: fmt::Debug + Drop, E: Refusal, F: Fn() -> Result<T, E> + Drop>(
+        &mut self,
+        call: F,
+    )
+        requires { F.IsAlwaysCallable call }
+    {
+        if self.failure.is_none() && self.is_refused(call()) {
+            self.is_refused(call());
+        }
+    }
+
+    /// The same of the copy of a node. The `clone` of a node calls nothing but its `clone_with`.
+    pub fn copy<T: CloneWith + fmt::Debug>(&mut self, node: &T) {
+        let alloc = self.alloc();
+        if self.failure.is_none() && self.is_refused(node.clone_with(alloc)) {
+            self.is_refused(node.clone_with(alloc));
+        }
+    }
+}
