@@ -11,7 +11,7 @@ use crate::snippets::see_snippet;
 use crate::streams::see_call;
 use crate::tokens::{see_list, see_tokens};
 use std::alloc::{AllocError, Global};
-use wgsl_parse::parser::recognize_str;
+use wgsl_read_dialect::recognize_str;
 
 /// What is seen of the text of a row.
 pub fn facts_of(alloc: Global, row: &Row<'_>) -> Result<Facts, AllocError> {

@@ -2,7 +2,7 @@
 
 use crate::facts::Facts;
 use std::alloc::{AllocError, Global};
-use wgsl_parse::lexer::{Templates, discover};
+use wgsl_lexer::{Templates, discover};
 
 /// Where the lists of a text stand, from the first to the last, and what it took to find them.
 pub fn see_lists(text: &str, facts: &mut Facts) -> Result<(), AllocError> {

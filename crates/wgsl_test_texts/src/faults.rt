@@ -3,8 +3,8 @@
 use crate::facts::Facts;
 use crate::snippets::snippet_of;
 use std::alloc::{AllocError, Global};
-use wgsl_parse::error::{Error, ErrorKind};
-use wgsl_parse::syntax::Span;
+use wgsl_error::{Error, ErrorKind};
+use wgsl_span::Span;
 
 /// What is wrong with a text, and its snippet.
 pub fn see_fault(error: Error, text: &str, facts: &mut Facts) -> Result<(), AllocError> {

@@ -3,9 +3,9 @@
 use crate::facts::Facts;
 use crate::faults::see_fault;
 use std::alloc::AllocError;
-use wgsl_parse::lexer::Lexer;
-use wgsl_parse::parser::LiteralParser;
-use wgsl_parse::syntax::LiteralExpression;
+use wgsl_lexer::Lexer;
+use wgsl_parser::LiteralParser;
+use wgsl_tree_expression::LiteralExpression;
 
 /// The literal of a text, or what is wrong with the text.
 pub fn see_literal(text: &str, facts: &mut Facts) -> Result<(), AllocError> {

@@ -3,7 +3,7 @@
 use crate::facts::Facts;
 use crate::row::Row;
 use std::alloc::{AllocError, Global};
-use wgsl_parse::syntax::{ModulePath, PathOrigin};
+use wgsl_tree_path::{ModulePath, PathOrigin};
 
 /// The path of a text, or why the text is none.
 pub fn see_path(text: &str, row: &Row<'_>, facts: &mut Facts) -> Result<(), AllocError> {

@@ -3,8 +3,8 @@
 use crate::facts::Facts;
 use std::alloc::AllocError;
 use std::borrow::CowStr;
-use wgsl_parse::error::{Error, ErrorKind};
-use wgsl_parse::syntax::Span;
+use wgsl_error::{Error, ErrorKind};
+use wgsl_span::Span;
 
 /// The snippet of an error in its source, which is that of its copy too.
 pub fn snippet_of(error: Error, source: &str, facts: &mut Facts) -> Result<String, AllocError> {

@@ -3,9 +3,9 @@
 
 use crate::facts::Facts;
 use std::alloc::{AllocError, Global};
+use wgsl_error::ErrorKind;
 use wgsl_lex_templates::is_expression_list;
-use wgsl_parse::error::ErrorKind;
-use wgsl_parse::lexer::{Lexer, TokenItem};
+use wgsl_lexer::{Lexer, TokenItem};
 
 /// A token with its place, or the fault that ends the tokens, on a line.
 fn line_of(alloc: Global, item: TokenItem) -> Result<String, AllocError> {
