@@ -1,17 +1,23 @@
 //! Reads WGSL on the standard input, and prints it anew on the standard output.
 #![tactic(auto)]
 
+use std::io::ErrorKind;
 use std::mem::forget;
 use std::process::ExitCode;
 use wgsl_format_print::{refuse_memory, start_keeping};
 
 fn main(rt: HostRuntime) -> ExitCode {
-    let Ok(arguments) = std::env::args(&rt) else {
-        return ExitCode::from(refuse_memory(&mut rt.stderr()));
+    let arguments = match std::env::args(&rt) {
+        Ok(arguments) => arguments.skip(1).count(),
+        Err(error) if error.kind() == ErrorKind::OutOfMemory => {
+            return ExitCode::from(refuse_memory(&mut rt.stderr()));
+        }
+        // One that is not UTF-8 is an argument all the same.
+        Err(_) => 1,
     };
     let (status, report) = start_keeping(
         rt.alloc(),
-        arguments.skip(1).count(),
+        arguments,
         &mut rt.stdin(),
         &mut rt.stdout(),
         &mut rt.stderr(),
