@@ -26,7 +26,7 @@ pub fn one_tree()
 {}
 
 /// A sentence without a checked fault derives a tree with all checks, however its tokens ended.
-pub fn checked_is_whole()
+pub fn checked_is_full()
     ensures { (n : Symbol) → is_read_alone n ≡ true → (ts : List Token) (ending : Ending) →
         IsSentence written n ts → ((x : Fault) (ys : List Token) →
         IsCheckedFault ts ending x ys → ⊥) → (v : Value n) × Derives checking written n v ts }
