@@ -47,6 +47,7 @@ pub use Rattle.wgsl_model.specs.Trees.EmptyItems
 pub use Rattle.wgsl_model.specs.Trees.WithoutSpans
 pub use Rattle.wgsl_model.specs.Trees.StatementsWithoutSpans
 pub use Rattle.wgsl_model.specs.Grammar.Small
+pub use Rattle.wgsl_theory_grammar.specs.FewerAttributes
 pub use Rattle.wgsl_model.specs.Faults.Checked as CheckedFaults
 pub use Rattle.wgsl_model.specs.Faults.NamedFault
 pub use Rattle.wgsl_model.specs.Faults.Snippets
@@ -97,6 +98,7 @@ pub use Rattle.wgsl_tree_node.specs.Parts as NodeParts
 pub use Rattle.wgsl_span.specs.Keeps
 pub use Rattle.wgsl_tree_node.specs.Lending as AttributeLending
 pub use Rattle.wgsl_tree_node.specs.DeclaredNames
+pub use Rattle.wgsl_tree_node.specs.PlainAttributes
 -- equality
 pub use Rattle.wgsl_tree_equality.specs.Code as EqualityCode
 pub use Rattle.wgsl_tree_equality.specs.Expressions as ExpressionCodes
