@@ -1,12 +1,12 @@
 """The calls of build/libwgsl.a, as include/wgsl.h has them."""
 import ctypes
 import json
-import os
 import subprocess
 from dataclasses import dataclass, field
-from pathlib import Path
 
-BUILT = Path(__file__).resolve().parent.parent / "build"
+import crates
+
+BUILT = crates.TOP / "build"
 SHARED = BUILT / "libwgsl.so"
 
 DONE, REFUSED, TOO_SMALL = 0, 1, 4
@@ -46,9 +46,9 @@ class Refused(Exception):
 
 
 def link():
-    """Makes a library of the archive that a program can load."""
-    words = [os.environ.get("CC") or "cc", "-shared", "-Wl,--whole-archive"]
-    words += [BUILT / "libwgsl.a", "-Wl,--no-whole-archive", "-o", SHARED]
+    """Makes a library of the archive that a program can load, by the kit's linker."""
+    words = [crates.kit() / "toolchain/bin/ld.lld", "-shared"]
+    words += ["--whole-archive", BUILT / "libwgsl.a", "-o", SHARED]
     subprocess.run([str(word) for word in words], check=True)
 
 
