@@ -6,30 +6,33 @@ use crate::faults::see_fault;
 use crate::literals::see_literal;
 use crate::paths::see_path;
 use crate::programs::Call;
-use crate::row::Row;
+use crate::row::{Field, Row};
 use crate::snippets::see_snippet;
 use crate::streams::see_call;
 use crate::tokens::{see_list, see_tokens};
 use std::alloc::{AllocError, Global};
 use wgsl_read_dialect::recognize_str;
 
-/// What is seen of the text of a row.
-pub fn facts_of(alloc: Global, row: &Row<'_>) -> Result<Facts, AllocError> {
-    let mut facts = Facts::new(alloc);
-    let Some(read) = row.fields.first() else {
-        return Ok(facts);
-    };
+/// What is wrong with a row; nothing where it holds.
+pub fn report_of(alloc: Global, row: &Row<'_>) -> Result<String, AllocError> {
+    let mut facts = Facts::new(alloc, row);
+    if let Some(read) = row.fields.first() {
+        see_field(read, &mut facts)?;
+    }
+    facts.report()
+}
+
+/// What is seen of what the first line of a row says.
+fn see_field(read: &Field<'_>, facts: &mut Facts<'_>) -> Result<(), AllocError> {
     let (word, argument) = read.words.split_once(' ').unwrap_or((read.words, ""));
     let arguments = argument.parse::<usize>().unwrap_or(0);
-    match (
-        Call::start(word, arguments),
-        std::str::from_utf8(&read.value),
-    ) {
-        (Some(call), _) => see_call(call, &read.value, &mut facts)?,
-        (None, Ok(text)) => see_text(word, argument, text, row, &mut facts)?,
-        (None, Err(_)) => facts.refuse("the text is UTF-8")?,
+    if let Some(call) = Call::start(word, arguments) {
+        return see_call(call, &read.value, facts);
     }
-    Ok(facts)
+    match std::str::from_utf8(&read.value) {
+        Ok(text) => see_text(word, argument, text, facts),
+        Err(_) => facts.expect(false, "the text is UTF-8"),
+    }
 }
 
 /// What is seen of a text that is read as the word says.
@@ -37,8 +40,7 @@ fn see_text(
     word: &str,
     argument: &str,
     text: &str,
-    row: &Row<'_>,
-    facts: &mut Facts,
+    facts: &mut Facts<'_>,
 ) -> Result<(), AllocError> {
     match word {
         "literal" => see_literal(text, facts),
@@ -46,16 +48,16 @@ fn see_text(
         "list" => see_list(text, facts),
         "discover" => see_lists(text, facts),
         "dialect" => see_dialect(text, facts),
-        "path" => see_path(text, row, facts),
+        "path" => see_path(text, facts),
         "snippet" => see_snippet(text, argument, facts),
-        _ => facts.refuse("a row says how its text is read"),
+        _ => facts.expect(false, "a row says how its text is read"),
     }
 }
 
 /// Whether a text is a module of the dialect.
-fn see_dialect(text: &str, facts: &mut Facts) -> Result<(), AllocError> {
+fn see_dialect(text: &str, facts: &mut Facts<'_>) -> Result<(), AllocError> {
     match recognize_str(facts.alloc, text) {
-        Ok(()) => facts.answer("accepted", String::new(facts.alloc)),
+        Ok(()) => facts.answer("accepted", &""),
         Err(error) => see_fault(error, text, facts),
     }
 }

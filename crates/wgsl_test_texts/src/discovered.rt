@@ -5,14 +5,14 @@ use std::alloc::{AllocError, Global};
 use wgsl_lexer::{Templates, discover};
 
 /// Where the lists of a text stand, from the first to the last, and what it took to find them.
-pub fn see_lists(text: &str, facts: &mut Facts) -> Result<(), AllocError> {
+pub fn see_lists(text: &str, facts: &mut Facts<'_>) -> Result<(), AllocError> {
     let alloc = facts.alloc;
     let found = discover(alloc, text)?;
     let is_equal = found.clone(alloc)? == found;
     facts.expect(is_equal, "a copy is equal")?;
-    facts.tell("attempts", format!(in alloc; "{}", found.attempts())?)?;
-    facts.tell("reads", format!(in alloc; "{}", found.reads())?)?;
-    facts.answer("lists", lines_of(alloc, &found, text.len())?)
+    facts.tell("attempts", &found.attempts())?;
+    facts.tell("reads", &found.reads())?;
+    facts.answer("lists", &lines_of(alloc, &found, text.len())?)
 }
 
 /// The start and the end of each list, on a line of its own.

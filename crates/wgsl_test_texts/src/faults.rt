@@ -7,17 +7,17 @@ use wgsl_error::{Error, ErrorKind};
 use wgsl_span::Span;
 
 /// What is wrong with a text, and its snippet.
-pub fn see_fault(error: Error, text: &str, facts: &mut Facts) -> Result<(), AllocError> {
+pub fn see_fault(error: Error, text: &str, facts: &mut Facts<'_>) -> Result<(), AllocError> {
     let alloc = facts.alloc;
     let Span { start, end } = error.span;
     let told = format!(in alloc; "{}", error.without_expected())?;
     let place = format!(in alloc; "chars {start}..{end}: ")?;
     let message = told.strip_prefix(place.as_str()).unwrap_or(told.as_str());
     let words = format!(in alloc; "fault {start}..{end}")?;
-    facts.answer(&words, String::from_str(alloc, message)?)?;
-    facts.tell("expected", joined(alloc, expected_of(&error))?)?;
+    facts.answer(&words, &message)?;
+    facts.tell("expected", &joined(alloc, expected_of(&error))?)?;
     let snippet = snippet_of(error, text, facts)?;
-    facts.tell("snippet", snippet)
+    facts.tell("snippet", &snippet)
 }
 
 /// What is told to have been expected.

@@ -8,7 +8,7 @@ use wgsl_parser::LiteralParser;
 use wgsl_tree_expression::LiteralExpression;
 
 /// The literal of a text, or what is wrong with the text.
-pub fn see_literal(text: &str, facts: &mut Facts) -> Result<(), AllocError> {
+pub fn see_literal(text: &str, facts: &mut Facts<'_>) -> Result<(), AllocError> {
     let alloc = facts.alloc;
     match LiteralParser::new().parse(alloc, Lexer::new(alloc, text)?) {
         Ok(literal) => see_parts(&literal, facts),
@@ -17,12 +17,12 @@ pub fn see_literal(text: &str, facts: &mut Facts) -> Result<(), AllocError> {
 }
 
 /// What is printed of a literal, and of its copy, and which variant it is.
-fn see_parts(literal: &LiteralExpression, facts: &mut Facts) -> Result<(), AllocError> {
+fn see_parts(literal: &LiteralExpression, facts: &mut Facts<'_>) -> Result<(), AllocError> {
     let alloc = facts.alloc;
     let printed = literal.to_string(alloc)?;
     facts.compare(literal, &literal.clone(alloc)?, &printed)?;
-    facts.tell("variant .", String::from_str(alloc, variant_of(literal))?)?;
-    facts.answer("printed", printed)
+    facts.tell("variant .", &variant_of(literal))?;
+    facts.answer("printed", &printed)
 }
 
 fn variant_of(literal: &LiteralExpression) -> &'static str {

@@ -1,6 +1,6 @@
 //! Checks rows of texts: each file that the arguments name holds rows, each of them a text, how it
-//! is read, and what is wanted of it. Each row that does not hold is printed with what was wanted
-//! and what was got, and at the end how many hold.
+//! is read, and what is wanted of it. Each row that does not hold is printed with what was got,
+//! and at the end how many hold.
 #![tactic(auto)]
 
 mod check;
@@ -17,14 +17,13 @@ mod streams;
 mod text;
 mod tokens;
 
-use check::facts_of;
-use row::{Row, RowError, rows_of};
-use std::alloc::Global;
+use check::report_of;
+use row::Row;
 use std::process::ExitCode;
 use std::rt::{Env, Files};
 use std::{fs, io};
 
-/// How many rows hold, and how many do not; what can't be read counts as a row that does not hold.
+/// How many rows hold, and how many do not.
 #[derive(Clone, Copy, Default)]
 struct Count {
     held: usize,
@@ -40,30 +39,26 @@ impl Count {
     }
 }
 
-/// Checks a row, and prints it if it does not hold.
-fn check_row<R: Print + AllocGlobal>(rt: &R, file: &str, row: &Row<'_>) -> io::Result<Count> {
-    let report = facts_of(rt.alloc(), row)?.report(row)?;
+/// Checks the row that stands in a block of lines, and prints it if it does not hold.
+fn check_block<R: Print + AllocGlobal>(rt: &R, file: &str, block: &str) -> io::Result<Count> {
+    let row = Row::of_block(rt.alloc(), block)?;
+    if row.fields.is_empty() {
+        return Ok(Count::default());
+    }
+    let report = report_of(rt.alloc(), &row)?;
     if report.is_empty() {
         return Ok(Count { held: 1, failed: 0 });
     }
-    println!(rt; "{file}:{}: {}\n{report}", row.line, row.shows)?;
+    println!(rt; "{file}: {}\n{report}", row.shows)?;
     Ok(Count { held: 0, failed: 1 })
 }
 
 /// Checks the rows of a file.
 fn check_file<R: Files + Print + AllocGlobal>(rt: &R, file: &str) -> io::Result<Count> {
     let text = fs::read_to_string(rt, file)?;
-    let rows = match rows_of(rt.alloc(), text.as_str()) {
-        Ok(rows) => rows,
-        Err(RowError::OutOfMemory) => return Err(io::Error::from(io::ErrorKind::OutOfMemory)),
-        Err(RowError::Unread { line, problem }) => {
-            println!(rt; "{file}:{line}: {problem}")?;
-            return Ok(Count { held: 0, failed: 1 });
-        }
-    };
     let mut count = Count::default();
-    for row in &rows {
-        count = count.add(check_row(rt, file, row)?);
+    for block in text.split("\n\n") {
+        count = count.add(check_block(rt, file, block)?);
     }
     println!(rt; "{file}: {} rows hold", count.held)?;
     Ok(count)

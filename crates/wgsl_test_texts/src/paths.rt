@@ -1,52 +1,49 @@
 //! Paths of modules, and what they are joined with.
 
 use crate::facts::Facts;
-use crate::row::Row;
 use std::alloc::{AllocError, Global};
 use wgsl_tree_path::{ModulePath, PathOrigin};
 
 /// The path of a text, or why the text is none.
-pub fn see_path(text: &str, row: &Row<'_>, facts: &mut Facts) -> Result<(), AllocError> {
+pub fn see_path(text: &str, facts: &mut Facts<'_>) -> Result<(), AllocError> {
     let alloc = facts.alloc;
     match ModulePath::from_str(alloc, text) {
         Ok(path) => {
             see_printed(&path, text, facts)?;
             see_parts(&path, facts)?;
             see_laws(&path, facts)?;
-            see_joined(&path, row, facts)
+            see_joined(&path, facts)
         }
-        Err(error) => facts.answer("refused", error.to_string(alloc)?),
+        Err(error) => facts.answer("refused", &error),
     }
 }
 
 /// What is printed of a path, and of its copy: the text that was read.
-fn see_printed(path: &ModulePath, text: &str, facts: &mut Facts) -> Result<(), AllocError> {
+fn see_printed(path: &ModulePath, text: &str, facts: &mut Facts<'_>) -> Result<(), AllocError> {
     let printed = path.to_string(facts.alloc)?;
     facts.expect(printed.as_str() == text, "a path prints as its text")?;
     facts.compare(path, &path.clone(facts.alloc)?, text)?;
-    facts.answer("printed", printed)
+    facts.answer("printed", &printed)
 }
 
 /// The origin and the components of a path.
-fn see_parts(path: &ModulePath, facts: &mut Facts) -> Result<(), AllocError> {
-    let alloc = facts.alloc;
+fn see_parts(path: &ModulePath, facts: &mut Facts<'_>) -> Result<(), AllocError> {
     let variant = match path.origin {
         PathOrigin::Absolute => "Absolute",
         PathOrigin::Relative(_) => "Relative",
         PathOrigin::Package(_) => "Package",
     };
-    facts.tell("variant origin", String::from_str(alloc, variant)?)?;
-    let count = format!(in alloc; "{}", path.components.len())?;
-    facts.tell("count components", count)?;
+    facts.tell("variant origin", &variant)?;
+    facts.tell("count components", &path.components.len())?;
     for (place, component) in path.components.iter().enumerate() {
-        let words = format!(in alloc; "part components.{place}")?;
-        facts.tell(&words, component.clone()?)?;
+        let words = format!(in facts.alloc; "part components.{place}")?;
+        facts.tell(&words, component)?;
     }
     Ok(())
 }
 
 /// Every path starts with itself, and the path `self` changes nothing on either side of it.
-fn see_laws(path: &ModulePath, facts: &mut Facts) -> Result<(), AllocError> {
+fn see_laws(path: &ModulePath, facts: &mut Facts<'_>) -> Result<(), AllocError> {
     facts.expect(path.starts_with(path), "a path starts with itself")?;
     let this = ModulePath::new(PathOrigin::Relative(0), Vec::new(facts.alloc));
     let behind = joined(facts.alloc, path, &this)?;
@@ -58,7 +55,8 @@ fn see_laws(path: &ModulePath, facts: &mut Facts) -> Result<(), AllocError> {
 }
 
 /// The path joined with each suffix that the row asks for.
-fn see_joined(path: &ModulePath, row: &Row<'_>, facts: &mut Facts) -> Result<(), AllocError> {
+fn see_joined(path: &ModulePath, facts: &mut Facts<'_>) -> Result<(), AllocError> {
+    let row = facts.row;
     for field in row.fields.iter().skip(1) {
         if let Some(suffix) = field.words.strip_prefix("joined ") {
             see_suffix(path, field.words, suffix, facts)?;
@@ -72,15 +70,15 @@ fn see_suffix(
     path: &ModulePath,
     words: &str,
     text: &str,
-    facts: &mut Facts,
+    facts: &mut Facts<'_>,
 ) -> Result<(), AllocError> {
     let alloc = facts.alloc;
     let Ok(suffix) = ModulePath::from_str(alloc, text) else {
-        return facts.refuse("a suffix is a path");
+        return facts.expect(false, "a suffix is a path");
     };
     match joined(alloc, path, &suffix)? {
-        Some(whole) => facts.tell(words, whole.to_string(alloc)?),
-        None => facts.refuse("the levels of a joined path fit"),
+        Some(whole) => facts.tell(words, &whole),
+        None => facts.expect(false, "the levels of a joined path fit"),
     }
 }
 

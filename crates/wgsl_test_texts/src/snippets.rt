@@ -6,25 +6,25 @@ use std::borrow::CowStr;
 use wgsl_error::{Error, ErrorKind};
 use wgsl_span::Span;
 
-/// The snippet of an error in its source, which is that of its copy too.
-pub fn snippet_of(error: Error, source: &str, facts: &mut Facts) -> Result<String, AllocError> {
-    let error = error.with_source(CowStr::Borrowed(source));
+/// The snippet of an error in its text, which is that of its copy too.
+pub fn snippet_of(error: Error, text: &str, facts: &mut Facts<'_>) -> Result<String, AllocError> {
+    let error = error.with_source(CowStr::Borrowed(text));
     let snippet = error.to_string(facts.alloc)?;
     facts.compare(&error, &error.clone(facts.alloc)?, &snippet)?;
     Ok(snippet)
 }
 
-/// The snippet of an invalid token at the places `START..END` of a source.
-pub fn see_snippet(source: &str, places: &str, facts: &mut Facts) -> Result<(), AllocError> {
+/// The snippet of an invalid token at the places `START..END` of a text.
+pub fn see_snippet(text: &str, places: &str, facts: &mut Facts<'_>) -> Result<(), AllocError> {
     let Some(span) = span_of(places) else {
-        return facts.refuse("a snippet has a span");
+        return facts.expect(false, "a snippet has a span");
     };
     let error = Error {
         error: ErrorKind::InvalidToken,
         span,
     };
-    let snippet = snippet_of(error, source, facts)?;
-    facts.answer("printed", snippet)
+    let snippet = snippet_of(error, text, facts)?;
+    facts.answer("printed", &snippet)
 }
 
 /// The span of a text `START..END`.

@@ -111,7 +111,7 @@ impl Case<'_> {
 
     /// Checks it with streams that take a byte at a time, and with streams of which each call
     /// fails in turn.
-    fn check(self, due: &Answer, facts: &mut Facts) -> Result<(), AllocError> {
+    fn check(self, due: &Answer, facts: &mut Facts<'_>) -> Result<(), AllocError> {
         let is_same = self.answer(Calls::new(1), Calls::new(1)).is_alike(due);
         facts.expect(is_same, "streams of a byte a call change nothing")?;
         facts.expect(self.ends_at_reads(), "a read that fails ends it")?;
@@ -123,7 +123,7 @@ impl Case<'_> {
 }
 
 /// What a program answers and writes by its call `start`, and by `run` where that does the same.
-pub fn see_call(call: Call, source: &[u8], facts: &mut Facts) -> Result<(), AllocError> {
+pub fn see_call(call: Call, source: &[u8], facts: &mut Facts<'_>) -> Result<(), AllocError> {
     let alloc = facts.alloc;
     let case = Case {
         call,
@@ -138,15 +138,15 @@ pub fn see_call(call: Call, source: &[u8], facts: &mut Facts) -> Result<(), Allo
         facts.expect(is_alike, "`run` and `start` answer alike")?;
         case.check(&due, facts)?;
     }
-    facts.answer("status", format!(in alloc; "{}", due.status)?)?;
+    facts.answer("status", &due.status)?;
     see_written("output", &due.output, facts)?;
     see_written("errors", &due.errors, facts)
 }
 
 /// What was written, unless that is nothing.
-fn see_written(words: &str, written: &[u8], facts: &mut Facts) -> Result<(), AllocError> {
+fn see_written(words: &str, written: &[u8], facts: &mut Facts<'_>) -> Result<(), AllocError> {
     if written.is_empty() {
         return Ok(());
     }
-    facts.answer(words, String::from_utf8_lossy(facts.alloc, written)?)
+    facts.answer(words, &String::from_utf8_lossy(facts.alloc, written)?)
 }

@@ -1,7 +1,6 @@
 //! Texts in quotes: pieces `"..."`, each with `* N` behind it where it stands N times, joined as
 //! they are. A `\` begins `\n`, `\r`, `\t`, `\"`, `\\`, a byte `\xFF` or a character `\u{3000}`.
 
-use crate::row::RowError;
 use std::alloc::{AllocError, Global};
 
 /// Where in a line of pieces the next character stands.
@@ -16,21 +15,21 @@ enum Place {
     Character(Option<u32>),
     /// In a count of so many so far.
     Times(usize),
+    /// Behind something that is not written so.
+    Wrong,
 }
 
 /// The pieces of a line as they are read.
 #[derive(Drop)]
 struct Pieces {
-    line: usize,
     place: Place,
     piece: Vec<u8>,
     whole: Vec<u8>,
 }
 
-/// The text of a line behind its first quote.
-pub fn text_behind_quote(alloc: Global, line: usize, text: &str) -> Result<Vec<u8>, RowError> {
+/// The text of a line behind its first quote, if it is written as texts are.
+pub fn text_behind_quote(alloc: Global, text: &str) -> Result<Option<Vec<u8>>, AllocError> {
     let mut pieces = Pieces {
-        line,
         place: Place::Inside,
         piece: Vec::new(alloc),
         whole: Vec::new(alloc),
@@ -41,9 +40,9 @@ pub fn text_behind_quote(alloc: Global, line: usize, text: &str) -> Result<Vec<u
     match pieces.place {
         Place::Between => pieces.repeat(1)?,
         Place::Times(count) if count > 0 => pieces.repeat(count)?,
-        _ => return Err(pieces.unread("a text does not end")),
+        _ => return Ok(None),
     }
-    Ok(pieces.whole)
+    Ok(Some(pieces.whole))
 }
 
 /// The value of a hexadecimal digit.
@@ -52,13 +51,6 @@ fn digit(character: char) -> Option<u8> {
 }
 
 impl Pieces {
-    fn unread(&self, problem: &'static str) -> RowError {
-        RowError::Unread {
-            line: self.line,
-            problem,
-        }
-    }
-
     /// Puts the last piece behind the others so many times.
     fn repeat(&mut self, count: usize) -> Result<(), AllocError> {
         for _ in 0..count {
@@ -68,7 +60,7 @@ impl Pieces {
         Ok(())
     }
 
-    fn put(&mut self, character: char) -> Result<Place, RowError> {
+    fn put(&mut self, character: char) -> Result<Place, AllocError> {
         let mut bytes = [0u8; 4];
         let encoded = character.encode_utf8(&mut bytes);
         self.piece.extend_from_slice(encoded.as_bytes())?;
@@ -76,7 +68,7 @@ impl Pieces {
     }
 
     /// Takes a character, and answers where the next one stands.
-    fn behind(&mut self, character: char) -> Result<Place, RowError> {
+    fn behind(&mut self, character: char) -> Result<Place, AllocError> {
         match self.place {
             Place::Inside => match character {
                 '"' => Ok(Place::Between),
@@ -88,10 +80,11 @@ impl Pieces {
             Place::Byte(first) => self.in_byte(first, character),
             Place::Character(code) => self.in_character(code, character),
             Place::Times(count) => self.in_count(count, character),
+            Place::Wrong => Ok(Place::Wrong),
         }
     }
 
-    fn between(&mut self, character: char) -> Result<Place, RowError> {
+    fn between(&mut self, character: char) -> Result<Place, AllocError> {
         match character {
             ' ' => Ok(Place::Between),
             '*' => Ok(Place::Times(0)),
@@ -99,11 +92,11 @@ impl Pieces {
                 self.repeat(1)?;
                 Ok(Place::Inside)
             }
-            _ => Err(self.unread("behind a text stands something else")),
+            _ => Ok(Place::Wrong),
         }
     }
 
-    fn escaped(&mut self, character: char) -> Result<Place, RowError> {
+    fn escaped(&mut self, character: char) -> Result<Place, AllocError> {
         match character {
             'n' => self.put('\n'),
             'r' => self.put('\r'),
@@ -111,37 +104,37 @@ impl Pieces {
             '"' | '\\' => self.put(character),
             'x' => Ok(Place::Byte(None)),
             'u' => Ok(Place::Character(None)),
-            _ => Err(self.unread("no character is written so")),
+            _ => Ok(Place::Wrong),
         }
     }
 
-    fn in_byte(&mut self, first: Option<u8>, character: char) -> Result<Place, RowError> {
+    fn in_byte(&mut self, first: Option<u8>, character: char) -> Result<Place, AllocError> {
         match (first, digit(character)) {
             (None, Some(digit)) => Ok(Place::Byte(Some(digit))),
             (Some(first), Some(digit)) => {
                 self.piece.push(first.wrapping_mul(16).wrapping_add(digit))?;
                 Ok(Place::Inside)
             }
-            _ => Err(self.unread("a byte has two digits")),
+            _ => Ok(Place::Wrong),
         }
     }
 
-    fn in_character(&mut self, code: Option<u32>, character: char) -> Result<Place, RowError> {
+    fn in_character(&mut self, code: Option<u32>, character: char) -> Result<Place, AllocError> {
         match (code, character, digit(character)) {
             (None, '{', _) => Ok(Place::Character(Some(0))),
             (Some(code), '}', _) => match char::from_u32(code) {
                 Some(found) => self.put(found),
-                None => Err(self.unread("no character has this number")),
+                None => Ok(Place::Wrong),
             },
             (Some(code), _, Some(digit)) => {
                 let code = code.wrapping_mul(16).wrapping_add(u32::from(digit));
                 Ok(Place::Character(Some(code)))
             }
-            _ => Err(self.unread("a character's number stands in braces")),
+            _ => Ok(Place::Wrong),
         }
     }
 
-    fn in_count(&mut self, count: usize, character: char) -> Result<Place, RowError> {
+    fn in_count(&mut self, count: usize, character: char) -> Result<Place, AllocError> {
         match (character, digit(character)) {
             (' ', _) if count == 0 => Ok(Place::Times(0)),
             (' ', _) => {
@@ -152,7 +145,7 @@ impl Pieces {
                 let count = count.wrapping_mul(10).wrapping_add(usize::from(digit));
                 Ok(Place::Times(count))
             }
-            _ => Err(self.unread("behind `*` stands a number")),
+            _ => Ok(Place::Wrong),
         }
     }
 }

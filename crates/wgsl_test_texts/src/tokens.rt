@@ -27,7 +27,7 @@ fn lines_of(alloc: Global, lexer: Lexer<'_>) -> Result<String, AllocError> {
 }
 
 /// The tokens of a text; copies of a lexer give what is left, and nothing follows the end.
-pub fn see_tokens(text: &str, facts: &mut Facts) -> Result<(), AllocError> {
+pub fn see_tokens(text: &str, facts: &mut Facts<'_>) -> Result<(), AllocError> {
     let alloc = facts.alloc;
     let mut lexer = Lexer::new(alloc, text)?;
     let whole = lines_of(alloc, lexer.clone(alloc)?)?;
@@ -44,17 +44,17 @@ pub fn see_tokens(text: &str, facts: &mut Facts) -> Result<(), AllocError> {
     }
     let is_over = lexer.next().is_none() && lexer.next().is_none();
     facts.expect(is_over, "nothing follows the end")?;
-    facts.answer("items", String::from_str(alloc, whole.trim_end())?)
+    facts.answer("items", &whole.trim_end())
 }
 
 /// Whether the tokens of a text are a list of expressions.
-pub fn see_list(text: &str, facts: &mut Facts) -> Result<(), AllocError> {
+pub fn see_list(text: &str, facts: &mut Facts<'_>) -> Result<(), AllocError> {
     let alloc = facts.alloc;
     let mut kinds = Vec::new(alloc);
     for item in Lexer::new(alloc, text)? {
         match item {
             Ok((_, token, _)) => kinds.push(token.kind())?,
-            Err(_) => return facts.refuse("the text has tokens"),
+            Err(_) => return facts.expect(false, "the text has tokens"),
         }
     }
     let word = if is_expression_list(&kinds) {
@@ -62,5 +62,5 @@ pub fn see_list(text: &str, facts: &mut Facts) -> Result<(), AllocError> {
     } else {
         "no"
     };
-    facts.answer("list", String::from_str(alloc, word)?)
+    facts.answer("list", &word)
 }
