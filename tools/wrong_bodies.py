@@ -112,16 +112,15 @@ def after_function(lines, first, indent):
     for at in range(first, len(lines)):
         if lines[at].startswith((indent + "}", indent + "{}")) or lines[first].endswith("{}"):
             return at + 1
-        if at > first and (not lines[at].strip() or FUNCTION.match(lines[at])):
-            # one without a body
-            if all(not it.endswith("{") for it in lines[first:at]):
-                return at
+        # one without a body
+        if lines[at].endswith(";") and all(not it.endswith("{") for it in lines[first:at]):
+            return at + 1
     return len(lines)
 
 
 def owner_of(lines, first):
     """What holds the function at a line, in the words that the prover names it by: a trait, or the
-    type of an impl and its trait."""
+    type of an impl, which may be any, and its trait."""
     at = next(at for at in range(first, -1, -1) if OWNER.match(lines[at]))
     if trait := OWNER.match(lines[at])[1]:
         return trait.lower()
@@ -129,7 +128,7 @@ def owner_of(lines, first):
     head = " ".join(lines[at : opens + 1]).removeprefix("impl").replace("->", "").rstrip(" {")
     head = after_brackets(head.partition(" where ")[0]).strip()
     trait, _, of = head.rpartition(" for ")
-    return LEFT_OUT.sub("", f"{of} {trait}").lower()
+    return ((LEFT_OUT.sub("", of) or "any") + LEFT_OUT.sub("", trait)).lower()
 
 
 def after_brackets(text):

@@ -31,16 +31,15 @@ pub fn see_tokens(text: &str, facts: &mut Facts<'_>) -> Result<(), AllocError> {
     let alloc = facts.alloc;
     let mut lexer = Lexer::new(alloc, text)?;
     let whole = lines_of(alloc, lexer.clone(alloc)?)?;
-    let mut left = whole.as_str();
+    let mut given = String::new(alloc);
     for _ in 0..text.len() {
-        let copied = lines_of(alloc, lexer.clone(alloc)?)?;
-        facts.expect(copied.as_str() == left, "a copy gives what is left")?;
+        let left = lines_of(alloc, lexer.clone(alloc)?)?;
+        let is_left = whole.strip_prefix(given.as_str()) == Some(left.as_str());
+        facts.expect(is_left, "a copy gives what is left")?;
         let Some(item) = lexer.next() else {
             break;
         };
-        left = left
-            .strip_prefix(line_of(alloc, item)?.as_str())
-            .unwrap_or("");
+        given.push_str(&line_of(alloc, item)?)?;
     }
     let is_over = lexer.next().is_none() && lexer.next().is_none();
     facts.expect(is_over, "nothing follows the end")?;

@@ -10,30 +10,48 @@ use std::process::Abort;
 use std::test::Fail;
 use wgsl_parse::FromSource;
 use wgsl_parse::error::Error;
-use wgsl_parse::lexer::Lexer;
 use wgsl_parse::parser::{
     ExpressionParser, GlobalDeclParser, GlobalDirectiveParser, LiteralParser, StatementParser,
     TranslationUnitParser, TryTemplateListParser,
 };
 use wgsl_parse::span::CloneWith;
 use wgsl_parse::syntax::{
-    Expression, GlobalDeclaration, GlobalDirective, Span, Statement, TranslationUnit,
+    Expression, GlobalDeclaration, GlobalDirective, Statement, TranslationUnit,
 };
 
-/// What a parser gives of the tokens of a lexer, which are at most so many. Behind an error it asks
-/// nothing.
-fn parsed<T: Drop, P: FnOnce(Watched<'_>) -> Result<T, Error>>(
-    rt: &impl Abort,
-    lexer: Lexer<'_>,
-    count: usize,
-    parse: P,
-) -> Result<T, Error>
-    requires { P.IsAlwaysCallable parse }
-{
-    let is_asked_behind = Cell::new(false);
-    let parsed = parse(Watched::new(lexer, count, &is_asked_behind));
-    assert!(rt; !is_asked_behind.get(), "nothing is asked behind an error");
-    parsed
+/// A tree that a parser gives of tokens.
+trait Parsed: FromSource + fmt::Display + PartialEq + CloneWith {
+    fn parsed(alloc: Global, tokens: Watched<'_>) -> Result<Self, Error>;
+}
+
+impl Parsed for TranslationUnit {
+    fn parsed(alloc: Global, tokens: Watched<'_>) -> Result<Self, Error> {
+        TranslationUnitParser::new().parse(alloc, tokens)
+    }
+}
+
+impl Parsed for GlobalDirective {
+    fn parsed(alloc: Global, tokens: Watched<'_>) -> Result<Self, Error> {
+        GlobalDirectiveParser::new().parse(alloc, tokens)
+    }
+}
+
+impl Parsed for GlobalDeclaration {
+    fn parsed(alloc: Global, tokens: Watched<'_>) -> Result<Self, Error> {
+        GlobalDeclParser::new().parse(alloc, tokens)
+    }
+}
+
+impl Parsed for Statement {
+    fn parsed(alloc: Global, tokens: Watched<'_>) -> Result<Self, Error> {
+        StatementParser::new().parse(alloc, tokens)
+    }
+}
+
+impl Parsed for Expression {
+    fn parsed(alloc: Global, tokens: Watched<'_>) -> Result<Self, Error> {
+        ExpressionParser::new().parse(alloc, tokens)
+    }
 }
 
 /// A tree is printed as the text and has an equal copy, or a fault is told by the text.
@@ -50,13 +68,16 @@ fn assert_told<T: fmt::Display + PartialEq + CloneWith>(
 }
 
 /// A parser gives of the tokens of a text what the text gives: a tree or a fault with this text.
-fn assert_alike<
-    T: FromSource + fmt::Display + PartialEq + CloneWith,
-    P: FnOnce(Watched<'_>) -> Result<T, Error>,
->(rt: &impl Abort, alloc: Global, source: &str, parse: P, text: &str) -> Result<(), Fail>
-    requires { P.IsAlwaysCallable parse }
-{
-    let parsed = parsed(rt, Lexer::new(alloc, source)?, source.len() + 1, parse);
+/// Behind an error it asks nothing.
+fn assert_alike<T: Parsed>(
+    rt: &impl Abort,
+    alloc: Global,
+    source: &str,
+    text: &str,
+) -> Result<(), Fail> {
+    let is_asked_behind = Cell::new(false);
+    let parsed = T::parsed(alloc, Watched::new(alloc, source, &is_asked_behind)?);
+    assert!(rt; !is_asked_behind.get(), "nothing is asked behind an error");
     assert!(rt;
         parsed == T::from_str(alloc, source),
         "the tokens of {source:?}"
@@ -82,8 +103,7 @@ fn modules_are_read_from_tokens(rt: HostRuntime) -> Result<(), Fail> {
         ),
         ("const x = 1 #;", "chars 12..13: invalid token"),
     ] {
-        let parse = |tokens: Watched<'_>| TranslationUnitParser::new().parse(alloc, tokens);
-        assert_alike::<TranslationUnit, _>(&rt, alloc, source, parse, text)?;
+        assert_alike::<TranslationUnit>(&rt, alloc, source, text)?;
     }
     Ok(())
 }
@@ -106,8 +126,7 @@ fn directives_are_read_from_tokens(rt: HostRuntime) -> Result<(), Fail> {
         ),
         ("enable #;", "chars 7..8: invalid token"),
     ] {
-        let parse = |tokens: Watched<'_>| GlobalDirectiveParser::new().parse(alloc, tokens);
-        assert_alike::<GlobalDirective, _>(&rt, alloc, source, parse, text)?;
+        assert_alike::<GlobalDirective>(&rt, alloc, source, text)?;
     }
     Ok(())
 }
@@ -127,8 +146,7 @@ fn declarations_are_read_from_tokens(rt: HostRuntime) -> Result<(), Fail> {
         ),
         ("const € = 1;", "chars 6..9: invalid token"),
     ] {
-        let parse = |tokens: Watched<'_>| GlobalDeclParser::new().parse(alloc, tokens);
-        assert_alike::<GlobalDeclaration, _>(&rt, alloc, source, parse, text)?;
+        assert_alike::<GlobalDeclaration>(&rt, alloc, source, text)?;
     }
     Ok(())
 }
@@ -151,8 +169,7 @@ fn statements_are_read_from_tokens(rt: HostRuntime) -> Result<(), Fail> {
         ),
         ("a = 2147483648i;", "chars 4..15: invalid token"),
     ] {
-        let parse = |tokens: Watched<'_>| StatementParser::new().parse(alloc, tokens);
-        assert_alike::<Statement, _>(&rt, alloc, source, parse, text)?;
+        assert_alike::<Statement>(&rt, alloc, source, text)?;
     }
     Ok(())
 }
@@ -172,27 +189,29 @@ fn expressions_are_read_from_tokens(rt: HostRuntime) -> Result<(), Fail> {
         ("a + self", "chars 4..8: use of a reserved word `self`"),
         ("a + #", "chars 4..5: invalid token"),
     ] {
-        let parse = |tokens: Watched<'_>| ExpressionParser::new().parse(alloc, tokens);
-        assert_alike::<Expression, _>(&rt, alloc, source, parse, text)?;
+        assert_alike::<Expression>(&rt, alloc, source, text)?;
     }
     Ok(())
+}
+
+/// What is told of a literal of the tokens of a text.
+fn told_of_literal(rt: &impl Abort, alloc: Global, source: &str) -> Result<String, Fail> {
+    let is_asked_behind = Cell::new(false);
+    let tokens = Watched::new(alloc, source, &is_asked_behind)?;
+    let parsed = LiteralParser::new().parse(alloc, tokens);
+    assert!(rt; !is_asked_behind.get(), "nothing is asked behind an error");
+    match parsed {
+        Ok(literal) => Ok(literal.to_string(alloc)?),
+        Err(error) => Ok(error.to_string(alloc)?),
+    }
 }
 
 /// Nothing is checked of a literal: a reserved word is unexpected.
 #[test]
 fn literals_are_read_from_tokens(rt: HostRuntime) -> Result<(), Fail> {
-    let alloc = rt.alloc();
     for (source, text) in [
         ("0X1Fu", "31u"),
         ("4294967296u", "chars 0..11: invalid token"),
-    ] {
-        let parse = |tokens: Watched<'_>| {
-            let literal = LiteralParser::new().parse(alloc, tokens)?;
-            Ok(Expression::Literal(literal))
-        };
-        assert_alike::<Expression, _>(&rt, alloc, source, parse, text)?;
-    }
-    for (source, text) in [
         (
             "1 2",
             "chars 2..3: unexpected token `2`, expected `end of file`",
@@ -202,34 +221,38 @@ fn literals_are_read_from_tokens(rt: HostRuntime) -> Result<(), Fail> {
             "chars 2..6: unexpected token `reserved word `self``, expected `end of file`",
         ),
     ] {
-        let parse = |tokens: Watched<'_>| LiteralParser::new().parse(alloc, tokens);
-        let lexer = Lexer::new(alloc, source)?;
-        let found = parsed(&rt, lexer, source.len() + 1, parse);
-        assert_told(&rt, alloc, found, text)?;
+        let told = told_of_literal(&rt, rt.alloc(), source)?;
+        assert_eq!(rt; told.as_str(), text);
     }
     Ok(())
+}
+
+/// What is told of the template list behind the first token of a text.
+fn told_of_list(rt: &impl Abort, alloc: Global, source: &str) -> Result<String, Fail> {
+    let is_asked_behind = Cell::new(false);
+    let mut tokens = Watched::new(alloc, source, &is_asked_behind)?;
+    tokens.next();
+    let parsed = TryTemplateListParser::new().parse(alloc, tokens);
+    assert!(rt; !is_asked_behind.get(), "nothing is asked behind an error");
+    match parsed {
+        Ok(span) => Ok(format!(in alloc; "{}..{}", span.start, span.end)?),
+        Err(error) => Ok(error.to_string(alloc)?),
+    }
 }
 
 /// The lists stand behind a name. No list of a text has a checked fault.
 #[test]
 fn template_lists_are_read_from_tokens(rt: HostRuntime) -> Result<(), Fail> {
-    let alloc = rt.alloc();
-    for (source, wanted) in [
-        ("a<b, c>", None),
+    for (source, text) in [
+        ("a<b, c>", "1..7"),
         (
             "a<b>c",
-            Some("chars 4..5: unexpected token `identifier `c``, expected `end of file`"),
+            "chars 4..5: unexpected token `identifier `c``, expected `end of file`",
         ),
-        ("a<b>#", Some("chars 4..5: invalid token")),
+        ("a<b>#", "chars 4..5: invalid token"),
     ] {
-        let parse = |tokens: Watched<'_>| TryTemplateListParser::new().parse(alloc, tokens);
-        let mut lexer = Lexer::new(alloc, source)?;
-        lexer.next();
-        match (parsed(&rt, lexer, source.len(), parse), wanted) {
-            (Ok(span), None) => assert_eq!(rt; span, Span::new(1..7)),
-            (Err(error), Some(text)) => assert_text(&rt, alloc, error, Error::clone, text)?,
-            _ => return Err(Fail::new(source)),
-        }
+        let told = told_of_list(&rt, rt.alloc(), source)?;
+        assert_eq!(rt; told.as_str(), text);
     }
     Ok(())
 }

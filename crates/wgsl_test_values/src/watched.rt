@@ -3,10 +3,11 @@
 ghost use Rattle.std.specs.Iterator.{at_most};
 ghost use Rattle.std.proofs.Common.{rules};
 
+use std::alloc::{AllocError, Global};
 use std::cell::Cell;
 use wgsl_parse::lexer::{FiniteTokens, Lexer, TokenItem};
 
-/// Gives the tokens of a lexer, and tells if it is asked behind an error.
+/// Gives the tokens of a text, and tells if it is asked behind an error.
 #[derive(Drop)]
 pub(crate) struct Watched<'w> {
     tokens: Lexer<'w>,
@@ -18,16 +19,16 @@ pub(crate) struct Watched<'w> {
 
 impl<'w> Watched<'w> {
     pub(crate) fn new(
-        tokens: Lexer<'w>,
-        left: usize,
+        alloc: Global,
+        text: &'w str,
         is_asked_behind: &'w Cell<bool>,
-    ) -> Watched<'w> {
-        Watched {
-            tokens,
-            left,
+    ) -> Result<Watched<'w>, AllocError> {
+        Ok(Watched {
+            tokens: Lexer::new(alloc, text)?,
+            left: text.len().saturating_add(1),
             is_over: false,
             is_asked_behind,
-        }
+        })
     }
 }
 
