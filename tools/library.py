@@ -59,14 +59,14 @@ class Library:
         self.calls = ctypes.CDLL(str(SHARED))
 
     def call(self, name, text, *kind, room=0, item=ctypes.c_char):
-        """What a call answers: its status, its answer, and its room, with so many items."""
+        """What a call returns: its status, its answer, and its room, with so many items."""
         answer, place = Answer(), (item * max(room, 1))()
         words = [ctypes.c_uint32(it) for it in kind] + [text, ctypes.c_size_t(len(text))]
         words += [place, ctypes.c_size_t(room), ctypes.byref(answer)]
         return getattr(self.calls, f"wgsl_c_{name}")(*words), answer, place
 
     def fill(self, name, text, *kind, room, item=ctypes.c_char):
-        """What a call answers with room enough for what it has to give."""
+        """What a call returns with room enough for what it has to give."""
         status, answer, place = self.call(name, text, *kind, room=room, item=item)
         if answer.size > room:
             return self.fill(name, text, *kind, room=answer.size, item=item)
@@ -113,7 +113,7 @@ class Library:
         return [tuple(it) for it in place[: answer.size]]
 
     def number(self, name, text):
-        """The number that a call answers."""
+        """The number that a call returns."""
         answer = Answer()
         call = getattr(self.calls, f"wgsl_c_{name}")
         if status := call(text, ctypes.c_size_t(len(text)), ctypes.byref(answer)):

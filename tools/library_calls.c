@@ -103,7 +103,7 @@ static int check_no_bytes(void) {
     return 0;
 }
 
-/* A room that is too small is left alone, and the size is told; so is the room behind a text. */
+/* A room that is too small is left alone, and the size is told; so is the room after a text. */
 static int check_rooms(void) {
     char room[256];
     memset(room, '#', sizeof room);

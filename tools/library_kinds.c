@@ -35,7 +35,7 @@ static const struct kinds enums[] = {
      {"Void", "Declaration", "TypeAlias", "Struct", "Function", "ConstAssert"}},
 };
 
-/* Reads the module, and writes its form with a byte 0 behind it; returns whether both fit. */
+/* Reads the module, and writes its form with a byte 0 after it; returns whether both fit. */
 static int write_form(char *form, size_t form_size) {
     static char text[1 << 14];
     struct wgsl_answer answer;

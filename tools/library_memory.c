@@ -1,6 +1,6 @@
 /* Makes each call of wgsl.h on each text with one request for memory refused, the first, the
    second, and so on, and exits with the line of the first check that fails, or 0. Each call has to
-   answer that memory was refused, or what it answers undisturbed, to give back all it took, and to
+   return that memory was refused, or what it returns undisturbed, to give back all it took, and to
    make a request on some text. The texts are those below and those of
    crates/wgsl_test_memory/data/texts.txt. It is run at the top of the repository, and linked with
    --wrap of malloc, realloc and free. */

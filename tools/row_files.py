@@ -15,7 +15,7 @@ class Unread(Exception):
 
 @dataclass
 class Field:
-    """A line of a row: its words, and the text behind them, or else the last word."""
+    """A line of a row: its words, and the text after them, or else the last word."""
 
     words: str
     value: bytes
@@ -69,7 +69,7 @@ def text_of(quoted):
         if not piece:
             raise ValueError("a text does not end")
         parts = ESCAPE.split(piece[1])
-        # each second part is what stood behind a `\`
+        # each second part is what stood after a `\`
         plain = [it.encode() for it in parts[::2]]
         others = [escaped(it) for it in parts[1::2]]
         text = plain[0] + b"".join(a + b for a, b in zip(others, plain[1:]))
@@ -92,7 +92,7 @@ def add_line(row, line):
 
 
 def rows_of(path):
-    """The rows of a file, in order. Comment lines with no row behind them are remarks."""
+    """The rows of a file, in order. Comment lines with no row after them are remarks."""
     rows, row = [], None
     lines = [*path.read_bytes().decode().split("\n"), ""]
     for number, line in enumerate(map(str.strip, lines), 1):

@@ -33,7 +33,7 @@ def is_variant(form):
 
 
 def fields_of(form):
-    """What a node holds, behind its variants."""
+    """What a node holds, inside its variants."""
     while is_variant(form):
         form = next(iter(form.values()))
     return form
