@@ -1,5 +1,5 @@
 #!/usr/bin/env python3
-"""Writes the rules of the dialect that is recognised alone as steps over tokens.
+"""Writes the rules of the language that is recognised and not parsed as steps over tokens.
 
 Run it at the top of the repository, and lay out what it wrote by `rt fmt`:
 
@@ -259,9 +259,9 @@ def answers(found, parts):
 
 def main(crate):
     classes = re.findall(r"^(\w+) = \d+$", (MODEL / "Tokens" / "Classes.antt").read_text(), re.M)
-    tables = Tables(rules(THEORY, "whole"))
+    tables = Tables(rules(THEORY, "parsed"))
     steps = Steps(tables, {c: i for i, c in enumerate(classes)})
-    every = {n: steps.of(g) for n, g in rules(THEORY, "alone").items()}
+    every = {n: steps.of(g) for n, g in rules(THEORY, "recognized").items()}
     every[OPENED] = opened(every[OPENED], every)
     needed = reached(every, ("of", "unit"))
     found = {n: s for n, s in every.items() if n in needed}

@@ -16,8 +16,8 @@ from pathlib import Path
 
 MODEL = Path("crates/wgsl_model/specs")
 PARTS = ["ExpressionParts", "StatementParts", "UnitParts", "Written"]
-# the whole language, and the dialect of a text that is recognised alone
-DIALECTS = ["whole", "alone"]
+# the language that is parsed, and the smaller one of a text that is recognised and not parsed
+DIALECTS = ["parsed", "recognized"]
 
 # the operators of the notation: how tightly each binds, and on which side it associates
 OPERATORS = {
@@ -443,7 +443,7 @@ class Writer:
 
 def main():
     theory = Path(sys.argv[1])
-    tables = Tables(rules(theory, "whole"))
+    tables = Tables(rules(theory, "parsed"))
     found = [(n, text) for n, g in tables.table.items() for text in tables.conflicts(g)]
     for n, text in found:
         print(f"{n[1]}: {text}")

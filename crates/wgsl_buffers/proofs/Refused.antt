@@ -1,4 +1,4 @@
--- What is told of an error that is answered of a text.
+-- What is told of an error that is returned of a text.
 use Rattle.std.proofs.Common.{◌≡◌, ◌⊎◌, inl, inr, ℕ, List, length, ap, subst}
 use Rattle.std.specs.Str.{chars}
 use Rattle.grammar.specs.Tokens.{Fault}
@@ -10,7 +10,7 @@ use Rattle.wgsl_read_cursor.specs.Places.{StandsWithin}
 use Rattle.wgsl_buffers.specs.declared.answer.Answer.{Answer}
 use Rattle.wgsl_buffers.specs.Answers.{TellsError, Refuses}
 
--- an error that is no want of memory is what else it may be
+-- an error other than a failed allocation is one of the other kinds
 other : {A : Type 0} (e : Error) → ¬ (e.error ≡ kinds.OutOfMemory) → IsOutOfMemory e ⊎ A → A
 other e not (inl is) = absurd (not (ap (λ (x : Error). x.error) is))
 other e not (inr a) = a

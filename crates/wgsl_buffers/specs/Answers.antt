@@ -1,4 +1,4 @@
--- What a call answers of a text.
+-- What a call returns of a text.
 use Rattle.std.specs.Prelude.{◌≡◌, ◌⊎◌, ℕ, ◌<◌, List, [], ◌∷◌, ◌++◌, length, take, flat_map}
 use Rattle.std.specs.Str.{IsUtf8, IsValidUpTo, chars}
 use Rattle.grammar.specs.Tokens.{Fault}
@@ -29,7 +29,7 @@ Lacks text before room a = (a ≡ counted (length text)) × (length before < len
 abbrev pub IsNoText : List ℕ → Answer → Type 0
 IsNoText bytes a = ¬ (IsUtf8 bytes) × IsValidUpTo bytes a.start × (a ≡ at_place a.start)
 
--- a text with a byte 0 behind it
+-- a text with a byte 0 after it
 abbrev pub nul_terminated : List ℕ → List ℕ
 nul_terminated text = text ++ (0 ∷ [])
 

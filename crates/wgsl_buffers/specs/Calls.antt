@@ -77,7 +77,7 @@ pub record WritesLists (text : List ℕ) (room : List Place) (answer : Answer) (
   pub status : (result ≡ 0) ⊎ ((2 ≤ result) × (result ≤ 4))
   pub reads : Reads text answer result
 
--- whether a text begins with a template list, behind blank space and comments
+-- whether a text begins with a template list, after blank space and comments
 pub record FindsList (text : List ℕ) (answer : Answer) (result : ℕ) : Type 0 where
   pub found : result ≡ 0 → (BeginsWithList (chars text) × (answer ≡ counted 1)) ⊎ (¬ (BeginsWithList (chars text)) × (answer ≡ counted 0))
   pub status : (result ≡ 0) ⊎ ((result ≡ 2) ⊎ (result ≡ 3))

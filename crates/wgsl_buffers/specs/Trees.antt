@@ -13,6 +13,6 @@ symbol_of n = if n == 0 then unit else if n == 1 then global_directive else if n
 abbrev pub IsTree : Symbol → List ℕ → Type 0
 IsTree n source = (v : Value n) × IsTreeOf n source v
 
--- what is answered of a source where its tree is written: Ok only where it derives one; else that memory was refused, or the fault that is named; either stands in the text or ends one byte past it
+-- what is returned of a source where its tree is written: Ok only where it derives one; else that memory was refused, or the fault that is named; either stands in the text or ends one byte past it
 abbrev pub IsReadTree : {X : Type 0} → Symbol → List ℕ → Result X Error → Type 0
 IsReadTree n source result = IsRead n (λ _. IsTree n (chars source)) source result

@@ -1,4 +1,4 @@
-//! What a call answers: a status, and the rest in memory of the caller's.
+//! What a call returns: a status, and the rest in memory of the caller's.
 
 ghost use Rattle.std.specs.Prelude.{◌≡◌, ◌⊎◌, ◌<◌, false, true, length, take, MatchOption};
 ghost use Rattle.std.specs.Str.{IsUtf8};
@@ -23,7 +23,7 @@ pub const TOO_SMALL: u32 = 4;
 /// No tree has the number that was asked for.
 pub const UNKNOWN: u32 = 5;
 
-/// What a call answers beside its status. A number that does not go with the status is 0.
+/// What a call returns beside its status. A number that does not go with the status is 0.
 #[repr(C)]
 #[derive(Clone, Copy, Debug, PartialEq, Eq)]
 pub struct Answer {

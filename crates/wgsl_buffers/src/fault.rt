@@ -1,4 +1,4 @@
-//! Faults: their kinds as numbers, and their texts one behind another.
+//! Faults: their kinds as numbers, and their texts one after another.
 
 ghost use Rattle.std.specs.Prelude.{◌≡◌, ◌⊎◌, ◌++◌, IfOk, OnOk, map, flat_map, string_bytes};
 ghost use Rattle.wgsl_error.specs.View.{kind_number, expected_texts};
@@ -37,7 +37,7 @@ fn expected_of(kind: &ErrorKind) -> &[String]
     }
 }
 
-/// Adds texts, with a byte 0 behind each.
+/// Adds texts, with a byte 0 after each.
 fn push_texts(texts: &mut String, more: &[String]) -> Result<(), AllocError>
     ensures { let added = flat_map nul_terminated (map string_bytes more.now) in
         OnOk result (string_bytes texts.new ≡ string_bytes texts.old ++ added) }
@@ -49,7 +49,7 @@ fn push_texts(texts: &mut String, more: &[String]) -> Result<(), AllocError>
     Ok(())
 }
 
-/// The message, then each text that was expected, with a byte 0 behind each.
+/// The message, then each text that was expected, with a byte 0 after each.
 fn texts_of(alloc: Global, kind: &ErrorKind) -> Result<String, AllocError>
     ensures { IfOk result (λ texts. string_bytes texts ≡ fault_texts kind.now) }
 {

@@ -17,7 +17,7 @@ pub struct Place {
     pub end: usize,
 }
 
-/// Whether a text begins with a template list, behind blank space and comments: the answer has size
+/// Whether a text begins with a template list, after blank space and comments: the answer has size
 /// 1 where it does.
 pub fn begins_with_list(alloc: Global, text: &[u8], answer: &mut Answer) -> u32
     ensures { FindsList text.now answer.new result }
@@ -51,7 +51,7 @@ fn fill(templates: &Templates, size: usize, room: &mut [Place]) -> usize
     count
 }
 
-/// Where each template list of a text starts, at its `<`, and where the text behind it begins: as
+/// Where each template list of a text starts, at its `<`, and where the text after it begins: as
 /// many as fit, in the order of their starts, and how many there are.
 pub fn write_lists(alloc: Global, text: &[u8], room: &mut [Place], answer: &mut Answer) -> u32
     ensures { WritesLists text.now room.new answer.new result }

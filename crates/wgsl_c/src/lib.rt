@@ -88,7 +88,7 @@ pub extern "C" fn wgsl_c_lists(
     wgsl_buffers::write_lists(alloc, text, room, answer)
 }
 
-/// Whether a text begins with a template list, behind blank space and comments.
+/// Whether a text begins with a template list, after blank space and comments.
 #[unsafe(no_mangle)]
 pub extern "C" fn wgsl_c_begins_with_list(alloc: Global, text: &[u8], answer: &mut Answer) -> u32
     ensures { FindsList text.now answer.new result }

@@ -4,7 +4,7 @@ use Rattle.std.specs.Prelude.{◌==◌, MatchOption, ⊤}
 use Rattle.std.specs.Borrow.{Bor}
 use Rattle.std.proofs.lemmas.Bool.{cond-false, ne_eqb}
 use Rattle.wgsl_model.specs.Tokens.Characters.{is_blank, is_line_break}
-use Rattle.wgsl_model.specs.Tokens.Trivia.{Place, after_trivia, outside, in_line, in_block, closed, first_or_zero}
+use Rattle.wgsl_model.specs.Tokens.Trivia.{Place, after_trivia, outside, in_line, in_block, out_of_block, first_or_zero}
 use Rattle.wgsl_theory_grammar.proofs.Tokens.Cuts.{EndsWith, joined}
 use Rattle.wgsl_lex_comments.specs.declared.trivia.Front.{Front}
 use Rattle.wgsl_lex_comments.specs.declared.trivia.Front.TheVariants as front
@@ -52,7 +52,7 @@ pub goes_in : (n : ℕ) (body : List ℕ) → after_trivia (in_block n) (47 ∷ 
 unfolding after_trivia
 goes_in n body = refl
 
-pub goes_out : (n : ℕ) (body : List ℕ) → after_trivia (in_block n) (42 ∷ (47 ∷ body)) ≡ after_trivia (closed n) body
+pub goes_out : (n : ℕ) (body : List ℕ) → after_trivia (in_block n) (42 ∷ (47 ∷ body)) ≡ after_trivia (out_of_block n) body
 unfolding after_trivia
 goes_out n body = refl
 
@@ -63,7 +63,7 @@ none_left p q [] e = refl
 none_left p q (c ∷ cs) e = absurd cc
 
 -- behind the end of a comment that stands in others
-pub closed_deeper : (m n : ℕ) → m ≡ suc n → closed m ≡ in_block n
+pub closed_deeper : (m n : ℕ) → m ≡ suc n → out_of_block m ≡ in_block n
 closed_deeper m n e = rw e refl
 
 pub one_less : (n d : ℕ) → (d ≡ 0 → ⊥) → n + d ≡ suc (n + (d - 1))

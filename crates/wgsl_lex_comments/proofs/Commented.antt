@@ -4,7 +4,7 @@ use Rattle.std.specs.Str.{IsUtf8, IsCharBoundary}
 use Rattle.std.proofs.lemmas.Cmp.{ranked}
 use Rattle.std.specs.Ordering.{nat_cmp}
 use Rattle.wgsl_model.specs.Tokens.Places.{width}
-use Rattle.wgsl_model.specs.Tokens.Trivia.{after_trivia, outside, in_line, in_block, closed}
+use Rattle.wgsl_model.specs.Tokens.Trivia.{after_trivia, outside, in_line, in_block, out_of_block}
 use Rattle.wgsl_lex_comments.specs.declared.comments.Comment.{Comment}
 use Rattle.wgsl_lex_comments.specs.declared.comments.Known.{Known}
 use Rattle.wgsl_lex_comments.specs.Comments.{BeginsAt, Leaves, IsCommentOf, IsKnownOf, IsKnown, AreComments, AreLeft, second_of}
@@ -81,7 +81,7 @@ unfolding after_trivia
 in_same_line body over l = l.line body refl
 
 -- how a comment is left, by its sign
-pub leaves_block : (body over : List ℕ) → ((n : ℕ) → after_trivia (closed n) over ≡ after_trivia (in_block n) body) → Leaves (47 ∷ (42 ∷ body)) over
+pub leaves_block : (body over : List ℕ) → ((n : ℕ) → after_trivia (out_of_block n) over ≡ after_trivia (in_block n) body) → Leaves (47 ∷ (42 ∷ body)) over
 leaves_block body over h = record { line = λ other e. absurd cc; block = λ other n e. h n ∙ ap (after_trivia (in_block n)) (tail body other e) } where
   tail : (xs ys : List ℕ) → 47 ∷ (42 ∷ xs) ≡ 47 ∷ (42 ∷ ys) → xs ≡ ys
   tail xs ys e = cc

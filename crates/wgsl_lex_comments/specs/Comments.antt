@@ -1,7 +1,7 @@
 -- What is known of the comments of a source.
 use Rattle.std.specs.Prelude.{◌≡◌, ◌<◌, ⊤, ℕ, suc, Bool, true, false, List, [], ◌∷◌, ◌++◌, chars, length}
 use Rattle.wgsl_model.specs.Tokens.Places.{width}
-use Rattle.wgsl_model.specs.Tokens.Trivia.{after_trivia, outside, in_line, in_block, closed}
+use Rattle.wgsl_model.specs.Tokens.Trivia.{after_trivia, outside, in_line, in_block, out_of_block}
 use Rattle.wgsl_theory_grammar.proofs.Tokens.Cuts.{EndsWith}
 use Rattle.wgsl_lex_comments.specs.declared.comments.Comment.{Comment}
 use Rattle.wgsl_lex_comments.specs.declared.comments.Known.{Known}
@@ -17,7 +17,7 @@ BeginsAt source place text = (before : List ℕ) × (source ≡ before ++ text) 
 -- behind the comment that begins a text there is this one: a line comment ends where its line does, a block comment behind the sign that closes it, in however many others it stands
 pub record Leaves (text over : List ℕ) : Type 0 where
   pub line : (body : List ℕ) → text ≡ 47 ∷ (47 ∷ body) → after_trivia outside over ≡ after_trivia in_line body
-  pub block : (body : List ℕ) (n : ℕ) → text ≡ 47 ∷ (42 ∷ body) → after_trivia (closed n) over ≡ after_trivia (in_block n) body
+  pub block : (body : List ℕ) (n : ℕ) → text ≡ 47 ∷ (42 ∷ body) → after_trivia (out_of_block n) over ≡ after_trivia (in_block n) body
 
 -- the comment that begins a text, by its places, behind which and behind the blank space and the comments there a text is left
 pub record IsCommentOf (source text rest : List ℕ) (comment : Comment) : Type 0 where
@@ -62,7 +62,7 @@ abbrev pub IsStep : List ℕ → List ℕ → Step → Type 0
 IsStep source text (step.Ends) = text ≡ []
 IsStep source text (step.Goes rest) = EndsWith source (chars rest.now) × ((n : ℕ) → after_trivia (in_block n) (chars rest.now) ≡ after_trivia (in_block n) text)
 IsStep source text (step.Opens rest) = EndsWith source (chars rest.now) × ((n : ℕ) → after_trivia (in_block (suc n)) (chars rest.now) ≡ after_trivia (in_block n) text)
-IsStep source text (step.Closes rest) = EndsWith source (chars rest.now) × ((n : ℕ) → after_trivia (closed n) (chars rest.now) ≡ after_trivia (in_block n) text)
+IsStep source text (step.Closes rest) = EndsWith source (chars rest.now) × ((n : ℕ) → after_trivia (out_of_block n) (chars rest.now) ≡ after_trivia (in_block n) text)
 
 -- of a text of so many bytes fewer are left behind it
 abbrev pub IsShorterStep : ℕ → Step → Type 0

@@ -8,7 +8,7 @@ use Rattle.wgsl_model.specs.Tokens.Numbers.{whole_number, i_suffix, u_suffix, ab
 use Rattle.wgsl_model.specs.Tokens.Pattern.{Pattern, empty}
 use Rattle.wgsl_model.proofs.Tokens.Characters.{other_than}
 use Rattle.wgsl_lex_scanner.specs.Digits.{skip_while, skip_digits, read_digits}
-use Rattle.wgsl_lex_scanner.specs.ScannedNumbers.{NumericLiteral, whole, float, as_optional_float, zero_alone, float_suffix, exponent_digits, scan_exponent, fraction_end, fraction, decimal_float, point, hexadecimal_fraction_end, hexadecimal_fraction, hexadecimal_point, suffixed, float_or, decimal, hexadecimal_end, scan_hexadecimal, after_zero}
+use Rattle.wgsl_lex_scanner.specs.ScannedNumbers.{NumericLiteral, integer, float, as_optional_float, zero_alone, float_suffix, exponent_digits, scan_exponent, fraction_end, fraction, decimal_float, point, hexadecimal_fraction_end, hexadecimal_fraction, hexadecimal_point, suffixed, float_or, decimal, hexadecimal_end, scan_hexadecimal, after_zero}
 use Rattle.wgsl_lex_scanner.proofs.Walk.{at_code, IsPast, past}
 use Rattle.wgsl_lex_scanner.proofs.CharacterClasses.{is_digit-decimal, is_digit-hexadecimal, skip_digits-is}
 use Rattle.wgsl_lex_scanner.proofs.Classed.{after_each, longest_of, longest-nil, longest-stop, longest-go, longest-try, longest-must, longest-alone, longest-run}
@@ -171,7 +171,7 @@ zero_digits-longest s =
 
 -- the class of a number and what follows it
 abbrev pub class_and_rest : NumericLiteral × List ℕ → ℕ × List ℕ
-class_and_rest ((whole class kind), rest) = (class, rest)
+class_and_rest ((integer class kind), rest) = (class, rest)
 class_and_rest ((float class), rest) = (class, rest)
 
 digits-step : (c : ℕ) → is_ascii_digit c ≡ true → after_each c digits_left ≡ digits_left

@@ -12,7 +12,7 @@ use Rattle.wgsl_model.specs.Tokens.Pattern.{Pattern, empty, either, spells, afte
 use Rattle.wgsl_model.specs.Tokens.Raw.{raw_at, kind_of_spelling, valued, front}
 use Rattle.wgsl_model.specs.Tokens.Spelling.{spelling}
 use Rattle.wgsl_lex_scanner.specs.Digits.{skip_digits, read_digits}
-use Rattle.wgsl_lex_scanner.specs.ScannedNumbers.{NumericLiteral, whole, float, number_by_class, number_kind, as_optional_float, suffixed, float_or, decimal_float, point, decimal, hexadecimal_float, hexadecimal_point, scan_hexadecimal, zero_alone, after_zero, number}
+use Rattle.wgsl_lex_scanner.specs.ScannedNumbers.{NumericLiteral, integer, float, number_by_class, number_kind, as_optional_float, suffixed, float_or, decimal_float, point, decimal, hexadecimal_float, hexadecimal_point, scan_hexadecimal, zero_alone, after_zero, number}
 use Rattle.wgsl_lex_scanner.specs.Scanning.{numbered}
 use Rattle.wgsl_lex_scanner.proofs.Bytes.{without_last-append}
 use Rattle.wgsl_lex_scanner.proofs.Derivative.{after}
@@ -65,7 +65,7 @@ abbrev HasClass : ℕ → List (Pattern × ℕ) → NumericLiteral × List ℕ �
 HasClass c left found = (w : List ℕ) → first_spelled left w ≡ Some (class_and_rest found).0 → kind_of_spelling (c ∷ w) ≡ number_by_class (class_and_rest found).0 (c ∷ w)
 
 read_number : (c : ℕ) (cs : List ℕ) (left : List (Pattern × ℕ)) (found : NumericLiteral × List ℕ) → HasClass c left found → after_spelling spelling (c ∷ cs) ≡ Some found.1 → longest_of left cs ≡ Some (class_and_rest found) → IsValued (c ∷ cs) found → IsReadNumber c cs found
-read_number c cs left ((whole class kind), rest) known e h v =
+read_number c cs left ((integer class kind), rest) known e h v =
     let (is, cut) = of_class c cs left class rest known e (longest-cut left cs (class, rest) h) in
     (is ∙ ap (valued (c ∷ cs) rest) v, cut)
 read_number c cs left ((float class), rest) known e h v = of_class c cs left class rest known e (longest-cut left cs (class, rest) h)
@@ -75,7 +75,7 @@ after_first : (c : ℕ) (cs : List ℕ) (left : List (Pattern × ℕ)) (found : 
 after_first c cs left found e h = after_spelling-go spelling (union_of left) c cs found.1 e (after_spelling-union left cs ∙ ap rest_of h)
 
 rest_same : (found : NumericLiteral × List ℕ) → (class_and_rest found).1 ≡ found.1
-rest_same ((whole class kind), rest) = refl
+rest_same ((integer class kind), rest) = refl
 rest_same ((float class), rest) = refl
 
 value-number : (c : ℕ) (cs : List ℕ) → is_ascii_digit c ≡ true → kind_of_spelling (c ∷ cs) ≡ number_of (c ∷ cs)

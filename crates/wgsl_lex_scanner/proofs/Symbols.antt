@@ -6,7 +6,7 @@ use Rattle.unicode_ident.proofs.IdentLemmas.{is_xid_start-ascii}
 use Rattle.wgsl_model.specs.Tokens.Classes.{SymAnd, SymAndAnd, SymArrow, SymAttr, SymForwardSlash, SymBang, SymBracketLeft, SymBracketRight, SymBraceLeft, SymBraceRight, SymColon, SymComma, SymEqual, SymEqualEqual, SymNotEqual, SymGreaterThan, SymGreaterThanEqual, SymShiftRight, SymLessThan, SymLessThanEqual, SymShiftLeft, SymModulo, SymMinus, SymMinusMinus, SymPlus, SymPlusPlus, SymOr, SymOrOr, SymParenLeft, SymParenRight, SymSemicolon, SymStar, SymTilde, SymXor, SymPlusEqual, SymMinusEqual, SymTimesEqual, SymDivisionEqual, SymModuloEqual, SymAndEqual, SymOrEqual, SymXorEqual, SymShiftRightAssign, SymShiftLeftAssign, symbols}
 use Rattle.wgsl_model.specs.Tokens.Pattern.{Pattern, empty, both, either, code, after_spelling}
 use Rattle.wgsl_model.specs.Tokens.Raw.{raw_at, kind_of_spelling, token}
-use Rattle.wgsl_model.specs.Tokens.Spelling.{spelling, symbol}
+use Rattle.wgsl_model.specs.Tokens.Spelling.{spelling, syntactic_token}
 use Rattle.wgsl_model.specs.Tokens.Words.{look_up}
 use Rattle.wgsl_lex_token.specs.View.{view_of_class}
 use Rattle.wgsl_lex_scanner.specs.Scanning.{with_equal, doubled, angle, symbol_at, symboled}
@@ -27,15 +27,15 @@ pub record IsSign (c : ℕ) : Type 0 where
 sign : (c : ℕ) → c < 128 → is_ascii_alphabetic c ≡ false → is_ascii_digit c ≡ false → (c == 95) ≡ false → (c == 48) ≡ false → (c == 46) ≡ false → IsSign c
 sign c small letter digit underscore zero point = record { not_start = is_xid_start-ascii c small ∙ letter; not_digit = digit; not_underscore = underscore; not_zero = zero; not_point = point }
 
-after-sign : (c : ℕ) → IsSign c → after c spelling ≡ after c symbol
+after-sign : (c : ℕ) → IsSign c → after c spelling ≡ after c syntactic_token
 after-sign c s = rw (s.not_start, s.not_underscore, s.not_digit, s.not_zero, s.not_point) refl
 
 value-sign : (c : ℕ) (cs : List ℕ) (class : ℕ) → IsSign c → look_up symbols (c ∷ cs) ≡ Some class → kind_of_spelling (c ∷ cs) ≡ Some (view_of_class class)
 value-sign c cs class s e = rw (s.not_start, s.not_underscore, s.not_digit, s.not_point, e) (ap (λ k. Some k) (sym (symbol-plain (c ∷ cs) class e)))
 
 -- the token of a symbol that is known
-known : (c : ℕ) (cs rest : List ℕ) (class : ℕ) → IsSign c → after_spelling (after c symbol) (cs ++ rest) ≡ Some rest → look_up symbols (c ∷ cs) ≡ Some class → raw_at (c ∷ (cs ++ rest)) ≡ token (view_of_class class) (c ∷ (cs ++ rest)) rest
-known c cs rest class s e l = found c cs rest (Some (view_of_class class)) (after_spelling-go spelling (after c symbol) c (cs ++ rest) rest (after-sign c s) e) (value-sign c cs class s l)
+known : (c : ℕ) (cs rest : List ℕ) (class : ℕ) → IsSign c → after_spelling (after c syntactic_token) (cs ++ rest) ≡ Some rest → look_up symbols (c ∷ cs) ≡ Some class → raw_at (c ∷ (cs ++ rest)) ≡ token (view_of_class class) (c ∷ (cs ++ rest)) rest
+known c cs rest class s e l = found c cs rest (Some (view_of_class class)) (after_spelling-go spelling (after c syntactic_token) c (cs ++ rest) rest (after-sign c s) e) (value-sign c cs class s l)
 
 -- the symbol at the front is the one that the scanner reads
 abbrev pub IsRead : ℕ → List ℕ → Type 0
@@ -43,7 +43,7 @@ IsRead c cs = raw_at (c ∷ cs) ≡ symboled (c ∷ cs) cs (symbol_at c cs)
 
 -- ---- no character goes on
 
-alone : (c : ℕ) (class : ℕ) → IsSign c → after c symbol ≡ empty → look_up symbols (c ∷ []) ≡ Some class → (cs : List ℕ) → raw_at (c ∷ cs) ≡ token (view_of_class class) (c ∷ cs) cs
+alone : (c : ℕ) (class : ℕ) → IsSign c → after c syntactic_token ≡ empty → look_up symbols (c ∷ []) ≡ Some class → (cs : List ℕ) → raw_at (c ∷ cs) ≡ token (view_of_class class) (c ∷ cs) cs
 alone c class s e l cs = known c [] cs class s (ap (λ r. after_spelling r cs) e ∙ after_spelling-empty cs) l
 
 -- ---- `=` may follow
@@ -52,14 +52,14 @@ abbrev equal_left : Pattern
 equal_left = either empty (code 61)
 
 -- no character, or one that does not go on
-stays : (r : Pattern) (c : ℕ) (cs : List ℕ) (class : ℕ) → IsSign c → after c symbol ≡ r → after_spelling r cs ≡ Some cs → look_up symbols (c ∷ []) ≡ Some class → raw_at (c ∷ cs) ≡ token (view_of_class class) (c ∷ cs) cs
+stays : (r : Pattern) (c : ℕ) (cs : List ℕ) (class : ℕ) → IsSign c → after c syntactic_token ≡ r → after_spelling r cs ≡ Some cs → look_up symbols (c ∷ []) ≡ Some class → raw_at (c ∷ cs) ≡ token (view_of_class class) (c ∷ cs) cs
 stays r c cs class s e stop l = known c [] cs class s (ap (λ q. after_spelling q cs) e ∙ stop) l
 
 -- one more character, which goes on
-goes : (r : Pattern) (c d : ℕ) (cs : List ℕ) (class : ℕ) → IsSign c → after c symbol ≡ r → after_spelling r (d ∷ cs) ≡ Some cs → look_up symbols (c ∷ d ∷ []) ≡ Some class → raw_at (c ∷ d ∷ cs) ≡ token (view_of_class class) (c ∷ d ∷ cs) cs
+goes : (r : Pattern) (c d : ℕ) (cs : List ℕ) (class : ℕ) → IsSign c → after c syntactic_token ≡ r → after_spelling r (d ∷ cs) ≡ Some cs → look_up symbols (c ∷ d ∷ []) ≡ Some class → raw_at (c ∷ d ∷ cs) ≡ token (view_of_class class) (c ∷ d ∷ cs) cs
 goes r c d cs class s e go l = known c (d ∷ []) cs class s (ap (λ q. after_spelling q (d ∷ cs)) e ∙ go) l
 
-equal-read : (c equal alone : ℕ) → IsSign c → after c symbol ≡ equal_left → look_up symbols (c ∷ []) ≡ Some alone → look_up symbols (c ∷ 61 ∷ []) ≡ Some equal → (cs : List ℕ) → raw_at (c ∷ cs) ≡ symboled (c ∷ cs) cs (Some (with_equal equal alone cs))
+equal-read : (c equal alone : ℕ) → IsSign c → after c syntactic_token ≡ equal_left → look_up symbols (c ∷ []) ≡ Some alone → look_up symbols (c ∷ 61 ∷ []) ≡ Some equal → (cs : List ℕ) → raw_at (c ∷ cs) ≡ symboled (c ∷ cs) cs (Some (with_equal equal alone cs))
 equal-read c equal alone s e l m [] = stays equal_left c [] alone s e (after_spelling-nil equal_left) l
 equal-read c equal alone s e l m (d ∷ ds) =
     let P : ℕ → Type 0 = λ d. raw_at (c ∷ d ∷ ds) ≡ symboled (c ∷ d ∷ ds) (d ∷ ds) (Some (with_equal equal alone (d ∷ ds))) in
@@ -71,7 +71,7 @@ equal-read c equal alone s e l m (d ∷ ds) =
 abbrev doubled_left : ℕ → Pattern
 doubled_left c = either empty (either (code c) (code 61))
 
-doubled-read : (c twice equal alone : ℕ) → IsSign c → (c == c) ≡ true → (61 == c) ≡ false → (c == 61) ≡ false → after c symbol ≡ doubled_left c → look_up symbols (c ∷ []) ≡ Some alone → look_up symbols (c ∷ c ∷ []) ≡ Some twice → look_up symbols (c ∷ 61 ∷ []) ≡ Some equal → (cs : List ℕ) → raw_at (c ∷ cs) ≡ symboled (c ∷ cs) cs (Some (doubled c twice equal alone cs))
+doubled-read : (c twice equal alone : ℕ) → IsSign c → (c == c) ≡ true → (61 == c) ≡ false → (c == 61) ≡ false → after c syntactic_token ≡ doubled_left c → look_up symbols (c ∷ []) ≡ Some alone → look_up symbols (c ∷ c ∷ []) ≡ Some twice → look_up symbols (c ∷ 61 ∷ []) ≡ Some equal → (cs : List ℕ) → raw_at (c ∷ cs) ≡ symboled (c ∷ cs) cs (Some (doubled c twice equal alone cs))
 doubled-read c twice equal alone s own other other' e l m n [] = stays (doubled_left c) c [] alone s e (after_spelling-nil (doubled_left c)) l
 doubled-read c twice equal alone s own other other' e l m n (d ∷ ds) =
     let P : ℕ → Type 0 = λ d. raw_at (c ∷ d ∷ ds) ≡ symboled (c ∷ d ∷ ds) (d ∷ ds) (Some (doubled c twice equal alone (d ∷ ds))) in
@@ -92,14 +92,14 @@ shift-longest shift_assign shift (d ∷ ds) =
     at_code 61 d P (after_spelling-go equal_left empty 61 ds ds refl (after_spelling-empty ds)) (λ no_equal.
     after_spelling-stop equal_left d ds (rw no_equal refl) refl ∙ rw no_equal refl)
 
-shift-read : (c shift_assign shift : ℕ) → IsSign c → after c (after c symbol) ≡ equal_left → look_up symbols (c ∷ c ∷ []) ≡ Some shift → look_up symbols (c ∷ c ∷ 61 ∷ []) ≡ Some shift_assign → (cs : List ℕ) → raw_at (c ∷ c ∷ cs) ≡ symboled (c ∷ c ∷ cs) (c ∷ cs) (Some (with_equal shift_assign shift cs))
-shift-read c shift_assign shift s e l m [] = known c (c ∷ []) [] shift s (after_spelling-go (after c symbol) equal_left c [] [] e (after_spelling-nil equal_left)) l
+shift-read : (c shift_assign shift : ℕ) → IsSign c → after c (after c syntactic_token) ≡ equal_left → look_up symbols (c ∷ c ∷ []) ≡ Some shift → look_up symbols (c ∷ c ∷ 61 ∷ []) ≡ Some shift_assign → (cs : List ℕ) → raw_at (c ∷ c ∷ cs) ≡ symboled (c ∷ c ∷ cs) (c ∷ cs) (Some (with_equal shift_assign shift cs))
+shift-read c shift_assign shift s e l m [] = known c (c ∷ []) [] shift s (after_spelling-go (after c syntactic_token) equal_left c [] [] e (after_spelling-nil equal_left)) l
 shift-read c shift_assign shift s e l m (d ∷ ds) =
     let P : ℕ → Type 0 = λ d. raw_at (c ∷ c ∷ d ∷ ds) ≡ symboled (c ∷ c ∷ d ∷ ds) (c ∷ d ∷ ds) (Some (with_equal shift_assign shift (d ∷ ds))) in
-    at_code 61 d P (known c (c ∷ 61 ∷ []) ds shift_assign s (after_spelling-go (after c symbol) equal_left c (61 ∷ ds) ds e (shift-longest 0 0 (61 ∷ ds))) m) (λ no_equal.
-    known c (c ∷ []) (d ∷ ds) shift s (after_spelling-go (after c symbol) equal_left c (d ∷ ds) (d ∷ ds) e (shift-longest 0 0 (d ∷ ds) ∙ rw no_equal refl)) l ∙ rw no_equal refl)
+    at_code 61 d P (known c (c ∷ 61 ∷ []) ds shift_assign s (after_spelling-go (after c syntactic_token) equal_left c (61 ∷ ds) ds e (shift-longest 0 0 (61 ∷ ds))) m) (λ no_equal.
+    known c (c ∷ []) (d ∷ ds) shift s (after_spelling-go (after c syntactic_token) equal_left c (d ∷ ds) (d ∷ ds) e (shift-longest 0 0 (d ∷ ds) ∙ rw no_equal refl)) l ∙ rw no_equal refl)
 
-angle-read : (c shift_assign shift equal alone : ℕ) → IsSign c → (c == c) ≡ true → (61 == c) ≡ false → after c symbol ≡ angle_left c → after c (after c symbol) ≡ equal_left → look_up symbols (c ∷ []) ≡ Some alone → look_up symbols (c ∷ 61 ∷ []) ≡ Some equal → look_up symbols (c ∷ c ∷ []) ≡ Some shift → look_up symbols (c ∷ c ∷ 61 ∷ []) ≡ Some shift_assign → (cs : List ℕ) → raw_at (c ∷ cs) ≡ symboled (c ∷ cs) cs (Some (angle c shift_assign shift equal alone cs))
+angle-read : (c shift_assign shift equal alone : ℕ) → IsSign c → (c == c) ≡ true → (61 == c) ≡ false → after c syntactic_token ≡ angle_left c → after c (after c syntactic_token) ≡ equal_left → look_up symbols (c ∷ []) ≡ Some alone → look_up symbols (c ∷ 61 ∷ []) ≡ Some equal → look_up symbols (c ∷ c ∷ []) ≡ Some shift → look_up symbols (c ∷ c ∷ 61 ∷ []) ≡ Some shift_assign → (cs : List ℕ) → raw_at (c ∷ cs) ≡ symboled (c ∷ cs) cs (Some (angle c shift_assign shift equal alone cs))
 angle-read c shift_assign shift equal alone s own other e f l m n o [] = stays (angle_left c) c [] alone s e (after_spelling-nil (angle_left c)) l
 angle-read c shift_assign shift equal alone s own other e f l m n o (d ∷ ds) =
     let P : ℕ → Type 0 = λ d. raw_at (c ∷ d ∷ ds) ≡ symboled (c ∷ d ∷ ds) (d ∷ ds) (Some (angle c shift_assign shift equal alone (d ∷ ds))) in
@@ -113,7 +113,7 @@ sign_45 : IsSign 45
 sign_45 = sign 45 (lit< tt) refl refl refl refl refl
 
 abbrev minus_left : Pattern
-minus_left = after 45 symbol
+minus_left = after 45 syntactic_token
 
 minus-read : (cs : List ℕ) → IsRead 45 cs
 minus-read [] = stays minus_left 45 [] SymMinus sign_45 refl (after_spelling-nil minus_left) refl

@@ -24,9 +24,9 @@ float_class (float_type.F16) = class.F16
 
 -- a number that was read
 abbrev pub number_view : NumericLiteral → scanned.NumericLiteral
-number_view (read.AbstractInt value) = scanned.whole class.AbstractInt (option_map (whole_kind class.AbstractInt) value)
-number_view (read.I32 value) = scanned.whole class.I32 (option_map (whole_kind class.I32) value)
-number_view (read.U32 value) = scanned.whole class.U32 (option_map (λ n. whole_kind class.U32 (pos n)) value)
+number_view (read.AbstractInt value) = scanned.integer class.AbstractInt (option_map (whole_kind class.AbstractInt) value)
+number_view (read.I32 value) = scanned.integer class.I32 (option_map (whole_kind class.I32) value)
+number_view (read.U32 value) = scanned.integer class.U32 (option_map (λ n. whole_kind class.U32 (pos n)) value)
 number_view (read.Float float_type) = scanned.float (float_class float_type)
 
 -- a float's class and what follows it

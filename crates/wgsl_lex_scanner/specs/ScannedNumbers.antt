@@ -8,7 +8,7 @@ use Rattle.wgsl_lex_scanner.specs.Digits.{skip_digits, read_digits}
 
 -- a number of a class: a whole one, none where it does not fit its type, or a float
 pub data NumericLiteral : Type 0 where
-  whole : ℕ → Option Kind → NumericLiteral
+  integer : ℕ → Option Kind → NumericLiteral
   float : ℕ → NumericLiteral
 
 -- what the spelling of a number of a class stands for
@@ -22,7 +22,7 @@ number_by_class class word =
 
 -- what a number of this spelling stands for
 abbrev pub number_kind : NumericLiteral → List ℕ → Option Kind
-number_kind (whole class kind) word = kind
+number_kind (integer class kind) word = kind
 number_kind (float class) word = number_by_class class word
 
 -- a float and what follows it
@@ -97,11 +97,11 @@ hexadecimal_point (c ∷ cs) = if is_digit c 16 then Some (hexadecimal_fraction 
 
 -- a whole number of a value, by its suffix
 abbrev pub suffixed : ℕ → List ℕ → NumericLiteral × List ℕ
-suffixed n [] = (whole AbstractInt (number_below AbstractInt (2 ^ 63) n), [])
+suffixed n [] = (integer AbstractInt (number_below AbstractInt (2 ^ 63) n), [])
 suffixed n (c ∷ cs) =
-    if c == 105 then (whole I32 (number_below I32 (2 ^ 31) n), cs)
-    else if c == 117 then (whole U32 (number_below U32 (2 ^ 32) n), cs)
-    else (whole AbstractInt (number_below AbstractInt (2 ^ 63) n), c ∷ cs)
+    if c == 105 then (integer I32 (number_below I32 (2 ^ 31) n), cs)
+    else if c == 117 then (integer U32 (number_below U32 (2 ^ 32) n), cs)
+    else (integer AbstractInt (number_below AbstractInt (2 ^ 63) n), c ∷ cs)
 
 -- a float, or a whole number of a value
 abbrev pub float_or : Option (ℕ × List ℕ) → ℕ → List ℕ → NumericLiteral × List ℕ
@@ -126,7 +126,7 @@ scan_hexadecimal (c ∷ cs) =
 
 -- `0` alone
 abbrev pub zero_alone : List ℕ → NumericLiteral × List ℕ
-zero_alone text = (whole AbstractInt (number_below AbstractInt (2 ^ 63) 0), text)
+zero_alone text = (integer AbstractInt (number_below AbstractInt (2 ^ 63) 0), text)
 
 -- behind a first digit `0`
 abbrev pub after_zero : List ℕ → NumericLiteral × List ℕ

@@ -6,7 +6,7 @@ use Rattle.grammar.specs.Tables.{is_empty}
 use Rattle.wgsl_model.specs.Tokens.Classes.{LineComment, BlockComment}
 use Rattle.wgsl_model.specs.Tokens.Characters.{is_blank, is_line_break}
 use Rattle.wgsl_model.specs.Tokens.Places.{width}
-use Rattle.wgsl_model.specs.Tokens.Trivia.{Place, outside, in_line, in_block, second, closed, first_or_zero}
+use Rattle.wgsl_model.specs.Tokens.Trivia.{Place, outside, in_line, in_block, second, out_of_block, first_or_zero}
 
 -- the class of a block comment that is not closed, behind which a text ends; it stands behind the classes of tokens
 abbrev pub OpenComment : ℕ
@@ -52,7 +52,7 @@ comments behind in_line n (c ∷ cs) =
 comments behind (in_block depth) n [] = comment OpenComment n ∷ behind 0
 comments behind (in_block depth) n (c ∷ cs) =
     if c == 47 && first_or_zero cs == 42 then put c (comments behind (second (in_block (suc depth))) n cs)
-    else if c == 42 && first_or_zero cs == 47 then put c (comments behind (second (closed depth)) n cs)
+    else if c == 42 && first_or_zero cs == 47 then put c (comments behind (second (out_of_block depth)) n cs)
     else put c (comments behind (in_block depth) n cs)
 comments behind (second p) n [] = comment OpenComment n ∷ behind 0
 comments behind (second outside) n (c ∷ cs) = put c (comment BlockComment n ∷ comments behind outside 0 cs)

@@ -81,44 +81,44 @@ ident_read s t s' e =
     ]
 
 -- ---- the check
-no_fault : (t : Token) (span : Span) (severity : DiagnosticSeverity) → text_of t ≡ severity_text severity → severity_fault t span ≡ None
-no_fault t span severity e =
+no_fault : (t : Token) (severity : DiagnosticSeverity) → text_of t ≡ severity_text severity → severity_fault t ≡ None
+no_fault t severity e =
     let fault = diagnostic_severity (span_of_token t) in
     elim (cases (eqb t.class ReservedWord)) [
       | inl y ↦ cond_yes {A = Option Fault} (eqb t.class ReservedWord) None (fault_unless (look_up severities (text_of t)) fault) y
       | inr n ↦ cond_no {A = Option Fault} (eqb t.class ReservedWord) None (fault_unless (look_up severities (text_of t)) fault) n ∙ ap (λ (o : Option DiagnosticSeverity). fault_unless o fault) (known severity (text_of t) e)
     ]
 
-one_fault : (t : Token) (span : Span) → eqb t.class ReservedWord ≡ false → look_up severities (text_of t) ≡ None → severity_fault t span ≡ Some (diagnostic_severity (span_of_token t))
-one_fault t span n e =
+one_fault : (t : Token) → eqb t.class ReservedWord ≡ false → look_up severities (text_of t) ≡ None → severity_fault t ≡ Some (diagnostic_severity (span_of_token t))
+one_fault t n e =
     let fault = diagnostic_severity (span_of_token t) in
     cond_no {A = Option Fault} (eqb t.class ReservedWord) None (fault_unless (look_up severities (text_of t)) fault) n ∙ ap (λ (o : Option DiagnosticSeverity). fault_unless o fault) e
 
 -- ---- `diagnostic (` and a name
 -- a name that was read, as it is checked
-abbrev checked_from : ℕ → Read Token → Read Token
-checked_from start m = m >>= λ t left. judged (severity_fault t (span_from start left)) t left
+abbrev checked : Read Token → Read Token
+checked m = m >>= λ t left. judged (severity_fault t) t left
 
 -- the third token is the name
 third_is : (s s' s'' : State) (t u : Token) → take KwDiagnostic s ≡ done t s' → take SymParenLeft s' ≡ done u s'' → first_of s'' ≡ third_of s
 third_is s s' s'' t u e f = ap first_of (taken SymParenLeft s' u s'' f ∙ ap after (taken KwDiagnostic s t s' e))
 
 severity_read : (s s' s'' : State) (t u v : Token) (left : State) → take KwDiagnostic s ≡ done t s' → take SymParenLeft s' ≡ done u s'' → reader (of ident) s'' ≡ done v left
-    → reader (of Symbol.diagnostic_severity) s ≡ checked_from (next_start s) (done v left)
+    → reader (of Symbol.diagnostic_severity) s ≡ checked (done v left)
 severity_read s s' s'' t u v left e f g =
     let name : State → Read Token = reader (of ident) in
     let past : Token → Read Token → Read Token = λ a m. (m >>= λ b r. done (a, b) r) >>= λ (p : Token × Token) r. done p.1 r in
     step (of Symbol.diagnostic_severity) s
-    ∙ ap (λ (m : Read Token). checked_from (next_start s) (past_token (λ r. past_token name (take SymParenLeft r)) m)) e
-    ∙ ap (λ (m : Read Token). checked_from (next_start s) (past t (past_token name m))) f
-    ∙ ap (λ (m : Read Token). checked_from (next_start s) (past t (past u m))) g
+    ∙ ap (λ (m : Read Token). checked (past_token (λ r. past_token name (take SymParenLeft r)) m)) e
+    ∙ ap (λ (m : Read Token). checked (past t (past_token name m))) f
+    ∙ ap (λ (m : Read Token). checked (past t (past u m))) g
 
 -- a name of a severity is no fault
 pub severity_named : (s s' s'' : State) (t u : Token) (left : State) (severity : DiagnosticSeverity) → take KwDiagnostic s ≡ done t s' → take SymParenLeft s' ≡ done u s'' → reader (of ident) s'' ≡ done (first_of s'') left
     → text_of (first_of s'') ≡ severity_text severity → reader (of Symbol.diagnostic_severity) s ≡ done (third_of s) left
 severity_named s s' s'' t u left severity e f g h =
     severity_read s s' s'' t u (first_of s'') left e f g
-    ∙ ap (λ (o : Option Fault). judged o (first_of s'') left) (no_fault (first_of s'') (span_from (next_start s) left) severity h)
+    ∙ ap (λ (o : Option Fault). judged o (first_of s'') left) (no_fault (first_of s'') severity h)
     ∙ ap (λ (v : Token). done v left) (third_is s s' s'' t u e f)
 
 -- and it names that severity
@@ -133,5 +133,5 @@ pub severity_refused : (s s' s'' : State) (t u : Token) (left : State) → take 
 severity_refused s s' s'' t u left e f g n =
     let read = ident_read s'' (first_of s'') left g in
     severity_read s s' s'' t u (first_of s'') left e f g
-    ∙ ap (λ (o : Option Fault). judged o (first_of s'') left) (one_fault (first_of s'') (span_from (next_start s) left) read.0 (unknown (text_of (first_of s'')) n))
+    ∙ ap (λ (o : Option Fault). judged o (first_of s'') left) (one_fault (first_of s'') read.0 (unknown (text_of (first_of s'')) n))
     ∙ ap (λ (span : Span). stop (faulty (diagnostic_severity span))) read.1

@@ -7,7 +7,7 @@ use std::{fmt, io};
 use wgsl_parse::FromSource;
 use wgsl_parse::span::CloneWith;
 
-/// Prints what calls answer, each answer with a tab behind it. Once a print fails, or memory is
+/// Prints what calls return, each answer with a tab after it. Once a print fails, or memory is
 /// refused to what a call is given, no more calls are made and nothing more is printed.
 #[derive(Drop)]
 pub struct Line<'r, R> {
@@ -81,7 +81,7 @@ impl<'r, R: Print + AllocGlobal> Line<'r, R> {
         }
     }
 
-    /// Prints an answer, and tells whether it is a want of memory.
+    /// Prints an answer, and tells whether it is a failed allocation.
     pub fn is_refused<T: fmt::Debug + Drop, E: Refusal>(&mut self, answer: Result<T, E>) -> bool {
         let is_refused = answer
             .as_ref()
@@ -94,7 +94,7 @@ impl<'r, R: Print + AllocGlobal> Line<'r, R> {
         is_refused
     }
 
-    /// Prints what a call answers; behind a want of memory it is made again, of the same values.
+    /// Prints what a call returns; after a failed allocation it is made again, of the same values.
     pub fn call<T: fmt::Debug + Drop, E: Refusal, F: Fn() -> Result<T, E> + Drop>(
         &mut self,
         call: F,

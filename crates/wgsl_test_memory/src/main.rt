@@ -1,6 +1,6 @@
-//! Makes one call of the library on a text and prints what it answers, so that requests for memory
+//! Makes one call of the library on a text and prints what it returns, so that requests for memory
 //! can be refused one by one: the first line of the input names the call, and its text stands
-//! behind that line. No memory is taken but what the call takes and what it is given.
+//! after that line. No memory is taken but what the call takes and what it is given.
 #![tactic(auto)]
 
 mod copies;
@@ -27,7 +27,7 @@ fn invalid() -> io::Error {
     io::Error::from(ErrorKind::InvalidInput)
 }
 
-/// Fills the buffer with what the reader gives, and answers how long that is: shorter than the
+/// Fills the buffer with what the reader gives, and returns how long that is: shorter than the
 /// buffer.
 fn read_all<I: Read>(input: &mut I, buffer: &mut [u8]) -> io::Result<usize> {
     let mut length = 0usize;
@@ -44,7 +44,7 @@ fn read_all<I: Read>(input: &mut I, buffer: &mut [u8]) -> io::Result<usize> {
     Err(invalid())
 }
 
-/// Makes the call that the first line names on the text behind that line.
+/// Makes the call that the first line names on the text after that line.
 fn make_call<R: Print + AllocGlobal>(rt: &R, input: &[u8]) -> io::Result<()> {
     let input = std::str::from_utf8(input).map_err(|_| invalid())?;
     let (call, text) = input.split_once('\n').ok_or(invalid())?;

@@ -11,7 +11,7 @@ use wgsl_parse::parser::{
 use wgsl_parse::syntax::ModulePath;
 use wgsl_parse::tidy::tidy;
 
-/// Prints what a parser answers of the tokens of a text. What is called is the same value both
+/// Prints what a parser returns of the tokens of a text. What is called is the same value both
 /// times.
 macro_rules! parse {
     ($line:ident, $alloc:ident, $text:ident, $parser:ident) => {{

@@ -1,4 +1,4 @@
-//! Why a call gives nothing, and whether that is a want of memory.
+//! Why a call gives nothing, and whether that is a failed allocation.
 
 use std::alloc::AllocError;
 use std::fmt;

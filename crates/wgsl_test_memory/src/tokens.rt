@@ -63,12 +63,12 @@ fn copy_lists<R: Print + AllocGlobal>(line: &mut Line<'_, R>, text: &str) {
     }
 }
 
-/// Whether an item is a want of memory.
+/// Whether an item is a failed allocation.
 fn is_refusal(item: &Option<TokenItem>) -> bool {
     matches!(item, Some(Err((_, error, _))) if error.is_want_of_memory())
 }
 
-/// Prints what a lexer gives, and the `None` behind it; and what it gives behind a want of memory,
+/// Prints what a lexer gives, and the `None` after it; and what it gives after a failed allocation,
 /// unless that is nothing.
 fn tell_items<R: Print + AllocGlobal>(line: &mut Line<'_, R>, text: &str) {
     let Some(mut lexer) = line.given(Lexer::new(line.alloc(), text)) else {
@@ -77,9 +77,9 @@ fn tell_items<R: Print + AllocGlobal>(line: &mut Line<'_, R>, text: &str) {
     for _ in 0..=text.len() {
         let item = lexer.next();
         if is_refusal(&item) {
-            let behind = lexer.next();
-            if behind.is_some() {
-                line.tell(&behind);
+            let after = lexer.next();
+            if after.is_some() {
+                line.tell(&after);
             }
             return line.refuse();
         }

@@ -57,7 +57,7 @@ fn path_of<R: Print + AllocGlobal>(line: &mut Line<'_, R>, text: &str) -> Option
     line.given(path)
 }
 
-/// Prints what `push` answers, and the path behind it. A path that a refused call changed is
+/// Prints what `push` returns, and the path after it. A path that a refused call changed is
 /// printed too.
 fn push<R: Print + AllocGlobal>(line: &mut Line<'_, R>, text: &str) {
     let alloc = line.alloc();
@@ -73,7 +73,7 @@ fn push<R: Print + AllocGlobal>(line: &mut Line<'_, R>, text: &str) {
     line.tell(&path);
 }
 
-/// The path of the text with the text as two components behind it.
+/// The path of the text with the text as two components after it.
 fn joined(alloc: Global, text: &str) -> Result<ModulePath, ModulePathParseError> {
     let path = ModulePath::from_str(alloc, text)?;
     let mut names = Vec::new(alloc);

@@ -46,9 +46,9 @@ fn see_parts(path: &ModulePath, facts: &mut Facts<'_>) -> Result<(), AllocError>
 fn see_laws(path: &ModulePath, facts: &mut Facts<'_>) -> Result<(), AllocError> {
     facts.expect(path.starts_with(path), "a path starts with itself")?;
     let this = ModulePath::new(PathOrigin::Relative(0), Vec::new(facts.alloc));
-    let behind = joined(facts.alloc, path, &this)?;
-    let is_same = behind.is_some_and(|other| other == *path);
-    facts.expect(is_same, "`self` behind a path changes nothing")?;
+    let after = joined(facts.alloc, path, &this)?;
+    let is_same = after.is_some_and(|other| other == *path);
+    facts.expect(is_same, "`self` after a path changes nothing")?;
     let before = joined(facts.alloc, &this, path)?;
     let is_same = before.is_some_and(|other| other == *path);
     facts.expect(is_same, "`self` before a path changes nothing")

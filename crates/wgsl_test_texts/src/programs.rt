@@ -31,7 +31,7 @@ impl Call {
         }
     }
 
-    /// Makes it, and answers the status.
+    /// Makes it, and returns the status.
     pub fn status<R: Read, W: Write, E: Write>(
         self,
         alloc: Global,

@@ -1,9 +1,9 @@
 //! The lines of a row.
 
-use crate::text::text_behind_quote;
+use crate::text::text_after_quote;
 use std::alloc::{AllocError, Global};
 
-/// A line of a row, with the lines of text that go on behind it: its words, and what it says.
+/// A line of a row, with the lines of text that go on after it: its words, and what it says.
 #[derive(Drop)]
 pub struct Field<'f> {
     pub words: &'f str,
@@ -42,11 +42,11 @@ impl<'f> Row<'f> {
 
     /// Takes a line of words, with a text or without one, or a line of text alone.
     fn take(&mut self, line: &'f str) -> Result<(), AllocError> {
-        let Some((words, behind)) = line.split_once('"') else {
+        let Some((words, after)) = line.split_once('"') else {
             let (words, last) = line.rsplit_once(' ').unwrap_or((line, ""));
             return self.put(words, last.as_bytes());
         };
-        match text_behind_quote(self.alloc, behind)? {
+        match text_after_quote(self.alloc, after)? {
             Some(text) => self.put(words.trim_end(), &text),
             None => {
                 self.is_written = false;
@@ -55,7 +55,7 @@ impl<'f> Row<'f> {
         }
     }
 
-    /// Puts a value behind words, or behind the last value and a line end where there are none.
+    /// Puts a value after words, or after the last value and a line end where there are none.
     fn put(&mut self, words: &'f str, value: &[u8]) -> Result<(), AllocError> {
         match self.fields.last_mut() {
             Some(last) if words.is_empty() => {

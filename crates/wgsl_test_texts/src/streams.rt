@@ -11,7 +11,7 @@ const SHORT: usize = 256;
 /// In about how many pieces a longer text goes through them.
 const PIECES: usize = 4;
 
-/// What a call of a program answered, how often it read and wrote, and what it wrote.
+/// What a call of a program returned, how often it read and wrote, and what it wrote.
 #[derive(Drop)]
 struct Answer {
     status: u8,
@@ -51,7 +51,7 @@ struct Case<'c> {
 }
 
 impl Case<'_> {
-    /// What it answers with a reader and writers that have these calls.
+    /// What it returns with a reader and writers that have these calls.
     fn answer(self, reads: Calls, writes: Calls) -> Answer {
         let mut input = Source::new(self.source, reads);
         let mut output = Sink::new(self.alloc, writes);
@@ -122,7 +122,7 @@ impl Case<'_> {
     }
 }
 
-/// What a program answers and writes by its call `start`, and by `run` where that does the same.
+/// What a program returns and writes by its call `start`, and by `run` where that does the same.
 pub fn see_call(call: Call, source: &[u8], facts: &mut Facts<'_>) -> Result<(), AllocError> {
     let alloc = facts.alloc;
     let case = Case {

@@ -1,4 +1,4 @@
-//! Texts in quotes: pieces `"..."`, each with `* N` behind it where it stands N times, joined as
+//! Texts in quotes: pieces `"..."`, each with `* N` after it where it stands N times, joined as
 //! they are. A `\` begins `\n`, `\r`, `\t`, `\"`, `\\`, a byte `\xFF` or a character `\u{3000}`.
 
 use std::alloc::{AllocError, Global};
@@ -9,13 +9,13 @@ enum Place {
     Inside,
     Between,
     Escaped,
-    /// In a byte, behind its first digit if it is there.
+    /// In a byte, after its first digit if it is there.
     Byte(Option<u8>),
-    /// In a character, behind the brace with this number so far.
+    /// In a character, after the brace with this number so far.
     Character(Option<u32>),
     /// In a count of so many so far.
     Times(usize),
-    /// Behind something that is not written so.
+    /// After something that is not written so.
     Wrong,
 }
 
@@ -27,15 +27,15 @@ struct Pieces {
     whole: Vec<u8>,
 }
 
-/// The text of a line behind its first quote, if it is written as texts are.
-pub fn text_behind_quote(alloc: Global, text: &str) -> Result<Option<Vec<u8>>, AllocError> {
+/// The text of a line after its first quote, if it is written as texts are.
+pub fn text_after_quote(alloc: Global, text: &str) -> Result<Option<Vec<u8>>, AllocError> {
     let mut pieces = Pieces {
         place: Place::Inside,
         piece: Vec::new(alloc),
         whole: Vec::new(alloc),
     };
     for character in text.chars() {
-        pieces.place = pieces.behind(character)?;
+        pieces.place = pieces.place_after(character)?;
     }
     match pieces.place {
         Place::Between => pieces.repeat(1)?,
@@ -51,7 +51,7 @@ fn digit(character: char) -> Option<u8> {
 }
 
 impl Pieces {
-    /// Puts the last piece behind the others so many times.
+    /// Puts the last piece after the others so many times.
     fn repeat(&mut self, count: usize) -> Result<(), AllocError> {
         for _ in 0..count {
             self.whole.extend_from_slice(&self.piece)?;
@@ -67,8 +67,8 @@ impl Pieces {
         Ok(Place::Inside)
     }
 
-    /// Takes a character, and answers where the next one stands.
-    fn behind(&mut self, character: char) -> Result<Place, AllocError> {
+    /// Takes a character, and returns where the next one stands.
+    fn place_after(&mut self, character: char) -> Result<Place, AllocError> {
         match self.place {
             Place::Inside => match character {
                 '"' => Ok(Place::Between),

@@ -31,7 +31,7 @@ fn reads_a_text_to_its_end(rt: HostRuntime) -> Result<(), Fail> {
     Ok(())
 }
 
-/// Behind the fault that ends the tokens, a lexer and its copy give nothing.
+/// After the fault that ends the tokens, a lexer and its copy give nothing.
 #[test]
 fn a_copy_of_a_lexer_gives_what_is_left(rt: HostRuntime) -> Result<(), Fail> {
     let alloc = rt.alloc();

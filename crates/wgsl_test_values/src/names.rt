@@ -5,7 +5,7 @@ use std::test::Fail;
 use wgsl_parse::syntax::GlobalDeclaration;
 use wgsl_parse::{FromSource, SyntaxNode};
 
-/// The name that a node answers; no text where it answers none.
+/// The name that a node returns; no text where it returns none.
 fn name_of<T: SyntaxNode>(alloc: Global, node: &T) -> Result<String, AllocError> {
     match node.ident(alloc)? {
         Some(ident) => ident.to_string(alloc),
@@ -13,7 +13,7 @@ fn name_of<T: SyntaxNode>(alloc: Global, node: &T) -> Result<String, AllocError>
     }
 }
 
-/// The name that the node in a declaration answers.
+/// The name that the node in a declaration returns.
 fn inner_name(alloc: Global, declaration: &GlobalDeclaration) -> Result<String, AllocError> {
     match declaration {
         GlobalDeclaration::Void => Ok(String::new(alloc)),

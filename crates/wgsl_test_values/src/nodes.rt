@@ -1,4 +1,4 @@
-//! What blocks and members answer of themselves as syntax nodes.
+//! Blocks, members and declarations as syntax nodes.
 
 use crate::making::{assert_text, ident, size_and_align, ty};
 use std::alloc::{AllocError, Global};
@@ -7,7 +7,7 @@ use wgsl_span::{Span, Spanned};
 use wgsl_tree_attribute::Attribute;
 use wgsl_tree_node::SyntaxNode;
 use wgsl_tree_statement::{CompoundStatement, Statement};
-use wgsl_tree_unit::{StructMember, StructMemberNode};
+use wgsl_tree_unit::{Function, GlobalDeclaration, StructMember, StructMemberNode};
 
 /// A block `@const { }`.
 fn marked_block(alloc: Global) -> Result<CompoundStatement, AllocError> {
@@ -17,7 +17,7 @@ fn marked_block(alloc: Global) -> Result<CompoundStatement, AllocError> {
     Ok(block)
 }
 
-/// A block as a statement answers the attributes of the block.
+/// A block as a statement has the attributes of the block.
 #[test]
 fn attributes_of_a_block(rt: HostRuntime) -> Result<(), Fail> {
     let block = marked_block(rt.alloc())?;
@@ -28,6 +28,19 @@ fn attributes_of_a_block(rt: HostRuntime) -> Result<(), Fail> {
     assert!(rt; statement.attributes().is_empty());
     let text = "{\n\n}";
     assert_text(&rt, rt.alloc(), statement, Statement::clone, text)
+}
+
+/// A declaration made from a function has the attributes of the function.
+#[test]
+fn attributes_of_a_function(rt: HostRuntime) -> Result<(), Fail> {
+    let mut function = Function::new(rt.alloc(), ident(rt.alloc(), "f")?);
+    let attribute = Spanned::with_default_span(rt.alloc(), Attribute::Fragment)?;
+    function.attributes.push(attribute)?;
+    let declaration = GlobalDeclaration::from(function);
+    assert_eq!(rt; declaration.attributes().len(), 1);
+    assert!(rt; declaration.contains_attribute(&Attribute::Fragment));
+    let text = "@fragment\nfn f() {\n\n}";
+    assert_text(&rt, rt.alloc(), declaration, GlobalDeclaration::clone, text)
 }
 
 /// A member `@size(16) @align(4) x: f32`, with its attributes where that text has them.

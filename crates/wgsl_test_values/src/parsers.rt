@@ -9,7 +9,7 @@ use std::cell::Cell;
 use std::test::Fail;
 use wgsl_lex_token::kind::TokenKind;
 use wgsl_parse::error::{Error, ErrorKind, ParseError};
-use wgsl_parse::lexer::{Token, TokenItem, TokenIterator};
+use wgsl_parse::lexer::{Lexer, Token, TokenItem, TokenIterator};
 use wgsl_parse::parser::{
     ExpressionParser, GlobalDeclParser, GlobalDirectiveParser, LiteralParser, StatementParser,
     TranslationUnitParser, TryTemplateListParser, recognize_template_list,
@@ -23,7 +23,7 @@ enum Given {
     Name(&'static str),
     InvalidToken,
     Severity,
-    WantOfMemory,
+    FailedAllocation,
 }
 
 /// Gives what is listed, each with its start and its end, and counts how often it is asked.
@@ -61,7 +61,7 @@ impl Iterator for Listed<'_> {
             },
             Given::InvalidToken => Err(ParseError::LexerError),
             Given::Severity => Err(ParseError::DiagnosticSeverity),
-            Given::WantOfMemory => Err(ParseError::OutOfMemory),
+            Given::FailedAllocation => Err(ParseError::OutOfMemory),
         };
         Some(match token {
             Ok(token) => Ok((*start, token, *end)),
@@ -74,7 +74,7 @@ impl TokenIterator for Listed<'_> {
     ghost is_finite = { Prim.search rules };
 }
 
-/// The fault of an answer, told without what was expected.
+/// The error of a parser as text, without what was expected.
 fn told<T: Drop>(alloc: Global, answer: Result<T, Error>) -> Result<String, Fail> {
     let Some(error) = answer.err() else {
         return Err(Fail::new("no fault"));
@@ -126,6 +126,25 @@ fn faults_of_expressions(rt: HostRuntime) -> Result<(), Fail> {
     Ok(())
 }
 
+/// An error ends what is read: the comma after it is not asked for.
+#[test]
+fn nothing_is_asked_after_a_wrong_severity(rt: HostRuntime) -> Result<(), Fail> {
+    let asked = Cell::new(0u32);
+    let items = [
+        (0, Given::Name("a"), 1),
+        (5, Given::Severity, 9),
+        (9, Given::Kind(TokenKind::SymComma), 10),
+    ];
+    let tokens = Listed::new(rt.alloc(), &asked, &items);
+    let fault = told(
+        rt.alloc(),
+        ExpressionParser::new().parse(rt.alloc(), tokens),
+    )?;
+    assert_eq!(rt; fault.as_str(), "chars 5..9: invalid diagnostic severity");
+    assert_eq!(rt; asked.get(), 2);
+    Ok(())
+}
+
 #[test]
 fn no_tokens_end_too_early(rt: HostRuntime) -> Result<(), Fail> {
     let fault = fault_of_expression(rt.alloc(), &[])?;
@@ -149,15 +168,41 @@ fn fault_of_statement(alloc: Global, items: &[(usize, Given, usize)]) -> Result<
     told(alloc, StatementParser::new().parse(alloc, tokens))
 }
 
-/// The fault of an attribute without its argument stands before an error, but for a want of memory.
+/// The fault of the tokens, read as a declaration.
+fn fault_of_declaration(alloc: Global, items: &[(usize, Given, usize)]) -> Result<String, Fail> {
+    let asked = Cell::new(0u32);
+    let tokens = Listed::new(alloc, &asked, items);
+    told(alloc, GlobalDeclParser::new().parse(alloc, tokens))
+}
+
 #[test]
-fn errors_behind_an_attribute(rt: HostRuntime) -> Result<(), Fail> {
+fn faults_of_declarations(rt: HostRuntime) -> Result<(), Fail> {
+    for (token, wanted) in [
+        (
+            (0, Given::Kind(TokenKind::KwFn), usize::MAX),
+            "chars 18446744073709551615..18446744073709551615: unexpected end of file",
+        ),
+        (
+            (0, Given::Kind(TokenKind::LineComment), 2),
+            "chars 0..2: unexpected token `// line comment`",
+        ),
+    ] {
+        let fault = fault_of_declaration(rt.alloc(), &[token])?;
+        assert_eq!(rt; fault.as_str(), wanted);
+    }
+    Ok(())
+}
+
+/// An attribute without its argument is reported before a token that is invalid, but not before a
+/// failed allocation.
+#[test]
+fn errors_after_an_attribute(rt: HostRuntime) -> Result<(), Fail> {
     for (error, wanted) in [
         (
             Given::InvalidToken,
             "chars 0..6: invalid `align` attribute, expected 1 argument",
         ),
-        (Given::WantOfMemory, "chars 6..7: out of memory"),
+        (Given::FailedAllocation, "chars 6..7: out of memory"),
     ] {
         let items = [
             (0, Given::Kind(TokenKind::SymAttr), 1),
@@ -166,11 +211,13 @@ fn errors_behind_an_attribute(rt: HostRuntime) -> Result<(), Fail> {
         ];
         let fault = fault_of_statement(rt.alloc(), &items)?;
         assert_eq!(rt; fault.as_str(), wanted);
+        let fault = fault_of_declaration(rt.alloc(), &items)?;
+        assert_eq!(rt; fault.as_str(), wanted);
     }
     Ok(())
 }
 
-/// The second minus of `a--b` stands one byte behind the first, and places have a greatest.
+/// The second minus of `a--b` starts one byte after the first, unless that is the greatest place.
 #[test]
 fn greatest_places(rt: HostRuntime) -> Result<(), Fail> {
     let asked = Cell::new(0u32);
@@ -193,15 +240,15 @@ fn greatest_places(rt: HostRuntime) -> Result<(), Fail> {
     Ok(())
 }
 
-/// A want of memory, and a token behind it.
+/// A failed allocation, and a token after it.
 fn refused() -> [(usize, Given, usize); 2] {
     [
-        (0, Given::WantOfMemory, 0),
+        (0, Given::FailedAllocation, 0),
         (0, Given::Kind(TokenKind::SymSemicolon), 1),
     ]
 }
 
-fn wants_memory<T: Drop>(answer: Result<T, Error>) -> bool {
+fn is_out_of_memory<T: Drop>(answer: Result<T, Error>) -> bool {
     match answer.err() {
         Some(error) => error.error == ErrorKind::OutOfMemory,
         None => false,
@@ -209,33 +256,34 @@ fn wants_memory<T: Drop>(answer: Result<T, Error>) -> bool {
 }
 
 #[test]
-fn parsers_of_parts_stop_at_a_want_of_memory(rt: HostRuntime) {
+fn parsers_of_parts_stop_at_a_failed_allocation(rt: HostRuntime) {
     let alloc = rt.alloc();
     let asked = Cell::new(0u32);
     let items = refused();
     let literal = LiteralParser::new().parse(alloc, Listed::new(alloc, &asked, &items));
-    assert!(rt; wants_memory(literal));
+    assert!(rt; is_out_of_memory(literal));
     let list = TryTemplateListParser::new().parse(alloc, Listed::new(alloc, &asked, &items));
-    assert!(rt; wants_memory(list));
-    assert!(rt; wants_memory(recognize_template_list(alloc, Listed::new(alloc, &asked, &items))));
+    assert!(rt; is_out_of_memory(list));
+    let recognized = recognize_template_list(alloc, Listed::new(alloc, &asked, &items));
+    assert!(rt; is_out_of_memory(recognized));
     assert_eq!(rt; asked.get(), 3);
 }
 
 #[test]
-fn parsers_of_trees_stop_at_a_want_of_memory(rt: HostRuntime) {
+fn parsers_of_trees_stop_at_a_failed_allocation(rt: HostRuntime) {
     let alloc = rt.alloc();
     let asked = Cell::new(0u32);
     let items = refused();
     let unit = TranslationUnitParser::new().parse(alloc, Listed::new(alloc, &asked, &items));
-    assert!(rt; wants_memory(unit));
+    assert!(rt; is_out_of_memory(unit));
     let directive = GlobalDirectiveParser::new().parse(alloc, Listed::new(alloc, &asked, &items));
-    assert!(rt; wants_memory(directive));
+    assert!(rt; is_out_of_memory(directive));
     let declaration = GlobalDeclParser::new().parse(alloc, Listed::new(alloc, &asked, &items));
-    assert!(rt; wants_memory(declaration));
+    assert!(rt; is_out_of_memory(declaration));
     let statement = StatementParser::new().parse(alloc, Listed::new(alloc, &asked, &items));
-    assert!(rt; wants_memory(statement));
+    assert!(rt; is_out_of_memory(statement));
     let expression = ExpressionParser::new().parse(alloc, Listed::new(alloc, &asked, &items));
-    assert!(rt; wants_memory(expression));
+    assert!(rt; is_out_of_memory(expression));
     assert_eq!(rt; asked.get(), 5);
 }
 
@@ -275,7 +323,7 @@ fn a_reserved_word_in_a_template_list(rt: HostRuntime) -> Result<(), Fail> {
     Ok(())
 }
 
-/// A `<` behind no word is an operator.
+/// A `<` that does not follow a word is an operator.
 #[test]
 fn an_operator_is_no_template_list(rt: HostRuntime) -> Result<(), Fail> {
     let asked = Cell::new(0u32);
@@ -286,5 +334,9 @@ fn an_operator_is_no_template_list(rt: HostRuntime) -> Result<(), Fail> {
     assert_eq!(rt; fault.as_str(), "chars 0..1: unexpected token `<`");
     let tokens = Listed::new(rt.alloc(), &asked, &items);
     assert!(rt; recognize_template_list(rt.alloc(), tokens).is_err());
+    let tokens = Lexer::new(rt.alloc(), "<a>")?;
+    let span = TryTemplateListParser::new().parse(rt.alloc(), tokens);
+    let fault = told(rt.alloc(), span)?;
+    assert_eq!(rt; fault.as_str(), "chars 0..1: unexpected token `<`");
     Ok(())
 }

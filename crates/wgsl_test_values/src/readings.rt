@@ -1,4 +1,4 @@
-//! The parsers over the tokens of texts: each gives what its text gives, and asks nothing behind an
+//! The parsers over the tokens of texts: each gives what its text gives, and asks nothing after an
 //! error.
 
 use crate::making::assert_text;
@@ -68,16 +68,16 @@ fn assert_told<T: fmt::Display + PartialEq + CloneWith>(
 }
 
 /// A parser gives of the tokens of a text what the text gives: a tree or a fault with this text.
-/// Behind an error it asks nothing.
+/// After an error it asks nothing.
 fn assert_alike<T: Parsed>(
     rt: &impl Abort,
     alloc: Global,
     source: &str,
     text: &str,
 ) -> Result<(), Fail> {
-    let is_asked_behind = Cell::new(false);
-    let parsed = T::parsed(alloc, Watched::new(alloc, source, &is_asked_behind)?);
-    assert!(rt; !is_asked_behind.get(), "nothing is asked behind an error");
+    let is_asked_after = Cell::new(false);
+    let parsed = T::parsed(alloc, Watched::new(alloc, source, &is_asked_after)?);
+    assert!(rt; !is_asked_after.get(), "nothing is asked after an error");
     assert!(rt;
         parsed == T::from_str(alloc, source),
         "the tokens of {source:?}"
@@ -196,10 +196,10 @@ fn expressions_are_read_from_tokens(rt: HostRuntime) -> Result<(), Fail> {
 
 /// What is told of a literal of the tokens of a text.
 fn told_of_literal(rt: &impl Abort, alloc: Global, source: &str) -> Result<String, Fail> {
-    let is_asked_behind = Cell::new(false);
-    let tokens = Watched::new(alloc, source, &is_asked_behind)?;
+    let is_asked_after = Cell::new(false);
+    let tokens = Watched::new(alloc, source, &is_asked_after)?;
     let parsed = LiteralParser::new().parse(alloc, tokens);
-    assert!(rt; !is_asked_behind.get(), "nothing is asked behind an error");
+    assert!(rt; !is_asked_after.get(), "nothing is asked after an error");
     match parsed {
         Ok(literal) => Ok(literal.to_string(alloc)?),
         Err(error) => Ok(error.to_string(alloc)?),
@@ -227,20 +227,20 @@ fn literals_are_read_from_tokens(rt: HostRuntime) -> Result<(), Fail> {
     Ok(())
 }
 
-/// What is told of the template list behind the first token of a text.
+/// What is told of the template list after the first token of a text.
 fn told_of_list(rt: &impl Abort, alloc: Global, source: &str) -> Result<String, Fail> {
-    let is_asked_behind = Cell::new(false);
-    let mut tokens = Watched::new(alloc, source, &is_asked_behind)?;
+    let is_asked_after = Cell::new(false);
+    let mut tokens = Watched::new(alloc, source, &is_asked_after)?;
     tokens.next();
     let parsed = TryTemplateListParser::new().parse(alloc, tokens);
-    assert!(rt; !is_asked_behind.get(), "nothing is asked behind an error");
+    assert!(rt; !is_asked_after.get(), "nothing is asked after an error");
     match parsed {
         Ok(span) => Ok(format!(in alloc; "{}..{}", span.start, span.end)?),
         Err(error) => Ok(error.to_string(alloc)?),
     }
 }
 
-/// The lists stand behind a name. No list of a text has a checked fault.
+/// The lists stand after a name. No list of a text has a checked fault.
 #[test]
 fn template_lists_are_read_from_tokens(rt: HostRuntime) -> Result<(), Fail> {
     for (source, text) in [

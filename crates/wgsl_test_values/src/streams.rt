@@ -61,7 +61,7 @@ impl Narrow {
         }
     }
 
-    /// It holds the front of the text of this length, and nothing was tried behind the first fault.
+    /// It holds the front of the text of this length, and nothing was tried after the first fault.
     fn check(&self, rt: &impl Abort, text: &str, length: usize) {
         let case = (text, self.bytes_a_call, self.fault);
         assert_eq!(rt; self.taken.len(), length, "taken: {case:?}");

@@ -6,7 +6,7 @@ use std::test::Fail;
 use wgsl_parse::FromSource;
 use wgsl_span::Spanned;
 use wgsl_tree_attribute::Attribute;
-use wgsl_tree_expression::{Expression, FunctionCall, Ident, LiteralExpression};
+use wgsl_tree_expression::{Expression, FunctionCall, Ident, LiteralExpression, TypeExpression};
 use wgsl_tree_statement::{
     CompoundStatement, ConstAssert, Declaration, DeclarationKind, ForStatement,
     FunctionCallStatement, ReturnStatement, Statement, StatementNode, WhileStatement,
@@ -58,6 +58,19 @@ fn a_name_with_a_line_end_is_indented_in_a_structure(rt: HostRuntime) -> Result<
     let structure = structure(rt.alloc())?;
     let text = "struct S {\n    b\n    c: T\n}";
     assert_text(&rt, rt.alloc(), structure, Struct::clone, text)
+}
+
+#[test]
+fn a_type_by_itself_is_printed(rt: HostRuntime) -> Result<(), Fail> {
+    let name = ty(rt.alloc(), "foo")?;
+    assert_text(&rt, rt.alloc(), name, TypeExpression::clone, "foo")
+}
+
+#[test]
+fn a_block_by_itself_is_printed(rt: HostRuntime) -> Result<(), Fail> {
+    let block = block(rt.alloc(), call(rt.alloc(), "a\nb")?)?;
+    let text = "{\n    a\n    b();\n}";
+    assert_text(&rt, rt.alloc(), block, CompoundStatement::clone, text)
 }
 
 fn node(alloc: Global, statement: Statement) -> Result<StatementNode, AllocError> {

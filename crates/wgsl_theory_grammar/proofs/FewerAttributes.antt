@@ -5,7 +5,7 @@ use Rattle.grammar.specs.Notation.{◌then◌, ◌or◌, ◌gives◌, ◌▹◌,
 use Rattle.grammar.proofs.Reading.Depth.{Kept, roll, least}
 use Rattle.wgsl_model.specs.Trees.Attributes.{Attributes}
 use Rattle.wgsl_model.specs.Grammar.StatementParts.{leading, left_side}
-use Rattle.wgsl_model.specs.Grammar.Symbols.{Dialect.whole, Dialect.alone, Symbol, return_statement, call_statement, var_statement, value_statement, break_statement, continue_statement, discard_statement, assignment, phony_assignment, increment, decrement, const_assert, switch_clause, continuing_statement, const_declaration, alias_declaration, struct_declaration, enable_directive, requires_directive, diagnostic_directive, Rule}
+use Rattle.wgsl_model.specs.Grammar.Symbols.{Dialect.parsed, Dialect.recognized, Symbol, return_statement, call_statement, var_statement, value_statement, break_statement, continue_statement, discard_statement, assignment, phony_assignment, increment, decrement, const_assert, switch_clause, continuing_statement, const_declaration, alias_declaration, struct_declaration, enable_directive, requires_directive, diagnostic_directive, Rule}
 use Rattle.wgsl_model.specs.Grammar.Written.{written}
 use Rattle.wgsl_theory_grammar.specs.FewerAttributes.{fewer_attributes}
 use Rattle.wgsl_theory_grammar.proofs.Forms.Lifted.{WrittenRelation}
@@ -37,13 +37,13 @@ module _ {M : Mode} {D : WrittenRelation} where
   behind_keeps G = gives_keeps (then_keeps G same)
 
   -- no attribute is a list of attributes
-  leading_keeps : Keeps M D (leading alone) (leading whole)
+  leading_keeps : Keeps M D (leading recognized) (leading parsed)
   leading_keeps = record { kept = λ v xs ys d. base v ys d }
 
-  led_keeps : {A B : Type 0} {f : Attributes × A → B} {g h : Rule A} → Keeps M D g h → Keeps M D (leading alone then g gives f) (leading whole then h gives f)
+  led_keeps : {A B : Type 0} {f : Attributes × A → B} {g h : Rule A} → Keeps M D g h → Keeps M D (leading recognized then g gives f) (leading parsed then h gives f)
   led_keeps G = gives_keeps (then_keeps leading_keeps G)
 
-  left_side_keeps : Keeps M D (left_side alone) (left_side whole)
+  left_side_keeps : Keeps M D (left_side recognized) (left_side parsed)
   left_side_keeps = or_keeps (then_keeps leading_keeps same) same
 
   rule_keeps : (n : Symbol) → Keeps M D (fewer_attributes n) (written n)

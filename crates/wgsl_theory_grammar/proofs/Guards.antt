@@ -13,7 +13,7 @@ use Rattle.wgsl_model.specs.Trees.Expressions.{ExpressionNode}
 use Rattle.wgsl_model.specs.Grammar.TokenValues.{text_of}
 use Rattle.wgsl_model.specs.Grammar.Checks.{unreserved, Arguments, AttributeParts, attribute_parts}
 use Rattle.wgsl_model.specs.Grammar.Written.{keyword_classes}
-use Rattle.wgsl_model.specs.Grammar.Symbols.{Dialect.whole, Symbol.ident, Symbol.template_list, Symbol.arguments, Symbol.attribute, Symbol.var_template, Symbol.diagnostic_severity}
+use Rattle.wgsl_model.specs.Grammar.Symbols.{Dialect.parsed, Symbol.ident, Symbol.template_list, Symbol.arguments, Symbol.attribute, Symbol.var_template, Symbol.diagnostic_severity}
 use Rattle.wgsl_theory_grammar.specs.Factored.{Further.template_items, Further.argument_rest, FactoredSymbol, FactoredSymbol.of, FactoredSymbol.further, FactoredValue, FactoredRule, body, small_body}
 use Rattle.wgsl_theory_grammar.specs.Apart.{apart, nowhere}
 use Rattle.wgsl_theory_grammar.specs.Tables.{firsts, heights, rank_limit, tables}
@@ -106,7 +106,7 @@ attributes_guarded = record { anchor = SymAttr ∷ []; anchored = attribute_anch
 -- the `<` of a template behind `var` goes on
 var_opened : (a t : Token) → is_among a.class (KwVar ∷ []) ≡ true → is_among t.class (TemplateArgsStart ∷ []) ≡ true → IsViable body (of var_template) (a ∷ t ∷ [])
 var_opened a t p r =
-    let w = all_parts heights body (builds_hold whole) (further template_items) [] in
+    let w = all_parts heights body (builds_hold parsed) (further template_items) [] in
     let n : List ExpressionNode = w.1 in
     let h : Token × List ExpressionNode = (t, n) in
     let inside : Part unchecked body (of template_list) n (t ∷ w.0) [] = roll unchecked body (of template_list) n (t ∷ w.0) [] (h, refl, (w.0, (r, refl), w.2)) in

@@ -5,7 +5,7 @@ use Rattle.grammar.specs.Grammar.{Mode, Mode.checking, Mode.unchecked, Derives, 
 use Rattle.grammar.specs.Reading.{Outcome.ok, read_all}
 use Rattle.grammar.proofs.Reading.Depth.{loosen}
 use Rattle.grammar.proofs.Reading.Exact.{accepts, exact, one_tree}
-use Rattle.wgsl_model.specs.Grammar.Symbols.{Dialect, Dialect.whole, Symbol, Value}
+use Rattle.wgsl_model.specs.Grammar.Symbols.{Dialect, Dialect.parsed, Symbol, Value}
 use Rattle.wgsl_model.specs.Grammar.Written.{rules, written}
 use Rattle.wgsl_theory_grammar.specs.Factored.{FactoredSymbol.of, factored, body}
 use Rattle.wgsl_theory_grammar.specs.Tables.{rank_limit, tables}
@@ -26,10 +26,10 @@ dialect_exact L M n v ts = (
 
 -- ---- the whole language
 pub written_one_tree : (M : Mode) (n : Symbol) (v w : Value n) (ts : List Token) → Derives M written n v ts → Derives M written n w ts → v ≡ w
-written_one_tree = dialect_one_tree whole
+written_one_tree = dialect_one_tree parsed
 
 pub written_exact : (M : Mode) (n : Symbol) (v : Value n) (ts : List Token) → (read_all tables M body rank_limit (of n) ts ≡ ok v []) ↔ Derives M written n v ts
-written_exact = dialect_exact whole
+written_exact = dialect_exact parsed
 
 -- ---- sentences and how they begin, in both forms
 pub sentence_in : (L : Dialect) (n : Symbol) (ts : List Token) → IsSentence (rules L) n ts → IsSentence (factored L) (of n) ts

@@ -14,7 +14,7 @@ use Rattle.wgsl_model.specs.Trees.Units.{GlobalDirective, StructMember, FormalPa
 use Rattle.wgsl_model.specs.Grammar.ExpressionParts.{placed_expression, type_of, call_of, unary_of, binary_of, multiplicative_operator, relational_operator, summand}
 use Rattle.wgsl_model.specs.Grammar.StatementParts.{placed_statement, attributes, initializer, var_kind, assignment_operator, variable_at, parenthesized_at, underscore_at}
 use Rattle.wgsl_model.specs.Grammar.UnitParts.{member_of, parameter_of, value_of, struct_of, function_of, enable_of, requires_of, alias_of, diagnostic_of}
-use Rattle.wgsl_model.specs.Grammar.Symbols.{Dialect, Dialect.whole, Dialect.alone, Symbol, Symbol.ident, Symbol.type_specifier, Symbol.template_list, Symbol.expressions, Symbol.arguments, Symbol.literal, Symbol.primary_expression, Symbol.singular_expression, Symbol.component, Symbol.unary_expression, Symbol.shift_expression, Symbol.relational_expression, Symbol.expression, Symbol.lhs_expression, Symbol.compound_statement, Symbol.statement, Symbol.return_statement, Symbol.if_statement, Symbol.switch_statement, Symbol.loop_statement, Symbol.for_statement, Symbol.while_statement, Symbol.var_statement, Symbol.value_statement, Symbol.break_statement, Symbol.continue_statement, Symbol.discard_statement, Symbol.phony_assignment, Symbol.const_assert, Symbol.switch_clause, Symbol.case_selector, Symbol.continuing_statement, Symbol.for_init, Symbol.for_update, Symbol.typed_ident, Symbol.struct_member, Symbol.formal_parameter, Symbol.global_declaration, Symbol.var_declaration, Symbol.const_declaration, Symbol.override_declaration, Symbol.alias_declaration, Symbol.struct_declaration, Symbol.function_declaration, Symbol.global_directive, Symbol.enable_directive, Symbol.requires_directive, Symbol.unit, Value, Rule, Symbol.call, Symbol.call_statement, Symbol.diagnostic_severity, Symbol.diagnostic_directive}
+use Rattle.wgsl_model.specs.Grammar.Symbols.{Dialect, Dialect.parsed, Dialect.recognized, Symbol, Symbol.ident, Symbol.type_specifier, Symbol.template_list, Symbol.expressions, Symbol.arguments, Symbol.literal, Symbol.primary_expression, Symbol.singular_expression, Symbol.component, Symbol.unary_expression, Symbol.shift_expression, Symbol.relational_expression, Symbol.expression, Symbol.lhs_expression, Symbol.compound_statement, Symbol.statement, Symbol.return_statement, Symbol.if_statement, Symbol.switch_statement, Symbol.loop_statement, Symbol.for_statement, Symbol.while_statement, Symbol.var_statement, Symbol.value_statement, Symbol.break_statement, Symbol.continue_statement, Symbol.discard_statement, Symbol.phony_assignment, Symbol.const_assert, Symbol.switch_clause, Symbol.case_selector, Symbol.continuing_statement, Symbol.for_init, Symbol.for_update, Symbol.typed_ident, Symbol.struct_member, Symbol.formal_parameter, Symbol.global_declaration, Symbol.var_declaration, Symbol.const_declaration, Symbol.override_declaration, Symbol.alias_declaration, Symbol.struct_declaration, Symbol.function_declaration, Symbol.global_directive, Symbol.enable_directive, Symbol.requires_directive, Symbol.unit, Value, Rule, Symbol.call, Symbol.call_statement, Symbol.diagnostic_severity, Symbol.diagnostic_directive}
 use Rattle.wgsl_model.specs.Grammar.Written.{rules}
 
 -- symbols beside the written ones: each is what a part of a rule reads
@@ -210,8 +210,8 @@ attributes_before make g = symbol (further attribute_list) then g gives λ (a, x
 
 -- attributes; where a text is recognised alone, none
 abbrev pub leading_list : Dialect → FactoredRule Attributes
-leading_list whole = symbol (further attribute_list)
-leading_list alone = empty []
+leading_list parsed = symbol (further attribute_list)
+leading_list recognized = empty []
 
 -- the same, and what stands behind
 abbrev pub leading_before : {A B : Type 0} → Dialect → (Attributes → A → B) → FactoredRule A → FactoredRule B
@@ -219,8 +219,8 @@ leading_before L make g = leading_list L then g gives λ (a, x). make a x
 
 -- attributes, and one of two behind them; the second has none where a text is recognised alone
 abbrev pub either_behind : {A B : Type 0} → Dialect → (Attributes → A → B) → FactoredRule A → FactoredRule A → FactoredRule B
-either_behind whole make g h = attributes_before make (g or h)
-either_behind alone make g h = attributes_before make g or leading_before alone make h
+either_behind parsed make g h = attributes_before make (g or h)
+either_behind recognized make g h = attributes_before make g or leading_before recognized make h
 
 -- a part with its place
 abbrev pub with_place : {A : Type 0} → FactoredRule A → FactoredRule (A × Span)
@@ -232,8 +232,8 @@ taken_by a f = f a
 
 -- attributes, and behind them another part, or an item of one of two kinds and the rest; the other part and the second kind have none where a text is recognised alone
 abbrev pub items_behind : {A R B : Type 0} → Dialect → ((A × Span) × R → Attributes → B) → FactoredRule A → FactoredRule A → FactoredRule R → FactoredRule (Attributes → B) → FactoredRule B
-items_behind whole put g h rest other = attributes_before taken_by (other or with_place (g or h) then rest gives put)
-items_behind alone put g h rest other = attributes_before taken_by (with_place g then rest gives put) or leading_before alone taken_by (other or with_place h then rest gives put)
+items_behind parsed put g h rest other = attributes_before taken_by (other or with_place (g or h) then rest gives put)
+items_behind recognized put g h rest other = attributes_before taken_by (with_place g then rest gives put) or leading_before recognized taken_by (other or with_place h then rest gives put)
 
 -- a place, from the first of the attributes before it on
 abbrev pub begun_by : Attributes → Span → Span
@@ -444,8 +444,8 @@ factored L (of n) = lifted (rules L n)
 
 -- those of the whole language
 abbrev pub body : (n : FactoredSymbol) → FactoredRule (FactoredValue n)
-body = factored whole
+body = factored parsed
 
 -- those of a text that is recognised alone
 abbrev pub small_body : (n : FactoredSymbol) → FactoredRule (FactoredValue n)
-small_body = factored alone
+small_body = factored recognized

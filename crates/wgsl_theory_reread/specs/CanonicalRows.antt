@@ -43,8 +43,8 @@ const_attributes = spanned (without_argument const_attribute) no_span ∷ []
 abbrev word : List ℕ → Kind
 word = named Ident
 
-abbrev whole : ℕ → Kind
-whole n = record { class = AbstractInt; payload = number (pos n) }
+abbrev integer : ℕ → Kind
+integer n = record { class = AbstractInt; payload = number (pos n) }
 
 -- ---- expressions
 -- f(x < y, z > (w),), where `x` has a template
@@ -76,7 +76,7 @@ switch_tree = unplaced_statement (tree.switch_statement (tree.switch (name_at (c
 -- switch a { case 1, default { } case default { } }
 abbrev pub switch_tokens : List Kind
 switch_tokens =
-    plain KwSwitch ∷ word (codes "a") ∷ plain SymBraceLeft ∷ plain KwCase ∷ whole 1 ∷ plain SymComma ∷ plain KwDefault ∷ plain SymBraceLeft ∷ plain SymBraceRight
+    plain KwSwitch ∷ word (codes "a") ∷ plain SymBraceLeft ∷ plain KwCase ∷ integer 1 ∷ plain SymComma ∷ plain KwDefault ∷ plain SymBraceLeft ∷ plain SymBraceRight
     ∷ plain KwCase ∷ plain KwDefault ∷ plain SymBraceLeft ∷ plain SymBraceRight ∷ plain SymBraceRight ∷ []
 
 -- loop { ; @const continuing { ; @const break if true; } }
@@ -127,6 +127,6 @@ unit_tree = record {
 abbrev pub worked_unit_tokens : List Kind
 worked_unit_tokens =
     plain KwDiagnostic ∷ plain SymParenLeft ∷ word (codes "off") ∷ plain SymComma ∷ word (codes "a") ∷ plain SymPeriod ∷ word (codes "b") ∷ plain SymParenRight ∷ plain SymSemicolon
-    ∷ plain KwStruct ∷ word (codes "S") ∷ plain SymBraceLeft ∷ plain SymAttr ∷ word (codes "size") ∷ plain SymParenLeft ∷ whole 16 ∷ plain SymParenRight ∷ word (codes "x") ∷ plain SymColon ∷ word (codes "f32") ∷ plain SymBraceRight
+    ∷ plain KwStruct ∷ word (codes "S") ∷ plain SymBraceLeft ∷ plain SymAttr ∷ word (codes "size") ∷ plain SymParenLeft ∷ integer 16 ∷ plain SymParenRight ∷ word (codes "x") ∷ plain SymColon ∷ word (codes "f32") ∷ plain SymBraceRight
     ∷ plain SymAttr ∷ plain KwConst ∷ plain SymAttr ∷ named ReservedWord (codes "type") ∷ plain SymParenLeft ∷ word (codes "T") ∷ plain SymComma ∷ word (codes "A") ∷ plain SymOr ∷ word (codes "B") ∷ plain SymParenRight
     ∷ plain KwFn ∷ word (codes "f") ∷ plain SymParenLeft ∷ plain SymParenRight ∷ plain SymBraceLeft ∷ plain SymBraceRight ∷ []

@@ -3,7 +3,7 @@ use Rattle.std.proofs.Common.{◌≡◌, ℕ, suc, ◌+◌, ◌==◌, ◌&&◌, 
 use Rattle.grammar.specs.Tables.{is_empty}
 use Rattle.wgsl_model.specs.Tokens.Classes.{LineComment}
 use Rattle.wgsl_model.specs.Tokens.Characters.{is_blank, is_line_break}
-use Rattle.wgsl_model.specs.Tokens.Trivia.{Place, outside, in_line, in_block, second, closed, first_or_zero}
+use Rattle.wgsl_model.specs.Tokens.Trivia.{Place, outside, in_line, in_block, second, out_of_block, first_or_zero}
 use Rattle.wgsl_model_tidy.specs.Pieces.{Piece, comment, comments, put, put_in_line, line_ends_at}
 use Rattle.wgsl_model_tidy.specs.Roles.{Role}
 use Rattle.wgsl_model_tidy.specs.Open.{LayoutState, role_in}
@@ -41,10 +41,10 @@ next_behind s right behind h in_line n (c ∷ cs) =
 next_behind s right behind h (in_block depth) n [] = h 0
 next_behind s right behind h (in_block depth) n (c ∷ cs) =
     either_next s right (c == 47 && first_or_zero cs == 42) (put c (comments behind (second (in_block (suc depth))) n cs))
-    (cond (c == 42 && first_or_zero cs == 47) (put c (comments behind (second (closed depth)) n cs)) (put c (comments behind (in_block depth) n cs)))
+    (cond (c == 42 && first_or_zero cs == 47) (put c (comments behind (second (out_of_block depth)) n cs)) (put c (comments behind (in_block depth) n cs)))
     (put_next s c right (comments behind (second (in_block (suc depth))) n cs) (next_behind s right behind h (second (in_block (suc depth))) n cs))
-    (either_next s right (c == 42 && first_or_zero cs == 47) (put c (comments behind (second (closed depth)) n cs)) (put c (comments behind (in_block depth) n cs))
-    (put_next s c right (comments behind (second (closed depth)) n cs) (next_behind s right behind h (second (closed depth)) n cs))
+    (either_next s right (c == 42 && first_or_zero cs == 47) (put c (comments behind (second (out_of_block depth)) n cs)) (put c (comments behind (in_block depth) n cs))
+    (put_next s c right (comments behind (second (out_of_block depth)) n cs) (next_behind s right behind h (second (out_of_block depth)) n cs))
     (put_next s c right (comments behind (in_block depth) n cs) (next_behind s right behind h (in_block depth) n cs)))
 next_behind s right behind h (second p) n [] = h 0
 next_behind s right behind h (second outside) n (c ∷ cs) = next_behind s right behind h outside 0 cs

@@ -48,8 +48,8 @@ fault_unless None fault = Some fault
 fault_unless (Some a) fault = None
 
 -- an identifier names a severity; a reserved word is a fault of its own
-abbrev pub severity_fault : Token → Span → Option Fault
-severity_fault t span = if t.class == ReservedWord then None else fault_unless (look_up severities (text_of t)) (diagnostic_severity (span_of_token t))
+abbrev pub severity_fault : Token → Option Fault
+severity_fault t = if t.class == ReservedWord then None else fault_unless (look_up severities (text_of t)) (diagnostic_severity (span_of_token t))
 
 -- the severity that an identifier names
 abbrev pub severity_of : Token → DiagnosticSeverity

@@ -8,7 +8,7 @@ use Rattle.wgsl_model.specs.Faults.Kinds.{next_place}
 use Rattle.wgsl_model.specs.Trees.Operators.{UnaryOperator, UnaryOperator.logical_negation, UnaryOperator.negation, UnaryOperator.bitwise_complement, UnaryOperator.address_of, UnaryOperator.indirection, BinaryOperator, BinaryOperator.addition, BinaryOperator.subtraction, BinaryOperator.multiplication, BinaryOperator.division, BinaryOperator.remainder, BinaryOperator.equality, BinaryOperator.inequality, BinaryOperator.less_than, BinaryOperator.less_than_equal, BinaryOperator.greater_than, BinaryOperator.greater_than_equal}
 use Rattle.wgsl_model.specs.Trees.Expressions.{ExpressionNode, ExpressionNode.expression_node, Expression, Expression.named_component, Expression.indexing, Expression.unary, Expression.binary, Expression.type_or_identifier, FunctionCall, FunctionCall.call, TypeExpression, TypeExpression.type_expression, TemplateArguments.no_template, expressions_of, template_of}
 use Rattle.wgsl_model.specs.Grammar.TokenValues.{text_of}
-use Rattle.wgsl_model.specs.Grammar.Symbols.{Dialect, Dialect.whole, Dialect.alone, Symbol.multiplicative_expression, Symbol.negated_expression, Rule}
+use Rattle.wgsl_model.specs.Grammar.Symbols.{Dialect, Dialect.parsed, Dialect.recognized, Symbol.multiplicative_expression, Symbol.negated_expression, Rule}
 
 -- an expression and where it stands
 abbrev pub placed_expression : Expression → Span → ExpressionNode
@@ -77,9 +77,9 @@ additive_operator = SymPlus means addition or SymMinus means subtraction
 -- what a sum goes on with
 abbrev pub summand : Dialect → Rule (BinaryOperator × ExpressionNode)
 -- ("+" "-") Mul / NegMul, a subtraction by the first minus
-summand whole = additive_operator then symbol multiplicative_expression or symbol negated_expression gives λ e. (subtraction, e)
+summand parsed = additive_operator then symbol multiplicative_expression or symbol negated_expression gives λ e. (subtraction, e)
 -- ("+" "-") Mul
-summand alone = additive_operator then symbol multiplicative_expression
+summand recognized = additive_operator then symbol multiplicative_expression
 
 -- the operators of comparisons
 abbrev pub relational_operator : Rule BinaryOperator

@@ -1,7 +1,7 @@
 -- The grammar of a text that is recognised alone: the rules of its dialect.
-use Rattle.wgsl_model.specs.Grammar.Symbols.{Dialect.alone, Symbol, Value, Rule}
+use Rattle.wgsl_model.specs.Grammar.Symbols.{Dialect.recognized, Symbol, Value, Rule}
 use Rattle.wgsl_model.specs.Grammar.Written.{rules}
 
 -- the rules of the dialect
 abbrev pub small : (n : Symbol) → Rule (Value n)
-small = rules alone
+small = rules recognized

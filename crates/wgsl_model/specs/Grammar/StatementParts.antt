@@ -13,7 +13,7 @@ use Rattle.wgsl_model.specs.Trees.Statements.{DeclarationKind, Declaration, Else
 use Rattle.wgsl_model.specs.Grammar.Checks.{attribute_node, var_kind_of}
 use Rattle.wgsl_model.specs.Grammar.TokenValues.{text_of}
 use Rattle.wgsl_model.specs.Grammar.ExpressionParts.{variable, unary_of, with_component}
-use Rattle.wgsl_model.specs.Grammar.Symbols.{Dialect, Dialect.whole, Dialect.alone, Rule, Symbol.ident, Symbol.component, Symbol.expression, Symbol.lhs_expression, Symbol.attribute, Symbol.statement, Symbol.compound_statement, Symbol.var_template}
+use Rattle.wgsl_model.specs.Grammar.Symbols.{Dialect, Dialect.parsed, Dialect.recognized, Rule, Symbol.ident, Symbol.component, Symbol.expression, Symbol.lhs_expression, Symbol.attribute, Symbol.statement, Symbol.compound_statement, Symbol.var_template}
 
 -- a statement and where it stands
 abbrev pub placed_statement : Statement → Span → StatementNode
@@ -29,8 +29,8 @@ attributed make g = attributes then g gives λ (a, x). make a x
 
 -- A* where the draft has no attributes; where a text is recognised alone, none
 abbrev pub leading : Dialect → Rule Attributes
-leading whole = attributes
-leading alone = empty []
+leading parsed = attributes
+leading recognized = empty []
 
 -- leading attributes, and what stands behind
 abbrev pub led : {A B : Type 0} → Dialect → (Attributes → A → B) → Rule A → Rule B

@@ -9,9 +9,9 @@ use Rattle.wgsl_model.specs.Trees.Statements.{CompoundStatement, StatementNode, 
 use Rattle.wgsl_model.specs.Trees.Units.{GlobalDirective, StructMember, FormalParameter, GlobalDeclaration, TranslationUnit}
 use Rattle.wgsl_model.specs.Grammar.Checks.{AttributeParts}
 
--- the whole language, or the dialect of a text that is recognised alone
+-- the language that is parsed, or the smaller one of a text that is recognised and not parsed
 pub data Dialect : Type 0 where
-  whole alone : Dialect
+  parsed recognized : Dialect
 
 -- the symbols, in the order of the grammar
 pub data Symbol : Type 0 where

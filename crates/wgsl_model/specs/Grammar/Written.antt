@@ -16,7 +16,7 @@ use Rattle.wgsl_model.specs.Grammar.Checks.{unreserved, severity_fault, var_faul
 use Rattle.wgsl_model.specs.Grammar.ExpressionParts.{placed_expression, type_of, call_of, index_of, component_of, with_component, unary_of, binary_of, operation_of, negation_of, negated_product_of, unary_operator, multiplicative_operator, relational_operator, summand, two, two_or_more}
 use Rattle.wgsl_model.specs.Grammar.StatementParts.{placed_statement, attributes, attributed, led, statements, initializer, var_kind, assignment_operator, underscore_at, open_left_side, parenthesized_left_side, left_side, else_if, else_block, break_if}
 use Rattle.wgsl_model.specs.Grammar.UnitParts.{attributed_ident, member_of, parameter_of, value_of, assert_declaration, alias_of, struct_of, return_part, function_of, enable_of, requires_of, diagnostic_of}
-use Rattle.wgsl_model.specs.Grammar.Symbols.{Dialect, Dialect.whole, Dialect.alone, Symbol, Symbol.ident, Symbol.type_specifier, Symbol.template_list, Symbol.expressions, Symbol.call, Symbol.arguments, Symbol.literal, Symbol.primary_expression, Symbol.singular_expression, Symbol.component, Symbol.unary_expression, Symbol.multiplicative_expression, Symbol.negated_expression, Symbol.additive_expression, Symbol.shift_expression, Symbol.relational_expression, Symbol.expression, Symbol.lhs_expression, Symbol.attribute, Symbol.compound_statement, Symbol.statement, Symbol.return_statement, Symbol.if_statement, Symbol.switch_statement, Symbol.loop_statement, Symbol.for_statement, Symbol.while_statement, Symbol.call_statement, Symbol.var_statement, Symbol.value_statement, Symbol.break_statement, Symbol.continue_statement, Symbol.discard_statement, Symbol.assignment, Symbol.phony_assignment, Symbol.increment, Symbol.decrement, Symbol.const_assert, Symbol.switch_clause, Symbol.case_selector, Symbol.continuing_statement, Symbol.for_init, Symbol.for_update, Symbol.var_template, Symbol.typed_ident, Symbol.struct_member, Symbol.formal_parameter, Symbol.global_declaration, Symbol.var_declaration, Symbol.const_declaration, Symbol.override_declaration, Symbol.alias_declaration, Symbol.struct_declaration, Symbol.function_declaration, Symbol.diagnostic_severity, Symbol.global_directive, Symbol.enable_directive, Symbol.requires_directive, Symbol.diagnostic_directive, Symbol.unit, Value, Rule}
+use Rattle.wgsl_model.specs.Grammar.Symbols.{Dialect, Dialect.parsed, Dialect.recognized, Symbol, Symbol.ident, Symbol.type_specifier, Symbol.template_list, Symbol.expressions, Symbol.call, Symbol.arguments, Symbol.literal, Symbol.primary_expression, Symbol.singular_expression, Symbol.component, Symbol.unary_expression, Symbol.multiplicative_expression, Symbol.negated_expression, Symbol.additive_expression, Symbol.shift_expression, Symbol.relational_expression, Symbol.expression, Symbol.lhs_expression, Symbol.attribute, Symbol.compound_statement, Symbol.statement, Symbol.return_statement, Symbol.if_statement, Symbol.switch_statement, Symbol.loop_statement, Symbol.for_statement, Symbol.while_statement, Symbol.call_statement, Symbol.var_statement, Symbol.value_statement, Symbol.break_statement, Symbol.continue_statement, Symbol.discard_statement, Symbol.assignment, Symbol.phony_assignment, Symbol.increment, Symbol.decrement, Symbol.const_assert, Symbol.switch_clause, Symbol.case_selector, Symbol.continuing_statement, Symbol.for_init, Symbol.for_update, Symbol.var_template, Symbol.typed_ident, Symbol.struct_member, Symbol.formal_parameter, Symbol.global_declaration, Symbol.var_declaration, Symbol.const_declaration, Symbol.override_declaration, Symbol.alias_declaration, Symbol.struct_declaration, Symbol.function_declaration, Symbol.diagnostic_severity, Symbol.global_directive, Symbol.enable_directive, Symbol.requires_directive, Symbol.diagnostic_directive, Symbol.unit, Value, Rule}
 
 -- the keywords, which are names directly after `@`
 abbrev pub keyword_classes : List ℕ
@@ -28,9 +28,9 @@ keyword_classes =
 abbrev pub rules : Dialect → (n : Symbol) → Rule (Value n)
 -- ---- expressions (WGSL, "Expression Grammar Summary")
 -- Ident: an identifier; a reserved word is taken for one, and is a fault
-rules whole ident = token (Ident ∷ ReservedWord ∷ []) with_check unreserved
+rules parsed ident = token (Ident ∷ ReservedWord ∷ []) with_check unreserved
 -- recognised alone: an identifier
-rules alone ident = one_token Ident
+rules recognized ident = one_token Ident
 -- TypeSpecifier = Ident TemplateList?
 rules L type_specifier = symbol ident then optional (symbol template_list) gives type_of
 -- TemplateList = TemplateArgsStart list(Expression) TemplateArgsEnd
@@ -71,9 +71,9 @@ rules L expression = symbol relational_expression
 rules L lhs_expression = open_left_side or parenthesized_left_side
 -- ---- attributes (WGSL, "Attributes")
 -- A = "@" name Args?, the name an identifier, a reserved word or a keyword
-rules whole attribute = SymAttr ▹ token (Ident ∷ ReservedWord ∷ keyword_classes) then optional (symbol arguments) makes attribute_parts with_check attribute_fault
+rules parsed attribute = SymAttr ▹ token (Ident ∷ ReservedWord ∷ keyword_classes) then optional (symbol arguments) makes attribute_parts with_check attribute_fault
 -- recognised alone: A = "@" Ident Args?
-rules alone attribute = SymAttr ▹ one_token Ident then optional (symbol arguments) makes attribute_parts
+rules recognized attribute = SymAttr ▹ one_token Ident then optional (symbol arguments) makes attribute_parts
 -- ---- statements (WGSL, "Statements")
 -- Block = A* "{" Statement* "}"
 rules L compound_statement = attributed compound_of (SymBraceLeft ▹ statements ◃ SymBraceRight)
@@ -151,9 +151,9 @@ rules L for_init = (symbol var_statement or symbol value_statement or symbol ass
 rules L for_update = (symbol assignment or symbol phony_assignment or symbol increment or symbol decrement or symbol call_statement) makes placed_statement
 -- ---- declarations (WGSL, "Variable and Value Declarations", "Structure Types", "Type Aliases", "Functions")
 -- "var" TemplateList?, the address space and access mode of a variable
-rules whole var_template = KwVar ▹ optional (symbol template_list) with_check var_fault
+rules parsed var_template = KwVar ▹ optional (symbol template_list) with_check var_fault
 -- recognised alone: "var" TemplateList?
-rules alone var_template = KwVar ▹ optional (symbol template_list)
+rules recognized var_template = KwVar ▹ optional (symbol template_list)
 -- Typed = Ident (":" TypeSpecifier)?
 rules L typed_ident = symbol ident then optional (SymColon ▹ symbol type_specifier) gives λ (name, ty). (text_of name, ty)
 -- Member = A* Ident ":" TypeSpecifier
@@ -185,9 +185,9 @@ rules L function_declaration = attributed with_attributes (KwFn ▹ symbol ident
     gives λ (name, (parameters, (returned, block))). function_of name parameters returned block)
 -- ---- directives and modules (WGSL, "Directives", "Diagnostics", "WGSL Module")
 -- "diagnostic" "(" Severity, an identifier that names a severity
-rules whole diagnostic_severity = KwDiagnostic ▹ SymParenLeft ▹ symbol ident with_check severity_fault
+rules parsed diagnostic_severity = KwDiagnostic ▹ SymParenLeft ▹ symbol ident with_check λ t span. severity_fault t
 -- recognised alone: "diagnostic" "(" Severity, an identifier
-rules alone diagnostic_severity = KwDiagnostic ▹ SymParenLeft ▹ symbol ident
+rules recognized diagnostic_severity = KwDiagnostic ▹ SymParenLeft ▹ symbol ident
 -- Directive = one of three
 rules L global_directive = symbol enable_directive or symbol requires_directive or symbol diagnostic_directive
 -- A* "enable" list(Name) ";"
@@ -202,4 +202,4 @@ rules L unit = many (symbol global_directive) then many (symbol global_declarati
 
 -- the grammar of the whole language
 abbrev pub written : (n : Symbol) → Rule (Value n)
-written = rules whole
+written = rules parsed

@@ -10,9 +10,9 @@ abbrev pub identifier : Pattern
 identifier = (one is_xid_start then any is_xid_continue) or (code 95 then (one is_xid_continue then any is_xid_continue))
 
 -- one of the symbols
-abbrev pub symbol : Pattern
-symbol = any_of (map (λ (entry : List ℕ × ℕ). entry.0) symbols)
+abbrev pub syntactic_token : Pattern
+syntactic_token = any_of (map (λ (entry : List ℕ × ℕ). entry.0) symbols)
 
 -- an identifier, which may be a keyword or a reserved word, a number or a symbol
 abbrev pub spelling : Pattern
-spelling = identifier or (number_spelling or symbol)
+spelling = identifier or (number_spelling or syntactic_token)

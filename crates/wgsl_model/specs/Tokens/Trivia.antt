@@ -14,9 +14,9 @@ pub data Place : Type 0 where
   second : Place → Place
 
 -- where a character stands behind the end of a block comment that stands in so many others
-abbrev pub closed : ℕ → Place
-closed zero = outside
-closed (suc n) = in_block n
+abbrev pub out_of_block : ℕ → Place
+out_of_block zero = outside
+out_of_block (suc n) = in_block n
 
 -- the first character, or 0
 abbrev pub first_or_zero : List ℕ → ℕ
@@ -34,6 +34,6 @@ after_trivia outside (c ∷ cs) =
 after_trivia in_line (c ∷ cs) = if is_line_break c then after_trivia outside cs else after_trivia in_line cs
 after_trivia (in_block n) (c ∷ cs) =
     if c == 47 && first_or_zero cs == 42 then after_trivia (second (in_block (suc n))) cs
-    else if c == 42 && first_or_zero cs == 47 then after_trivia (second (closed n)) cs
+    else if c == 42 && first_or_zero cs == 47 then after_trivia (second (out_of_block n)) cs
     else after_trivia (in_block n) cs
 after_trivia (second p) (c ∷ cs) = after_trivia p cs

@@ -13,7 +13,7 @@ use Rattle.grammar.proofs.Faults.Outcomes.{outcomes}
 use Rattle.grammar.proofs.Reading.Beginnings.{cond_yes, cond_no}
 use Rattle.wgsl_model.specs.Faults.Kinds.{unexpected_token, out_of_memory_kind}
 use Rattle.wgsl_model.specs.Grammar.Checks.{Arguments}
-use Rattle.wgsl_model.specs.Grammar.Symbols.{Dialect.whole, Symbol, Value}
+use Rattle.wgsl_model.specs.Grammar.Symbols.{Dialect.parsed, Symbol, Value}
 use Rattle.wgsl_model.specs.Grammar.Written.{written}
 use Rattle.wgsl_model.specs.Faults.Checked.{wants_memory, IsUnopened, IsWhole, IsCheckedFault, IsCheckedFault.reserved_fault, IsCheckedFault.severity_fault_at, IsCheckedFault.attribute_fault_at, IsCheckedFault.var_template_fault}
 use Rattle.wgsl_model.specs.Faults.NamedFault.{NoFaultBefore, IsNamed, IsNamed.checked_first, IsNamed.unexpected_first, IsNamed.carried_last, IsNamed.missing_last}
@@ -33,13 +33,13 @@ none_plain ts ending k h x ys f l = h x ys (plain_is_fault ts ending x ys f) l
 
 -- ---- tokens that did not end because memory was refused
 said_is : (n : Symbol) (ts : List Token) (ending : Ending) → wants_memory ending ≡ false → (o : Outcome (Value n)) → Says body apart (of n) ts o → IsAnswer n ts ending (answer_said ts ending o)
-said_is n ts finished m (ok v []) h = (refl, factored_is_written whole checking n v ts [] h.0)
-said_is n ts (carried x) m (ok v []) h = carried_last x (checked_is_viable whole n v ts (factored_is_written whole checking n v ts [] h.0)) (none_plain ts (carried x) 0 h.1) refl
-said_is n ts ending m (ok v (t ∷ us)) (p, w, i, j, k) = unexpected_first p us t w (viable_out whole n p i) (λ z. j (viable_in whole n (p ++ (t ∷ [])) z)) (none_plain ts ending (suc (length us)) k)
-said_is n ts ending m (stuck (t ∷ us)) (p, w, i, j, k) = unexpected_first p us t w (viable_out whole n p i) (λ z. j (viable_in whole n (p ++ (t ∷ [])) z)) (none_plain ts ending (suc (length us)) k)
-said_is n ts finished m (stuck []) (i, j, k) = missing_last (viable_out whole n ts i) (λ z. j (sentence_in whole n ts z)) (none_plain ts finished 0 k) refl
-said_is n ts (carried x) m (stuck []) (i, j, k) = carried_last x (viable_out whole n ts i) (none_plain ts (carried x) 0 k) refl
-said_is n ts ending m (bad x us) (p, w, i, f, k) = checked_first p us x w (viable_out whole n p i) (fault_is_plain ts ending m x us f) (none_plain ts ending (suc (length us)) k)
+said_is n ts finished m (ok v []) h = (refl, factored_is_written parsed checking n v ts [] h.0)
+said_is n ts (carried x) m (ok v []) h = carried_last x (checked_is_viable parsed n v ts (factored_is_written parsed checking n v ts [] h.0)) (none_plain ts (carried x) 0 h.1) refl
+said_is n ts ending m (ok v (t ∷ us)) (p, w, i, j, k) = unexpected_first p us t w (viable_out parsed n p i) (λ z. j (viable_in parsed n (p ++ (t ∷ [])) z)) (none_plain ts ending (suc (length us)) k)
+said_is n ts ending m (stuck (t ∷ us)) (p, w, i, j, k) = unexpected_first p us t w (viable_out parsed n p i) (λ z. j (viable_in parsed n (p ++ (t ∷ [])) z)) (none_plain ts ending (suc (length us)) k)
+said_is n ts finished m (stuck []) (i, j, k) = missing_last (viable_out parsed n ts i) (λ z. j (sentence_in parsed n ts z)) (none_plain ts finished 0 k) refl
+said_is n ts (carried x) m (stuck []) (i, j, k) = carried_last x (viable_out parsed n ts i) (none_plain ts (carried x) 0 k) refl
+said_is n ts ending m (bad x us) (p, w, i, f, k) = checked_first p us x w (viable_out parsed n p i) (fault_is_plain ts ending m x us f) (none_plain ts ending (suc (length us)) k)
 said_is n ts ending m out h = absurd h
 
 -- ---- tokens that ended because memory was refused: as if a `(` followed
@@ -109,7 +109,7 @@ last_left n ts x m t (p, w, i, j, k) =
     let s = split ts p t [] w in
     let e : s.0 ≡ [] = empty_end s.0 s.1 in
     let all : ts ≡ p = s.2 ∙ (ap (λ (z : List Token). p ++ z) e ∙ append-nil p) in
-    carried_last x (subst (IsViable written n) (sym all) (viable_out whole n p i)) (none_in_want ts (carried x) m 0 k) refl
+    carried_last x (subst (IsViable written n) (sym all) (viable_out parsed n p i)) (none_in_want ts (carried x) m 0 k) refl
   where
     empty_end : (vs : List Token) → (t ∷ []) ≡ followed vs → vs ≡ []
     empty_end [] e = refl
@@ -125,7 +125,7 @@ other_left n ts x m t u us (p, w, i, j, k) = let s = split ts p t (u ∷ us) w i
         let h : t ≡ y = cc in let r : (u ∷ us) ≡ followed vs = cc in
         let l : suc (length us) ≡ suc (length vs) = ap length r ∙ (let q = length-append vs (opening ∷ []) in omega (arith, q)) in
         let same : ts ≡ p ++ (t ∷ vs) = f ∙ ap (λ (z : Token). p ++ (z ∷ vs)) (sym h) in
-        unexpected_first p vs t same (viable_out whole n p i) (λ z. j (viable_in whole n (p ++ (t ∷ [])) z))
+        unexpected_first p vs t same (viable_out parsed n p i) (λ z. j (viable_in parsed n (p ++ (t ∷ [])) z))
         (none_in_want ts (carried x) m (suc (length vs)) (subst (λ (z : ℕ). engine.HasNoFaultBefore body apart (followed ts) (suc z)) l k))
 
 faulty_left : (n : Symbol) (ts : List Token) (x : Fault) → wants_memory (carried x) ≡ true → (y : Fault) (us : List Token) → IsFirstFault body apart (of n) (followed ts) y us → IsNamed n ts (carried x) y
@@ -133,16 +133,16 @@ faulty_left n ts x m y [] (p, w, i, f, k) = absurd (no_fault_opens ts finished y
 faulty_left n ts x m y (u ∷ us) (p, w, i, f, k) =
     let s = split ts p u us w in
     let l : suc (length us) ≡ suc (length s.0) = ap length s.1 ∙ (let q = length-append s.0 (opening ∷ []) in omega (arith, q)) in
-    checked_first p s.0 y s.2 (viable_out whole n p i)
+    checked_first p s.0 y s.2 (viable_out parsed n p i)
     (followed_fault ts (carried x) y s.0 (subst (λ (z : List Token). IsCheckedFault (followed ts) finished y z) s.1 (fault_is_plain (followed ts) finished refl y (u ∷ us) f)))
     (none_in_want ts (carried x) m (suc (length s.0)) (subst (λ (z : ℕ). engine.HasNoFaultBefore body apart (followed ts) (suc z)) l k))
 
 want_is : (n : Symbol) (ts : List Token) (x : Fault) → wants_memory (carried x) ≡ true → (o : Outcome (Value n)) → Says body apart (of n) (followed ts) o → IsAnswer n ts (carried x) (answer_in_want x o)
 want_is n ts x m (ok v []) h =
-    carried_last x (viable_front whole n ts (opening ∷ []) (checked_is_viable whole n v (followed ts) (factored_is_written whole checking n v (followed ts) [] h.0))) (none_in_want ts (carried x) m 0 (weaker (followed ts) 1 h.1)) refl
+    carried_last x (viable_front parsed n ts (opening ∷ []) (checked_is_viable parsed n v (followed ts) (factored_is_written parsed checking n v (followed ts) [] h.0))) (none_in_want ts (carried x) m 0 (weaker (followed ts) 1 h.1)) refl
 want_is n ts x m (ok v (t ∷ [])) h = last_left n ts x m t h
 want_is n ts x m (ok v (t ∷ (u ∷ us))) h = other_left n ts x m t u us h
-want_is n ts x m (stuck []) (i, j, k) = carried_last x (viable_front whole n ts (opening ∷ []) (viable_out whole n (followed ts) i)) (none_in_want ts (carried x) m 0 (weaker (followed ts) 1 k)) refl
+want_is n ts x m (stuck []) (i, j, k) = carried_last x (viable_front parsed n ts (opening ∷ []) (viable_out parsed n (followed ts) i)) (none_in_want ts (carried x) m 0 (weaker (followed ts) 1 k)) refl
 want_is n ts x m (stuck (t ∷ [])) h = last_left n ts x m t h
 want_is n ts x m (stuck (t ∷ (u ∷ us))) h = other_left n ts x m t u us h
 want_is n ts x m (bad y us) h = faulty_left n ts x m y us h

@@ -13,7 +13,7 @@ use Rattle.grammar.proofs.Faults.Outcomes.{faultless}
 use Rattle.wgsl_model.specs.Tokens.Classes.{SymAttr, Ident, ReservedWord}
 use Rattle.wgsl_model.specs.Trees.Spanned.{Spanned}
 use Rattle.wgsl_model.specs.Grammar.Checks.{Arguments, AttributeParts}
-use Rattle.wgsl_model.specs.Grammar.Symbols.{Dialect.whole, Symbol, Symbol.template_list, Symbol.literal, Symbol.expression, Symbol.attribute, Symbol.statement, Symbol.global_declaration, Symbol.global_directive, Symbol.unit, Value, is_read_alone}
+use Rattle.wgsl_model.specs.Grammar.Symbols.{Dialect.parsed, Symbol, Symbol.template_list, Symbol.literal, Symbol.expression, Symbol.attribute, Symbol.statement, Symbol.global_declaration, Symbol.global_directive, Symbol.unit, Value, is_read_alone}
 use Rattle.wgsl_model.specs.Grammar.Written.{keyword_classes, written}
 use Rattle.wgsl_model.specs.Faults.Checked.{IsUnopened, IsWhole, IsCheckedFault, IsCheckedFault.reserved_fault, IsCheckedFault.severity_fault_at, IsCheckedFault.attribute_fault_at, IsCheckedFault.var_template_fault}
 use Rattle.wgsl_theory_grammar.specs.Factored.{FactoredSymbol.of, body}
@@ -108,6 +108,6 @@ any_fault ts ending x ys b (var_template_fault r) = var_template_fault r
 pub checked_sentence_is_full : (n : Symbol) → is_read_alone n ≡ true → (ts : List Token) (ending : Ending) → IsSentence written n ts
     → ((x : Fault) (ys : List Token) → IsCheckedFault ts ending x ys → ⊥) → (v : Value n) × Derives checking written n v ts
 checked_sentence_is_full n k ts ending s none =
-    let r = faultless tables body rank_limit apart tested (of n) ts (sentence_in whole n ts s)
+    let r = faultless tables body rank_limit apart tested (of n) ts (sentence_in parsed n ts s)
     (λ x ys f. none x ys (any_fault ts ending x ys (not_bare n k s.0 ts s.1) (fault_is_plain ts finished refl x ys f))) in
-    (r.0, factored_is_written whole checking n r.0 ts [] r.1)
+    (r.0, factored_is_written parsed checking n r.0 ts [] r.1)

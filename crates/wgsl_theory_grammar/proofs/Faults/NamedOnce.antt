@@ -6,7 +6,7 @@ use Rattle.grammar.specs.Endings.{Ending, Ending.finished, Ending.carried}
 use Rattle.grammar.proofs.Reading.Depth.{loosen}
 use Rattle.grammar.proofs.Faults.Outcomes.{no_fault}
 use Rattle.wgsl_model.specs.Faults.Kinds.{unexpected_token}
-use Rattle.wgsl_model.specs.Grammar.Symbols.{Dialect, Dialect.whole, Dialect.alone, Symbol, Value}
+use Rattle.wgsl_model.specs.Grammar.Symbols.{Dialect, Dialect.parsed, Dialect.recognized, Symbol, Value}
 use Rattle.wgsl_model.specs.Grammar.Written.{rules, written}
 use Rattle.wgsl_model.specs.Grammar.Small.{small}
 use Rattle.wgsl_model.specs.Faults.Checked.{IsCheckedFault}
@@ -60,8 +60,8 @@ not_both x e p q = let r : finished ≡ carried x = sym q ∙ p in cc
 first_or_unexpected : (n : Symbol) (ts : List Token) (ending : Ending) (p us : List Token) (x : Fault) → ts ≡ p ++ us → IsViable written n p → IsCheckedFault ts ending x us
     → (q vs : List Token) (t : Token) → ts ≡ q ++ (t ∷ vs) → (IsViable written n (q ++ (t ∷ [])) → ⊥) → NoFaultBefore ts ending (suc (length vs)) → ⊥
 first_or_unexpected n ts ending p us x e v f q vs t g none m = elim (order (length us) (length vs)) [
-  | inl l ↦ not_past whole n ts q t vs p us g none e v (omega (arith, l))
-  | inr h ↦ elim h [ inl l ↦ not_past whole n ts q t vs p us g none e v (omega (arith, l)) | inr l ↦ m x us f l ]
+  | inl l ↦ not_past parsed n ts q t vs p us g none e v (omega (arith, l))
+  | inr h ↦ elim h [ inl l ↦ not_past parsed n ts q t vs p us g none e v (omega (arith, l)) | inr l ↦ m x us f l ]
 ]
 
 -- not all tokens begin a sentence where none goes on with one of them
@@ -89,40 +89,40 @@ named_once n ts ending _ _ (checked_first p us x e v f m) (carried_last y v' k c
 named_once n ts ending _ _ (checked_first p us x e v f m) (missing_last v' s k c) = absurd (k x us f (omega arith))
 named_once n ts ending _ _ (unexpected_first q vs t e' v' none k) (checked_first p us x e v f m) = absurd (first_or_unexpected n ts ending p us x e v f q vs t e' none k)
 named_once n ts ending _ _ (unexpected_first p us t e v none m) (unexpected_first q vs u e' v' none' k) =
-    ap unexpected_token (one_unexpected whole n ts p us q vs t u e v none e' v' none')
-named_once n ts ending _ _ (unexpected_first q vs t e' v' none k) (carried_last y v m c) = absurd (all_or_unexpected whole n ts v q vs t e' none)
-named_once n ts ending _ _ (unexpected_first q vs t e' v' none k) (missing_last v s m c) = absurd (all_or_unexpected whole n ts v q vs t e' none)
+    ap unexpected_token (one_unexpected parsed n ts p us q vs t u e v none e' v' none')
+named_once n ts ending _ _ (unexpected_first q vs t e' v' none k) (carried_last y v m c) = absurd (all_or_unexpected parsed n ts v q vs t e' none)
+named_once n ts ending _ _ (unexpected_first q vs t e' v' none k) (missing_last v s m c) = absurd (all_or_unexpected parsed n ts v q vs t e' none)
 named_once n ts ending _ _ (carried_last y v' k c) (checked_first p us x e v f m) = absurd (k x us f (omega arith))
-named_once n ts ending _ _ (carried_last y v m c) (unexpected_first q vs t e' v' none k) = absurd (all_or_unexpected whole n ts v q vs t e' none)
+named_once n ts ending _ _ (carried_last y v m c) (unexpected_first q vs t e' v' none k) = absurd (all_or_unexpected parsed n ts v q vs t e' none)
 named_once n ts ending _ _ (carried_last x v m c) (carried_last y v' k d) = same_carried x y ending c d
 named_once n ts ending _ _ (carried_last x v m c) (missing_last v' s k d) = absurd (not_both x ending c d)
 named_once n ts ending _ _ (missing_last v' s k c) (checked_first p us x e v f m) = absurd (k x us f (omega arith))
-named_once n ts ending _ _ (missing_last v s m c) (unexpected_first q vs t e' v' none k) = absurd (all_or_unexpected whole n ts v q vs t e' none)
+named_once n ts ending _ _ (missing_last v s m c) (unexpected_first q vs t e' v' none k) = absurd (all_or_unexpected parsed n ts v q vs t e' none)
 named_once n ts ending _ _ (missing_last v' s k d) (carried_last x v m c) = absurd (not_both x ending c d)
 named_once n ts ending _ _ (missing_last v s k c) (missing_last v' s' m d) = refl
 
 -- tokens that ended of themselves and derive a tree have no fault that is named
 pub named_excludes : (n : Symbol) (ts : List Token) (x : Fault) → IsNamed n ts finished x → (v : Value n) → Derives checking written n v ts → ⊥
-named_excludes n ts _ (checked_first p us x e w f m) v d = no_fault tables body rank_limit apart tested (of n) v ts (written_is_factored whole checking n v ts [] d) x us (plain_is_fault ts finished x us f)
-named_excludes n ts _ (unexpected_first q vs t e w none k) v d = all_or_unexpected whole n ts (checked_is_viable whole n v ts d) q vs t e none
+named_excludes n ts _ (checked_first p us x e w f m) v d = no_fault tables body rank_limit apart tested (of n) v ts (written_is_factored parsed checking n v ts [] d) x us (plain_is_fault ts finished x us f)
+named_excludes n ts _ (unexpected_first q vs t e w none k) v d = all_or_unexpected parsed n ts (checked_is_viable parsed n v ts d) q vs t e none
 named_excludes n ts _ (carried_last x w m c) v d = not_both x finished c refl
 named_excludes n ts _ (missing_last w s m c) v d = s (v, loosen checking written n v ts [] d)
 
 -- at most one fault is named of a text that is recognised alone
 pub named_alone_once : (n : Symbol) (ts : List Token) (ending : Ending) (x y : Fault) → IsNamedSmall n ts ending x → IsNamedSmall n ts ending y → x ≡ y
 named_alone_once n ts ending _ _ (unexpected_first_small p us t e v none) (unexpected_first_small q vs u e' v' none') =
-    ap unexpected_token (one_unexpected alone n ts p us q vs t u e v none e' v' none')
-named_alone_once n ts ending _ _ (unexpected_first_small q vs t e v' none) (carried_last_small y v c) = absurd (all_or_unexpected alone n ts v q vs t e none)
-named_alone_once n ts ending _ _ (unexpected_first_small q vs t e v' none) (missing_last_small v s c) = absurd (all_or_unexpected alone n ts v q vs t e none)
-named_alone_once n ts ending _ _ (carried_last_small y v c) (unexpected_first_small q vs t e v' none) = absurd (all_or_unexpected alone n ts v q vs t e none)
+    ap unexpected_token (one_unexpected recognized n ts p us q vs t u e v none e' v' none')
+named_alone_once n ts ending _ _ (unexpected_first_small q vs t e v' none) (carried_last_small y v c) = absurd (all_or_unexpected recognized n ts v q vs t e none)
+named_alone_once n ts ending _ _ (unexpected_first_small q vs t e v' none) (missing_last_small v s c) = absurd (all_or_unexpected recognized n ts v q vs t e none)
+named_alone_once n ts ending _ _ (carried_last_small y v c) (unexpected_first_small q vs t e v' none) = absurd (all_or_unexpected recognized n ts v q vs t e none)
 named_alone_once n ts ending _ _ (carried_last_small x v c) (carried_last_small y v' d) = same_carried x y ending c d
 named_alone_once n ts ending _ _ (carried_last_small x v c) (missing_last_small v' s d) = absurd (not_both x ending c d)
-named_alone_once n ts ending _ _ (missing_last_small v s c) (unexpected_first_small q vs t e v' none) = absurd (all_or_unexpected alone n ts v q vs t e none)
+named_alone_once n ts ending _ _ (missing_last_small v s c) (unexpected_first_small q vs t e v' none) = absurd (all_or_unexpected recognized n ts v q vs t e none)
 named_alone_once n ts ending _ _ (missing_last_small v' s d) (carried_last_small x v c) = absurd (not_both x ending c d)
 named_alone_once n ts ending _ _ (missing_last_small v s c) (missing_last_small v' s' d) = refl
 
 -- tokens that are a unit where they are recognised alone have no fault that is named there
 pub named_alone_excludes : (n : Symbol) (ts : List Token) (x : Fault) → IsNamedSmall n ts finished x → (v : Value n) → Derives checking small n v ts → ⊥
-named_alone_excludes n ts _ (unexpected_first_small q vs t e w none) v d = all_or_unexpected alone n ts (checked_is_viable alone n v ts d) q vs t e none
+named_alone_excludes n ts _ (unexpected_first_small q vs t e w none) v d = all_or_unexpected recognized n ts (checked_is_viable recognized n v ts d) q vs t e none
 named_alone_excludes n ts _ (carried_last_small x w c) v d = not_both x finished c refl
 named_alone_excludes n ts _ (missing_last_small w s c) v d = s (v, loosen checking small n v ts [] d)

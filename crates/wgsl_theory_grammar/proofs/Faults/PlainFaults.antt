@@ -19,7 +19,7 @@ use Rattle.wgsl_model.specs.Trees.NamedValues.{DiagnosticSeverity, severities}
 use Rattle.wgsl_model.specs.Trees.Expressions.{ExpressionNode}
 use Rattle.wgsl_model.specs.Grammar.TokenValues.{text_of}
 use Rattle.wgsl_model.specs.Grammar.Checks.{unreserved, fault_unless, severity_fault, var_fault, Arguments, attribute_fault}
-use Rattle.wgsl_model.specs.Grammar.Symbols.{Dialect.whole, Symbol, Symbol.ident, Symbol.arguments, Symbol.attribute, Symbol.var_template}
+use Rattle.wgsl_model.specs.Grammar.Symbols.{Dialect.parsed, Symbol, Symbol.ident, Symbol.arguments, Symbol.attribute, Symbol.var_template}
 use Rattle.wgsl_model.specs.Faults.Checked.{IsApart, wants_memory, IsUnopened, IsReservedFault, IsSeverityFault, IsWhole, IsAttributeFault, IsVarTemplateFault, IsCheckedFault, IsCheckedFault.reserved_fault, IsCheckedFault.severity_fault_at, IsCheckedFault.attribute_fault_at, IsCheckedFault.var_template_fault}
 use Rattle.wgsl_theory_grammar.specs.Factored.{Further.components, FactoredSymbol, FactoredSymbol.of, FactoredSymbol.further, FactoredValue, body}
 use Rattle.wgsl_theory_grammar.specs.Apart.{apart}
@@ -76,8 +76,8 @@ unless_some : (o : Option DiagnosticSeverity) (f x : Fault) → fault_unless o f
 unless_some None f x e = (refl, some_is x f (sym e))
 unless_some (Some a) f x e = absurd cc
 
-severity_wrong : (t : Token) (s : Span) (x : Fault) → is_among t.class (Ident ∷ ReservedWord ∷ []) ≡ true → severity_fault t s ≡ Some x → IsWrong t x
-severity_wrong t s x m e = elim (cases (eqb t.class ReservedWord)) [
+severity_wrong : (t : Token) (x : Fault) → is_among t.class (Ident ∷ ReservedWord ∷ []) ≡ true → severity_fault t ≡ Some x → IsWrong t x
+severity_wrong t x m e = elim (cases (eqb t.class ReservedWord)) [
   | inl y ↦ let q = cond_yes {A = Option Fault} (eqb t.class ReservedWord) None (fault_unless (look_up severities (text_of t)) (diagnostic_severity (span_of_token t))) y in absurd cc
   | inr y ↦
       let q = cond_no {A = Option Fault} (eqb t.class ReservedWord) None (fault_unless (look_up severities (text_of t)) (diagnostic_severity (span_of_token t))) y in
@@ -85,8 +85,8 @@ severity_wrong t s x m e = elim (cases (eqb t.class ReservedWord)) [
       (ident_class t.class m y, r.0, r.1)
 ]
 
-wrong_severity : (t : Token) (s : Span) (x : Fault) → IsWrong t x → severity_fault t s ≡ Some x
-wrong_severity t s x (c, n, e) =
+wrong_severity : (t : Token) (x : Fault) → IsWrong t x → severity_fault t ≡ Some x
+wrong_severity t x (c, n, e) =
     let f : Fault = diagnostic_severity (span_of_token t) in
     let y : eqb t.class ReservedWord ≡ false = subst (λ (z : ℕ). eqb z ReservedWord ≡ false) (sym c) refl in
     cond_no {A = Option Fault} (eqb t.class ReservedWord) None (fault_unless (look_up severities (text_of t)) f) y ∙ (ap (λ (z : Option DiagnosticSeverity). fault_unless z f) n ∙ ap (λ (z : Fault). Some z) (sym e))
@@ -98,7 +98,7 @@ severity_plain ts ending x ys before from w a (v, d, e) = go (unroll unchecked b
     go (c, (q, g, (ms, (m1, e1), (r, h, (us, (m2, e2), n))))) =
         let u = unroll unchecked body (of ident) r.1 us ys n in
         let l : from ≡ q.0 ∷ r.0 ∷ r.1 ∷ ys = e1 ∙ ap (λ (z : List Token). q.0 ∷ z) (e2 ∙ ap (λ (z : List Token). r.0 ∷ z) u.1.1) in
-        let y = severity_wrong r.1 (span_between from ys) x u.1.0 (subst (λ (z : Token). severity_fault z (span_between from ys) ≡ Some x) (sym (h ∙ g)) e) in
+        let y = severity_wrong r.1 x u.1.0 (subst (λ (z : Token). severity_fault z ≡ Some x) (sym (h ∙ g)) e) in
         severity_fault_at (before, q.0, r.0, r.1, w ∙ ap (λ (z : List Token). before ++ z) l, a, one_class _ _ m1, one_class _ _ m2, y.0, y.1, y.2)
 
 -- ---- attributes and `var` templates: slices
@@ -132,7 +132,7 @@ attribute_plain ts ending m x ys before from w i (v, d, e) =
       p.0,
       v,
       w ∙ ap (λ (z : List Token). before ++ z) p.1,
-      factored_is_written whole unchecked attribute v p.0 [] p.2,
+      factored_is_written parsed unchecked attribute v p.0 [] p.2,
       whole_of v.node.arguments ys ending m (attribute_closed v from ys (unroll unchecked body (of attribute) v from ys d) i),
       subst (λ (z : Span). attribute_fault v z ≡ Some x) s e,
     )
@@ -143,7 +143,7 @@ var_plain ts ending x ys before from w a (Some es, d, e) =
     let v : Option (List ExpressionNode) = Some es in
     let p = part_is_front unchecked body (of var_template) v from ys d in
     let s : span_between from ys ≡ span_of p.0 = ap (λ (z : List Token). span_between z ys) p.1 ∙ span_append p.0 ys in
-    var_template_fault (before, p.0, es, w ∙ ap (λ (z : List Token). before ++ z) p.1, a, factored_is_written whole unchecked var_template v p.0 [] p.2, subst (λ (z : Span). var_fault v z ≡ Some x) s e)
+    var_template_fault (before, p.0, es, w ∙ ap (λ (z : List Token). before ++ z) p.1, a, factored_is_written parsed unchecked var_template v p.0 [] p.2, subst (λ (z : Span). var_fault v z ≡ Some x) s e)
 
 -- ---- all symbols
 no_check : (n : FactoredSymbol) → ((v : FactoredValue n) (s : Span) → head_check (body n) v s ≡ None) → (x : Fault) (xs ys : List Token) → IsFaulty body n x xs ys → ⊥
@@ -194,12 +194,12 @@ severity_back ts x ys (before, d, p, t, w, a, c1, c2, c3, n, e) =
       whole = w;
       not_after = a;
       ended = ended_alone tables body rank_limit passes (of Symbol.diagnostic_severity) refl t from ys r;
-      faulty = (t, r, wrong_severity t (span_between from ys) x (c3, n, e));
+      faulty = (t, r, wrong_severity t x (c3, n, e));
     }
 
 attribute_back : (ts : List Token) (ending : Ending) (x : Fault) (ys : List Token) → IsAttributeFault ts ending x ys → FaultIn body apart ts x ys
 attribute_back ts ending x ys (before, p, v, w, d, c, e) =
-    let r : Part unchecked body (of attribute) v (p ++ ys) ys = front_is_part unchecked body (of attribute) v p ys (written_is_factored whole unchecked attribute v p [] d) in
+    let r : Part unchecked body (of attribute) v (p ++ ys) ys = front_is_part unchecked body (of attribute) v p ys (written_is_factored parsed unchecked attribute v p [] d) in
     record {
       symbol_of = of attribute;
       before = before;
@@ -213,7 +213,7 @@ attribute_back ts ending x ys (before, p, v, w, d, c, e) =
 var_back : (ts : List Token) (x : Fault) (ys : List Token) → IsVarTemplateFault ts x ys → FaultIn body apart ts x ys
 var_back ts x ys (before, p, es, w, a, d, e) =
     let v : Option (List ExpressionNode) = Some es in
-    let r : Part unchecked body (of var_template) v (p ++ ys) ys = front_is_part unchecked body (of var_template) v p ys (written_is_factored whole unchecked var_template v p [] d) in
+    let r : Part unchecked body (of var_template) v (p ++ ys) ys = front_is_part unchecked body (of var_template) v p ys (written_is_factored parsed unchecked var_template v p [] d) in
     record {
       symbol_of = of var_template;
       before = before;

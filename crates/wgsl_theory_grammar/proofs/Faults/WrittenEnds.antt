@@ -5,7 +5,7 @@ use Rattle.grammar.specs.Tokens.{Token}
 use Rattle.grammar.specs.Tables.{disjoint}
 use Rattle.grammar.proofs.Reading.Sets.{implied}
 use Rattle.wgsl_model.specs.Tokens.Classes.{SymAttr, SymBraceRight, SymParenRight, SymSemicolon, KwVar, TemplateArgsEnd}
-use Rattle.wgsl_model.specs.Grammar.Symbols.{Dialect.whole, Symbol, Symbol.ident, Symbol.type_specifier, Symbol.template_list, Symbol.expressions, Symbol.call, Symbol.arguments, Symbol.literal, Symbol.primary_expression, Symbol.singular_expression, Symbol.component, Symbol.unary_expression, Symbol.multiplicative_expression, Symbol.negated_expression, Symbol.additive_expression, Symbol.shift_expression, Symbol.relational_expression, Symbol.expression, Symbol.unit, Value}
+use Rattle.wgsl_model.specs.Grammar.Symbols.{Dialect.parsed, Symbol, Symbol.ident, Symbol.type_specifier, Symbol.template_list, Symbol.expressions, Symbol.call, Symbol.arguments, Symbol.literal, Symbol.primary_expression, Symbol.singular_expression, Symbol.component, Symbol.unary_expression, Symbol.multiplicative_expression, Symbol.negated_expression, Symbol.additive_expression, Symbol.shift_expression, Symbol.relational_expression, Symbol.expression, Symbol.unit, Value}
 use Rattle.wgsl_model.specs.Grammar.Written.{written}
 use Rattle.wgsl_theory_grammar.proofs.Forms.LevelLinks.{taking, written_takes}
 use Rattle.wgsl_theory_grammar.proofs.Faults.Avoids.{NoneOf, none_of, takes_only, only_part, EndsWith, ends, ending_part}
@@ -52,7 +52,7 @@ arguments_end arguments e = refl
 arguments_end n e = absurd cc
 
 pub arguments_close : (v : Value arguments) (xs ys : List Token) → Part unchecked written arguments v xs ys → (p : List Token) × (xs ≡ p ++ ys) × EndsWith (SymParenRight ∷ []) p
-arguments_close = ending_part unchecked written (SymParenRight ∷ []) only taking (written_takes whole) arguments_end arguments refl
+arguments_close = ending_part unchecked written (SymParenRight ∷ []) only taking (written_takes parsed) arguments_end arguments refl
 
 abbrev pub templates : Symbol → Bool
 templates template_list = true
@@ -63,7 +63,7 @@ templates_end template_list e = refl
 templates_end n e = absurd cc
 
 pub template_closes : (v : Value template_list) (xs ys : List Token) → Part unchecked written template_list v xs ys → (p : List Token) × (xs ≡ p ++ ys) × EndsWith (TemplateArgsEnd ∷ []) p
-template_closes = ending_part unchecked written (TemplateArgsEnd ∷ []) templates taking (written_takes whole) templates_end template_list refl
+template_closes = ending_part unchecked written (TemplateArgsEnd ∷ []) templates taking (written_takes parsed) templates_end template_list refl
 
 -- ---- statements, clauses, declarations, directives and modules end with `;` or `}`
 abbrev pub closers : List ℕ
@@ -83,4 +83,4 @@ closing_end unit = refl
 closing_end n = refl
 
 pub sentence_closes : (n : Symbol) → closing n ≡ true → (v : Value n) (xs ys : List Token) → Part unchecked written n v xs ys → (p : List Token) × (xs ≡ p ++ ys) × EndsWith closers p
-sentence_closes = ending_part unchecked written closers closing taking (written_takes whole) (λ n e. implied (closing n) _ (closing_end n) e)
+sentence_closes = ending_part unchecked written closers closing taking (written_takes parsed) (λ n e. implied (closing n) _ (closing_end n) e)

@@ -8,7 +8,7 @@ use Rattle.wgsl_model.specs.Trees.Spanned.{Spanned}
 use Rattle.wgsl_model.specs.Trees.Attributes.{Attribute, Attributes}
 use Rattle.wgsl_model.specs.Grammar.Checks.{AttributeParts}
 use Rattle.wgsl_model.specs.Grammar.StatementParts.{attributes, leading, led}
-use Rattle.wgsl_model.specs.Grammar.Symbols.{Dialect, Dialect.whole, Dialect.alone, Symbol.attribute, Rule}
+use Rattle.wgsl_model.specs.Grammar.Symbols.{Dialect, Dialect.parsed, Dialect.recognized, Symbol.attribute, Rule}
 use Rattle.wgsl_model.specs.Grammar.Written.{rules}
 use Rattle.wgsl_theory_grammar.specs.Factored.{Further.attribute_list, FactoredSymbol.of, FactoredSymbol.further, FactoredRule, attributes_before, leading_list, leading_before, either_behind, items_behind, begun_by, factored}
 use Rattle.wgsl_theory_grammar.proofs.Forms.ListLinks.{IsToken}
@@ -30,12 +30,12 @@ pub meant_list : (L : Dialect) (M : Mode) → Listed M (WrittenPart L M) (Meant 
 meant_list L M = record { to_list = λ v xs ys d. d; from_list = λ v xs ys d. d }
 
 pub leading_to : (L : Dialect) (M : Mode) (D : WrittenRelation) (E : FactoredRelation) → Listed M D E → Kept (Means M D (leading L)) (Means M E (leading_list L))
-leading_to whole M D E K v xs ys d = K.to_list v xs ys d
-leading_to alone M D E K v xs ys d = d
+leading_to parsed M D E K v xs ys d = K.to_list v xs ys d
+leading_to recognized M D E K v xs ys d = d
 
 pub leading_from : (L : Dialect) (M : Mode) (D : WrittenRelation) (E : FactoredRelation) → Listed M D E → Kept (Means M E (leading_list L)) (Means M D (leading L))
-leading_from whole M D E K v xs ys d = K.from_list v xs ys d
-leading_from alone M D E K v xs ys d = d
+leading_from parsed M D E K v xs ys d = K.from_list v xs ys d
+leading_from recognized M D E K v xs ys d = d
 
 pub led_to : (L : Dialect) (M : Mode) (D : WrittenRelation) (E : FactoredRelation) → Listed M D E → {A B : Type 0} (make : Attributes → A → B) (g : Rule A) (h : FactoredRule A)
     → Kept (Means M D g) (Means M E h) → Kept (Means M D (led L make g)) (Means M E (leading_before L make h))
@@ -61,18 +61,18 @@ leading_closed L M E {A} make g c t v xs ms ys (p, e, (us, d, x)) k = let i : A 
 
 -- ---- one of two behind attributes
 pub either_first : (L : Dialect) (M : Mode) (E : FactoredRelation) {A B : Type 0} (make : Attributes → A → B) (g h : FactoredRule A) → Kept (Means M E (attributes_before make g)) (Means M E (either_behind L make g h))
-either_first whole M E make g h v xs ys (p, e, (ms, d, x)) = (p, e, (ms, d, inl x))
-either_first alone M E make g h v xs ys d = inl d
+either_first parsed M E make g h v xs ys (p, e, (ms, d, x)) = (p, e, (ms, d, inl x))
+either_first recognized M E make g h v xs ys d = inl d
 
 pub either_second : (L : Dialect) (M : Mode) (E : FactoredRelation) {A B : Type 0} (make : Attributes → A → B) (g h : FactoredRule A) → Kept (Means M E (leading_before L make h)) (Means M E (either_behind L make g h))
-either_second whole M E make g h v xs ys (p, e, (ms, d, x)) = (p, e, (ms, d, inr x))
-either_second alone M E make g h v xs ys d = inr d
+either_second parsed M E make g h v xs ys (p, e, (ms, d, x)) = (p, e, (ms, d, inr x))
+either_second recognized M E make g h v xs ys d = inr d
 
 pub either_of : (L : Dialect) (M : Mode) (E : FactoredRelation) {A B : Type 0} (make : Attributes → A → B) (g h : FactoredRule A) (v : B) (xs ys : List Token) → Means M E (either_behind L make g h) v xs ys
     → Means M E (attributes_before make g) v xs ys ⊎ Means M E (leading_before L make h) v xs ys
-either_of whole M E make g h v xs ys (p, e, (ms, d, inl x)) = inl (p, e, (ms, d, x))
-either_of whole M E make g h v xs ys (p, e, (ms, d, inr x)) = inr (p, e, (ms, d, x))
-either_of alone M E make g h v xs ys d = d
+either_of parsed M E make g h v xs ys (p, e, (ms, d, inl x)) = inl (p, e, (ms, d, x))
+either_of parsed M E make g h v xs ys (p, e, (ms, d, inr x)) = inr (p, e, (ms, d, x))
+either_of recognized M E make g h v xs ys d = d
 
 -- ---- an item of two kinds behind attributes and the rest, or what is no item
 module _ (L : Dialect) (M : Mode) (E : FactoredRelation) {A R B : Type 0} (put : (A × Span) × R → Attributes → B) (g h : FactoredRule A) (rest : FactoredRule R) (other : FactoredRule (Attributes → B)) where
@@ -86,24 +86,24 @@ module _ (L : Dialect) (M : Mode) (E : FactoredRelation) {A R B : Type 0} (put :
 
 pub items_in : (L : Dialect) (M : Mode) (E : FactoredRelation) {A R B : Type 0} (put : (A × Span) × R → Attributes → B) (g h : FactoredRule A) (rest : FactoredRule R) (other : FactoredRule (Attributes → B)) (v : B) (xs ys : List Token)
     → ItemsOf L M E put g h rest other v xs ys → Items L M E put g h rest other v xs ys
-items_in whole M E {A} {R} {B} put g h rest other _ _ _ (first_item a u r xs ks ms ys d x y) =
+items_in parsed M E {A} {R} {B} put g h rest other _ _ _ (first_item a u r xs ks ms ys d x y) =
     let p : (A × Span) × R = ((u, span_between ks ms), r) in
     let i : Attributes × (Attributes → B) = (a, put p) in
     (i, refl, (ks, d, inr (p, refl, (ms, (u, refl, inl x), y))))
-items_in whole M E {A} {R} {B} put g h rest other _ _ _ (second_item a u r xs ks ms ys d x y) =
+items_in parsed M E {A} {R} {B} put g h rest other _ _ _ (second_item a u r xs ks ms ys d x y) =
     let p : (A × Span) × R = ((u, span_between ks ms), r) in
     let i : Attributes × (Attributes → B) = (a, put p) in
     (i, refl, (ks, d, inr (p, refl, (ms, (u, refl, inr x), y))))
-items_in whole M E {A} {R} {B} put g h rest other _ _ _ (no_item a f xs ks ys d x) = let i : Attributes × (Attributes → B) = (a, f) in (i, refl, (ks, d, inl x))
-items_in alone M E {A} {R} {B} put g h rest other _ _ _ (first_item a u r xs ks ms ys d x y) =
+items_in parsed M E {A} {R} {B} put g h rest other _ _ _ (no_item a f xs ks ys d x) = let i : Attributes × (Attributes → B) = (a, f) in (i, refl, (ks, d, inl x))
+items_in recognized M E {A} {R} {B} put g h rest other _ _ _ (first_item a u r xs ks ms ys d x y) =
     let p : (A × Span) × R = ((u, span_between ks ms), r) in
     let i : Attributes × (Attributes → B) = (a, put p) in
     inl (i, refl, (ks, d, (p, refl, (ms, (u, refl, x), y))))
-items_in alone M E {A} {R} {B} put g h rest other _ _ _ (second_item a u r xs ks ms ys d x y) =
+items_in recognized M E {A} {R} {B} put g h rest other _ _ _ (second_item a u r xs ks ms ys d x y) =
     let p : (A × Span) × R = ((u, span_between ks ms), r) in
     let i : Attributes × (Attributes → B) = (a, put p) in
     inr (i, refl, (ks, d, inr (p, refl, (ms, (u, refl, x), y))))
-items_in alone M E {A} {R} {B} put g h rest other _ _ _ (no_item a f xs ks ys d x) = let i : Attributes × (Attributes → B) = (a, f) in inr (i, refl, (ks, d, inl x))
+items_in recognized M E {A} {R} {B} put g h rest other _ _ _ (no_item a f xs ks ys d x) = let i : Attributes × (Attributes → B) = (a, f) in inr (i, refl, (ks, d, inl x))
 
 pub items_out : (L : Dialect) (M : Mode) (E : FactoredRelation) {A R B : Type 0} (put : (A × Span) × R → Attributes → B) (g h : FactoredRule A) (rest : FactoredRule R) (other : FactoredRule (Attributes → B)) (v : B) (xs ys : List Token)
     → Items L M E put g h rest other v xs ys → ItemsOf L M E put g h rest other v xs ys
@@ -115,12 +115,12 @@ items_out L M E {A} {R} {B} put g h rest other v xs ys d = go L d
         subst (λ (z : B). ItemsOf L M E put g h rest other z xs ys) (ap (λ (z : A × Span). put (z, p.1) i.0) q ∙ (ap (λ (z : Attributes → B). z i.0) f ∙ e)) w
 
     go : (L : Dialect) → Items L M E put g h rest other v xs ys → ItemsOf L M E put g h rest other v xs ys
-    go whole (i, e, (ks, d, inl x)) = subst (λ (z : B). ItemsOf whole M E put g h rest other z xs ys) e (no_item i.0 i.1 xs ks ys d x)
-    go whole (i, e, (ks, d, inr (p, f, (ms, (u, q, inl x), y)))) = taken whole i p u ks ms e f q (first_item i.0 u p.1 xs ks ms ys d x y)
-    go whole (i, e, (ks, d, inr (p, f, (ms, (u, q, inr x), y)))) = taken whole i p u ks ms e f q (second_item i.0 u p.1 xs ks ms ys d x y)
-    go alone (inl (i, e, (ks, d, (p, f, (ms, (u, q, x), y))))) = taken alone i p u ks ms e f q (first_item i.0 u p.1 xs ks ms ys d x y)
-    go alone (inr (i, e, (ks, d, inl x))) = subst (λ (z : B). ItemsOf alone M E put g h rest other z xs ys) e (no_item i.0 i.1 xs ks ys d x)
-    go alone (inr (i, e, (ks, d, inr (p, f, (ms, (u, q, x), y))))) = taken alone i p u ks ms e f q (second_item i.0 u p.1 xs ks ms ys d x y)
+    go parsed (i, e, (ks, d, inl x)) = subst (λ (z : B). ItemsOf parsed M E put g h rest other z xs ys) e (no_item i.0 i.1 xs ks ys d x)
+    go parsed (i, e, (ks, d, inr (p, f, (ms, (u, q, inl x), y)))) = taken parsed i p u ks ms e f q (first_item i.0 u p.1 xs ks ms ys d x y)
+    go parsed (i, e, (ks, d, inr (p, f, (ms, (u, q, inr x), y)))) = taken parsed i p u ks ms e f q (second_item i.0 u p.1 xs ks ms ys d x y)
+    go recognized (inl (i, e, (ks, d, (p, f, (ms, (u, q, x), y))))) = taken recognized i p u ks ms e f q (first_item i.0 u p.1 xs ks ms ys d x y)
+    go recognized (inr (i, e, (ks, d, inl x))) = subst (λ (z : B). ItemsOf recognized M E put g h rest other z xs ys) e (no_item i.0 i.1 xs ks ys d x)
+    go recognized (inr (i, e, (ks, d, inr (p, f, (ms, (u, q, x), y))))) = taken recognized i p u ks ms e f q (second_item i.0 u p.1 xs ks ms ys d x y)
 
 -- ---- where attributes begin
 -- there are none, or the first of them begins where the tokens do
@@ -151,8 +151,8 @@ begun a xs ks ms s e (inr (b, bs, f, q, t)) r =
     ∙ (ap (λ (z : Span). begun_by (b ∷ bs) z) (span_runs s e ks ms r) ∙ sym (span_runs b.span.start e xs ms (runs_join _ _ _ _ xs ks ms t r)))
 
 span_of_attribute : (L : Dialect) (M : Mode) (D : WrittenRelation) (a : Spanned AttributeParts) (xs ys : List Token) → Means M D (rules L attribute) a xs ys → span_between xs ys ≡ a.span
-span_of_attribute whole M D a xs ys (c, (p, e, d)) = ap (λ (z : Spanned AttributeParts). z.span) e
-span_of_attribute alone M D a xs ys (p, e, d) = ap (λ (z : Spanned AttributeParts). z.span) e
+span_of_attribute parsed M D a xs ys (c, (p, e, d)) = ap (λ (z : Spanned AttributeParts). z.span) e
+span_of_attribute recognized M D a xs ys (p, e, d) = ap (λ (z : Spanned AttributeParts). z.span) e
 
 placed_at_start : (a : Spanned AttributeParts) (xs ys : List Token) → span_between xs ys ≡ a.span → (t : Token) × (q : List Token) × (xs ≡ t ∷ (q ++ ys)) → (e : ℕ) × Runs a.span.start e xs ys
 placed_at_start a xs ys e (t, q, w) =
@@ -173,18 +173,18 @@ abbrev pub Takes : List Token → List Token → Type 0
 Takes ks ms = (t : Token) × (q : List Token) × (ks ≡ t ∷ (q ++ ms))
 
 begun_at : (L : Dialect) (M : Mode) (D : WrittenRelation) → AllAt D → (a : Attributes) (xs ks ms : List Token) → Means M D (leading L) a xs ks → Takes ks ms → begun_by a (span_between ks ms) ≡ span_between xs ms
-begun_at whole M D H a xs ks ms d (t, q, w) = begun a xs ks ms t.start (last_end t.end q) (begins M D H xs a ks d) (t, q, w, refl, refl)
-begun_at alone M D H a xs ks ms (n, e) (t, q, w) = begun a xs ks ms t.start (last_end t.end q) (inl (sym n, e)) (t, q, w, refl, refl)
+begun_at parsed M D H a xs ks ms d (t, q, w) = begun a xs ks ms t.start (last_end t.end q) (begins M D H xs a ks d) (t, q, w, refl, refl)
+begun_at recognized M D H a xs ks ms (n, e) (t, q, w) = begun a xs ks ms t.start (last_end t.end q) (inl (sym n, e)) (t, q, w, refl, refl)
 
 -- of both grammars, where attributes may be left out in a dialect, and where they may not
 pub read_begun : (L : Dialect) (M : Mode) (a : Attributes) (xs ks ms : List Token) → Means M (Part M (factored L)) (leading_list L) a xs ks → Takes ks ms → begun_by a (span_between ks ms) ≡ span_between xs ms
 read_begun L M a xs ks ms d w = begun_at L M (ReadPart L M) (read_at L M) a xs ks ms (leading_from L M (ReadPart L M) (Part M (factored L)) (read_list L M) a xs ks d) w
 
 pub list_begun : (L : Dialect) (M : Mode) (a : Attributes) (xs ks ms : List Token) → Part M (factored L) (further attribute_list) a xs ks → Takes ks ms → begun_by a (span_between ks ms) ≡ span_between xs ms
-list_begun L M a xs ks ms d w = begun_at whole M (ReadPart L M) (read_at L M) a xs ks ms ((read_list L M).from_list a xs ks d) w
+list_begun L M a xs ks ms d w = begun_at parsed M (ReadPart L M) (read_at L M) a xs ks ms ((read_list L M).from_list a xs ks d) w
 
 pub written_begun : (L : Dialect) (M : Mode) (a : Attributes) (xs ks ms : List Token) → Means M (Meant L M (WrittenPart L M)) (leading_list L) a xs ks → Takes ks ms → begun_by a (span_between ks ms) ≡ span_between xs ms
 written_begun L M a xs ks ms d w = begun_at L M (WrittenPart L M) (written_at L M) a xs ks ms (leading_from L M (WrittenPart L M) (Meant L M (WrittenPart L M)) (meant_list L M) a xs ks d) w
 
 pub attributes_begun : (L : Dialect) (M : Mode) (a : Attributes) (xs ks ms : List Token) → Means M (WrittenPart L M) attributes a xs ks → Takes ks ms → begun_by a (span_between ks ms) ≡ span_between xs ms
-attributes_begun L M a xs ks ms d w = begun_at whole M (WrittenPart L M) (written_at L M) a xs ks ms d w
+attributes_begun L M a xs ks ms d w = begun_at parsed M (WrittenPart L M) (written_at L M) a xs ks ms d w

@@ -14,7 +14,7 @@ use Rattle.wgsl_model.specs.Trees.Statements.{Statement, statement, Unattributed
 use Rattle.wgsl_model.specs.Grammar.TokenValues.{text_of}
 use Rattle.wgsl_model.specs.Grammar.ExpressionParts.{type_of, call_of, variable}
 use Rattle.wgsl_model.specs.Grammar.StatementParts.{variable_at, parenthesized_at, leading, open_left_side, parenthesized_left_side, left_side}
-use Rattle.wgsl_model.specs.Grammar.Symbols.{Dialect, Dialect.whole, Dialect.alone, Symbol.ident, Symbol.type_specifier, Symbol.call, Symbol.primary_expression, Symbol.component, Symbol.lhs_expression, Symbol.call_statement, Symbol.assignment, Symbol.increment, Symbol.decrement, Rule, Symbol.phony_assignment}
+use Rattle.wgsl_model.specs.Grammar.Symbols.{Dialect, Dialect.parsed, Dialect.recognized, Symbol.ident, Symbol.type_specifier, Symbol.call, Symbol.primary_expression, Symbol.component, Symbol.lhs_expression, Symbol.call_statement, Symbol.assignment, Symbol.increment, Symbol.decrement, Rule, Symbol.phony_assignment}
 use Rattle.wgsl_model.specs.Grammar.Written.{rules}
 use Rattle.wgsl_theory_grammar.specs.Factored.{Further.components, Further.left_side_rest, Further.name_rest_statement, FactoredSymbol.of, FactoredSymbol.further, Growth, call_or_type, variable_of, call_by_name, factored, Further.left_side_in_parentheses, Further.prefixed_left_side, Further.parenthesized_statement, Further.phony_part, Further.simple_part, FactoredRule, leading_before}
 use Rattle.wgsl_theory_grammar.specs.Meaning.{left_side_growth, parenthesized_growth, simple_kinds}
@@ -47,12 +47,12 @@ primary_out L M v xs ys (e, q, inr d) = roll M (rules L) primary_expression v xs
 -- ---- left sides
 -- a name is one token
 read_ident : (L : Dialect) (M : Mode) (t : Token) (xs ys : List Token) → ReadPart L M ident t xs ys → xs ≡ t ∷ ys
-read_ident whole M t xs ys d = (unroll M (factored whole) (of ident) t xs ys d).1.1
-read_ident alone M t xs ys d = (unroll M (factored alone) (of ident) t xs ys d).1
+read_ident parsed M t xs ys d = (unroll M (factored parsed) (of ident) t xs ys d).1.1
+read_ident recognized M t xs ys d = (unroll M (factored recognized) (of ident) t xs ys d).1
 
 written_ident : (L : Dialect) (M : Mode) (t : Token) (xs ys : List Token) → WrittenPart L M ident t xs ys → xs ≡ t ∷ ys
-written_ident whole M t xs ys d = (unroll M (rules whole) ident t xs ys d).1.1
-written_ident alone M t xs ys d = (unroll M (rules alone) ident t xs ys d).1
+written_ident parsed M t xs ys d = (unroll M (rules parsed) ident t xs ys d).1.1
+written_ident recognized M t xs ys d = (unroll M (rules recognized) ident t xs ys d).1
 
 abbrev name_node : Rule ExpressionNode
 name_node = symbol ident makes variable_at

@@ -7,7 +7,7 @@ use Rattle.wgsl_model.specs.Tokens.Classes.{SymAndAnd, SymOrOr}
 use Rattle.wgsl_model.specs.Trees.Operators.{BinaryOperator.short_circuit_or, BinaryOperator.short_circuit_and}
 use Rattle.grammar.proofs.Reading.Depth.{roll, unroll}
 use Rattle.wgsl_model.specs.Trees.Expressions.{ExpressionNode, ExpressionNode.expression_node, Expression}
-use Rattle.wgsl_model.specs.Grammar.Symbols.{Dialect, Dialect.whole, Dialect.alone, Symbol, Symbol.primary_expression, Symbol.singular_expression, Symbol.component, Symbol.unary_expression, Symbol.multiplicative_expression, Symbol.negated_expression, Symbol.additive_expression, Symbol.shift_expression, Symbol.relational_expression, Symbol.expression, Symbol.unit}
+use Rattle.wgsl_model.specs.Grammar.Symbols.{Dialect, Dialect.parsed, Dialect.recognized, Symbol, Symbol.primary_expression, Symbol.singular_expression, Symbol.component, Symbol.unary_expression, Symbol.multiplicative_expression, Symbol.negated_expression, Symbol.additive_expression, Symbol.shift_expression, Symbol.relational_expression, Symbol.expression, Symbol.unit}
 use Rattle.wgsl_model.specs.Grammar.Written.{rules}
 use Rattle.wgsl_theory_grammar.specs.Factored.{Further.components, Further.factors, Further.summands, Further.sum_rest, Further.relation_rest, Further.and_rest, Further.or_rest, Further.bitwise_and_rest, Further.bitwise_or_rest, Further.bitwise_xor_rest, Further.expression_rest, Further.attribute_list, Further.else_rest, Further.declaration_list, Further.front, FactoredSymbol, FactoredSymbol.of, FactoredSymbol.further, Growth, unchanged, some_more, factored}
 use Rattle.wgsl_theory_grammar.specs.Tables.{empties}
@@ -29,18 +29,18 @@ taking unit = false
 taking n = true
 
 pub written_takes : (L : Dialect) (n : Symbol) → taking n ≡ true → surely_takes taking (rules L n) ≡ true
-written_takes whole unit e = absurd cc
-written_takes alone unit e = absurd cc
+written_takes parsed unit e = absurd cc
+written_takes recognized unit e = absurd cc
 written_takes L n e = refl
 
 abbrev pub never_empty : FactoredSymbol → Bool
 never_empty n = not (empties n)
 
 pub body_takes : (L : Dialect) (n : FactoredSymbol) → never_empty n ≡ true → surely_takes never_empty (factored L n) ≡ true
-body_takes whole (of unit) e = absurd cc
-body_takes alone (of unit) e = absurd cc
-body_takes whole (further components) e = absurd cc
-body_takes alone (further components) e = absurd cc
+body_takes parsed (of unit) e = absurd cc
+body_takes recognized (of unit) e = absurd cc
+body_takes parsed (further components) e = absurd cc
+body_takes recognized (further components) e = absurd cc
 body_takes L (of n) e = refl
 body_takes L (further factors) e = absurd cc
 body_takes L (further summands) e = absurd cc

@@ -8,7 +8,7 @@ use Rattle.wgsl_model.specs.Tokens.Classes.{SymAnd, SymAndAnd, SymShiftRight, Sy
 use Rattle.wgsl_model.specs.Trees.Operators.{BinaryOperator, BinaryOperator.short_circuit_or, BinaryOperator.short_circuit_and, BinaryOperator.bitwise_or, BinaryOperator.bitwise_and, BinaryOperator.bitwise_xor, BinaryOperator.shift_left, BinaryOperator.shift_right}
 use Rattle.wgsl_model.specs.Trees.Expressions.{ExpressionNode, end_of}
 use Rattle.wgsl_model.specs.Grammar.ExpressionParts.{binary_of, multiplicative_operator, additive_operator, relational_operator, summand}
-use Rattle.wgsl_model.specs.Grammar.Symbols.{Dialect, Dialect.whole, Dialect.alone, Symbol.unary_expression, Symbol.multiplicative_expression, Symbol.negated_expression, Symbol.additive_expression, Symbol.shift_expression, Symbol.relational_expression, Symbol.expression, Rule}
+use Rattle.wgsl_model.specs.Grammar.Symbols.{Dialect, Dialect.parsed, Dialect.recognized, Symbol.unary_expression, Symbol.multiplicative_expression, Symbol.negated_expression, Symbol.additive_expression, Symbol.shift_expression, Symbol.relational_expression, Symbol.expression, Rule}
 use Rattle.wgsl_model.specs.Grammar.Written.{rules}
 use Rattle.wgsl_theory_grammar.specs.Factored.{FactoredSymbol.of, FactoredSymbol.further, Growth, grown, factored}
 use Rattle.wgsl_theory_grammar.specs.Meaning.{sum_growth, relation_growth, expression_growth, meaning}
@@ -77,9 +77,9 @@ abbrev Summand : Dialect → Mode → WrittenRelation → ItemRelation
 Summand L M D b xs ys = Means M D (summand L) b xs ys
 
 summand_ended : (L : Dialect) (M : Mode) (D : WrittenRelation) → Steps L M D → AllEnded (Summand L M D)
-summand_ended whole M D S b xs ys (inl d) = item_ended whole M D additive_operator (D multiplicative_expression) (sum_token whole M D) (product_placed whole M D S) b xs ys d
-summand_ended whole M D S b xs ys (inr (a, e, d)) = subst (λ (z : Item). Ended z.1 xs ys) e (later_ended whole M D S xs a ys (S.unroll_negated a xs ys d))
-summand_ended alone M D S b xs ys d = item_ended alone M D additive_operator (D multiplicative_expression) (sum_token alone M D) (product_placed alone M D S) b xs ys d
+summand_ended parsed M D S b xs ys (inl d) = item_ended parsed M D additive_operator (D multiplicative_expression) (sum_token parsed M D) (product_placed parsed M D S) b xs ys d
+summand_ended parsed M D S b xs ys (inr (a, e, d)) = subst (λ (z : Item). Ended z.1 xs ys) e (later_ended parsed M D S xs a ys (S.unroll_negated a xs ys d))
+summand_ended recognized M D S b xs ys d = item_ended recognized M D additive_operator (D multiplicative_expression) (sum_token recognized M D) (product_placed recognized M D S) b xs ys d
 
 abbrev Factor : Dialect → Mode → WrittenRelation → ItemRelation
 Factor L M D = ItemOf L M D multiplicative_operator (D unary_expression)

@@ -1,7 +1,7 @@
 -- Behind blank space and comments stand none.
 use Rattle.std.proofs.Common.{◌≡◌, ℕ, suc, ◌==◌, ◌&&◌, Bool, true, false, cond, refl, List, [], ◌∷◌}
 use Rattle.wgsl_model.specs.Tokens.Characters.{is_blank, is_line_break}
-use Rattle.wgsl_model.specs.Tokens.Trivia.{Place, outside, in_line, in_block, second, closed, first_or_zero, after_trivia}
+use Rattle.wgsl_model.specs.Tokens.Trivia.{Place, outside, in_line, in_block, second, out_of_block, first_or_zero, after_trivia}
 
 -- no blank space and no comment stand at the front
 abbrev pub IsBare : List ℕ → Type 0
@@ -31,5 +31,5 @@ behind_trivia outside (c ∷ cs) =
 behind_trivia in_line (c ∷ cs) = either_bare (is_line_break c) _ _ (λ e. behind_trivia outside cs) (λ e. behind_trivia in_line cs)
 behind_trivia (in_block n) (c ∷ cs) =
     either_bare (c == 47 && first_or_zero cs == 42) _ _ (λ e. behind_trivia (second (in_block (suc n))) cs) (λ l.
-    either_bare (c == 42 && first_or_zero cs == 47) _ _ (λ e. behind_trivia (second (closed n)) cs) (λ k. behind_trivia (in_block n) cs))
+    either_bare (c == 42 && first_or_zero cs == 47) _ _ (λ e. behind_trivia (second (out_of_block n)) cs) (λ k. behind_trivia (in_block n) cs))
 behind_trivia (second p) (c ∷ cs) = behind_trivia p cs

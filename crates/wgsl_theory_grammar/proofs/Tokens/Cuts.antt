@@ -4,7 +4,7 @@ use Rattle.wgsl_model.specs.Tokens.Kind.{Kind}
 use Rattle.wgsl_model.specs.Tokens.Characters.{is_blank, is_line_break}
 use Rattle.wgsl_model.specs.Tokens.Pattern.{or_else, begins, begins_any, spells, after_longest, after_spelling}
 use Rattle.wgsl_model.specs.Tokens.Spelling.{spelling}
-use Rattle.wgsl_model.specs.Tokens.Trivia.{Place, outside, in_line, in_block, second, closed, first_or_zero, after_trivia}
+use Rattle.wgsl_model.specs.Tokens.Trivia.{Place, outside, in_line, in_block, second, out_of_block, first_or_zero, after_trivia}
 use Rattle.wgsl_model.specs.Tokens.Raw.{Raw, none_left, invalid, token, front, kind_of_spelling, valued, spelled, raw_at, raw}
 
 -- the text ends with the rest
@@ -107,7 +107,7 @@ trivia-ends in_line (c ∷ cs) =
     chosen (is_line_break c) (c ∷ cs) _ _ (longer c cs _ (trivia-ends outside cs)) (longer c cs _ (trivia-ends in_line cs))
 trivia-ends (in_block n) (c ∷ cs) =
     chosen (c == 47 && first_or_zero cs == 42) (c ∷ cs) _ _ (longer c cs _ (trivia-ends (second (in_block (suc n))) cs)) (
-    chosen (c == 42 && first_or_zero cs == 47) (c ∷ cs) _ _ (longer c cs _ (trivia-ends (second (closed n)) cs)) (longer c cs _ (trivia-ends (in_block n) cs)))
+    chosen (c == 42 && first_or_zero cs == 47) (c ∷ cs) _ _ (longer c cs _ (trivia-ends (second (out_of_block n)) cs)) (longer c cs _ (trivia-ends (in_block n) cs)))
 trivia-ends (second p) (c ∷ cs) = longer c cs _ (trivia-ends p cs)
 
 -- an end of an end is an end

@@ -18,7 +18,7 @@ use Rattle.wgsl_model.specs.Grammar.Checks.{unreserved, attribute_parts, attribu
 use Rattle.wgsl_model.specs.Grammar.ExpressionParts.{placed_expression, type_of, call_of, index_of, component_of, with_component, unary_of, binary_of, operation_of, negation_of, negated_product_of, two, two_or_more, unary_operator, multiplicative_operator, additive_operator, relational_operator}
 use Rattle.wgsl_model.specs.Grammar.StatementParts.{placed_statement, variable_at, parenthesized_at, attributed, attributes, statements, initializer, var_kind, assignment_operator, else_if, else_block, open_left_side, parenthesized_left_side, left_side, underscore_at, led}
 use Rattle.wgsl_model.specs.Grammar.UnitParts.{rule_of, texts_of}
-use Rattle.wgsl_model.specs.Grammar.Symbols.{Dialect.whole, Symbol, Rule, ident, type_specifier, template_list, call, arguments, literal, primary_expression, singular_expression, component, unary_expression, multiplicative_expression, negated_expression, additive_expression, shift_expression, relational_expression, expression, lhs_expression, attribute, compound_statement, statement, return_statement, if_statement, switch_statement, loop_statement, for_statement, while_statement, call_statement, var_statement, value_statement, break_statement, continue_statement, discard_statement, assignment, phony_assignment, increment, decrement, const_assert, switch_clause, continuing_statement, for_init, for_update, typed_ident}
+use Rattle.wgsl_model.specs.Grammar.Symbols.{Dialect.parsed, Symbol, Rule, ident, type_specifier, template_list, call, arguments, literal, primary_expression, singular_expression, component, unary_expression, multiplicative_expression, negated_expression, additive_expression, shift_expression, relational_expression, expression, lhs_expression, attribute, compound_statement, statement, return_statement, if_statement, switch_statement, loop_statement, for_statement, while_statement, call_statement, var_statement, value_statement, break_statement, continue_statement, discard_statement, assignment, phony_assignment, increment, decrement, const_assert, switch_clause, continuing_statement, for_init, for_update, typed_ident}
 use Rattle.wgsl_model.specs.Grammar.Written.{written}
 use Rattle.wgsl_theory_reread.proofs.Again.{IsKind}
 use Rattle.wgsl_theory_reread.proofs.EachRule.ExpressionRules.{literal_classes}
@@ -292,7 +292,7 @@ value_statement_gives = attributed_gives (gives_sound (then_sound (anything (KwL
     (λ p. local_of p.0 p.1.0 (Some p.1.1)) IsSoundUnattributed (λ p h. (h.1.0.0, h.1.0.1, h.1.1)))
 
 -- a left side behind attributes
-pub left_side_gives : Gives (left_side whole) (λ p. AreSoundAttributes p.0 × Sound lhs_expression p.1)
+pub left_side_gives : Gives (left_side parsed) (λ p. AreSoundAttributes p.0 × Sound lhs_expression p.1)
 left_side_gives = or_sound (then_sound attributes_give open_left_side_gives) (gives_sound parenthesized_left_side_gives (λ e. ([], e)) (λ p. AreSoundAttributes p.0 × Sound lhs_expression p.1) (λ e h. (tt, h)))
 
 assignment_gives : Gives (written assignment) (Sound assignment)
@@ -300,7 +300,7 @@ assignment_gives = gives_sound (then_sound left_side_gives (then_sound (anything
     (λ p. tree.statement p.0.0 (assignment_of p.0.1 p.1.0 p.1.1)) IsSoundStatement (λ p h. (h.0.0, (h.0.1.2, h.1.1)))
 
 -- attributes and a word
-word_gives : (class : ℕ) (s : UnattributedStatement) → IsSoundUnattributed s → Gives (led whole tree.statement (class means s)) IsSoundStatement
+word_gives : (class : ℕ) (s : UnattributedStatement) → IsSoundUnattributed s → Gives (led parsed tree.statement (class means s)) IsSoundStatement
 word_gives class s h = attributed_gives (means_sound class s IsSoundUnattributed h)
 
 -- the name `_`

@@ -19,7 +19,7 @@ use Rattle.wgsl_model.specs.Grammar.TokenValues.{text_of}
 use Rattle.wgsl_model.specs.Grammar.Checks.{var_fault, severity_fault}
 use Rattle.wgsl_model.specs.Grammar.StatementParts.{placed_statement, break_if, var_kind, attributed}
 use Rattle.wgsl_model.specs.Grammar.UnitParts.{attributed_ident, member_of, parameter_of, value_of, alias_of, struct_of, return_part, function_of, enable_of, requires_of, diagnostic_of, assert_declaration}
-use Rattle.wgsl_model.specs.Grammar.Symbols.{Symbol, ident, type_specifier, template_list, expressions, call, arguments, literal, primary_expression, singular_expression, component, unary_expression, multiplicative_expression, negated_expression, additive_expression, shift_expression, relational_expression, expression, lhs_expression, attribute, compound_statement, statement, call_statement, var_statement, value_statement, assignment, phony_assignment, increment, decrement, const_assert, switch_clause, case_selector, continuing_statement, for_init, for_update, var_template, typed_ident, struct_member, formal_parameter, global_declaration, var_declaration, const_declaration, override_declaration, alias_declaration, struct_declaration, function_declaration, diagnostic_severity, global_directive, enable_directive, requires_directive, diagnostic_directive, unit, Rule, Dialect.whole}
+use Rattle.wgsl_model.specs.Grammar.Symbols.{Symbol, ident, type_specifier, template_list, expressions, call, arguments, literal, primary_expression, singular_expression, component, unary_expression, multiplicative_expression, negated_expression, additive_expression, shift_expression, relational_expression, expression, lhs_expression, attribute, compound_statement, statement, call_statement, var_statement, value_statement, assignment, phony_assignment, increment, decrement, const_assert, switch_clause, case_selector, continuing_statement, for_init, for_update, var_template, typed_ident, struct_member, formal_parameter, global_declaration, var_declaration, const_declaration, override_declaration, alias_declaration, struct_declaration, function_declaration, diagnostic_severity, global_directive, enable_directive, requires_directive, diagnostic_directive, unit, Rule, Dialect.parsed}
 use Rattle.wgsl_model.specs.Grammar.Written.{written}
 use Rattle.wgsl_theory_reread.specs.CanonicalUnits.{canonical}
 use Rattle.wgsl_theory_templates.proofs.Lexed.LexedAlong.{Along}
@@ -52,7 +52,7 @@ switch_clause_gives = gives_sound (then_sound attributes_give (or_sound
 case_selector_gives : Gives (written case_selector) (Sound case_selector)
 case_selector_gives = or_sound (means_sound KwDefault CaseSelector.default_selector IsSoundSelector tt) (gives_sound (symbol_sound expression) CaseSelector.expression_selector IsSoundSelector (λ e h. h))
 
-break_if_gives : Gives (break_if whole) IsSoundBreakIf
+break_if_gives : Gives (break_if parsed) IsSoundBreakIf
 break_if_gives = gives_sound (then_sound attributes_give (gives_sound (sign_before KwBreak (sign_before KwIf (sign_behind SymSemicolon (symbol_sound expression)))) break_if_of (λ (b : BreakIfStatement). IsSoundNode b.expression) (λ e h. h)))
     (λ p. with_attributes p.0 p.1) IsSoundBreakIf (λ p h. h)
 
@@ -135,7 +135,7 @@ function_declaration_gives = attributed_declaration_gives (gives_sound
 -- ---- directives and modules
 
 diagnostic_severity_gives : Gives (written diagnostic_severity) (Sound diagnostic_severity)
-diagnostic_severity_gives = check_sound (weaker_sound (sign_before KwDiagnostic (sign_before SymParenLeft (symbol_sound ident))) (Sound diagnostic_severity) (λ t h. tt)) severity_fault
+diagnostic_severity_gives = check_sound (weaker_sound (sign_before KwDiagnostic (sign_before SymParenLeft (symbol_sound ident))) (Sound diagnostic_severity) (λ t h. tt)) (λ t span. severity_fault t)
 
 global_directive_gives : Gives (written global_directive) (Sound global_directive)
 global_directive_gives = or_sound (symbol_sound enable_directive) (or_sound (symbol_sound requires_directive) (symbol_sound diagnostic_directive))

@@ -11,7 +11,7 @@ use Rattle.unicode_ident.proofs.IdentLemmas.{is_xid_start-ascii, is_xid_continue
 use Rattle.wgsl_model.specs.Tokens.Characters.{is_blank}
 use Rattle.wgsl_model.specs.Tokens.Pattern.{spells}
 use Rattle.wgsl_model.specs.Tokens.Numbers.{number_spelling}
-use Rattle.wgsl_model.specs.Tokens.Spelling.{identifier, symbol, spelling}
+use Rattle.wgsl_model.specs.Tokens.Spelling.{identifier, syntactic_token, spelling}
 use Rattle.wgsl_model.specs.Tokens.Raw.{kind_of_word}
 use Rattle.wgsl_model.proofs.Tokens.Characters.{other_than}
 use Rattle.wgsl_theory_printed.proofs.Spelling.Split.{Each, Each-last, spelled_each, takes, differs, lets_differs}
@@ -59,16 +59,16 @@ sign_starts x h =
     let letter : is_ascii_alphabetic x ≡ false = grind (arith, nat_tests) in
     is_xid_start-ascii x (ltb-true x 128 parts.0) ∙ letter
 
-underscore_alone : (xs : List ℕ) (d : ℕ) (z : List ℕ) → spells symbol ((95 ∷ xs) ++ (d ∷ z)) ≡ true → ⊥
-underscore_alone [] d z h = true≢false (sym (stands_alone 95 symbol refl 95 d z h).0)
-underscore_alone (x ∷ xs) d z h = true≢false (sym (stands_alone 95 symbol refl 95 x (xs ++ (d ∷ z)) h).0)
+underscore_alone : (xs : List ℕ) (d : ℕ) (z : List ℕ) → spells syntactic_token ((95 ∷ xs) ++ (d ∷ z)) ≡ true → ⊥
+underscore_alone [] d z h = true≢false (sym (stands_alone 95 syntactic_token refl 95 d z h).0)
+underscore_alone (x ∷ xs) d z h = true≢false (sym (stands_alone 95 syntactic_token refl 95 x (xs ++ (d ∷ z)) h).0)
 
-pub name_no_symbol : (x : ℕ) (xs : List ℕ) (d : ℕ) (z : List ℕ) → begins_name x ≡ true → spells symbol ((x ∷ xs) ++ (d ∷ z)) ≡ true → ⊥
+pub name_no_symbol : (x : ℕ) (xs : List ℕ) (d : ℕ) (z : List ℕ) → begins_name x ≡ true → spells syntactic_token ((x ∷ xs) ++ (d ∷ z)) ≡ true → ⊥
 name_no_symbol x xs d z b h = go (is_xid_start x) refl b
   where
     go : (s : Bool) → is_xid_start x ≡ s → (s || x == 95) ≡ true → ⊥
-    go true e f = true≢false (sym e ∙ sign_starts x (spelled_first is_sign symbol symbol_begins x (xs ++ (d ∷ z)) h))
-    go false e f = underscore_alone xs d z (subst (λ y. spells symbol ((y ∷ xs) ++ (d ∷ z)) ≡ true) (eqb-true x 95 f) h)
+    go true e f = true≢false (sym e ∙ sign_starts x (spelled_first is_sign syntactic_token symbol_begins x (xs ++ (d ∷ z)) h))
+    go false e f = underscore_alone xs d z (subst (λ y. spells syntactic_token ((y ∷ xs) ++ (d ∷ z)) ≡ true) (eqb-true x 95 f) h)
 
 name_ends : (x : ℕ) (xs : List ℕ) (d : ℕ) → begins_name x ≡ true → ends_name d ≡ true → EndsAt (x ∷ xs) d
 name_ends x xs d b e z h =
@@ -119,19 +119,19 @@ abbrev pub EndsNumber : List ℕ → Type 0
 EndsNumber [] = Unit {0}
 EndsNumber (c ∷ cs) = takes c number_spelling ≡ false
 
-point_alone : (xs : List ℕ) (d : ℕ) (z : List ℕ) → spells symbol ((46 ∷ xs) ++ (d ∷ z)) ≡ true → ⊥
-point_alone [] d z h = true≢false (sym (stands_alone 46 symbol refl 46 d z h).0)
-point_alone (x ∷ xs) d z h = true≢false (sym (stands_alone 46 symbol refl 46 x (xs ++ (d ∷ z)) h).0)
+point_alone : (xs : List ℕ) (d : ℕ) (z : List ℕ) → spells syntactic_token ((46 ∷ xs) ++ (d ∷ z)) ≡ true → ⊥
+point_alone [] d z h = true≢false (sym (stands_alone 46 syntactic_token refl 46 d z h).0)
+point_alone (x ∷ xs) d z h = true≢false (sym (stands_alone 46 syntactic_token refl 46 x (xs ++ (d ∷ z)) h).0)
 
 pub number_no_name : (x : ℕ) (xs : List ℕ) → begins_number x ≡ true → spells identifier (x ∷ xs) ≡ true → ⊥
 number_no_name x xs b h = name_no_number x (spelled_first begins_name identifier identifier_begins x xs h) b
 
-pub number_no_symbol : (x : ℕ) (xs : List ℕ) (d : ℕ) (z : List ℕ) → begins_number x ≡ true → spells symbol ((x ∷ xs) ++ (d ∷ z)) ≡ true → ⊥
+pub number_no_symbol : (x : ℕ) (xs : List ℕ) (d : ℕ) (z : List ℕ) → begins_number x ≡ true → spells syntactic_token ((x ∷ xs) ++ (d ∷ z)) ≡ true → ⊥
 number_no_symbol x xs d z b h = go (is_ascii_digit x) refl b
   where
     go : (s : Bool) → is_ascii_digit x ≡ s → (s || x == 46) ≡ true → ⊥
-    go true e f = (let sign : is_sign x ≡ true = spelled_first is_sign symbol symbol_begins x (xs ++ (d ∷ z)) h in let none : is_ascii_digit x ≡ false = grind (arith, nat_tests) in true≢false (sym e ∙ none))
-    go false e f = point_alone xs d z (subst (λ y. spells symbol ((y ∷ xs) ++ (d ∷ z)) ≡ true) (eqb-true x 46 f) h)
+    go true e f = (let sign : is_sign x ≡ true = spelled_first is_sign syntactic_token symbol_begins x (xs ++ (d ∷ z)) h in let none : is_ascii_digit x ≡ false = grind (arith, nat_tests) in true≢false (sym e ∙ none))
+    go false e f = point_alone xs d z (subst (λ y. spells syntactic_token ((y ∷ xs) ++ (d ∷ z)) ≡ true) (eqb-true x 46 f) h)
 
 number_ends : (x : ℕ) (xs : List ℕ) (d : ℕ) → begins_number x ≡ true → takes d number_spelling ≡ false → EndsAt (x ∷ xs) d
 number_ends x xs d b e z h =

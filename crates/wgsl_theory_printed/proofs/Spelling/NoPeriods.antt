@@ -6,7 +6,7 @@ use Rattle.std.proofs.lemmas.Str.{NoCharPasses-byte, encodes-chars}
 use Rattle.unicode_ident.proofs.IdentLemmas.{is_xid_start-ascii, is_xid_continue-ascii}
 use Rattle.wgsl_model.specs.Tokens.Numbers.{number_spelling}
 use Rattle.wgsl_model.specs.Tokens.Pattern.{spells}
-use Rattle.wgsl_model.specs.Tokens.Spelling.{identifier, symbol, spelling}
+use Rattle.wgsl_model.specs.Tokens.Spelling.{identifier, syntactic_token, spelling}
 use Rattle.wgsl_model.proofs.Tokens.Characters.{other_than}
 use Rattle.wgsl_theory_reread.proofs.Words.{NoPeriod}
 use Rattle.wgsl_theory_printed.proofs.Spelling.Split.{Each, none_pass, spelled_each, differs, lets_differs, takes}
@@ -19,7 +19,7 @@ use Rattle.wgsl_theory_printed.proofs.Spelling.Ends.{IsNameText, name_no_number,
 pub identifier_takes_none : takes 46 identifier ≡ false
 identifier_takes_none = rw (is_xid_start-ascii 46 (lit< tt), is_xid_continue-ascii 46 (lit< tt)) refl
 
-symbol_differs : (x : ℕ) (xs : List ℕ) → begins_name x ≡ true → spells symbol (x ∷ xs) ≡ true → Each (differs 46) (x ∷ xs)
+symbol_differs : (x : ℕ) (xs : List ℕ) → begins_name x ≡ true → spells syntactic_token (x ∷ xs) ≡ true → Each (differs 46) (x ∷ xs)
 symbol_differs x [] b h = (ap not (other_than begins_name x b 46 (rw (is_xid_start-ascii 46 (lit< tt)) refl)), tt)
 symbol_differs x (d ∷ z) b h = absurd (name_no_symbol x [] d z b h)
 

@@ -11,7 +11,7 @@ use Rattle.unicode_ident.proofs.IdentLemmas.{is_xid_start-is_xid_continue}
 use Rattle.wgsl_model.specs.Tokens.Pattern.{Pattern, empty, literal, any_of, spells}
 use Rattle.wgsl_model.specs.Tokens.Numbers as numbers
 use Rattle.wgsl_model.specs.Tokens.Numbers.{is_nonzero_digit, is_x, is_e, is_p, is_sign, whole_number, i_suffix, u_suffix, f_suffix, h_suffix, abstract_float, float, number_spelling}
-use Rattle.wgsl_model.specs.Tokens.Spelling.{identifier, symbol, spelling}
+use Rattle.wgsl_model.specs.Tokens.Spelling.{identifier, syntactic_token, spelling}
 use Rattle.wgsl_model.specs.Tokens.Classes.{symbols}
 use Rattle.wgsl_theory_printed.proofs.Spelling.Characters.{xid_continue-scalar}
 use Rattle.wgsl_theory_printed.proofs.Spelling.Split.{Each, Lets, Stricter, spelled_each}
@@ -111,7 +111,7 @@ words_let (w ∷ ws) h =
     let parts = and_parts (all_scalars w) (all_texts ws) h in
     (literal_lets w parts.0, words_let ws parts.1)
 
-symbol_lets : Lets scalar symbol
+symbol_lets : Lets scalar syntactic_token
 symbol_lets = words_let (map (λ (entry : List ℕ × ℕ). entry.0) symbols) refl
 
 scalars_of : (word : List ℕ) → Each scalar word → all_scalars word ≡ true

@@ -11,7 +11,7 @@ use Rattle.wgsl_model.specs.Tokens.Characters.{is_blank}
 use Rattle.wgsl_model.specs.Tokens.Kind.{plain}
 use Rattle.wgsl_model.specs.Tokens.Pattern.{Pattern, empty, begins, literal, any_of, spells}
 use Rattle.wgsl_model.specs.Tokens.Numbers.{number_spelling, is_nonzero_digit, whole_number, i_suffix, u_suffix, f_suffix, h_suffix, float}
-use Rattle.wgsl_model.specs.Tokens.Spelling.{identifier, symbol, spelling}
+use Rattle.wgsl_model.specs.Tokens.Spelling.{identifier, syntactic_token, spelling}
 use Rattle.wgsl_model.specs.Tokens.Words.{look_up}
 use Rattle.wgsl_model.specs.Tokens.Classes.{symbols}
 use Rattle.wgsl_theory_printed.proofs.Spelling.Split.{Stricter, by_either}
@@ -55,7 +55,7 @@ float_begins suffix = (((digit_begins, point_begins), digit_begins), zero_begins
 pub number_begins : BeginsWith begins_number number_spelling
 number_begins = (whole_begins empty, (whole_begins i_suffix, (whole_begins u_suffix, (((digit_begins, point_begins), (digit_begins, zero_begins)), (float_begins f_suffix, float_begins h_suffix)))))
 
-pub symbol_begins : BeginsWith is_sign symbol
+pub symbol_begins : BeginsWith is_sign syntactic_token
 symbol_begins = words_begin is_sign (map (λ (entry : List ℕ × ℕ). entry.0) symbols) refl
 
 -- a sign begins no name, but for `_`, and no number, but for `.`
@@ -110,9 +110,9 @@ some_front w z (e ∷ es) h = by_either (spells (literal e.0) (w ++ z)) _ h
     (λ b. or_right (is_front w e.0) (is_some_front w es) (some_front w z es b))
 
 -- where no symbol goes on, none is longer
-pub no_longer_symbol : (w : List ℕ) (c : ℕ) → goes_on w c ≡ false → (z : List ℕ) → spells symbol (w ++ (c ∷ z)) ≡ true → ⊥
+pub no_longer_symbol : (w : List ℕ) (c : ℕ) → goes_on w c ≡ false → (z : List ℕ) → spells syntactic_token (w ++ (c ∷ z)) ≡ true → ⊥
 no_longer_symbol w c n z h =
-    true≢false (sym (some_front (w ++ (c ∷ [])) z symbols (subst (λ x. spells symbol x ≡ true) (sym (append_assoc w (c ∷ []) z)) h)) ∙ n)
+    true≢false (sym (some_front (w ++ (c ∷ [])) z symbols (subst (λ x. spells syntactic_token x ≡ true) (sym (append_assoc w (c ∷ []) z)) h)) ∙ n)
 
 -- ---- the symbols that begin no name, no number and no comment
 
@@ -160,7 +160,7 @@ looked_up (e ∷ es) w class h = go (looked_up es w class) (bytes_eq e.0 w) refl
     go more true s k = let same : e.0 ≡ w = (bytes_eq-Decides e.0 w).0 s in or_left _ _ (subst (λ x. spells (literal x) w ≡ true) (sym same) (spelled_literal w))
     go more false s k = or_right _ _ (more k)
 
-pub spelled_symbol : (w : List ℕ) → spells symbol w ≡ true → spells spelling w ≡ true
+pub spelled_symbol : (w : List ℕ) → spells syntactic_token w ≡ true → spells spelling w ≡ true
 unfolding begins
 spelled_symbol w h = or_right (spells identifier w) _ (or_right (spells number_spelling w) _ h)
 
@@ -175,7 +175,7 @@ sign_spelling c cs class b l =
     }
 
 -- which spelling a word is
-pub one_of_three : {X : Type 0} (w : List ℕ) → spells spelling w ≡ true → (spells identifier w ≡ true → X) → (spells number_spelling w ≡ true → X) → (spells symbol w ≡ true → X) → X
+pub one_of_three : {X : Type 0} (w : List ℕ) → spells spelling w ≡ true → (spells identifier w ≡ true → X) → (spells number_spelling w ≡ true → X) → (spells syntactic_token w ≡ true → X) → X
 unfolding begins
 one_of_three w h f g k = by_either (spells identifier w) _ h f (λ e. by_either (spells number_spelling w) _ e g k)
 

@@ -159,8 +159,8 @@ severity_there None fault h = absurd (cc)
 severity_there (Some s) fault h = (s, refl)
 
 -- a word that names a severity passes
-severity_passes : (t : Token) (span : Span) (s : DiagnosticSeverity) → look_up severities (text_of t) ≡ Some s → severity_fault t span ≡ None
-severity_passes t span s h = rw h (go (t.class == ReservedWord)) where
+severity_passes : (t : Token) (s : DiagnosticSeverity) → look_up severities (text_of t) ≡ Some s → severity_fault t ≡ None
+severity_passes t s h = rw h (go (t.class == ReservedWord)) where
   go : (b : Bool) → cond b None (fault_unless (Some s) (fault_at (span_of_token t))) ≡ None
   go true = refl
   go false = refl
@@ -179,6 +179,6 @@ diagnostic_severity_rule v xs ys derived d words =
             rest = x.rest;
             kinds = x.kinds;
             like = x.like;
-            derived = roll checking written diagnostic_severity x.value us x.rest (severity_passes x.value (span_between us x.rest) known.0 (ap (λ (z : List ℕ). look_up severities z) x.like ∙ known.1), x.derived);
+            derived = roll checking written diagnostic_severity x.value us x.rest (severity_passes x.value known.0 (ap (λ (z : List ℕ). look_up severities z) x.like ∙ known.1), x.derived);
           },
     )

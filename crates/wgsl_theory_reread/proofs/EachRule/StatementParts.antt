@@ -14,7 +14,7 @@ use Rattle.wgsl_model.specs.Printed.Statements.{is_void}
 use Rattle.wgsl_model.specs.Grammar.StatementParts.{statements, assignment_operator, else_if, else_block, break_if}
 use Rattle.wgsl_model.specs.Trees.StatementsWithoutSpans.{bare_attributed, bare_break_if, bare_statement_node, bare_statements, bare_else_if_clause, bare_else_ifs, bare_else_clause, bare_else, bare_switch_clause, bare_clauses, bare_maybe_continuing, bare_part}
 use Rattle.wgsl_model.specs.Trees.EmptyItems.{full_statement, full_statements, full_else_if_clause, full_else_ifs, full_else_clause, full_else, full_switch_clause, full_clauses, full_maybe_continuing, full_part}
-use Rattle.wgsl_model.specs.Grammar.Symbols.{Dialect.whole, Symbol.statement, Symbol.switch_clause, Symbol.continuing_statement, Rule, compound_statement, expression}
+use Rattle.wgsl_model.specs.Grammar.Symbols.{Dialect.parsed, Symbol.statement, Symbol.switch_clause, Symbol.continuing_statement, Rule, compound_statement, expression}
 use Rattle.wgsl_theory_reread.specs.CanonicalExpressions.{Writer, all_tokens, expression_node_tokens}
 use Rattle.wgsl_theory_reread.specs.CanonicalStatements.{assignment_operator_class, break_if_tokens, end_token, unended_tokens, statements_tokens, else_ifs_tokens, else_if_clause_tokens, else_tokens, else_clause_tokens, clauses_tokens, switch_clause_tokens, maybe_continuing_tokens, part_tokens}
 use Rattle.wgsl_theory_reread.specs.CanonicalUnits.{without_place}
@@ -31,7 +31,7 @@ bare_break_if_tokens b rest = plain KwBreak ∷ (plain KwIf ∷ expression_node_
 condition_reads : Reads (KwBreak ▹ KwIf ▹ symbol expression ◃ SymSemicolon gives break_if_of) bare_break_if_tokens (λ w v. bare_break_if w ≡ bare_break_if v)
 condition_reads = gives_reads (before_reads KwBreak refl (before_reads KwIf refl (behind_reads SymSemicolon refl (symbol_reads expression)))) (λ a rest. refl) (λ w a h. λ i. record { expression = h i })
 
-pub break_if_reads : AttributeReads → Reads (break_if whole) break_if_tokens (λ w v. bare_attributed bare_break_if w ≡ bare_attributed bare_break_if v)
+pub break_if_reads : AttributeReads → Reads (break_if parsed) break_if_tokens (λ w v. bare_attributed bare_break_if w ≡ bare_attributed bare_break_if v)
 break_if_reads one = gives_reads (then_reads (attributes_read one) condition_reads) (λ a rest. refl) (λ w a h. λ i. with_attributes (h.0 i) (h.1 i))
 
 else_if_reads : Reads else_if else_if_clause_tokens (λ w v. bare_else_if_clause w ≡ bare_else_if_clause (full_else_if_clause v))

@@ -16,7 +16,7 @@ use Rattle.wgsl_model.specs.Grammar.StatementParts.{attributed, underscore_at, s
 use Rattle.wgsl_model.specs.Trees.WithoutSpans.{no_span, bare_expression_node, bare_attributes}
 use Rattle.wgsl_model.specs.Trees.StatementsWithoutSpans.{bare_statement, bare_compound, bare_unattributed, bare_attributed, bare_assert, bare_break_if, bare_selector}
 use Rattle.wgsl_model.specs.Trees.EmptyItems.{full_statement, full_compound, full_unattributed}
-use Rattle.wgsl_model.specs.Grammar.Symbols.{Symbol, Symbol.compound_statement, Symbol.statement, Symbol.return_statement, Symbol.if_statement, Symbol.switch_statement, Symbol.loop_statement, Symbol.for_statement, Symbol.while_statement, Symbol.call_statement, Symbol.var_statement, Symbol.value_statement, Symbol.break_statement, Symbol.continue_statement, Symbol.discard_statement, Symbol.assignment, Symbol.phony_assignment, Symbol.increment, Symbol.decrement, Symbol.const_assert, Symbol.switch_clause, Symbol.case_selector, Symbol.continuing_statement, Symbol.for_init, Symbol.for_update, Symbol.typed_ident, Rule, call, expression, ident, type_specifier, Dialect.whole, Value}
+use Rattle.wgsl_model.specs.Grammar.Symbols.{Symbol, Symbol.compound_statement, Symbol.statement, Symbol.return_statement, Symbol.if_statement, Symbol.switch_statement, Symbol.loop_statement, Symbol.for_statement, Symbol.while_statement, Symbol.call_statement, Symbol.var_statement, Symbol.value_statement, Symbol.break_statement, Symbol.continue_statement, Symbol.discard_statement, Symbol.assignment, Symbol.phony_assignment, Symbol.increment, Symbol.decrement, Symbol.const_assert, Symbol.switch_clause, Symbol.case_selector, Symbol.continuing_statement, Symbol.for_init, Symbol.for_update, Symbol.typed_ident, Rule, call, expression, ident, type_specifier, Dialect.parsed, Value}
 use Rattle.wgsl_model.specs.Grammar.Written.{written}
 use Rattle.wgsl_theory_reread.specs.CanonicalExpressions.{Writer, expression_node_tokens, optional_tokens, list_tokens}
 use Rattle.wgsl_theory_reread.specs.CanonicalAttributes.{attributes_tokens}
@@ -37,7 +37,7 @@ abbrev pub ContinuingParts : Type 0
 ContinuingParts = CompoundStatement × Option (Attributed BreakIfStatement)
 
 abbrev pub continuing_part : Rule ContinuingParts
-continuing_part = KwContinuing ▹ parts.attributes then SymBraceLeft ▹ (statements then optional (break_if whole)) ◃ SymBraceRight gives λ p. (compound_of p.0 p.1.0, p.1.1)
+continuing_part = KwContinuing ▹ parts.attributes then SymBraceLeft ▹ (statements then optional (break_if parsed)) ◃ SymBraceRight gives λ p. (compound_of p.0 p.1.0, p.1.1)
 
 abbrev pub continuing_part_tokens : Writer ContinuingParts
 continuing_part_tokens p rest = plain KwContinuing ∷ opened_tokens p.0 (optional_tokens break_if_tokens p.1 (plain SymBraceRight ∷ rest))
@@ -107,7 +107,7 @@ word_statement_reads : AttributeReads → (c : ℕ) {s : UnattributedStatement} 
 word_statement_reads one c known s t = attributed_reads one (means_reads c known s t)
 
 -- a left side behind attributes
-left_side_reads : AttributeReads → Reads (left_side whole) (λ p rest. attributes_tokens p.0 (expression_node_tokens p.1 rest)) (λ w v. (bare_attributes w.0 ≡ bare_attributes v.0) × (bare_expression_node w.1 ≡ bare_expression_node v.1))
+left_side_reads : AttributeReads → Reads (left_side parsed) (λ p rest. attributes_tokens p.0 (expression_node_tokens p.1 rest)) (λ w v. (bare_attributes w.0 ≡ bare_attributes v.0) × (bare_expression_node w.1 ≡ bare_expression_node v.1))
 left_side_reads one = or_reads (then_reads (attributes_read one) open_left_side_reads) (gives_reads parenthesized_left_side_reads (λ a rest. refl) (λ w a h. (refl, h)))
 
 written_assignment_reads : AttributeReads → Reads (written assignment) (write assignment) (Same assignment)

@@ -10,7 +10,7 @@ use Rattle.wgsl_model.specs.Trees.Expressions.{ExpressionNode, expression_node, 
 use Rattle.wgsl_model.specs.Grammar.Checks.{unreserved, attribute_parts, attribute_fault}
 use Rattle.wgsl_model.specs.Grammar.ExpressionParts.{placed_expression, type_of, index_of, component_of, with_component, unary_of, binary_of, operation_of, unary_operator, multiplicative_operator, summand, relational_operator, two, two_or_more}
 use Rattle.wgsl_model.specs.Grammar.TokenValues.{text_of}
-use Rattle.wgsl_model.specs.Grammar.Symbols.{Dialect.whole, Symbol, ident, type_specifier, template_list, call, literal, arguments, primary_expression, singular_expression, component, unary_expression, multiplicative_expression, additive_expression, shift_expression, relational_expression, expression, attribute, Value, Rule}
+use Rattle.wgsl_model.specs.Grammar.Symbols.{Dialect.parsed, Symbol, ident, type_specifier, template_list, call, literal, arguments, primary_expression, singular_expression, component, unary_expression, multiplicative_expression, additive_expression, shift_expression, relational_expression, expression, attribute, Value, Rule}
 use Rattle.wgsl_model.specs.Grammar.Written.{written, keyword_classes}
 use Rattle.wgsl_theory_reread.proofs.Words.{NoPeriod, IsWord}
 use Rattle.wgsl_theory_reread.proofs.Again.{D}
@@ -99,7 +99,7 @@ multiplicative_keeps : Keeps (written multiplicative_expression) (IsPlain multip
 multiplicative_keeps = chain_sound (symbol_sound unary_expression) (anything (multiplicative_operator then symbol unary_expression)) binary_of (λ e p span h k. tt)
 
 additive_keeps : Keeps (written additive_expression) (IsPlain additive_expression)
-additive_keeps = chain_sound (symbol_sound multiplicative_expression) (anything (summand whole)) binary_of (λ e p span h k. tt)
+additive_keeps = chain_sound (symbol_sound multiplicative_expression) (anything (summand parsed)) binary_of (λ e p span h k. tt)
 
 two_keep : (c : ℕ) (operator : BinaryOperator) (n : Rule ExpressionNode) → Keeps (two c operator n) PlainNode
 two_keep c operator x = makes_sound (anything (x then c means operator then x)) operation_of PlainNode (λ p span h. tt)

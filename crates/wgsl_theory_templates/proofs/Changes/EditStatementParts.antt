@@ -10,7 +10,7 @@ use Rattle.wgsl_model.specs.Trees.Operators.{AssignmentOperator}
 use Rattle.wgsl_model.specs.Trees.Statements as tree
 use Rattle.wgsl_model.specs.Trees.Statements.{CompoundStatement, StatementNode, statements_of, else_ifs_of, else_of, clauses_of, continuing_of, maybe_statement, break_if_of}
 use Rattle.wgsl_model.specs.Grammar.StatementParts.{statements, initializer, var_kind, assignment_operator, else_if, else_block, break_if}
-use Rattle.wgsl_model.specs.Grammar.Symbols.{compound_statement, switch_clause, continuing_statement, Rule, expression, var_template, Dialect.whole}
+use Rattle.wgsl_model.specs.Grammar.Symbols.{compound_statement, switch_clause, continuing_statement, Rule, expression, var_template, Dialect.parsed}
 use Rattle.wgsl_theory_grammar.proofs.Faults.PlainFaults.{one_class}
 use Rattle.wgsl_theory_reread.specs.CanonicalExpressions.{Writer}
 use Rattle.wgsl_theory_reread.specs.CanonicalStatements.{kind_tokens, initializer_tokens, assignment_operator_class, break_if_tokens, statements_tokens, compound_tokens, else_ifs_tokens, else_if_clause_tokens, else_tokens, else_clause_tokens, clauses_tokens, maybe_continuing_tokens, part_tokens}
@@ -62,7 +62,7 @@ initializer_edits = before_edits SymEqual (symbol_edits expression tt)
 condition_edits : {b : Bool} → Changes true b (KwBreak ▹ KwIf ▹ symbol expression ◃ SymSemicolon gives break_if_of) bare_break_if_tokens
 condition_edits = gives_edits (before_edits KwBreak (before_edits KwIf (behind_edits {m = false} SymSemicolon (symbol_edits expression tt)))) (λ a rest. refl)
 
-pub break_if_edits : {b : Bool} → Changes true b (break_if whole) break_if_tokens
+pub break_if_edits : {b : Bool} → Changes true b (break_if parsed) break_if_tokens
 break_if_edits = gives_edits (then_edits attributes_edits condition_edits) (λ a rest. refl)
 
 else_if_edits : {b : Bool} → Changes true b else_if else_if_clause_tokens

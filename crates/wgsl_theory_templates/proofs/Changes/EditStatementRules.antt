@@ -10,7 +10,7 @@ use Rattle.wgsl_model.specs.Trees.Statements as tree
 use Rattle.wgsl_model.specs.Trees.Statements.{DeclarationKind.let_kind, DeclarationKind.const_kind, CompoundStatement, Statement, UnattributedStatement, assert_of}
 use Rattle.wgsl_model.specs.Printed.Statements.{is_void}
 use Rattle.wgsl_model.specs.Grammar.StatementParts.{underscore_at, attributed, left_side}
-use Rattle.wgsl_model.specs.Grammar.Symbols.{Symbol, compound_statement, statement, return_statement, if_statement, switch_statement, loop_statement, for_statement, while_statement, call_statement, var_statement, value_statement, break_statement, continue_statement, discard_statement, assignment, phony_assignment, increment, decrement, const_assert, switch_clause, case_selector, continuing_statement, for_init, for_update, typed_ident, Rule, call, expression, ident, type_specifier, Dialect.whole}
+use Rattle.wgsl_model.specs.Grammar.Symbols.{Symbol, compound_statement, statement, return_statement, if_statement, switch_statement, loop_statement, for_statement, while_statement, call_statement, var_statement, value_statement, break_statement, continue_statement, discard_statement, assignment, phony_assignment, increment, decrement, const_assert, switch_clause, case_selector, continuing_statement, for_init, for_update, typed_ident, Rule, call, expression, ident, type_specifier, Dialect.parsed}
 use Rattle.wgsl_model.specs.Grammar.Written.{written}
 use Rattle.wgsl_theory_grammar.proofs.Faults.PlainFaults.{one_class}
 use Rattle.wgsl_theory_grammar.proofs.Faults.WrittenEnds.{closing}
@@ -89,7 +89,7 @@ discard_statement_right : {b : Bool} → Changes false b (written discard_statem
 discard_statement_right = attributed_edits (means_edits KwDiscard (λ rest. refl))
 
 -- a left side behind attributes
-left_side_edits : {b : Bool} → Changes false b (left_side whole) (λ p rest. attributes_tokens p.0 (expression_node_tokens p.1 rest))
+left_side_edits : {b : Bool} → Changes false b (left_side parsed) (λ p rest. attributes_tokens p.0 (expression_node_tokens p.1 rest))
 left_side_edits = or_edits (then_edits attributes_edits open_left_side_edits) (gives_edits parenthesized_left_side_edits (λ a rest. refl))
 
 assignment_right : {b : Bool} → Changes false b (written assignment) (write assignment)

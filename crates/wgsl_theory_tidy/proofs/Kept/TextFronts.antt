@@ -5,7 +5,7 @@ use Rattle.std.proofs.lemmas.Grind.{common_steps}
 use Rattle.grammar.specs.Tables.{is_empty}
 use Rattle.wgsl_model.specs.Tokens.Characters.{is_blank, is_line_break}
 use Rattle.wgsl_model.specs.Tokens.Classes.{BlockComment}
-use Rattle.wgsl_model.specs.Tokens.Trivia.{Place, outside, in_line, in_block, second, closed, first_or_zero, after_trivia}
+use Rattle.wgsl_model.specs.Tokens.Trivia.{Place, outside, in_line, in_block, second, out_of_block, first_or_zero, after_trivia}
 use Rattle.wgsl_theory_grammar.proofs.Tokens.Cuts.{trivia-ends, ends_length}
 use Rattle.wgsl_model_tidy.specs.Pieces.{Piece, OpenComment, comments}
 use Rattle.wgsl_theory_tidy.proofs.Comments.{piece, trimmed, OnLine, AtLineEnd, and_false}
@@ -126,11 +126,11 @@ data BlockOf (depth : ℕ) (text : List ℕ) : Type 0 where
 in_block_shorter : (depth x : ℕ) (r : List ℕ) → after_trivia (in_block depth) (x ∷ r) ≡ x ∷ r → ⊥
 unfolding after_trivia
 in_block_shorter depth x r e =
-    let past_closing = after_trivia (second (closed depth)) r in
+    let past_closing = after_trivia (second (out_of_block depth)) r in
     let past = after_trivia (in_block depth) r in
     neither (x == 47 && first_or_zero r == 42) (after_trivia (second (in_block (suc depth))) r) (cond (x == 42 && first_or_zero r == 47) past_closing past) (x ∷ r) e
     (no_rest (second (in_block (suc depth))) x r)
-    (λ f. neither (x == 42 && first_or_zero r == 47) past_closing past (x ∷ r) f (no_rest (second (closed depth)) x r) (no_rest (in_block depth) x r))
+    (λ f. neither (x == 42 && first_or_zero r == 47) past_closing past (x ∷ r) f (no_rest (second (out_of_block depth)) x r) (no_rest (in_block depth) x r))
 
 -- no text is left
 stays_nothing : (depth : ℕ) → StaysOpen depth []
@@ -141,11 +141,11 @@ stays_nothing depth = record { piece_is = λ b n. refl; none_left = refl; goes_o
 one_shorter : (depth c x : ℕ) (r : List ℕ) → after_trivia (in_block depth) (c ∷ (x ∷ r)) ≡ x ∷ r → ⊥
 unfolding after_trivia
 one_shorter depth c x r e =
-    let past_closing = after_trivia (closed depth) r in
+    let past_closing = after_trivia (out_of_block depth) r in
     let past = after_trivia (in_block depth) (x ∷ r) in
     neither (c == 47 && x == 42) (after_trivia (in_block (suc depth)) r) (cond (c == 42 && x == 47) past_closing past) (x ∷ r) e
     (no_rest (in_block (suc depth)) x r)
-    (λ f. neither (c == 42 && x == 47) past_closing past (x ∷ r) f (no_rest (closed depth) x r) (in_block_shorter depth x r))
+    (λ f. neither (c == 42 && x == 47) past_closing past (x ∷ r) f (no_rest (out_of_block depth) x r) (in_block_shorter depth x r))
 
 stays_one : (depth c : ℕ) → StaysOpen depth (c ∷ [])
 unfolding comments after_trivia
@@ -160,7 +160,7 @@ opened_over : (depth c d : ℕ) (rest : List ℕ) → (c == 47 && d == 42) ≡ t
 unfolding after_trivia
 opened_over depth c d rest h = rw h refl
 
-closed_over : (depth c d : ℕ) (rest : List ℕ) → (c == 47 && d == 42) ≡ false → (c == 42 && d == 47) ≡ true → after_trivia (closed depth) rest ≡ after_trivia (in_block depth) (c ∷ (d ∷ rest))
+closed_over : (depth c d : ℕ) (rest : List ℕ) → (c == 47 && d == 42) ≡ false → (c == 42 && d == 47) ≡ true → after_trivia (out_of_block depth) rest ≡ after_trivia (in_block depth) (c ∷ (d ∷ rest))
 unfolding after_trivia
 closed_over depth c d rest h k = rw (h, k) refl
 

@@ -11,7 +11,7 @@ use Rattle.wgsl_model.specs.Trees.Statements.{BreakIfStatement, CaseSelector, St
 use Rattle.wgsl_model.specs.Trees.WithoutSpans.{no_span, bare_expression_node, bare_attributes}
 use Rattle.wgsl_model.specs.Trees.StatementsWithoutSpans.{bare_attributed, bare_assert, bare_break_if, bare_selector, bare_statement, bare_unattributed, bare_statement_node, bare_statements, bare_compound, bare_else_if_clause, bare_else_ifs, bare_else_clause, bare_else, bare_clauses, bare_maybe_continuing, bare_part}
 use Rattle.wgsl_model.specs.Grammar.StatementParts.{attributed, statements, initializer, var_kind, assignment_operator, left_side, else_if, else_block, break_if}
-use Rattle.wgsl_model.specs.Grammar.Symbols.{Dialect.whole, type_specifier, call, expression, compound_statement, statement, return_statement, if_statement, switch_statement, loop_statement, for_statement, while_statement, call_statement, var_statement, value_statement, break_statement, continue_statement, discard_statement, assignment, phony_assignment, increment, decrement, const_assert, switch_clause, case_selector, continuing_statement, for_init, for_update, var_template, typed_ident, Rule, Symbol}
+use Rattle.wgsl_model.specs.Grammar.Symbols.{Dialect.parsed, type_specifier, call, expression, compound_statement, statement, return_statement, if_statement, switch_statement, loop_statement, for_statement, while_statement, call_statement, var_statement, value_statement, break_statement, continue_statement, discard_statement, assignment, phony_assignment, increment, decrement, const_assert, switch_clause, case_selector, continuing_statement, for_init, for_update, var_template, typed_ident, Rule, Symbol}
 use Rattle.wgsl_model.specs.Grammar.Written.{written}
 use Rattle.wgsl_theory_reread.specs.CanonicalUnits.{without_place}
 use Rattle.wgsl_theory_reread.proofs.Again.{IsKind}
@@ -118,7 +118,7 @@ discard_statement_moves : MovesBy (written discard_statement) (Alike discard_sta
 discard_statement_moves = attributed_moves (means_moves KwDiscard refl)
 
 -- a left side behind attributes
-left_side_moves : MovesBy (left_side whole) (λ w v. (bare_attributes w.0 ≡ bare_attributes v.0) × (bare_expression_node w.1 ≡ bare_expression_node v.1))
+left_side_moves : MovesBy (left_side parsed) (λ w v. (bare_attributes w.0 ≡ bare_attributes v.0) × (bare_expression_node w.1 ≡ bare_expression_node v.1))
 left_side_moves = or_moves (then_moves attributes_move open_left_side_moves) (gives_moves parenthesized_left_side_moves (λ w v h. (refl, h)))
 
 assignment_operator_moves : MovesBy assignment_operator (λ w v. w ≡ v)
@@ -161,7 +161,7 @@ switch_clause_moves = gives_moves (then_moves attributes_move (or_moves {like = 
     (gives_moves (before_moves KwDefault block_moves) (λ w v h. (refl, h.1)))))
     (λ w v h. λ i. tree.switch_clause (h.0 i) (h.1.0 i) (h.1.1 i))
 
-break_if_moves : MovesBy (break_if whole) (λ w v. bare_attributed bare_break_if w ≡ bare_attributed bare_break_if v)
+break_if_moves : MovesBy (break_if parsed) (λ w v. bare_attributed bare_break_if w ≡ bare_attributed bare_break_if v)
 break_if_moves = with_attributes_moves {bare = bare_break_if} (gives_moves (before_moves KwBreak (before_moves KwIf (behind_moves SymSemicolon (symbol_moves expression)))) (λ w v h. λ i. record { expression = h i }))
 
 -- a block, and its `break if`

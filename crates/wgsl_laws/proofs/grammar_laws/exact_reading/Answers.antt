@@ -1,10 +1,10 @@
 -- The law is proved in the theory.
-use Rattle.wgsl_model.specs.Grammar.Symbols.{Dialect.whole, Dialect.alone}
+use Rattle.wgsl_model.specs.Grammar.Symbols.{Dialect.parsed, Dialect.recognized}
 use Rattle.wgsl_theory_grammar.proofs.WrittenTree.{dialect_exact}
 use Rattle.wgsl_laws.proofs.grammar_laws.exact_reading.Goals as goal
 
 pub returns-clause-whole : goal.returns-clause-whole
-returns-clause-whole c = dialect_exact whole
+returns-clause-whole c = dialect_exact parsed
 
 pub returns-clause-alone : goal.returns-clause-alone
-returns-clause-alone c = dialect_exact alone
+returns-clause-alone c = dialect_exact recognized

@@ -1,10 +1,10 @@
 -- The law is proved in the theory.
-use Rattle.wgsl_model.specs.Grammar.Symbols.{Dialect.whole, Dialect.alone}
+use Rattle.wgsl_model.specs.Grammar.Symbols.{Dialect.parsed, Dialect.recognized}
 use Rattle.wgsl_theory_grammar.proofs.WrittenTree.{dialect_one_tree}
 use Rattle.wgsl_laws.proofs.grammar_laws.one_tree.Goals as goal
 
 pub returns-clause-whole : goal.returns-clause-whole
-returns-clause-whole c = dialect_one_tree whole
+returns-clause-whole c = dialect_one_tree parsed
 
 pub returns-clause-alone : goal.returns-clause-alone
-returns-clause-alone c = dialect_one_tree alone
+returns-clause-alone c = dialect_one_tree recognized

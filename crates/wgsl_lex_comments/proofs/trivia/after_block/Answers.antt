@@ -1,10 +1,10 @@
 use Rattle.std.proofs.Common.{rules, arith, ◌≡◌, ◌+◌, ◌-◌, suc, chars, sym, ap, ◌∙◌}
-use Rattle.wgsl_model.specs.Tokens.Trivia.{after_trivia, in_block, closed}
+use Rattle.wgsl_model.specs.Tokens.Trivia.{after_trivia, in_block, out_of_block}
 use Rattle.wgsl_lex_comments.proofs.CommentSteps.{none_left, closed_deeper, one_less}
 use Rattle.wgsl_lex_comments.proofs.trivia.after_block.Goals as goal
 
 pub returns-in-Ends-clause-rest : goal.returns-in-Ends-clause-rest
-returns-in-Ends-clause-rest c n = none_left (closed n) (in_block (n + c.steps.depth)) (chars c.steps.rest.now) c.in-Ends.ensures.value ∙ c.steps.invariant.rest n
+returns-in-Ends-clause-rest c n = none_left (out_of_block n) (in_block (n + c.steps.depth)) (chars c.steps.rest.now) c.in-Ends.ensures.value ∙ c.steps.invariant.rest n
 
 pub returns-then-depth-eq0-clause-rest : goal.returns-then-depth-eq0-clause-rest
 returns-then-depth-eq0-clause-rest c n =
