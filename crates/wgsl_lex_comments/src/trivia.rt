@@ -1,7 +1,7 @@
 //! Steps over blank space and comments, which jump over the comments that are known.
 
 ghost use Rattle.std.specs.Prelude.{◌≡◌, ◌≤◌, ◌<◌, ◌==◌, ⊤, ℕ, false, ◌∷◌, chars, length, MatchOption};
-ghost use Rattle.wgsl_model.specs.Tokens.Trivia.{after_trivia, outside, in_line, in_block, closed, first_or_zero};
+ghost use Rattle.wgsl_model.specs.Tokens.Trivia.{after_trivia, outside, in_line, in_block, out_of_block, first_or_zero};
 ghost use Rattle.wgsl_theory_grammar.proofs.Tokens.Cuts.{EndsWith};
 ghost use Rattle.wgsl_lex_comments.specs.Comments.{Leaves, AreComments, second_of, IsFront, IsStep, IsShorterStep};
 
@@ -160,7 +160,8 @@ fn after_block<'s>(known: &[Known], source: &'s str, text: &'s str) -> &'s str
     requires end { EndsWith (chars source.now) (chars text.now) }
     requires known { AreComments (chars source.now) known.now }
     ensures rest { (n : ℕ) →
-        after_trivia (closed n) (chars result.now) ≡ after_trivia (in_block n) (chars text.now) }
+        after_trivia (out_of_block n) (chars result.now)
+        ≡ after_trivia (in_block n) (chars text.now) }
     ensures end { EndsWith (chars source.now) (chars result.now) }
     ensures within { length result.now ≤ length text.now }
 {
