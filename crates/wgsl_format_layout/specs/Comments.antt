@@ -1,8 +1,9 @@
 -- What is told of a comment at the front of a text.
-use Rattle.std.specs.Prelude.{◌≡◌, ℕ, ◌+◌, List, [], ◌∷◌, ◌++◌, chars}
+use Rattle.std.specs.Prelude.{◌≡◌, ℕ, ◌+◌, ◌&&◌, ◌==◌, Bool, List, [], ◌∷◌, ◌++◌, chars}
 use Rattle.wgsl_model.specs.Tokens.Classes.{BlockComment}
 use Rattle.wgsl_model.specs.Tokens.Trivia.{outside, in_block}
 use Rattle.wgsl_model_tidy.specs.Pieces.{Piece, OpenComment, comments, line_ends_at}
+use Rattle.wgsl_model_tidy.specs.LaidOut.{is_followed}
 use Rattle.wgsl_theory_tidy.proofs.Comments.{piece, Seen, AtLineEnd, Passed}
 use Rattle.wgsl_lex_comments.specs.declared.trivia.Step.{Step}
 use Rattle.wgsl_lex_comments.specs.declared.trivia.Step.TheVariants as step
@@ -36,3 +37,11 @@ IsCommentStep rest step.Ends = rest ≡ []
 IsCommentStep rest (step.Goes after) = (text : List ℕ) (depth : ℕ) → Passed text depth rest → Passed text depth (chars after.now)
 IsCommentStep rest (step.Opens inner) = rest ≡ 47 ∷ (42 ∷ chars inner.now)
 IsCommentStep rest (step.Closes outer) = rest ≡ 42 ∷ (47 ∷ chars outer.now)
+
+-- pieces after m line ends: a token follows in the line exactly where m is 0 and there is a next token
+abbrev pub MayFollow : (ℕ → List Piece) → Bool → Type 0
+MayFollow behind has_next = (m : ℕ) → is_followed (behind m) ≡ (m == 0 && has_next)
+
+-- whether a token follows in the line, after a text of blank space and comments
+abbrev pub Follows : List ℕ → Bool → Bool → Type 0
+Follows text has_next result = (behind : ℕ → List Piece) → MayFollow behind has_next → is_followed (comments behind outside 0 text) ≡ result

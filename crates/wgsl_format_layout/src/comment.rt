@@ -4,10 +4,11 @@ ghost use Rattle.std.specs.Prelude.{◌≡◌, ◌<◌, ◌≤◌, ⊤, ℕ, Lis
 ghost use Rattle.wgsl_model_tidy.specs.Pieces.{line_ends_at};
 ghost use Rattle.wgsl_theory_grammar.proofs.Tokens.Cuts.{EndsWith};
 ghost use Rattle.wgsl_lex_comments.specs.Comments.{IsShorterStep};
-ghost use Rattle.wgsl_format_layout.specs.Comments.{EndsSo, IsClosed, IsOpen, IsComment, IsNone, IsCommentStep};
+ghost use Rattle.wgsl_format_layout.specs.Comments.{EndsSo, IsClosed, IsOpen, IsComment, IsNone};
+ghost use Rattle.wgsl_format_layout.specs.Comments.{IsCommentStep, Follows};
 
 use wgsl_lex_comments::{Step, behind};
-use wgsl_lex_scanner::characters::{is_blank, is_line_break};
+use wgsl_lex_scanner::characters::is_line_break;
 use wgsl_lex_scanner::text::split_first;
 
 /// Which comment it is.
@@ -19,7 +20,7 @@ pub enum CommentKind {
     Open,
 }
 
-/// A comment as it stands, without the blank space at the end of its line, and the text behind it.
+/// A comment as it is, without the white space at the end of its line, and the text after it.
 #[derive(Clone, Copy)]
 pub struct Comment<'s> {
     pub kind: CommentKind,
@@ -30,7 +31,7 @@ pub struct Comment<'s> {
 /// Where a line comment ends.
 #[derive(Clone, Copy)]
 pub struct LineEnd<'s> {
-    /// The text behind its last character that is not blank.
+    /// The text after its last character that is not white space.
     behind: &'s str,
     /// The text from the end of the line on.
     rest: &'s str,
@@ -57,7 +58,7 @@ fn end_of_line(text: &str) -> LineEnd<'_>
         if is_line_break(c) {
             return LineEnd { behind, rest };
         }
-        if is_blank(c) {
+        if c.is_whitespace() {
             rest = after;
             continue;
         }
@@ -176,4 +177,23 @@ pub(crate) fn comment_at(text: &str) -> Option<Comment<'_>>
         return Some(block_comment(text, body));
     }
     None
+}
+
+/// Whether a token after a text of blank space and comments follows in the line of what is before
+/// the text; at the end of a source none follows.
+pub(crate) fn is_followed(text: &str, has_next: bool) -> bool
+    ensures { Follows (chars text.now) has_next result }
+{
+    let mut rest = text;
+    'pieces: while let Some((c, after)) = split_first(rest) {
+        if let Some(comment) = comment_at(rest) {
+            rest = comment.rest;
+            continue;
+        }
+        if line_ends_at(c, after) > 0 {
+            return false;
+        }
+        rest = after;
+    }
+    has_next
 }

@@ -1,6 +1,7 @@
 //! What is written before a piece.
 
-ghost use Rattle.std.specs.Prelude.{◌≡◌};
+ghost use Rattle.std.specs.Prelude.{◌≡◌, ◌==◌};
+ghost use Rattle.wgsl_model.specs.Tokens.Classes.{LineComment};
 ghost use Rattle.wgsl_model_tidy.specs.LaidOut as plain;
 ghost use Rattle.wgsl_model_tidy.specs.Roles.{closes};
 ghost use Rattle.wgsl_model_tidy.specs.Joints.{joint};
@@ -58,6 +59,26 @@ fn joint_gap(joint: Joint, line_ends: usize, broken: Gap) -> Gap
         Joint::Space => Gap::Blank,
         Joint::NothingOrLine => kept(line_ends, broken, Gap::Closed),
         Joint::SpaceOrLine => kept(line_ends, broken, Gap::Blank),
+    }
+}
+
+/// Whether a line end has to be there.
+pub(crate) fn is_line(joint: Joint) -> bool
+    ensures { result ≡ plain.is_line (joint_view joint) }
+{
+    match joint {
+        Joint::Line => true,
+        Joint::Nothing | Joint::Space | Joint::NothingOrLine | Joint::SpaceOrLine => false,
+    }
+}
+
+/// Whether the last piece is a token, or there is none.
+pub(crate) fn is_token(last: Last) -> bool
+    ensures { result ≡ plain.is_token (last_view last) }
+{
+    match last {
+        Last::Token => true,
+        Last::Leading | Last::Comment(_) => false,
     }
 }
 
@@ -128,26 +149,47 @@ pub(crate) fn token_gap(
     }
 }
 
-/// The gap before a comment behind a token.
-fn comment_behind(left: Role, line_ends: usize, broken: Gap) -> Gap
-    ensures { gap_view result ≡ plain.comment_behind (role_view left) line_ends (gap_view broken) }
+/// Whether it is a line comment.
+fn is_line_comment(kind: CommentKind) -> bool
+    ensures { result ≡ (comment_class kind == LineComment) }
+{
+    match kind {
+        CommentKind::Line => true,
+        CommentKind::Block | CommentKind::Open => false,
+    }
+}
+
+/// The gap before a comment after a token, which belongs to the next token or does not.
+fn comment_behind(kind: CommentKind, left: Role, owned: bool, line_ends: usize, broken: Gap) -> Gap
+    ensures { gap_view result ≡ plain.comment_behind
+        (comment_class kind) (role_view left) owned line_ends (gap_view broken) }
 {
     if left.is(Role::Beginning) {
         return Gap::Closed;
     }
-    if left.is(Role::Opening) || left.is(Role::TemplateStart) {
+    if owned {
+        return broken;
+    }
+    if (left.is(Role::Opening) || left.is(Role::TemplateStart)) && !is_line_comment(kind) {
         return kept(line_ends, broken, Gap::Closed);
     }
     kept(line_ends, broken, Gap::Blank)
 }
 
-/// The gap before a comment.
-pub(crate) fn comment_gap(last: Last, left: Role, line_ends: usize, broken: Gap) -> Gap
-    ensures { gap_view result
-        ≡ plain.comment_gap (last_view last) (role_view left) line_ends (gap_view broken) }
+/// The gap before a comment, which belongs to the next token or does not.
+pub(crate) fn comment_gap(
+    kind: CommentKind,
+    last: Last,
+    left: Role,
+    owned: bool,
+    line_ends: usize,
+    broken: Gap,
+) -> Gap
+    ensures { gap_view result ≡ plain.comment_gap (comment_class kind)
+        (last_view last) (role_view left) owned line_ends (gap_view broken) }
 {
     match last {
-        Last::Token => comment_behind(left, line_ends, broken),
+        Last::Token => comment_behind(kind, left, owned, line_ends, broken),
         Last::Comment(CommentKind::Line) => broken,
         Last::Leading | Last::Comment(CommentKind::Block | CommentKind::Open) => {
             kept(line_ends, broken, Gap::Blank)
@@ -165,14 +207,21 @@ fn is_behind_opening(last: Last, left: Role) -> bool
     }
 }
 
-/// A line end before such a token: an empty line of the author's stays, but neither behind an
-/// opening bracket nor before a closing one.
-pub(crate) fn line_end(last: Last, left: Role, right: Role, line_ends: usize, depth: usize) -> Gap
+/// A line end before such a token: an empty line of the author's stays between items, but neither
+/// after an opening bracket nor before a closing one.
+pub(crate) fn line_end(
+    items: bool,
+    last: Last,
+    left: Role,
+    right: Role,
+    line_ends: usize,
+    depth: usize,
+) -> Gap
     ensures { gap_view result
-        ≡ plain.line_end (last_view last) (role_view left) (role_view right) line_ends depth }
+        ≡ plain.line_end items (last_view last) (role_view left) (role_view right) line_ends depth }
 {
     Gap::Broken {
-        empty: 1 < line_ends && !(is_behind_opening(last, left) || right.closes()),
+        empty: 1 < line_ends && items && !(is_behind_opening(last, left) || right.closes()),
         depth,
     }
 }

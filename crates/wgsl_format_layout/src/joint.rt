@@ -92,12 +92,14 @@ fn goes_on(left: Role, right: Role) -> bool
         || left.is(Role::Attribute)
 }
 
-/// What stands behind `}`.
+/// What is after `}`; a `;` of the author's may be in a line of its own.
 fn behind_block(right: Role) -> Joint
     ensures { joint_view result ≡ behind_block (role_view right) }
 {
     if right.is(Role::ElseWord) {
         Joint::Space
+    } else if right.is(Role::Semicolon) {
+        Joint::NothingOrLine
     } else if right.is_tight() {
         Joint::Nothing
     } else {

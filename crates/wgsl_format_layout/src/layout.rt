@@ -1,22 +1,26 @@
 //! Laying a source out.
 
-ghost use Rattle.std.specs.Prelude.{◌≡◌, if◌then◌else◌, [], ◌∷◌, List, codes, chars, string_bytes, false, IfOk};
+ghost use Rattle.std.specs.Prelude.{◌≡◌, if◌then◌else◌, ℕ, [], ◌∷◌, List, codes, chars, string_bytes, false, IfOk};
 ghost use Rattle.grammar.specs.Tokens.{Token};
 ghost use Rattle.grammar.specs.Endings.{Ending};
 ghost use Rattle.wgsl_model.specs.Tokens.TokenList.{IsTokenList};
+ghost use Rattle.wgsl_model.specs.Tokens.Trivia.{outside};
 ghost use Rattle.wgsl_model_tidy.specs.Pieces as plain;
 ghost use Rattle.wgsl_model_tidy.specs.Open.{role_in};
 ghost use Rattle.wgsl_model_tidy.specs.LaidOut as model;
 ghost use Rattle.wgsl_theory_tidy.proofs.Comments.{piece};
-ghost use Rattle.wgsl_theory_tidy.proofs.Laid.{comment_gap_of, token_gap_of};
 ghost use Rattle.wgsl_lex_token.specs.View.{class_of_kind};
 ghost use Rattle.wgsl_format_layout.specs.View.{role_view};
 ghost use Rattle.wgsl_format_layout.specs.States.{state_view};
 ghost use Rattle.wgsl_format_layout.specs.Gaps.{comment_class, gap_view, last_view};
+ghost use Rattle.wgsl_format_layout.specs.Comments.{MayFollow};
 ghost use Rattle.wgsl_format_layout.specs.Layouts.{spot_of, text_with, Writes, WritesComments, StaysBehind};
 
-use crate::comment::{Comment, CommentKind, comment_at, line_ends_at};
-use crate::gap::{Gap, Last, comment_gap, comment_last, depth_behind, line_end, token_gap};
+use crate::comment::{Comment, CommentKind, comment_at, is_followed, line_ends_at};
+use crate::gap::{
+    Gap, Last, comment_gap, comment_last, depth_behind, is_line, is_token, line_end, token_gap,
+};
+use crate::joint::joint_of;
 use crate::role::Role;
 use crate::state::LayoutState;
 use crate::text::{put, put_gap};
@@ -57,41 +61,66 @@ impl Layout {
         })
     }
 
-    /// The gap before a comment behind so many line ends, before a token that does so.
-    fn gap_before_comment(&self, line_ends: usize, right: Role) -> Result<Gap, AllocError>
-        ensures { IfOk result (λ gap.
-            gap_view gap ≡ comment_gap_of (spot_of self.now) (role_view right) line_ends) }
+    /// Whether a comment before a text of blank space and comments belongs to the token after that,
+    /// which has this role.
+    fn is_owned(&self, text: &str, right: Role, has_next: bool) -> bool
+        ensures { (behind : ℕ → List plain.Piece) → MayFollow behind has_next →
+            model.owned (spot_of self.now) (role_view right)
+            (plain.comments behind outside 0 (chars text.now)) ≡ result }
+    {
+        let joint = joint_of(self.state.opened.in_brackets(), self.state.last, right);
+        is_token(self.last)
+            && is_line(joint)
+            && !right.is(Role::BlockEnd)
+            && is_followed(text, has_next)
+    }
+
+    /// The gap before a comment after so many line ends, before a token that has this role and owns
+    /// it or does not.
+    fn gap_before_comment(
+        &self,
+        kind: CommentKind,
+        line_ends: usize,
+        right: Role,
+        owned: bool,
+    ) -> Result<Gap, AllocError>
+        ensures { IfOk result (λ gap. gap_view gap ≡ model.gap_before_comment
+            (spot_of self.now) (role_view right) (comment_class kind) owned line_ends) }
     {
         let left = self.state.last;
         let depth = self.state.comment_depth(right)?;
-        let broken = line_end(self.last, left, Role::Beginning, line_ends, depth);
-        Ok(comment_gap(self.last, left, line_ends, broken))
+        let items = self.state.between_items(right);
+        let broken = line_end(items, self.last, left, Role::Beginning, line_ends, depth);
+        Ok(comment_gap(kind, self.last, left, owned, line_ends, broken))
     }
 
     /// The gap before a token that does so, behind so many line ends.
     fn gap_before_token(&self, line_ends: usize, right: Role) -> Result<Gap, AllocError>
         ensures { IfOk result (λ gap.
-            gap_view gap ≡ token_gap_of (spot_of self.now) (role_view right) line_ends) }
+            gap_view gap ≡ model.gap_before_token (spot_of self.now) (role_view right) line_ends) }
     {
         let left = self.state.last;
         let depth = self.state.depth_of(right)?;
-        let broken = line_end(self.last, left, right, line_ends, depth);
+        let items = self.state.between_items(right);
+        let broken = line_end(items, self.last, left, right, line_ends, depth);
         let in_brackets = self.state.opened.in_brackets();
         Ok(token_gap(in_brackets, self.last, left, right, line_ends, broken))
     }
 
-    /// Writes a comment behind so many line ends, before a token that does so.
+    /// Writes a comment after so many line ends, before a token that has this role and owns it or
+    /// does not.
     fn write_comment(
         &mut self,
         comment: Comment,
         line_ends: usize,
         right: Role,
+        owned: bool,
     ) -> Result<(), AllocError>
         ensures laid { IfOk result (λ _. Writes self.old (piece (comment_class comment.entry.kind)
-            (chars comment.entry.text.now) line_ends) (role_view right) self.new) }
+            (chars comment.entry.text.now) line_ends) (role_view right) owned self.new) }
         ensures state { IfOk result (λ _. StaysBehind self.old self.new) }
     {
-        let gap = self.gap_before_comment(line_ends, right)?;
+        let gap = self.gap_before_comment(comment.kind, line_ends, right, owned)?;
         put_gap(&mut self.text, gap)?;
         put(&mut self.text, comment.text)?;
         self.state.line = depth_behind(gap, self.state.line);
@@ -99,18 +128,24 @@ impl Layout {
         Ok(())
     }
 
-    /// Writes the comments of a text of blank space and comments, before a token that does so, and
-    /// answers how many line ends stand behind the last one.
-    fn write_comments(&mut self, text: &str, right: Role) -> Result<usize, AllocError>
+    /// Writes the comments of a text of blank space and comments, before a token that has this role
+    /// or at the end of the source, and returns how many line ends are after the last one.
+    fn write_comments(
+        &mut self,
+        text: &str,
+        right: Role,
+        has_next: bool,
+    ) -> Result<usize, AllocError>
         ensures laid { IfOk result (λ n.
-            WritesComments self.old (chars text.now) (role_view right) n self.new) }
+            WritesComments self.old (chars text.now) (role_view right) has_next n self.new) }
         ensures state { IfOk result (λ _. StaysBehind self.old self.new) }
     {
         let mut rest = text;
         let mut line_ends = 0;
         'pieces: while let Some((c, after)) = split_first(rest) {
             if let Some(comment) = comment_at(rest) {
-                self.write_comment(comment, line_ends, right)?;
+                let owned = self.is_owned(comment.rest, right, has_next);
+                self.write_comment(comment, line_ends, right, owned)?;
                 line_ends = 0;
                 rest = comment.rest;
                 continue;
@@ -166,11 +201,11 @@ pub fn laid_out(alloc: Global, source: &str) -> Result<String, AllocError>
     let mut place = 0;
     'tokens: while let (Some(kind), Some(span)) = (tokens.kind(), tokens.span()) {
         let right = layout.state.role_in(kind);
-        let line_ends = layout.write_comments(&source[place..span.start], right)?;
+        let line_ends = layout.write_comments(&source[place..span.start], right, true)?;
         layout.write_token(kind, right, &source[span.start..span.end], line_ends)?;
         place = span.end;
         tokens.skip();
     }
-    layout.write_comments(&source[place..], Role::Beginning)?;
+    layout.write_comments(&source[place..], Role::Beginning, false)?;
     layout.end()
 }

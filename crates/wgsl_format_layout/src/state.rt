@@ -20,6 +20,8 @@ pub(crate) struct LayoutState {
     pub(crate) line: usize,
     /// What the last token is to what follows.
     pub(crate) last: Role,
+    /// Whether the last attribute is one of a statement, a declaration or a member.
+    leading: bool,
     /// Whether the next `{` opens a structure.
     structure: bool,
 }
@@ -32,15 +34,37 @@ impl LayoutState {
             opened: Opened::new(alloc),
             line: 0,
             last: Role::Beginning,
+            leading: false,
             structure: false,
         }
+    }
+
+    /// Whether a statement, a declaration, a member or a clause begins here, or goes on after its
+    /// attributes.
+    fn begins(&self) -> bool
+        ensures { result ≡ plain.begins (state_view self.now) }
+    {
+        if self.last.is(Role::Attribute) {
+            return self.leading;
+        }
+        self.last.begins_item()
+    }
+
+    /// Whether the last one has ended before such a token, or a list of them begins or ends.
+    pub(crate) fn between_items(&self, right: Role) -> bool
+        ensures { result ≡ plain.between_items (state_view self.now) (role_view right) }
+    {
+        !self.opened.in_brackets()
+            && (right.is(Role::BlockEnd)
+                || (self.last.begins_item()
+                    && !(self.last.is(Role::Attribute) || right.is(Role::ElseWord))))
     }
 
     /// Whether a line that begins with such a token stands as deep as what is in the innermost.
     fn is_at_depth(&self, right: Role) -> bool
         ensures { result ≡ plain.is_at_depth (state_view self.now) (role_view right) }
     {
-        self.opened.in_brackets() || self.last.begins_item() || right.is(Role::BlockStart)
+        self.opened.in_brackets() || self.begins() || right.is(Role::BlockStart)
     }
 
     fn depth_within(&self, right: Role) -> Result<usize, AllocError>
@@ -167,15 +191,28 @@ impl LayoutState {
         self.structure
     }
 
+    /// Whether the last attribute is one of a statement, a declaration or a member after such a
+    /// token.
+    fn leading_behind(&self, right: Role) -> bool
+        ensures { result ≡ plain.leading_behind (state_view self.now) (role_view right) }
+    {
+        if right.is(Role::At) {
+            return self.begins();
+        }
+        self.leading
+    }
+
     /// Goes behind a token that does so.
     pub(crate) fn take(&mut self, kind: TokenKind, right: Role) -> Result<(), AllocError>
         ensures { IfOk result (λ _. state_view self.new ≡ plain.behind_token
             (state_view self.old) self.old.line (class_of_kind kind) (role_view right)) }
     {
         let last = self.last_behind(right);
+        let leading = self.leading_behind(right);
         let structure = self.structure_behind(kind, right);
         self.open_or_close(right)?;
         self.last = last;
+        self.leading = leading;
         self.structure = structure;
         Ok(())
     }

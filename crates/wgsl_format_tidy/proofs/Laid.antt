@@ -8,7 +8,9 @@ use Rattle.wgsl_model.specs.Program.{IsUnit}
 use Rattle.wgsl_theory_grammar.proofs.Tokens.Lists.{token_list_unique}
 use Rattle.wgsl_model_tidy.specs.Pieces.{pieces}
 use Rattle.wgsl_model_tidy.specs.LaidOut as model
+use Rattle.wgsl_model_tidy.specs.NonBlank.{non_blank}
 use Rattle.wgsl_model_tidy.specs.Kept.{IsLaidOut, Keeps}
+use Rattle.wgsl_theory_tidy.proofs.Kept.SameCharacters.{same_characters}
 use Rattle.wgsl_theory_tidy.proofs.Kept.Kept as theory
 
 -- the text is the laid-out text of the source by some token list, however that ends
@@ -24,6 +26,10 @@ by_its_tokens source text u h laid =
 pub is_laid_out : (source text : List ℕ) (u : TranslationUnit) → IsUnit source u → IsSomeLaidOut source text → IsLaidOut source text
 is_laid_out source text u h laid = (h.0, h.1, by_its_tokens source text u h laid)
 
--- so it keeps the module
+-- so it has the characters of the source that are not blank
+pub keeps_characters : (source text : List ℕ) (u : TranslationUnit) → IsUnit source u → IsSomeLaidOut source text → non_blank text ≡ non_blank source
+keeps_characters source text u h laid = ap non_blank (by_its_tokens source text u h laid) ∙ same_characters source h.0 h.1
+
+-- and it keeps the module
 pub keeps : (source text : List ℕ) (u : TranslationUnit) → IsUnit source u → IsSomeLaidOut source text → Keeps source text
 keeps source text u h laid = subst (Keeps source) (sym (by_its_tokens source text u h laid)) (theory.kept source u h)

@@ -1,6 +1,6 @@
 -- What stands between two neighbouring tokens.
 use Rattle.std.specs.Prelude.{Bool, not, ◌&&◌, ◌||◌, if◌then◌else◌}
-use Rattle.wgsl_model_tidy.specs.Roles.{Role, name, number, word, else_word, opening, template_start, template_end, block_start, block_end, comma, period, at, minus, ampersand, binary, step, item_end, attribute, is, ends_operand, begins_operand, wants_operand, is_tight, opens, closes}
+use Rattle.wgsl_model_tidy.specs.Roles.{Role, name, number, word, else_word, opening, template_start, template_end, block_start, block_end, comma, period, at, minus, ampersand, binary, step, item_end, attribute, semicolon, is, ends_operand, begins_operand, wants_operand, is_tight, opens, closes}
 
 pub data Joint : Type 0 where
   -- a line end
@@ -44,9 +44,9 @@ close_joint in_brackets left right =
 abbrev pub continues_line : Role → Role → Bool
 continues_line left right = (is left binary || is right binary) || (is left comma || is left attribute)
 
--- behind `}`
+-- after `}`; a `;` of the author's may be in a line of its own
 abbrev pub behind_block : Role → Joint
-behind_block right = if is right else_word then space else if is_tight right then nothing else line
+behind_block right = if is right else_word then space else if is_tight right then (if is right semicolon then nothing_or_line else nothing) else line
 
 -- what stands between two neighbours, in brackets or not; `{` stands in the line of what it belongs to
 abbrev pub joint : Bool → Role → Role → Joint

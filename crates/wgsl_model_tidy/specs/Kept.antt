@@ -9,6 +9,7 @@ use Rattle.wgsl_model.specs.Program.{IsUnit}
 use Rattle.wgsl_model.specs.Trees.StatementsWithoutSpans.{bare_unit}
 use Rattle.wgsl_model_tidy.specs.Pieces.{Piece, pieces}
 use Rattle.wgsl_model_tidy.specs.LaidOut.{laid_out}
+use Rattle.wgsl_model_tidy.specs.NonBlank.{non_blank}
 
 -- a token, wherever it stands
 abbrev pub unplaced : Token → Kind
@@ -22,12 +23,13 @@ class_and_text p = (p.class, p.text)
 abbrev pub IsLaidOut : List ℕ → List ℕ → Type 0
 IsLaidOut source text = (ts : List Token) × IsTokenList source ts finished × (text ≡ laid_out (pieces source ts))
 
--- The text has the tokens of the source in all but their places, and the same pieces in the same order, so the same comments too; laid out again it stays as it is; and it derives the same unit, empty items too, spans aside.
+-- The text has the characters of the source that are not blank space, in the same order; the tokens of the source in all but their places, and the same pieces in the same order, so the same comments too; laid out again it stays as it is; and it derives the same unit, empty items too, spans aside.
 pub record Keeps (source text : List ℕ) : Type 0 where
   pub before : List Token
   pub after : List Token
   pub read_before : IsTokenList source before finished
   pub read_after : IsTokenList text after finished
+  pub same_characters : non_blank text ≡ non_blank source
   pub same_tokens : map unplaced after ≡ map unplaced before
   pub same_pieces : map class_and_text (pieces text after) ≡ map class_and_text (pieces source before)
   pub again : laid_out (pieces text after) ≡ text

@@ -4,7 +4,7 @@ use Rattle.wgsl_model.specs.Tokens.Classes.{LineComment, BlockComment}
 use Rattle.wgsl_model_tidy.specs.Pieces.{Piece, OpenComment}
 use Rattle.wgsl_model_tidy.specs.Roles.{Role, beginning, opening, template_start, template_end, block_end, is, is_tight, opens, closes}
 use Rattle.wgsl_model_tidy.specs.Joints.{Joint, line, nothing, space, nothing_or_line, space_or_line, joint}
-use Rattle.wgsl_model_tidy.specs.Open.{LayoutState, start, in_brackets, depth_of, comment_depth, role_in, behind_token}
+use Rattle.wgsl_model_tidy.specs.Open.{LayoutState, start, in_brackets, between_items, depth_of, comment_depth, role_in, behind_token}
 
 -- nothing, a space, or a line end, with an empty line or without, and the blank space of a line so deep
 pub data Gap : Type 0 where
@@ -59,27 +59,38 @@ token_gap in_brackets line_comment left right n break = break
 token_gap in_brackets leading_comment left right n break = joint_gap (behind_leading right) n break
 token_gap in_brackets last left right n break = joint_gap (behind_comment (joint in_brackets left right) right) n break
 
--- before a comment behind a token: a space, but nothing behind an opening bracket, or a line end of the author's
-abbrev pub comment_behind : Role → ℕ → Gap → Gap
-comment_behind left n break =
+-- the last piece is a token, or there is none
+abbrev pub is_token : Last → Bool
+is_token token = true
+is_token last = false
+
+-- a line end has to be there
+abbrev pub is_line : Joint → Bool
+is_line line = true
+is_line joint = false
+
+-- before a comment after a token: a line end where it belongs to the next token; else nothing before a block comment after an opening bracket, and a space elsewhere, or a line end of the author's
+abbrev pub comment_behind : ℕ → Role → Bool → ℕ → Gap → Gap
+comment_behind class left owned n break =
     if is left beginning then closed
-    else if is left opening || is left template_start then kept_gap n break closed
+    else if owned then break
+    else if (is left opening || is left template_start) && not (class == LineComment) then kept_gap n break closed
     else kept_gap n break blank
 
 -- before a comment
-abbrev pub comment_gap : Last → Role → ℕ → Gap → Gap
-comment_gap token left n break = comment_behind left n break
-comment_gap line_comment left n break = break
-comment_gap last left n break = kept_gap n break blank
+abbrev pub comment_gap : ℕ → Last → Role → Bool → ℕ → Gap → Gap
+comment_gap class token left owned n break = comment_behind class left owned n break
+comment_gap class line_comment left owned n break = break
+comment_gap class last left owned n break = kept_gap n break blank
 
 -- the last piece is an opening bracket
 abbrev pub is_behind_opening : Last → Role → Bool
 is_behind_opening token left = opens left
 is_behind_opening last left = false
 
--- a line end before what does so: an empty line of the author's stays, but neither behind an opening bracket nor before a closing one
-abbrev pub line_end : Last → Role → Role → ℕ → ℕ → Gap
-line_end last left right n depth = broken (nat_lt 1 n && not (is_behind_opening last left || closes right)) depth
+-- a line end before a token of the role on the right: an empty line of the author's stays between items, but neither after an opening bracket nor before a closing one
+abbrev pub line_end : Bool → Last → Role → Role → ℕ → ℕ → Gap
+line_end items last left right n depth = broken (nat_lt 1 n && (items && not (is_behind_opening last left || closes right))) depth
 
 -- a comment
 abbrev pub is_comment : ℕ → Bool
@@ -90,11 +101,29 @@ abbrev pub next_role : LayoutState → List Piece → Role
 next_role state [] = beginning
 next_role state (p ∷ ps) = if is_comment p.class then next_role state ps else role_in state p.class
 
--- the gap before a piece; the first token from there on does so
-abbrev pub gap_before : Spot → Role → Piece → Gap
-gap_before spot right p =
-    if is_comment p.class then comment_gap spot.last spot.state.last p.line_ends (line_end spot.last spot.state.last beginning p.line_ends (comment_depth spot.state right))
-    else token_gap (in_brackets spot.state.opened) spot.last spot.state.last right p.line_ends (line_end spot.last spot.state.last right p.line_ends (depth_of spot.state right))
+-- a token comes after the comments at the front of these pieces, with no line end before any of them or before it
+abbrev pub is_followed : List Piece → Bool
+is_followed [] = false
+is_followed (p ∷ ps) = p.line_ends == 0 && (if is_comment p.class then is_followed ps else true)
+
+-- The first comment after a token belongs to the next token, of the role on the right: that follows in the line of the comment, and begins a line after the token before. A `}` owns none. Later comments go by the gap before them.
+abbrev pub owned : Spot → Role → List Piece → Bool
+owned spot right ps = is_token spot.last && ((is_line (joint (in_brackets spot.state.opened) spot.state.last right) && not (is right block_end)) && is_followed ps)
+
+-- the gap before a comment of a class, after so many line ends; the next token is of the role on the right, and owns it or does not
+abbrev pub gap_before_comment : Spot → Role → ℕ → Bool → ℕ → Gap
+gap_before_comment spot right class owned n =
+    comment_gap class spot.last spot.state.last owned n
+    (line_end (between_items spot.state right) spot.last spot.state.last beginning n (comment_depth spot.state right))
+
+-- the gap before a token of the role on the right
+abbrev pub gap_before_token : Spot → Role → ℕ → Gap
+gap_before_token spot right n =
+    token_gap (in_brackets spot.state.opened) spot.last spot.state.last right n (line_end (between_items spot.state right) spot.last spot.state.last right n (depth_of spot.state right))
+
+-- the gap before a piece, with others after it; the first token from there on is of the role on the right
+abbrev pub gap_before : Spot → Role → Piece → List Piece → Gap
+gap_before spot right p ps = if is_comment p.class then gap_before_comment spot right p.class (owned spot right ps) p.line_ends else gap_before_token spot right p.line_ends
 
 -- ---- the whole text
 
@@ -116,7 +145,7 @@ depth_behind gap before = before
 
 -- the state in a line of another depth
 abbrev pub in_line_of : LayoutState → ℕ → LayoutState
-in_line_of state depth = record { opened = state.opened; line = depth; last = state.last; structure = state.structure }
+in_line_of state depth = record { opened = state.opened; line = depth; last = state.last; leading = state.leading; structure = state.structure }
 
 -- a comment behind this gap leads: it begins a line or the text, or stands behind one that leads
 abbrev pub leads : Gap → Last → Role → Bool
@@ -147,7 +176,7 @@ abbrev pub laid_from : Spot → List Piece → List ℕ
 laid_from spot [] = ending spot.last spot.state.last
 laid_from spot (p ∷ ps) =
     let right = next_role spot.state (p ∷ ps) in
-    let gap = gap_before spot right p in
+    let gap = gap_before spot right p ps in
     gap_text gap ++ (p.text ++ laid_from (behind_piece spot gap right p) ps)
 
 -- the laid-out text of pieces

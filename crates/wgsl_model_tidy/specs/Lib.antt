@@ -4,5 +4,7 @@ pub mod Roles
 pub mod Joints
 pub mod Open
 pub mod LaidOut
+pub mod NonBlank
+pub mod Lines
 pub mod Kept
 pub mod Tidied

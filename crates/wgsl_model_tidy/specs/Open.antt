@@ -1,7 +1,7 @@
 -- What is open at a place, how deep a line there stands, and what a token does to it.
 use Rattle.std.specs.Prelude.{ℕ, suc, Bool, true, false, ◌&&◌, ◌||◌, not, ◌==◌, if◌then◌else◌, List, [], ◌∷◌, drop}
 use Rattle.wgsl_model.specs.Tokens.Classes.{KwStruct}
-use Rattle.wgsl_model_tidy.specs.Roles.{Role, opening, closing, template_start, block_start, comma, semicolon, at, item_end, attribute, beginning, is, closes, ends_operand, begins_item, role_of}
+use Rattle.wgsl_model_tidy.specs.Roles.{Role, else_word, opening, closing, template_start, block_start, block_end, comma, semicolon, at, item_end, attribute, beginning, is, closes, ends_operand, begins_item, role_of}
 
 -- a block, the members of a structure, the arguments of an attribute, every other bracket
 pub data Open : Type 0 where
@@ -11,16 +11,17 @@ pub data Open : Type 0 where
 abbrev pub Opened : Type 0
 Opened = List (Open × ℕ)
 
--- what is open, the depth of the line, what the last token is to what follows, and whether the next `{` opens a structure
+-- what is open, the depth of the line, what the last token is to what follows, whether the last attribute is one of a statement, a declaration or a member, and whether the next `{` opens a structure
 pub record LayoutState : Type 0 where
   pub opened : Opened
   pub line : ℕ
   pub last : Role
+  pub leading : Bool
   pub structure : Bool
 
 -- nothing stands before the text
 abbrev pub start : LayoutState
-start = record { opened = []; line = 0; last = beginning; structure = false }
+start = record { opened = []; line = 0; last = beginning; leading = false; structure = false }
 
 -- the innermost is a bracket or a template list, and no block
 abbrev pub in_brackets : Opened → Bool
@@ -48,11 +49,19 @@ abbrev pub outer_depth : Opened → ℕ
 outer_depth [] = 0
 outer_depth ((kind, depth) ∷ outer) = depth
 
+-- a statement, a declaration, a member or a clause begins here, or goes on after its attributes
+abbrev pub begins : LayoutState → Bool
+begins state = if is state.last attribute then state.leading else begins_item state.last
+
+-- before a token of this role: the last one has ended, or a list of them begins or ends; an `else` goes on with its statement
+abbrev pub between_items : LayoutState → Role → Bool
+between_items state right = not (in_brackets state.opened) && (is right block_end || (begins_item state.last && not (is state.last attribute || is right else_word)))
+
 -- ---- depths
 
 -- a line begins as deep as what stands in the innermost: in brackets, where a statement, a declaration, a member or a clause begins, and before `{`
 abbrev pub is_at_depth : LayoutState → Role → Bool
-is_at_depth state right = in_brackets state.opened || (begins_item state.last || is right block_start)
+is_at_depth state right = in_brackets state.opened || (begins state || is right block_start)
 
 -- where one of these goes on, it stands one level deeper
 abbrev pub depth_within : LayoutState → Role → ℕ
@@ -103,6 +112,10 @@ abbrev pub structure_behind : LayoutState → ℕ → Role → Bool
 structure_behind state class right =
     if is right block_start then false else if class == KwStruct && not (is state.last at) then true else state.structure
 
+-- an attribute is one of a statement, a declaration or a member where one of these begins
+abbrev pub leading_behind : LayoutState → Role → Bool
+leading_behind state right = if is right at then begins state else state.leading
+
 -- behind a closing bracket the line counts as deep as the line of the opening one
 abbrev pub line_behind : LayoutState → ℕ → Role → ℕ
 line_behind state line right = if closes right then outer_depth state.opened else line
@@ -110,4 +123,4 @@ line_behind state line right = if closes right then outer_depth state.opened els
 -- the state behind a token that does so, in a line of this depth
 abbrev pub behind_token : LayoutState → ℕ → ℕ → Role → LayoutState
 behind_token state line class right =
-    record { opened = opened_behind state line right; line = line_behind state line right; last = last_behind state right; structure = structure_behind state class right }
+    record { opened = opened_behind state line right; line = line_behind state line right; last = last_behind state right; leading = leading_behind state right; structure = structure_behind state class right }

@@ -1,10 +1,11 @@
 -- The pieces of a text: its tokens and its comments, as they stand (WGSL, "Parsing", "Comments").
 use Rattle.std.specs.Prelude.{ℕ, suc, ◌+◌, ◌-◌, ◌&&◌, ◌==◌, if◌then◌else◌, List, [], ◌∷◌, chars, take, drop}
+use Rattle.std.specs.Char.{is_whitespace}
 use Rattle.std.specs.Str.{encode_utf8_all}
 use Rattle.grammar.specs.Tokens.{Token}
 use Rattle.grammar.specs.Tables.{is_empty}
 use Rattle.wgsl_model.specs.Tokens.Classes.{LineComment, BlockComment}
-use Rattle.wgsl_model.specs.Tokens.Characters.{is_blank, is_line_break}
+use Rattle.wgsl_model.specs.Tokens.Characters.{is_line_break}
 use Rattle.wgsl_model.specs.Tokens.Places.{width}
 use Rattle.wgsl_model.specs.Tokens.Trivia.{Place, outside, in_line, in_block, second, out_of_block, first_or_zero}
 
@@ -33,10 +34,10 @@ abbrev pub put : ℕ → List Piece → List Piece
 put c [] = []
 put c (p ∷ ps) = record { class = p.class; text = c ∷ p.text; line_ends = p.line_ends } ∷ ps
 
--- the same, where the first piece is a line comment, at whose end no blank space stays
+-- the same, where the first piece is a line comment, at whose end no white space stays
 abbrev pub put_in_line : ℕ → List Piece → List Piece
 put_in_line c [] = []
-put_in_line c (p ∷ ps) = if is_blank c && is_empty p.text then p ∷ ps else put c (p ∷ ps)
+put_in_line c (p ∷ ps) = if is_whitespace c && is_empty p.text then p ∷ ps else put c (p ∷ ps)
 
 -- The comments in a text of blank space and comments, which begins at such a place, so many line ends behind the last piece; and behind them what stands behind so many line ends. A line comment ends before a line break; block comments nest.
 unfoldable pub comments : (ℕ → List Piece) → Place → ℕ → List ℕ → List Piece

@@ -118,6 +118,8 @@ pub use Rattle.wgsl_model_tidy.specs.Roles as TokenRoles
 pub use Rattle.wgsl_model_tidy.specs.Joints as TokenJoints
 pub use Rattle.wgsl_model_tidy.specs.Open as OpenBrackets
 pub use Rattle.wgsl_model_tidy.specs.LaidOut
+pub use Rattle.wgsl_model_tidy.specs.NonBlank
+pub use Rattle.wgsl_model_tidy.specs.Lines
 pub use Rattle.wgsl_model_tidy.specs.Kept as KeptPieces
 pub use Rattle.wgsl_model_tidy.specs.Tidied
 pub use Rattle.wgsl_laws.specs.Hashes

@@ -94,7 +94,7 @@ pub mod laws {
     pub use wgsl_laws::grammar_laws::{
         checked_is_full, no_less_derived, one_fault, one_name, one_tree,
     };
-    pub use wgsl_laws::laid_out::laid_out_keeps;
+    pub use wgsl_laws::laid_out::{formatted_characters, formatted_lines, laid_out_keeps};
     pub use wgsl_laws::paths::{join_laws, path_text, starts_with_laws};
     pub use wgsl_laws::printed::{
         canonical_parse, print_twice, printed_parse, printed_tokens, unit_or_fault,

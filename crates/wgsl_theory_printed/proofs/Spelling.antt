@@ -9,6 +9,7 @@ pub mod Spellings
 pub mod Scalars
 pub mod Numerals
 pub mod Signs
+pub mod WordCharacters
 pub mod Along
 pub mod Ends
 pub mod NoPeriods

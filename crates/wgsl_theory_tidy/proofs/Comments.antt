@@ -1,9 +1,10 @@
 -- The comments at the front of a text, each with what stands behind it.
 use Rattle.std.proofs.Common.{◌≡◌, ℕ, suc, ◌+◌, ◌==◌, ◌&&◌, Bool, true, false, cond, refl, sym, ap, subst, ◌∙◌, List, [], ◌∷◌, ◌++◌, append_assoc, append-nil, arith}
+use Rattle.std.specs.Char.{is_whitespace}
 use Rattle.std.proofs.lemmas.Bool.{and_parts, true≢false}
 use Rattle.std.proofs.lemmas.Grind.{common_steps}
 use Rattle.grammar.specs.Tables.{is_empty}
-use Rattle.wgsl_model.specs.Tokens.Characters.{is_blank, is_line_break}
+use Rattle.wgsl_model.specs.Tokens.Characters.{is_line_break}
 use Rattle.wgsl_model.specs.Tokens.Classes.{LineComment, BlockComment}
 use Rattle.wgsl_model.specs.Tokens.Trivia.{outside, in_line, in_block, first_or_zero}
 use Rattle.wgsl_model_tidy.specs.Pieces.{Piece, OpenComment, comments, put, line_ends_at}
@@ -20,10 +21,10 @@ no_comment b n c cs h k = rw (h, k) refl
 
 -- ---- line comments
 
--- a text without the blank space at its end
+-- a text without the white space at its end
 abbrev pub trimmed : List ℕ → List ℕ
 trimmed [] = []
-trimmed (c ∷ cs) = cond (is_blank c && is_empty (trimmed cs)) [] (c ∷ trimmed cs)
+trimmed (c ∷ cs) = cond (is_whitespace c && is_empty (trimmed cs)) [] (c ∷ trimmed cs)
 
 -- no character ends a line
 abbrev pub OnLine : List ℕ → Type 0
@@ -48,10 +49,10 @@ ends_line b n c cs h = rw h refl
 over_break : (b : ℕ → List Piece) (c : ℕ) (cs : List ℕ) → is_line_break c ≡ true → comments b outside 0 (c ∷ cs) ≡ comments b outside (0 + line_ends_at c cs) cs
 over_break b c cs h = let other = break_is_no_slash c h in no_comment b 0 c cs (rw other refl) (rw other refl)
 
-grown : (c n : ℕ) (text : List ℕ) (ps : List Piece) (b : Bool) → (is_blank c && is_empty text) ≡ b
+grown : (c n : ℕ) (text : List ℕ) (ps : List Piece) (b : Bool) → (is_whitespace c && is_empty text) ≡ b
     → cond b (piece LineComment text n ∷ ps) (piece LineComment (c ∷ text) n ∷ ps) ≡ piece LineComment (cond b [] (c ∷ text)) n ∷ ps
 grown c n [] ps true e = refl
-grown c n (d ∷ ds) ps true e = absurd (true≢false (sym (and_parts (is_blank c) false e).1))
+grown c n (d ∷ ds) ps true e = absurd (true≢false (sym (and_parts (is_whitespace c) false e).1))
 grown c n text ps false e = refl
 
 -- a line comment, whose sign stands before the text, goes up to the end of the line
@@ -59,17 +60,17 @@ pub line_comment : (b : ℕ → List Piece) (n : ℕ) (xs rest : List ℕ) → O
 unfolding comments
 line_comment b n [] [] h e = refl
 line_comment b n [] (c ∷ cs) h e = ends_line b n c cs e ∙ ap (λ ps. piece LineComment [] n ∷ ps) (ap (λ m. comments b outside m cs) (sym (none_more (line_ends_at c cs))) ∙ sym (over_break b c cs e))
-line_comment b n (x ∷ xs) rest h e = rw (h.0, line_comment b n xs rest h.1 e) (grown x n (trimmed xs) (comments b outside 0 rest) (is_blank x && is_empty (trimmed xs)) refl)
+line_comment b n (x ∷ xs) rest h e = rw (h.0, line_comment b n xs rest h.1 e) (grown x n (trimmed xs) (comments b outside 0 rest) (is_whitespace x && is_empty (trimmed xs)) refl)
 
--- blank space at the end is no part of it
+-- white space at the end is no part of it
 trimmed_blank : (xs ys : List ℕ) → trimmed ys ≡ [] → trimmed (xs ++ ys) ≡ trimmed xs
 trimmed_blank [] ys h = h
 trimmed_blank (x ∷ xs) ys h = rw (trimmed_blank xs ys h) refl
 
--- a text that ends with a character that is not blank stays
-pub trimmed_solid : (xs : List ℕ) (c : ℕ) → is_blank c ≡ false → trimmed (xs ++ (c ∷ [])) ≡ xs ++ (c ∷ [])
+-- a text that ends with a character that is not white stays
+pub trimmed_solid : (xs : List ℕ) (c : ℕ) → is_whitespace c ≡ false → trimmed (xs ++ (c ∷ [])) ≡ xs ++ (c ∷ [])
 trimmed_solid [] c h = rw h refl
-trimmed_solid (x ∷ xs) c h = rw (trimmed_solid xs c h) (go (xs ++ (c ∷ [])) (is_blank x) refl)
+trimmed_solid (x ∷ xs) c h = rw (trimmed_solid xs c h) (go (xs ++ (c ∷ [])) (is_whitespace x) refl)
   where
     go : (ys : List ℕ) (b : Bool) → ys ≡ xs ++ (c ∷ []) → cond (b && is_empty ys) [] (x ∷ ys) ≡ x ∷ ys
     go [] b e = absurd (no_end xs e)
@@ -80,7 +81,7 @@ trimmed_solid (x ∷ xs) c h = rw (trimmed_solid xs c h) (go (xs ++ (c ∷ [])) 
     go (y ∷ ys) true e = refl
     go (y ∷ ys) false e = refl
 
--- ---- what a loop over a line has seen: up to the last character that is not blank, and up to a place
+-- ---- what a loop over a line has seen: up to the last character that is not white, and up to a place
 
 pub record Seen (text behind rest : List ℕ) : Type 0 where
   pub front : List ℕ
@@ -98,11 +99,11 @@ on_line_append : (xs ys : List ℕ) → OnLine xs → OnLine ys → OnLine (xs +
 on_line_append [] ys h k = k
 on_line_append (x ∷ xs) ys h k = (h.0, on_line_append xs ys h.1 k)
 
-all_blank : (xs : List ℕ) (c : ℕ) → trimmed xs ≡ [] → is_blank c ≡ true → trimmed (xs ++ (c ∷ [])) ≡ []
+all_blank : (xs : List ℕ) (c : ℕ) → trimmed xs ≡ [] → is_whitespace c ≡ true → trimmed (xs ++ (c ∷ [])) ≡ []
 all_blank xs c h b = trimmed_blank xs (c ∷ []) (rw b refl) ∙ h
 
--- a blank character more
-pub seen_blank : (text behind : List ℕ) (c : ℕ) (cs : List ℕ) → Seen text behind (c ∷ cs) → is_blank c ≡ true → is_line_break c ≡ false → Seen text behind cs
+-- a white character more
+pub seen_blank : (text behind : List ℕ) (c : ℕ) (cs : List ℕ) → Seen text behind (c ∷ cs) → is_whitespace c ≡ true → is_line_break c ≡ false → Seen text behind cs
 seen_blank text behind c cs s b l = record {
   front = s.front;
   blanks = s.blanks ++ (c ∷ []);
@@ -114,7 +115,7 @@ seen_blank text behind c cs s b l = record {
 }
 
 -- another one
-pub seen_solid : (text behind : List ℕ) (c : ℕ) (cs : List ℕ) → Seen text behind (c ∷ cs) → is_blank c ≡ false → is_line_break c ≡ false → Seen text cs cs
+pub seen_solid : (text behind : List ℕ) (c : ℕ) (cs : List ℕ) → Seen text behind (c ∷ cs) → is_whitespace c ≡ false → is_line_break c ≡ false → Seen text cs cs
 seen_solid text behind c cs s b l =
     let front = (s.front ++ s.blanks) ++ (c ∷ []) in
     record {

@@ -10,13 +10,19 @@ pub mod Read
 pub mod TokenRoles
 pub mod Neighbours
 pub mod Parted
+pub mod NeatTexts
 pub mod ClosedComments
 mod TextFronts
+mod NonBlankOf
 pub mod Trails
 pub mod Gaps
+pub mod NeatPieces
 pub mod Relaid
 pub mod LaidTrails
 pub mod LaidTokens
+pub mod NeatWords
 pub mod LaidText
 pub mod SameShape
+pub mod SameCharacters
+pub mod Lines
 pub mod Kept

@@ -3,4 +3,5 @@ pub mod Comments
 pub mod Written
 pub mod Laid
 pub mod NextRoles
+pub mod Followed
 pub mod Kept

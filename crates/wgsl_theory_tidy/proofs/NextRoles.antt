@@ -2,7 +2,8 @@
 use Rattle.std.proofs.Common.{◌≡◌, ℕ, suc, ◌+◌, ◌==◌, ◌&&◌, Bool, true, false, cond, refl, ap, List, [], ◌∷◌}
 use Rattle.grammar.specs.Tables.{is_empty}
 use Rattle.wgsl_model.specs.Tokens.Classes.{LineComment}
-use Rattle.wgsl_model.specs.Tokens.Characters.{is_blank, is_line_break}
+use Rattle.std.specs.Char.{is_whitespace}
+use Rattle.wgsl_model.specs.Tokens.Characters.{is_line_break}
 use Rattle.wgsl_model.specs.Tokens.Trivia.{Place, outside, in_line, in_block, second, out_of_block, first_or_zero}
 use Rattle.wgsl_model_tidy.specs.Pieces.{Piece, comment, comments, put, put_in_line, line_ends_at}
 use Rattle.wgsl_model_tidy.specs.Roles.{Role}
@@ -20,7 +21,7 @@ either_next s right false xs ys h k = k
 
 put_in_line_next : (s : LayoutState) (c : ℕ) (right : Role) (ps : List Piece) → next_role s ps ≡ right → next_role s (put_in_line c ps) ≡ right
 put_in_line_next s c right [] h = h
-put_in_line_next s c right (p ∷ ps) h = either_next s right (is_blank c && is_empty p.text) (p ∷ ps) (put c (p ∷ ps)) h h
+put_in_line_next s c right (p ∷ ps) h = either_next s right (is_whitespace c && is_empty p.text) (p ∷ ps) (put c (p ∷ ps)) h h
 
 -- where the first token does so behind however many line ends, it does so behind the comments
 pub next_behind : (s : LayoutState) (right : Role) (behind : ℕ → List Piece) → ((m : ℕ) → next_role s (behind m) ≡ right) → (p : Place) (n : ℕ) (text : List ℕ) → next_role s (comments behind p n text) ≡ right

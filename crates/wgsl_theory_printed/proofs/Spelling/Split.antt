@@ -31,6 +31,15 @@ Lets q (any p) = Stricter p q
 Lets q (both a b) = Lets q a × Lets q b
 Lets q (either a b) = Lets q a × Lets q b
 
+-- the same of a test that is not as strict
+pub wider : (p q : ℕ → Bool) → Stricter p q → (pattern : Pattern) → Lets p pattern → Lets q pattern
+wider p q s nothing h = tt
+wider p q s empty h = tt
+wider p q s (one r) h = λ c k. s c (h c k)
+wider p q s (any r) h = λ c k. s c (h c k)
+wider p q s (both a b) h = (wider p q s a h.0, wider p q s b h.1)
+wider p q s (either a b) h = (wider p q s a h.0, wider p q s b h.1)
+
 -- a front of characters that pass, and a rest that a test lets through
 pub record Cut (q : ℕ → Bool) (k : List ℕ → Bool) (text : List ℕ) : Type 0 where
   pub front : List ℕ

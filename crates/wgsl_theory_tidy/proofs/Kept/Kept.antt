@@ -8,17 +8,13 @@ use Rattle.wgsl_theory_grammar.proofs.Tokens.Lists.{token_list_unique}
 use Rattle.wgsl_theory_templates.proofs.Lexed.Runs.{lexed}
 use Rattle.wgsl_theory_tidy.proofs.Moved.Moved.{moved_unit}
 use Rattle.wgsl_model_tidy.specs.Pieces.{pieces}
-use Rattle.wgsl_model_tidy.specs.Open.{start}
-use Rattle.wgsl_model_tidy.specs.LaidOut.{Spot, token, laid_out}
+use Rattle.wgsl_model_tidy.specs.LaidOut.{laid_out}
 use Rattle.wgsl_model_tidy.specs.Kept.{unplaced, class_and_text, Keeps}
 use Rattle.wgsl_theory_tidy.proofs.Kept.Read.{read}
 use Rattle.wgsl_theory_tidy.proofs.Kept.SameShape.{same_shape}
 use Rattle.wgsl_theory_tidy.proofs.Kept.Relaid.{relaid_spelled, relaid_again}
 use Rattle.wgsl_theory_tidy.proofs.Kept.LaidText.{laid_along, laid_pieces}
-
--- where nothing is laid out yet
-abbrev first_spot : Spot
-first_spot = record { state = start; last = token }
+use Rattle.wgsl_theory_tidy.proofs.Kept.SameCharacters.{first_spot, same_characters}
 
 pub kept : (source : List ℕ) (u : TranslationUnit) (h : IsUnit source u) → Keeps source (laid_out (pieces source h.0))
 kept source u h =
@@ -33,6 +29,7 @@ kept source u h =
       after = us;
       read_before = h.1;
       read_after = after.1;
+      same_characters = same_characters source ts h.1;
       same_tokens = after.2;
       same_pieces = ap (map class_and_text) same ∙ relaid_spelled first_spot (pieces source ts);
       again = ap laid_out same ∙ relaid_again first_spot (pieces source ts);

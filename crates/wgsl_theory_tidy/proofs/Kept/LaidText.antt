@@ -11,8 +11,7 @@ use Rattle.wgsl_theory_printed.proofs.Spelling.Along.{behind_one}
 use Rattle.wgsl_model_tidy.specs.Pieces.{Piece, comments}
 use Rattle.wgsl_model_tidy.specs.Roles.{ends_operand, beginning}
 use Rattle.wgsl_model_tidy.specs.Open.{role_in, last_behind}
-use Rattle.wgsl_model_tidy.specs.LaidOut.{token, Spot, laid_from, gap_text}
-use Rattle.wgsl_theory_tidy.proofs.Laid.{comment_gap_of}
+use Rattle.wgsl_model_tidy.specs.LaidOut.{token, Spot, gap_before_comment, laid_from, gap_text}
 use Rattle.wgsl_theory_tidy.proofs.Kept.Touching.{Shaped}
 use Rattle.wgsl_theory_tidy.proofs.Kept.TokenRoles.{starts_so}
 use Rattle.wgsl_theory_tidy.proofs.Kept.Parted.{PartsBefore, parts_before_token, parts_before_comment, parts_before_ending, token_again, start_again}
@@ -20,12 +19,14 @@ use Rattle.wgsl_theory_tidy.proofs.Kept.Readings.{IsToken, is_word, is_start, is
 use Rattle.wgsl_theory_tidy.proofs.Kept.LaidTokens.{no_comment, token_here, same_before, same_token}
 use Rattle.wgsl_theory_tidy.proofs.Kept.Trails.{trail, last_trail}
 use Rattle.wgsl_theory_tidy.proofs.Kept.Relaid.{relaid}
+use Rattle.wgsl_theory_tidy.proofs.Kept.NeatPieces.{NeatAt}
+use Rattle.wgsl_theory_tidy.proofs.Kept.NeatWords.{token_neat}
 use Rattle.wgsl_theory_tidy.proofs.Kept.LaidTrails.{TrailFront, token_front, comment_front, LaidTrail, laid_trail, LastFront, end_front, last_front, last_laid}
 
 -- ---- comments and a token of a text
 
 -- a token has characters
-has_characters : (k : Kind) (w rest : List ℕ) → IsToken k w rest → w ++ rest ≡ [] → ⊥
+pub has_characters : (k : Kind) (w rest : List ℕ) → IsToken k w rest → w ++ rest ≡ [] → ⊥
 has_characters k [] rest i e = absurd (starts_so false k [] rest i)
 has_characters k (x ∷ xs) rest i e = absurd cc
 
@@ -47,14 +48,14 @@ trail_parts : (spot : Spot) (w : List ℕ) → spot.last ≡ token → Shaped sp
     → PartsBefore w (trivia ++ (v ++ more))
 trail_parts spot w t h cs k v rest m trivia more i (token_front e q) =
     subst (λ xs. PartsBefore w (xs ++ (v ++ more))) (sym q) (parts_before_token spot (role_in spot.state k.class) m w v more t h (starts_so (ends_operand spot.state.last) k v rest i))
-trail_parts spot w t h cs k v rest m trivia more i (comment_front n others q) =
-    let gap = gap_text (comment_gap_of spot (role_in spot.state k.class) n) in
+trail_parts spot w t h cs k v rest m trivia more i (comment_front class own n others q) =
+    let gap = gap_text (gap_before_comment spot (role_in spot.state k.class) class own n) in
     subst (PartsBefore w) (sym (ap (λ xs. xs ++ (v ++ more)) q ∙ append_assoc gap (47 ∷ others) (v ++ more)))
-    (parts_before_comment spot (role_in spot.state k.class) n w (others ++ (v ++ more)) t h)
+    (parts_before_comment spot (role_in spot.state k.class) class own n w (others ++ (v ++ more)) t h)
 
 last_parts : (spot : Spot) (w : List ℕ) → spot.last ≡ token → Shaped spot.state.last w → (cs : List Piece) → LastFront spot cs → PartsBefore w (laid_from spot cs)
 last_parts spot w t h cs (end_front e q) = subst (PartsBefore w) (sym q) (parts_before_ending spot w t h)
-last_parts spot w t h cs (last_front n more q) = subst (PartsBefore w) (sym q) (parts_before_comment spot beginning n w more t h)
+last_parts spot w t h cs (last_front class own n more q) = subst (PartsBefore w) (sym q) (parts_before_comment spot beginning class own n w more t h)
 
 behind_parts : (text : List ℕ) (ks : List Kind) (ps : List Piece) → Reads text ks ps → (spot : Spot) (w : List ℕ) → spot.last ≡ token → Shaped spot.state.last w → PartsBefore w (laid_from spot ps)
 behind_parts _ _ _ (reads_end text e) spot w t h =
@@ -75,22 +76,28 @@ record Laid (spot : Spot) (k : Kind) (w : List ℕ) (ps all : List Piece) : Type
   again : comments (λ n. token_piece k w n ∷ relaid behind ps) outside 0 trivia ≡ relaid spot all
   is_token : IsToken k w (laid_from behind ps)
   less : k.class ≡ TemplateArgsStart → raw (60 ∷ laid_from behind ps) ≡ raw_token (plain SymLessThan) (60 ∷ laid_from behind ps) (laid_from behind ps)
+  neat : NeatAt behind.last behind.state.last (laid_from behind ps) → NeatAt spot.last spot.state.last (laid_from spot all)
 
 laid : (trivia w rest : List ℕ) (k : Kind) (ks : List Kind) (ps : List Piece) (spot : Spot) → after_trivia outside (trivia ++ (w ++ rest)) ≡ w ++ rest → IsToken k w rest → Reads rest ks ps
     → Laid spot k w ps (comments (λ n. token_piece k w n ∷ ps) outside 0 trivia)
 laid trivia w rest k ks ps spot p i r =
     let b = before trivia w rest k ps spot p i in
     let t = b.laid in
+    let text = laid_from t.behind ps in
     let parts : (v : List ℕ) → Shaped (last_behind spot.state (role_in spot.state k.class)) v → PartsBefore v (laid_from t.behind ps) =
     λ v h. behind_parts rest ks ps r t.behind v t.is_token (subst (λ left. Shaped left v) (sym t.is_last) h) in
+    let whole = ap (laid_from spot) b.pieces ∙ t.whole in
+    let is : IsToken k w text = token_again spot.state k w rest text i (parts w) in
     record {
       trivia = t.trivia;
       behind = t.behind;
-      whole = ap (laid_from spot) b.pieces ∙ t.whole;
+      whole = whole;
       passed = t.passed;
       again = t.again ∙ ap (relaid spot) (sym b.pieces);
-      is_token = token_again spot.state k w rest (laid_from t.behind ps) i (parts w);
+      is_token = is;
       less = λ e. start_again spot.state (laid_from t.behind ps) (subst (λ class. Shaped (last_behind spot.state (role_in spot.state class)) (60 ∷ []) → PartsBefore (60 ∷ []) (laid_from t.behind ps)) e (parts (60 ∷ [])));
+      neat = λ h. subst (NeatAt spot.last spot.state.last) (sym whole)
+          (t.neat (w ++ text) (token_neat spot.state k w text is (subst (λ left. NeatAt token left text) t.is_last (subst (λ last. NeatAt last t.behind.state.last text) t.is_token h))));
     }
 
 -- ---- the laid-out text is read along the kinds
@@ -116,6 +123,16 @@ laid_along _ _ _ (reads_token trivia w rest k ks ps p i r) spot =
     let l = laid trivia w rest k ks ps spot p i r in
     let text = laid_from l.behind ps in
     along_token k w text l.is_token l.less (λ x. Along ks x) (laid_along rest ks ps r l.behind) _ (ap raw l.whole ∙ ap raw_at (l.passed (w ++ text)))
+
+-- ---- it is neat
+
+pub laid_neat : (text : List ℕ) (ks : List Kind) (ps : List Piece) → Reads text ks ps → (spot : Spot) → NeatAt spot.last spot.state.last (laid_from spot ps)
+laid_neat _ _ _ (reads_end text e) spot =
+    let t = last_trail text e 0 in
+    subst (λ ps. NeatAt spot.last spot.state.last (laid_from spot ps)) (sym (t.3 (λ n. []) ∙ append-nil t.0)) (last_laid spot t.0 t.2).neat
+laid_neat _ _ _ (reads_token trivia w rest k ks ps p i r) spot =
+    let l = laid trivia w rest k ks ps spot p i r in
+    l.neat (laid_neat rest ks ps r l.behind)
 
 -- ---- its pieces are those that were laid out
 

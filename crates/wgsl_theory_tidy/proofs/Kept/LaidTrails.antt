@@ -5,41 +5,42 @@ use Rattle.wgsl_model.specs.Tokens.Kind.{Kind}
 use Rattle.wgsl_model.specs.Tokens.Trivia.{outside, after_trivia}
 use Rattle.wgsl_model_tidy.specs.Pieces.{Piece, comments}
 use Rattle.wgsl_model_tidy.specs.Roles.{Role, beginning, is}
-use Rattle.wgsl_model_tidy.specs.Open.{LayoutState, in_brackets, depth_of, comment_depth, role_in, last_behind, behind_token}
-use Rattle.wgsl_model_tidy.specs.LaidOut.{broken, Last, token, line_comment, block_comment, leading_comment, open_comment, Spot, is_comment, next_role, line_end, gap_text, token_gap, comment_gap, depth_behind, in_line_of, leads, comment_last, laid_from, ending}
+use Rattle.wgsl_model_tidy.specs.Open.{LayoutState, in_brackets, between_items, depth_of, comment_depth, role_in, last_behind, behind_token}
+use Rattle.wgsl_model_tidy.specs.LaidOut.{broken, Last, token, line_comment, block_comment, leading_comment, open_comment, Spot, is_comment, next_role, owned, line_end, gap_before_comment, gap_before_token, gap_text, token_gap, comment_gap, depth_behind, in_line_of, leads, comment_last, laid_from, ending}
 use Rattle.wgsl_theory_tidy.proofs.Comments.{piece, AtLineEnd, nothing_left}
-use Rattle.wgsl_theory_tidy.proofs.Laid.{comment_gap_of, token_gap_of}
 use Rattle.wgsl_theory_tidy.proofs.Kept.Readings.{token_piece}
 use Rattle.wgsl_theory_tidy.proofs.Kept.ClosedComments.{Closed, Unclosed, unclosed, AllClosed, AllClosedButLast, no_more, one_more, last_open}
 use Rattle.wgsl_theory_tidy.proofs.Kept.Gaps.{gap_ends, gap_passed, gap_counted, closed_counted, closed_passed, unclosed_counted, unclosed_passed, closed_is_comment, unclosed_is_comment, closed_begins, unclosed_begins}
 use Rattle.wgsl_theory_tidy.proofs.Kept.Relaid.{relaid}
+use Rattle.wgsl_theory_tidy.proofs.Kept.NeatTexts.{NeatWord}
+use Rattle.wgsl_theory_tidy.proofs.Kept.NeatPieces.{NeatAt, token_gap_neat, comment_gap_neat, closed_neat, unclosed_neat, ending_neat}
 
 -- ---- one piece laid out
 
 -- the spot behind a token, and behind a comment; the first token from there on does so
 abbrev spot_behind_token : Spot → ℕ → ℕ → Spot
 spot_behind_token spot class n =
-    record { state = behind_token spot.state (depth_behind (token_gap_of spot (role_in spot.state class) n) spot.state.line) class (role_in spot.state class); last = token }
+    record { state = behind_token spot.state (depth_behind (gap_before_token spot (role_in spot.state class) n) spot.state.line) class (role_in spot.state class); last = token }
 
-abbrev spot_behind_comment : Spot → Role → ℕ → ℕ → Spot
-spot_behind_comment spot right class n =
-    let gap = comment_gap_of spot right n in
+abbrev spot_behind_comment : Spot → Role → ℕ → Bool → ℕ → Spot
+spot_behind_comment spot right class own n =
+    let gap = gap_before_comment spot right class own n in
     record { state = in_line_of spot.state (depth_behind gap spot.state.line); last = comment_last class (leads gap spot.last spot.state.last) }
 
 token_laid : (spot : Spot) (class : ℕ) (w : List ℕ) (n : ℕ) (ps : List Piece) → is_comment class ≡ false
-    → laid_from spot (piece class w n ∷ ps) ≡ gap_text (token_gap_of spot (role_in spot.state class) n) ++ (w ++ laid_from (spot_behind_token spot class n) ps)
+    → laid_from spot (piece class w n ∷ ps) ≡ gap_text (gap_before_token spot (role_in spot.state class) n) ++ (w ++ laid_from (spot_behind_token spot class n) ps)
 token_laid spot class w n ps h = rw h refl
 
 token_relaid : (spot : Spot) (class : ℕ) (w : List ℕ) (n : ℕ) (ps : List Piece) → is_comment class ≡ false
-    → relaid spot (piece class w n ∷ ps) ≡ piece class w (gap_ends (token_gap_of spot (role_in spot.state class) n)) ∷ relaid (spot_behind_token spot class n) ps
+    → relaid spot (piece class w n ∷ ps) ≡ piece class w (gap_ends (gap_before_token spot (role_in spot.state class) n)) ∷ relaid (spot_behind_token spot class n) ps
 token_relaid spot class w n ps h = rw h refl
 
 comment_laid : (spot : Spot) (right : Role) (class : ℕ) (text : List ℕ) (n : ℕ) (ps : List Piece) → is_comment class ≡ true → next_role spot.state ps ≡ right
-    → laid_from spot (piece class text n ∷ ps) ≡ gap_text (comment_gap_of spot right n) ++ (text ++ laid_from (spot_behind_comment spot right class n) ps)
+    → laid_from spot (piece class text n ∷ ps) ≡ gap_text (gap_before_comment spot right class (owned spot right ps) n) ++ (text ++ laid_from (spot_behind_comment spot right class (owned spot right ps) n) ps)
 comment_laid spot right class text n ps h e = rw (h, e) refl
 
 comment_relaid : (spot : Spot) (right : Role) (class : ℕ) (text : List ℕ) (n : ℕ) (ps : List Piece) → is_comment class ≡ true → next_role spot.state ps ≡ right
-    → relaid spot (piece class text n ∷ ps) ≡ piece class text (gap_ends (comment_gap_of spot right n)) ∷ relaid (spot_behind_comment spot right class n) ps
+    → relaid spot (piece class text n ∷ ps) ≡ piece class text (gap_ends (gap_before_comment spot right class (owned spot right ps) n)) ∷ relaid (spot_behind_comment spot right class (owned spot right ps) n) ps
 comment_relaid spot right class text n ps h e = rw (h, e) refl
 
 -- ---- behind a line comment the line ends
@@ -48,15 +49,15 @@ broken_ends : (empty : Bool) (depth : ℕ) (r : List ℕ) → AtLineEnd (gap_tex
 broken_ends true depth r = refl
 broken_ends false depth r = refl
 
-token_gap_ends : (spot : Spot) (right : Role) (n : ℕ) → spot.last ≡ line_comment → (r : List ℕ) → AtLineEnd (gap_text (token_gap_of spot right n) ++ r)
+token_gap_ends : (spot : Spot) (right : Role) (n : ℕ) → spot.last ≡ line_comment → (r : List ℕ) → AtLineEnd (gap_text (gap_before_token spot right n) ++ r)
 token_gap_ends spot right n e r =
-    let break = line_end spot.last spot.state.last right n (depth_of spot.state right) in
+    let break = line_end (between_items spot.state right) spot.last spot.state.last right n (depth_of spot.state right) in
     subst (λ l. AtLineEnd (gap_text (token_gap (in_brackets spot.state.opened) l spot.state.last right n break) ++ r)) (sym e) (broken_ends _ (depth_of spot.state right) r)
 
-comment_gap_ends : (spot : Spot) (right : Role) (n : ℕ) → spot.last ≡ line_comment → (r : List ℕ) → AtLineEnd (gap_text (comment_gap_of spot right n) ++ r)
-comment_gap_ends spot right n e r =
-    let break = line_end spot.last spot.state.last beginning n (comment_depth spot.state right) in
-    subst (λ l. AtLineEnd (gap_text (comment_gap l spot.state.last n break) ++ r)) (sym e) (broken_ends _ (comment_depth spot.state right) r)
+comment_gap_ends : (spot : Spot) (right : Role) (class : ℕ) (own : Bool) (n : ℕ) → spot.last ≡ line_comment → (r : List ℕ) → AtLineEnd (gap_text (gap_before_comment spot right class own n) ++ r)
+comment_gap_ends spot right class own n e r =
+    let break = line_end (between_items spot.state right) spot.last spot.state.last beginning n (comment_depth spot.state right) in
+    subst (λ l. AtLineEnd (gap_text (comment_gap class l spot.state.last own n break) ++ r)) (sym e) (broken_ends _ (comment_depth spot.state right) r)
 
 -- a comment of this class is a line comment
 last_is_line : (class : ℕ) (leading : Bool) → class ≡ LineComment → comment_last class leading ≡ line_comment
@@ -74,8 +75,8 @@ token_next s class w n ps h = rw h refl
 
 -- what stands before a token begins with the gap before the token, or with that before a comment and with the comment
 pub data TrailFront (spot : Spot) (cs : List Piece) (k : Kind) (m : ℕ) (trivia : List ℕ) : Type 0 where
-  token_front : cs ≡ [] → trivia ≡ gap_text (token_gap_of spot (role_in spot.state k.class) m) → TrailFront spot cs k m trivia
-  comment_front : (n : ℕ) (more : List ℕ) → trivia ≡ gap_text (comment_gap_of spot (role_in spot.state k.class) n) ++ (47 ∷ more) → TrailFront spot cs k m trivia
+  token_front : cs ≡ [] → trivia ≡ gap_text (gap_before_token spot (role_in spot.state k.class) m) → TrailFront spot cs k m trivia
+  comment_front : (class : ℕ) (own : Bool) (n : ℕ) (more : List ℕ) → trivia ≡ gap_text (gap_before_comment spot (role_in spot.state k.class) class own n) ++ (47 ∷ more) → TrailFront spot cs k m trivia
 
 -- Comments and a token laid out behind a spot, and others behind them: what stands before the token, and the spot behind it. That is passed over before whatever follows, and read again it gives the comments.
 pub record LaidTrail (spot : Spot) (cs : List Piece) (k : Kind) (w : List ℕ) (m : ℕ) (ps : List Piece) : Type 0 where
@@ -88,12 +89,13 @@ pub record LaidTrail (spot : Spot) (cs : List Piece) (k : Kind) (w : List ℕ) (
   pub again : comments (λ n. token_piece k w n ∷ relaid behind ps) outside 0 trivia ≡ relaid spot (cs ++ (token_piece k w m ∷ ps))
   pub front : TrailFront spot cs k m trivia
   pub at_line_end : spot.last ≡ line_comment → (r : List ℕ) → AtLineEnd (trivia ++ r)
+  pub neat : (r : List ℕ) → NeatWord r → NeatAt spot.last spot.state.last (trivia ++ r)
 
 -- no comment stands there
 laid_token : (spot : Spot) (k : Kind) (w : List ℕ) (m : ℕ) (ps : List Piece) → is_comment k.class ≡ false → LaidTrail spot [] k w m ps
 laid_token spot k w m ps h =
     let right = role_in spot.state k.class in
-    let gap = token_gap_of spot right m in
+    let gap = gap_before_token spot right m in
     let behind = spot_behind_token spot k.class m in
     let b : ℕ → List Piece = λ n. token_piece k w n ∷ relaid behind ps in
     record {
@@ -106,6 +108,7 @@ laid_token spot k w m ps h =
       again = ap (comments b outside 0) (sym (append-nil (gap_text gap))) ∙ gap_counted b gap [] ∙ nothing_left b (gap_ends gap) ∙ sym (token_relaid spot k.class w m ps h);
       front = token_front refl refl;
       at_line_end = λ e r. token_gap_ends spot right m e r;
+      neat = λ r n. token_gap_neat spot right m r n;
     }
 
 -- a gap, a comment, what follows it, and a rest
@@ -115,11 +118,11 @@ joined gap text trivia rest = ap (λ xs. gap ++ xs) (sym (append_assoc text triv
 -- one comment more
 laid_comment : (spot : Spot) (class : ℕ) (text : List ℕ) (n : ℕ) (cs : List Piece) (k : Kind) (w : List ℕ) (m : ℕ) (ps : List Piece)
     → Closed class text → next_role spot.state (cs ++ (token_piece k w m ∷ ps)) ≡ role_in spot.state k.class
-    → LaidTrail (spot_behind_comment spot (role_in spot.state k.class) class n) cs k w m ps → LaidTrail spot (piece class text n ∷ cs) k w m ps
+    → LaidTrail (spot_behind_comment spot (role_in spot.state k.class) class (owned spot (role_in spot.state k.class) (cs ++ (token_piece k w m ∷ ps))) n) cs k w m ps → LaidTrail spot (piece class text n ∷ cs) k w m ps
 laid_comment spot class text n cs k w m ps c e t =
     let right = role_in spot.state k.class in
-    let gap = comment_gap_of spot right n in
     let all = cs ++ (token_piece k w m ∷ ps) in
+    let gap = gap_before_comment spot right class (owned spot right all) n in
     let b : ℕ → List Piece = λ i. token_piece k w i ∷ relaid t.behind ps in
     let is = closed_is_comment class text c in
     let begins = closed_begins class text c in
@@ -133,8 +136,10 @@ laid_comment spot class text n cs k w m ps c e t =
       passed = λ r. ap (after_trivia outside) (sym (joined (gap_text gap) text t.trivia r)) ∙ gap_passed gap (text ++ (t.trivia ++ r)) ∙ closed_passed class text c (t.trivia ++ r) (ends r) ∙ t.passed r;
       again = gap_counted b gap (text ++ t.trivia) ∙ closed_counted class text c b (gap_ends gap) t.trivia (λ f. subst AtLineEnd (append-nil t.trivia) (ends [] f))
           ∙ ap (λ xs. piece class text (gap_ends gap) ∷ xs) t.again ∙ sym (comment_relaid spot right class text n all is e);
-      front = comment_front n (begins.0 ++ t.trivia) (ap (λ xs. gap_text gap ++ (xs ++ t.trivia)) begins.1);
-      at_line_end = λ f r. subst AtLineEnd (joined (gap_text gap) text t.trivia r) (comment_gap_ends spot right n f (text ++ (t.trivia ++ r)));
+      front = comment_front class (owned spot right all) n (begins.0 ++ t.trivia) (ap (λ xs. gap_text gap ++ (xs ++ t.trivia)) begins.1);
+      at_line_end = λ f r. subst AtLineEnd (joined (gap_text gap) text t.trivia r) (comment_gap_ends spot right class (owned spot right all) n f (text ++ (t.trivia ++ r)));
+      neat = λ r h. subst (NeatAt spot.last spot.state.last) (joined (gap_text gap) text t.trivia r)
+          (comment_gap_neat spot right class (owned spot right all) n (text ++ (t.trivia ++ r)) (closed_neat class text c (leads gap spot.last spot.state.last) spot.state.last (t.trivia ++ r) (t.neat r h)));
     }
 
 pub laid_trail : (spot : Spot) (cs : List Piece) (k : Kind) (w : List ℕ) (m : ℕ) (ps : List Piece) → AllClosed cs → is_comment k.class ≡ false → LaidTrail spot cs k w m ps
@@ -142,7 +147,7 @@ laid_trail spot [] k w m ps h e = laid_token spot k w m ps e
 laid_trail spot (c ∷ cs) k w m ps h e =
     laid_comment spot c.class c.text c.line_ends cs k w m ps h.0
     (trail_next spot.state cs (token_piece k w m ∷ ps) h.1 ∙ token_next spot.state k.class w m ps e)
-    (laid_trail (spot_behind_comment spot (role_in spot.state k.class) c.class c.line_ends) cs k w m ps h.1 e)
+    (laid_trail (spot_behind_comment spot (role_in spot.state k.class) c.class (owned spot (role_in spot.state k.class) (cs ++ (token_piece k w m ∷ ps))) c.line_ends) cs k w m ps h.1 e)
 
 -- ---- comments behind the last token
 
@@ -174,7 +179,7 @@ ending_again leading_comment left = refl
 -- the text behind the last token begins with its end, or with the gap before a comment and with the comment
 pub data LastFront (spot : Spot) (cs : List Piece) : Type 0 where
   end_front : cs ≡ [] → laid_from spot cs ≡ ending spot.last spot.state.last → LastFront spot cs
-  last_front : (n : ℕ) (more : List ℕ) → laid_from spot cs ≡ gap_text (comment_gap_of spot beginning n) ++ (47 ∷ more) → LastFront spot cs
+  last_front : (class : ℕ) (own : Bool) (n : ℕ) (more : List ℕ) → laid_from spot cs ≡ gap_text (gap_before_comment spot beginning class own n) ++ (47 ∷ more) → LastFront spot cs
 
 -- Comments laid out behind a spot at the end of a text: nothing is left of them, and read again they are the same.
 pub record LastLaid (spot : Spot) (cs : List Piece) : Type 0 where
@@ -182,6 +187,7 @@ pub record LastLaid (spot : Spot) (cs : List Piece) : Type 0 where
   pub again : comments (λ n. []) outside 0 (laid_from spot cs) ≡ relaid spot cs
   pub front : LastFront spot cs
   pub at_line_end : spot.last ≡ line_comment → AtLineEnd (laid_from spot cs)
+  pub neat : NeatAt spot.last spot.state.last (laid_from spot cs)
 
 laid_end : (spot : Spot) → LastLaid spot []
 laid_end spot = record {
@@ -189,6 +195,7 @@ laid_end spot = record {
   again = ending_again spot.last spot.state.last;
   front = end_front refl refl;
   at_line_end = λ e. subst (λ l. AtLineEnd (ending l spot.state.last)) (sym e) refl;
+  neat = ending_neat spot.last spot.state.last;
 }
 
 -- no token stands there
@@ -199,30 +206,31 @@ last_next s cs (last_open p u) = rw (unclosed_is_comment p.class p.text u) refl
 
 -- one comment more
 last_comment : (spot : Spot) (class : ℕ) (text : List ℕ) (n : ℕ) (cs : List Piece) → Closed class text → next_role spot.state cs ≡ beginning
-    → LastLaid (spot_behind_comment spot beginning class n) cs → LastLaid spot (piece class text n ∷ cs)
+    → LastLaid (spot_behind_comment spot beginning class (owned spot beginning cs) n) cs → LastLaid spot (piece class text n ∷ cs)
 last_comment spot class text n cs c e t =
-    let gap = comment_gap_of spot beginning n in
+    let gap = gap_before_comment spot beginning class (owned spot beginning cs) n in
     let b : ℕ → List Piece = λ m. [] in
     let is = closed_is_comment class text c in
     let begins = closed_begins class text c in
-    let left = laid_from (spot_behind_comment spot beginning class n) cs in
+    let left = laid_from (spot_behind_comment spot beginning class (owned spot beginning cs) n) cs in
     let whole : laid_from spot (piece class text n ∷ cs) ≡ gap_text gap ++ (text ++ left) = comment_laid spot beginning class text n cs is e in
     let ends : class ≡ LineComment → AtLineEnd left = λ f. t.at_line_end (last_is_line class (leads gap spot.last spot.state.last) f) in
     record {
       passed = ap (after_trivia outside) whole ∙ gap_passed gap (text ++ left) ∙ closed_passed class text c left ends ∙ t.passed;
       again = ap (comments b outside 0) whole ∙ gap_counted b gap (text ++ left) ∙ closed_counted class text c b (gap_ends gap) left ends
           ∙ ap (λ xs. piece class text (gap_ends gap) ∷ xs) t.again ∙ sym (comment_relaid spot beginning class text n cs is e);
-      front = last_front n (begins.0 ++ left) (whole ∙ ap (λ xs. gap_text gap ++ (xs ++ left)) begins.1);
-      at_line_end = λ f. subst AtLineEnd (sym whole) (comment_gap_ends spot beginning n f (text ++ left));
+      front = last_front class (owned spot beginning cs) n (begins.0 ++ left) (whole ∙ ap (λ xs. gap_text gap ++ (xs ++ left)) begins.1);
+      at_line_end = λ f. subst AtLineEnd (sym whole) (comment_gap_ends spot beginning class (owned spot beginning cs) n f (text ++ left));
+      neat = subst (NeatAt spot.last spot.state.last) (sym whole) (comment_gap_neat spot beginning class (owned spot beginning cs) n (text ++ left) (closed_neat class text c (leads gap spot.last spot.state.last) spot.state.last left t.neat));
     }
 
 -- nothing is written behind a comment that is not closed
 unclosed_end : (class : ℕ) (text : List ℕ) → Unclosed class text → (leading : Bool) (left : Role) → ending (comment_last class leading) left ≡ []
-unclosed_end class text (unclosed xs h k) leading left = refl
+unclosed_end class text (unclosed xs h k i) leading left = refl
 
 open_comment_last : (spot : Spot) (class : ℕ) (text : List ℕ) (n : ℕ) → Unclosed class text → LastLaid spot (piece class text n ∷ [])
 open_comment_last spot class text n u =
-    let gap = comment_gap_of spot beginning n in
+    let gap = gap_before_comment spot beginning class (owned spot beginning []) n in
     let b : ℕ → List Piece = λ m. [] in
     let is = unclosed_is_comment class text u in
     let begins = unclosed_begins class text u in
@@ -231,12 +239,13 @@ open_comment_last spot class text n u =
     record {
       passed = ap (after_trivia outside) whole ∙ gap_passed gap text ∙ unclosed_passed class text u;
       again = ap (comments b outside 0) whole ∙ gap_counted b gap text ∙ unclosed_counted class text u b (gap_ends gap) ∙ sym (comment_relaid spot beginning class text n [] is refl);
-      front = last_front n begins.0 (whole ∙ ap (λ xs. gap_text gap ++ xs) begins.1);
-      at_line_end = λ f. subst AtLineEnd (sym whole) (comment_gap_ends spot beginning n f text);
+      front = last_front class (owned spot beginning []) n begins.0 (whole ∙ ap (λ xs. gap_text gap ++ xs) begins.1);
+      at_line_end = λ f. subst AtLineEnd (sym whole) (comment_gap_ends spot beginning class (owned spot beginning []) n f text);
+      neat = subst (NeatAt spot.last spot.state.last) (sym whole) (comment_gap_neat spot beginning class (owned spot beginning []) n text (unclosed_neat class text u));
     }
 
 pub last_laid : (spot : Spot) (cs : List Piece) → AllClosedButLast cs → LastLaid spot cs
 last_laid spot cs (no_more) = laid_end spot
 last_laid spot cs (one_more p ps c h) =
-    last_comment spot p.class p.text p.line_ends ps c (last_next spot.state ps h) (last_laid (spot_behind_comment spot beginning p.class p.line_ends) ps h)
+    last_comment spot p.class p.text p.line_ends ps c (last_next spot.state ps h) (last_laid (spot_behind_comment spot beginning p.class (owned spot beginning ps) p.line_ends) ps h)
 last_laid spot cs (last_open p u) = open_comment_last spot p.class p.text p.line_ends u

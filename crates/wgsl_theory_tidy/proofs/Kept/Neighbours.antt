@@ -63,21 +63,21 @@ may_close nothing_or_line = true
 may_close joint = false
 
 pub by_joint : (in_brackets : Bool) (left right : Role) → may_close (joint in_brackets left right) ≡ true → Close left right
-by_joint in_brackets left right = go (is left block_start) (is right block_end) (is left item_end) (is left block_end) (is right else_word) (is_tight right) (is right block_start) (closed_up left right) (in_brackets || continues_line left right) refl refl refl
+by_joint in_brackets left right = go (is left block_start) (is right block_end) (is left item_end) (is left block_end) (is right else_word) (is_tight right) (is right semicolon) (is right block_start) (closed_up left right) (in_brackets || continues_line left right) refl refl refl
   where
-    go : (a b c d e f g h i : Bool) → is right block_end ≡ b → is_tight right ≡ f → closed_up left right ≡ h
-        → may_close (cond a (cond b nothing line) (cond (b || c) line (cond d (cond e space (cond f nothing line)) (cond g space (cond h (close_joint in_brackets left right) (cond i space_or_line space)))))) ≡ true → Close left right
-    go true true c d e f g h i x y z m = braces x
-    go true false c d e f g h i x y z m = absurd (true≢false (sym m))
-    go false true c d e f g h i x y z m = absurd (true≢false (sym m))
-    go false false true d e f g h i x y z m = absurd (true≢false (sym m))
-    go false false false true true f g h i x y z m = absurd (true≢false (sym m))
-    go false false false true false true g h i x y z m = close_up (or_left _ _ (or_left (is_tight right) _ y))
-    go false false false true false false g h i x y z m = absurd (true≢false (sym m))
-    go false false false false e f true h i x y z m = absurd (true≢false (sym m))
-    go false false false false e f false true i x y z m = close_up z
-    go false false false false e f false false true x y z m = absurd (true≢false (sym m))
-    go false false false false e f false false false x y z m = absurd (true≢false (sym m))
+    go : (a b c d e f s g h i : Bool) → is right block_end ≡ b → is_tight right ≡ f → closed_up left right ≡ h
+        → may_close (cond a (cond b nothing line) (cond (b || c) line (cond d (cond e space (cond f (cond s nothing_or_line nothing) line)) (cond g space (cond h (close_joint in_brackets left right) (cond i space_or_line space)))))) ≡ true → Close left right
+    go true true c d e f s g h i x y z m = braces x
+    go true false c d e f s g h i x y z m = absurd (true≢false (sym m))
+    go false true c d e f s g h i x y z m = absurd (true≢false (sym m))
+    go false false true d e f s g h i x y z m = absurd (true≢false (sym m))
+    go false false false true true f s g h i x y z m = absurd (true≢false (sym m))
+    go false false false true false true s g h i x y z m = close_up (or_left _ _ (or_left (is_tight right) _ y))
+    go false false false true false false s g h i x y z m = absurd (true≢false (sym m))
+    go false false false false e f s true h i x y z m = absurd (true≢false (sym m))
+    go false false false false e f s false true i x y z m = close_up z
+    go false false false false e f s false false true x y z m = absurd (true≢false (sym m))
+    go false false false false e f s false false false x y z m = absurd (true≢false (sym m))
 
 closing_brace : (right : Role) (x : ℕ) → is right block_end ≡ true → starts right x ≡ true → (x == 125) ≡ true
 closing_brace block_end x h s = s

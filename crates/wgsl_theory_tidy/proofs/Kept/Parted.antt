@@ -1,9 +1,9 @@
 -- A token of a text is read again before what is laid out behind it: a token, a comment, or the end of the text.
-use Rattle.std.proofs.Common.{◌≡◌, ◌⊎◌, inl, inr, ℕ, zero, suc, ◌==◌, Bool, true, false, cond, refl, sym, ap, subst, ◌∙◌, List, [], ◌∷◌, ◌++◌, Some, lit<}
+use Rattle.std.proofs.Common.{◌≡◌, ◌⊎◌, inl, inr, ℕ, zero, suc, ◌==◌, ◌&&◌, not, Bool, true, false, cond, refl, sym, ap, subst, ◌∙◌, List, [], ◌∷◌, ◌++◌, Some, lit<}
 use Rattle.std.specs.Prelude.{option_map}
 use Rattle.std.proofs.lemmas.Bool.{true≢false}
 use Rattle.unicode_ident.proofs.IdentLemmas.{is_xid_start-ascii}
-use Rattle.wgsl_model.specs.Tokens.Classes.{SymForwardSlash, SymDivisionEqual, SymLessThan, TemplateArgsEnd, symbols}
+use Rattle.wgsl_model.specs.Tokens.Classes.{SymForwardSlash, SymDivisionEqual, SymLessThan, TemplateArgsEnd, LineComment, symbols}
 use Rattle.wgsl_model.specs.Tokens.Kind.{Kind, plain}
 use Rattle.wgsl_model.specs.Tokens.Raw.{Raw.token as raw_token, raw, raw_at}
 use Rattle.wgsl_model.specs.Tokens.Trivia.{first_or_zero, after_trivia}
@@ -14,9 +14,8 @@ use Rattle.wgsl_theory_printed.proofs.Spelling.Spellings.{IsSpelling, EndsBefore
 use Rattle.wgsl_theory_printed.proofs.Spelling.Signs.{looked_up, spelled_symbol}
 use Rattle.wgsl_model_tidy.specs.Roles.{Role, template_start, beginning, is, ends_operand}
 use Rattle.wgsl_model_tidy.specs.Joints.{Joint, line, nothing, space, nothing_or_line, space_or_line, joint}
-use Rattle.wgsl_model_tidy.specs.Open.{LayoutState, in_brackets, depth_of, comment_depth, role_in, last_behind}
-use Rattle.wgsl_model_tidy.specs.LaidOut.{Gap, closed, blank, broken, token, Spot, kept_gap, joint_gap, line_end, gap_text, ending}
-use Rattle.wgsl_theory_tidy.proofs.Laid.{comment_gap_of, token_gap_of}
+use Rattle.wgsl_model_tidy.specs.Open.{LayoutState, in_brackets, between_items, depth_of, comment_depth, role_in, last_behind}
+use Rattle.wgsl_model_tidy.specs.LaidOut.{Gap, closed, blank, broken, token, Spot, kept_gap, joint_gap, line_end, gap_before_comment, gap_before_token, gap_text, ending}
 use Rattle.wgsl_theory_tidy.proofs.Kept.Neighbours.{not_beginning, shaped_behind, may_close, by_joint, is_before_comment, NoComment, PartsAt, Parts, parts}
 use Rattle.wgsl_theory_tidy.proofs.Kept.Readings.{IsToken, is_word, is_slash, is_slash_equal, is_start, is_end}
 use Rattle.wgsl_theory_tidy.proofs.Kept.TokenRoles.{Starts, shaped}
@@ -47,7 +46,7 @@ joint_parts left w space_or_line n empty depth more p e = kept_parts left w n em
 
 -- ---- behind a token
 
-token_parts : (state : LayoutState) (right : Role) (n : ℕ) (w v more : List ℕ) → Shaped state.last w → Starts right v → PartsBefore w (gap_text (token_gap_of (record { state = state; last = token }) right n) ++ (v ++ more))
+token_parts : (state : LayoutState) (right : Role) (n : ℕ) (w v more : List ℕ) → Shaped state.last w → Starts right v → PartsBefore w (gap_text (gap_before_token (record { state = state; last = token }) right n) ++ (v ++ more))
 token_parts state right n w [] more h s = absurd s
 token_parts state right n w (x ∷ xs) more h s =
     let p = parts state.last w h in
@@ -55,18 +54,24 @@ token_parts state right n w (x ∷ xs) more h s =
     (joint_parts state.last w (joint (in_brackets state.opened) state.last right) n _ (depth_of state right) (x ∷ (xs ++ more)) p
     (λ m. p.token right x s (by_joint (in_brackets state.opened) state.last right m)))
 
-comment_parts : (state : LayoutState) (right : Role) (n : ℕ) (w more : List ℕ) → Shaped state.last w → PartsBefore w (gap_text (comment_gap_of (record { state = state; last = token }) right n) ++ (47 ∷ more))
-comment_parts state right n w more h = rw (not_beginning state.last w h) (go (is_before_comment state.last) refl)
+comment_parts : (state : LayoutState) (right : Role) (class : ℕ) (owned : Bool) (n : ℕ) (w more : List ℕ) → Shaped state.last w
+    → PartsBefore w (gap_text (gap_before_comment (record { state = state; last = token }) right class owned n) ++ (47 ∷ more))
+comment_parts state right class owned n w more h = rw (not_beginning state.last w h) (own owned)
   where
     break : Gap
-    break = line_end token state.last beginning n (comment_depth state right)
+    break = line_end (between_items state right) token state.last beginning n (comment_depth state right)
 
     p : Parts state.last w
     p = parts state.last w h
 
-    go : (b : Bool) → is_before_comment state.last ≡ b → PartsBefore w (gap_text (cond b (kept_gap n break closed) (kept_gap n break blank)) ++ (47 ∷ more))
-    go true e = kept_parts state.last w n _ (comment_depth state right) closed (47 ∷ more) p (p.comment e)
-    go false e = kept_parts state.last w n _ (comment_depth state right) blank (47 ∷ more) p p.space
+    opened : (b : Bool) (c : Bool) → is_before_comment state.last ≡ b → PartsBefore w (gap_text (cond (b && c) (kept_gap n break closed) (kept_gap n break blank)) ++ (47 ∷ more))
+    opened true true e = kept_parts state.last w n _ (comment_depth state right) closed (47 ∷ more) p (p.comment e)
+    opened true false e = kept_parts state.last w n _ (comment_depth state right) blank (47 ∷ more) p p.space
+    opened false c e = kept_parts state.last w n _ (comment_depth state right) blank (47 ∷ more) p p.space
+
+    own : (b : Bool) → PartsBefore w (gap_text (cond b break (cond (is_before_comment state.last && not (class == LineComment)) (kept_gap n break closed) (kept_gap n break blank))) ++ (47 ∷ more))
+    own true = broken_parts state.last w _ (comment_depth state right) (47 ∷ more) p
+    own false = opened (is_before_comment state.last) (not (class == LineComment)) refl
 
 ending_parts : (left : Role) (w : List ℕ) → Shaped left w → PartsBefore w (ending token left)
 ending_parts left w h = go (is left beginning)
@@ -76,14 +81,16 @@ ending_parts left w h = go (is left beginning)
     go false = (parts left w h).line_end
 
 -- the same at a spot: before a token
-pub parts_before_token : (spot : Spot) (right : Role) (n : ℕ) (w v more : List ℕ) → spot.last ≡ token → Shaped spot.state.last w → Starts right v → PartsBefore w (gap_text (token_gap_of spot right n) ++ (v ++ more))
+pub parts_before_token : (spot : Spot) (right : Role) (n : ℕ) (w v more : List ℕ) → spot.last ≡ token → Shaped spot.state.last w → Starts right v → PartsBefore w (gap_text (gap_before_token spot right n) ++ (v ++ more))
 parts_before_token spot right n w v more e h s =
-    subst (λ last. PartsBefore w (gap_text (token_gap_of (record { state = spot.state; last = last }) right n) ++ (v ++ more))) (sym e) (token_parts spot.state right n w v more h s)
+    subst (λ last. PartsBefore w (gap_text (gap_before_token (record { state = spot.state; last = last }) right n) ++ (v ++ more))) (sym e) (token_parts spot.state right n w v more h s)
 
 -- before a comment, where the next token does so
-pub parts_before_comment : (spot : Spot) (right : Role) (n : ℕ) (w more : List ℕ) → spot.last ≡ token → Shaped spot.state.last w → PartsBefore w (gap_text (comment_gap_of spot right n) ++ (47 ∷ more))
-parts_before_comment spot right n w more e h =
-    subst (λ last. PartsBefore w (gap_text (comment_gap_of (record { state = spot.state; last = last }) right n) ++ (47 ∷ more))) (sym e) (comment_parts spot.state right n w more h)
+pub parts_before_comment : (spot : Spot) (right : Role) (class : ℕ) (owned : Bool) (n : ℕ) (w more : List ℕ) → spot.last ≡ token → Shaped spot.state.last w
+    → PartsBefore w (gap_text (gap_before_comment spot right class owned n) ++ (47 ∷ more))
+parts_before_comment spot right class owned n w more e h =
+    subst (λ last. PartsBefore w (gap_text (gap_before_comment (record { state = spot.state; last = last }) right class owned n) ++ (47 ∷ more))) (sym e)
+    (comment_parts spot.state right class owned n w more h)
 
 -- and at the end of the text
 pub parts_before_ending : (spot : Spot) (w : List ℕ) → spot.last ≡ token → Shaped spot.state.last w → PartsBefore w (ending spot.last spot.state.last)

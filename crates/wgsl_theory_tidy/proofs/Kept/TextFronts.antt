@@ -1,7 +1,7 @@
 -- What a text begins with: a comment, with what stands behind it, or none.
 use Rattle.std.proofs.Common.{◌≡◌, ℕ, zero, suc, ◌≤◌, ◌==◌, ◌&&◌, Bool, true, false, cond, refl, sym, ap, subst, ◌∙◌, List, [], ◌∷◌, ◌++◌, length, length-append, arith}
+use Rattle.std.specs.Char.{is_whitespace}
 use Rattle.std.proofs.lemmas.Bool.{and_parts, eqb-true}
-use Rattle.std.proofs.lemmas.Grind.{common_steps}
 use Rattle.grammar.specs.Tables.{is_empty}
 use Rattle.wgsl_model.specs.Tokens.Characters.{is_blank, is_line_break}
 use Rattle.wgsl_model.specs.Tokens.Classes.{BlockComment}
@@ -9,6 +9,7 @@ use Rattle.wgsl_model.specs.Tokens.Trivia.{Place, outside, in_line, in_block, se
 use Rattle.wgsl_theory_grammar.proofs.Tokens.Cuts.{trivia-ends, ends_length}
 use Rattle.wgsl_model_tidy.specs.Pieces.{Piece, OpenComment, comments}
 use Rattle.wgsl_theory_tidy.proofs.Comments.{piece, trimmed, OnLine, AtLineEnd, and_false}
+use Rattle.wgsl_theory_tidy.proofs.Kept.NeatTexts.{Before, solid, then, Neat, break_is_blank}
 
 -- ---- tests
 
@@ -32,7 +33,7 @@ no_longer : (p : Place) (text : List ℕ) → length (after_trivia p text) ≤ l
 no_longer p text = ends_length text (after_trivia p text) (trivia-ends p text)
 
 -- so behind a character it is shorter
-no_rest : (p : Place) (x : ℕ) (r : List ℕ) → after_trivia p r ≡ x ∷ r → ⊥
+pub no_rest : (p : Place) (x : ℕ) (r : List ℕ) → after_trivia p r ≡ x ∷ r → ⊥
 no_rest p x r e = omega (arith, ap length e, no_longer p r)
 
 pub second_shorter : (p : Place) (x : ℕ) (r : List ℕ) → after_trivia (second p) (x ∷ r) ≡ x ∷ r → ⊥
@@ -41,10 +42,6 @@ second_shorter p x r e = no_rest p x r e
 
 pub no_front : (c : ℕ) (xs r : List ℕ) → c ∷ (xs ++ r) ≡ r → ⊥
 no_front c xs r e = omega (arith, ap length e, length-append xs r)
-
--- a line break is blank space
-break_is_blank : (c : ℕ) → is_line_break c ≡ true → is_blank c ≡ true
-break_is_blank c h = grind (arith, common_steps)
 
 -- ---- a line comment's text, up to the end of its line
 
@@ -65,7 +62,7 @@ line_of (c ∷ cs) = by_test (is_line_break c) (λ h. record { front = []; rest 
 -- without the blank space at its end no line break comes in
 pub trimmed_on_line : (xs : List ℕ) → OnLine xs → OnLine (trimmed xs)
 trimmed_on_line [] h = tt
-trimmed_on_line (x ∷ xs) h = go (is_blank x && is_empty (trimmed xs)) (trimmed_on_line xs h.1)
+trimmed_on_line (x ∷ xs) h = go (is_whitespace x && is_empty (trimmed xs)) (trimmed_on_line xs h.1)
   where
     go : (b : Bool) → OnLine (trimmed xs) → OnLine (cond b [] (x ∷ trimmed xs))
     go true k = tt
@@ -73,11 +70,11 @@ trimmed_on_line (x ∷ xs) h = go (is_blank x && is_empty (trimmed xs)) (trimmed
 
 pub trimmed_again : (xs : List ℕ) → trimmed (trimmed xs) ≡ trimmed xs
 trimmed_again [] = refl
-trimmed_again (x ∷ xs) = go (is_blank x && is_empty (trimmed xs)) refl (trimmed_again xs)
+trimmed_again (x ∷ xs) = go (is_whitespace x && is_empty (trimmed xs)) refl (trimmed_again xs)
   where
-    go : (b : Bool) → (is_blank x && is_empty (trimmed xs)) ≡ b → trimmed (trimmed xs) ≡ trimmed xs → trimmed (cond b [] (x ∷ trimmed xs)) ≡ cond b [] (x ∷ trimmed xs)
+    go : (b : Bool) → (is_whitespace x && is_empty (trimmed xs)) ≡ b → trimmed (trimmed xs) ≡ trimmed xs → trimmed (cond b [] (x ∷ trimmed xs)) ≡ cond b [] (x ∷ trimmed xs)
     go true e k = refl
-    go false e k = ap (λ ys. cond (is_blank x && is_empty ys) [] (x ∷ ys)) k ∙ ap (λ b. cond b [] (x ∷ trimmed xs)) e
+    go false e k = ap (λ ys. cond (is_whitespace x && is_empty ys) [] (x ∷ ys)) k ∙ ap (λ b. cond b [] (x ∷ trimmed xs)) e
 
 -- what follows the blank space and comments from inside a line comment
 pub over_line : (xs rest : List ℕ) → OnLine xs → after_trivia in_line (xs ++ rest) ≡ after_trivia in_line rest
@@ -112,12 +109,14 @@ line_left (c ∷ cs) r h e = sym (over_break c (cs ++ r) h) ∙ e
 pub record EndsBlock (depth : ℕ) (xs : List ℕ) : Type 0 where
   pub piece_is : (rest : List ℕ) (b : ℕ → List Piece) (n : ℕ) → comments b (in_block depth) n (xs ++ rest) ≡ piece BlockComment xs n ∷ comments b outside 0 rest
   pub rest_is : (rest : List ℕ) → after_trivia (in_block depth) (xs ++ rest) ≡ after_trivia outside rest
+  pub neat : (b : Before) (rest : List ℕ) → Neat outside solid rest → Neat (in_block depth) b (xs ++ rest)
 
 -- or it does not, whatever follows
 pub record StaysOpen (depth : ℕ) (xs : List ℕ) : Type 0 where
   pub piece_is : (b : ℕ → List Piece) (n : ℕ) → comments b (in_block depth) n xs ≡ piece OpenComment xs n ∷ b 0
   pub none_left : after_trivia (in_block depth) xs ≡ []
   pub goes_on : (x : ℕ) (r : List ℕ) → after_trivia (in_block depth) (xs ++ (x ∷ r)) ≡ x ∷ r → ⊥
+  pub neat : (b : Before) → Neat (in_block depth) b xs
 
 data BlockOf (depth : ℕ) (text : List ℕ) : Type 0 where
   ends : (x : ℕ) (xs rest : List ℕ) → text ≡ x ∷ (xs ++ rest) → EndsBlock depth (x ∷ xs) → BlockOf depth text
@@ -135,7 +134,7 @@ in_block_shorter depth x r e =
 -- no text is left
 stays_nothing : (depth : ℕ) → StaysOpen depth []
 unfolding comments after_trivia
-stays_nothing depth = record { piece_is = λ b n. refl; none_left = refl; goes_on = λ x r e. in_block_shorter depth x r e }
+stays_nothing depth = record { piece_is = λ b n. refl; none_left = refl; goes_on = λ x r e. in_block_shorter depth x r e; neat = λ b. refl }
 
 -- one character is left
 one_shorter : (depth c x : ℕ) (r : List ℕ) → after_trivia (in_block depth) (c ∷ (x ∷ r)) ≡ x ∷ r → ⊥
@@ -153,6 +152,7 @@ stays_one depth c = record {
   piece_is = λ b n. rw (and_false (c == 47), and_false (c == 42)) refl;
   none_left = rw (and_false (c == 47), and_false (c == 42)) refl;
   goes_on = λ x r e. one_shorter depth c x r e;
+  neat = λ b. (tt, rw (and_false (c == 47), and_false (c == 42)) refl);
 }
 
 -- over the sign of another block comment, and of the end of one in this one
@@ -169,10 +169,21 @@ other_over : (depth c d : ℕ) (rest : List ℕ) → (c == 47 && d == 42) ≡ fa
 unfolding after_trivia
 other_over depth c d rest h k = rw (h, k) refl
 
+-- a sign of two characters in a neat text
+opening_neat : (depth c d : ℕ) (b : Before) (rest : List ℕ) → (c == 47 && d == 42) ≡ true → ((a : Before) → Neat (in_block (suc depth)) a rest) → Neat (in_block depth) b (c ∷ (d ∷ rest))
+opening_neat depth c d b rest h n = let same = both_are c d 47 42 h in rw (same.0, same.1) (tt, (refl, n solid))
+
+closing_neat : (depth c d : ℕ) (b : Before) (rest : List ℕ) → (c == 42 && d == 47) ≡ true → Neat (out_of_block depth) solid rest → Neat (in_block depth) b (c ∷ (d ∷ rest))
+closing_neat depth c d b rest h n = let same = both_are c d 42 47 h in rw (same.0, same.1) (tt, (refl, n))
+
+-- another character
+other_neat : (depth c d : ℕ) (b : Before) (rest : List ℕ) → (c == 47 && d == 42) ≡ false → (c == 42 && d == 47) ≡ false → ((a : Before) → Neat (in_block depth) a (d ∷ rest)) → Neat (in_block depth) b (c ∷ (d ∷ rest))
+other_neat depth c d b rest h k n = (tt, rw (h, k) (n (then b c)))
+
 -- the sign of another block comment
 opening_ends : (depth c d : ℕ) (xs : List ℕ) → (c == 47 && d == 42) ≡ true → EndsBlock (suc depth) xs → EndsBlock depth (c ∷ (d ∷ xs))
 unfolding comments after_trivia
-opening_ends depth c d xs h e = record { piece_is = λ rest b n. rw (h, e.piece_is rest b n) refl; rest_is = λ rest. rw h (e.rest_is rest) }
+opening_ends depth c d xs h e = record { piece_is = λ rest b n. rw (h, e.piece_is rest b n) refl; rest_is = λ rest. rw h (e.rest_is rest); neat = λ b rest n. opening_neat depth c d b (xs ++ rest) h (λ a. e.neat a rest n) }
 
 opening_stays : (depth c d : ℕ) (xs : List ℕ) → (c == 47 && d == 42) ≡ true → StaysOpen (suc depth) xs → StaysOpen depth (c ∷ (d ∷ xs))
 unfolding comments after_trivia
@@ -180,6 +191,7 @@ opening_stays depth c d xs h e = record {
   piece_is = λ b n. rw (h, e.piece_is b n) refl;
   none_left = rw h e.none_left;
   goes_on = λ x r f. e.goes_on x r (opened_over depth c d (xs ++ (x ∷ r)) h ∙ f);
+  neat = λ b. opening_neat depth c d b xs h e.neat;
 }
 
 opening : (depth c d : ℕ) (cs : List ℕ) → (c == 47 && d == 42) ≡ true → BlockOf (suc depth) cs → BlockOf depth (c ∷ (d ∷ cs))
@@ -189,7 +201,7 @@ opening depth c d cs h (stays s) = stays (opening_stays depth c d cs h s)
 -- the sign of an end: of a comment in this one, or of this one
 closing_ends : (depth c d : ℕ) (xs : List ℕ) → (c == 47 && d == 42) ≡ false → (c == 42 && d == 47) ≡ true → EndsBlock depth xs → EndsBlock (suc depth) (c ∷ (d ∷ xs))
 unfolding comments after_trivia
-closing_ends depth c d xs h k e = record { piece_is = λ rest b n. rw (h, k, e.piece_is rest b n) refl; rest_is = λ rest. rw (h, k) (e.rest_is rest) }
+closing_ends depth c d xs h k e = record { piece_is = λ rest b n. rw (h, k, e.piece_is rest b n) refl; rest_is = λ rest. rw (h, k) (e.rest_is rest); neat = λ b rest n. closing_neat (suc depth) c d b (xs ++ rest) k (e.neat solid rest n) }
 
 closing_stays : (depth c d : ℕ) (xs : List ℕ) → (c == 47 && d == 42) ≡ false → (c == 42 && d == 47) ≡ true → StaysOpen depth xs → StaysOpen (suc depth) (c ∷ (d ∷ xs))
 unfolding comments after_trivia
@@ -197,11 +209,12 @@ closing_stays depth c d xs h k e = record {
   piece_is = λ b n. rw (h, k, e.piece_is b n) refl;
   none_left = rw (h, k) e.none_left;
   goes_on = λ x r f. e.goes_on x r (closed_over (suc depth) c d (xs ++ (x ∷ r)) h k ∙ f);
+  neat = λ b. closing_neat (suc depth) c d b xs k (e.neat solid);
 }
 
 last_ends : (c d : ℕ) → (c == 47 && d == 42) ≡ false → (c == 42 && d == 47) ≡ true → EndsBlock 0 (c ∷ (d ∷ []))
 unfolding comments after_trivia
-last_ends c d h k = record { piece_is = λ rest b n. rw (h, k) refl; rest_is = λ rest. rw (h, k) refl }
+last_ends c d h k = record { piece_is = λ rest b n. rw (h, k) refl; rest_is = λ rest. rw (h, k) refl; neat = λ b rest n. closing_neat 0 c d b rest k n }
 
 closing : (depth c d : ℕ) (cs : List ℕ) → (c == 47 && d == 42) ≡ false → (c == 42 && d == 47) ≡ true → ((e : ℕ) → BlockOf e cs) → BlockOf depth (c ∷ (d ∷ cs))
 closing zero c d cs h k others = ends c (d ∷ []) cs refl (last_ends c d h k)
@@ -217,7 +230,7 @@ head_is d x cs ys e = cc
 
 other_ends : (depth c x : ℕ) (xs : List ℕ) → (c == 47 && x == 42) ≡ false → (c == 42 && x == 47) ≡ false → EndsBlock depth (x ∷ xs) → EndsBlock depth (c ∷ (x ∷ xs))
 unfolding comments after_trivia
-other_ends depth c x xs h k e = record { piece_is = λ rest b n. rw (h, k, e.piece_is rest b n) refl; rest_is = λ rest. sym (other_over depth c x (xs ++ rest) h k) ∙ e.rest_is rest }
+other_ends depth c x xs h k e = record { piece_is = λ rest b n. rw (h, k, e.piece_is rest b n) refl; rest_is = λ rest. sym (other_over depth c x (xs ++ rest) h k) ∙ e.rest_is rest; neat = λ b rest n. other_neat depth c x b (xs ++ rest) h k (λ a. e.neat a rest n) }
 
 other_stays : (depth c d : ℕ) (xs : List ℕ) → (c == 47 && d == 42) ≡ false → (c == 42 && d == 47) ≡ false → StaysOpen depth (d ∷ xs) → StaysOpen depth (c ∷ (d ∷ xs))
 unfolding comments after_trivia
@@ -225,6 +238,7 @@ other_stays depth c d xs h k e = record {
   piece_is = λ b n. rw (h, k, e.piece_is b n) refl;
   none_left = sym (other_over depth c d xs h k) ∙ e.none_left;
   goes_on = λ x r f. e.goes_on x r (other_over depth c d (xs ++ (x ∷ r)) h k ∙ f);
+  neat = λ b. other_neat depth c d b xs h k e.neat;
 }
 
 other : (depth c d : ℕ) (cs : List ℕ) → (c == 47 && d == 42) ≡ false → (c == 42 && d == 47) ≡ false → BlockOf depth (d ∷ cs) → BlockOf depth (c ∷ (d ∷ cs))

@@ -16,16 +16,16 @@ pieces-preserved-in-Some-comment_at c =
     let right = role_view c.args.right in
     record {
       text = search rules;
-      laid = λ behind h.
+      laid = λ behind h k.
           let left = comments behind outside 0 (chars c.in-Some-comment_at.comment.rest.now) in
           let next : next_role (state_view old.state) left ≡ right =
           ap (λ s. next_role s left) c.pieces.invariant.stays ∙ next_in_line start old.state.line left ∙ next_behind start right behind h outside 0 (chars c.in-Some-comment_at.comment.rest.now) in
-          c.pieces.invariant.laid behind h ∙ ap (text_with old) (c.in-Some-comment_at.ensures.value behind c.pieces.line_ends) ∙ c.in_ok-write_comment.ensures.laid left next;
+          c.pieces.invariant.laid behind h k ∙ ap (text_with old) (c.in-Some-comment_at.ensures.value behind c.pieces.line_ends) ∙ c.in_ok-write_comment.ensures.laid left next (c.is_owned-owned.ensures behind k);
       stays = c.in_ok-write_comment.ensures.state ∙ ap (λ s. in_line_of s c.write_comment.new.self.state.line) c.pieces.invariant.stays;
       within = omega (arith, c.pieces.invariant.within, c.in-Some-comment_at.ensures.shorter);
     }
 
 pub returns-clause-laid : goal.returns-clause-laid
-returns-clause-laid c behind h =
+returns-clause-laid c behind h k =
     let left = c.pieces.line_ends in
-    c.pieces.invariant.laid behind h ∙ ap (λ xs. text_with c.pieces.self (comments behind outside left xs)) c.in_default.ensures.parts ∙ ap (text_with c.pieces.self) (nothing_left behind left)
+    c.pieces.invariant.laid behind h k ∙ ap (λ xs. text_with c.pieces.self (comments behind outside left xs)) c.in_default.ensures.parts ∙ ap (text_with c.pieces.self) (nothing_left behind left)
