@@ -224,7 +224,7 @@ pub fn begins_with_template_list(text: &str) -> Result<bool, Fault> {
 
 /// The greatest number of brackets, blocks, template lists and prefix operators that are open at
 /// one place. What reads, prints and drops a text takes stack for each: in the library at most
-/// 1,450 bytes for a bracket, a template list or an operator, and 2,750 for a block.
+/// 1,200 bytes for a bracket, a template list or an operator, and 2,750 for a block.
 ///
 /// # Errors
 ///
