@@ -1,5 +1,7 @@
 #!/usr/bin/env python3
-"""Writes the rules of the language that is recognised and not parsed as steps over tokens.
+"""Writes the rules of the languages that are recognised, each in the form in which one token
+decides, as steps over tokens: the language that is parsed, without its checks, and the smaller one
+of `recognize_str`. The rules that are the same in both stand once.
 
 Run it at the top of the repository, and lay out what it wrote by `rt fmt`:
 
@@ -11,7 +13,7 @@ import re
 import sys
 from pathlib import Path
 
-from tables import MODEL, Tables, rules
+from tables import DIALECTS, MODEL, Tables, rules
 
 THEORY = Path("crates/wgsl_theory_grammar")
 
@@ -116,6 +118,9 @@ FURTHER = {
 }
 SAYS = {"expressions": "The rules of names, expressions and templates", "statements": "The rules of statements and their blocks",
         "units": "The rules of attributes, declarations, directives and units", "simple": "The rules of statements that hold no others"}
+# the part with the rules of the language that is parsed that are others in the smaller one
+OWN = "parsed"
+OWN_SAYS = "The rules of the language that is parsed where the smaller one has others"
 
 
 def in_parts(order, needed):
@@ -201,7 +206,7 @@ class Writer:
         consts = [f"pub const {capitals(n)}: &[Step] = {self.steps(self.found[n])};" for n in self.parts[part]]
         body = "\n\n".join(consts)
         used = [v for v in ("Choice", "Repeat", "Rule", "Token") if v + "(" in body]
-        lines = [f"//! {SAYS[part]}, written by tools/dialect.py.", ""]
+        lines = [f"//! {SAYS.get(part, OWN_SAYS)}, written by tools/dialect.py.", ""]
         lines += [f"use crate::{home}::{name};" for name, home in self.homes.items() if home != part and re.search(rf"\b{name}\b", body)]
         lines += ["use crate::rules::Symbol;", f"use crate::step::Step::{{self, {', '.join(used)}}};", "use wgsl_lex_token::kind::TokenKind;", ""]
         for classes, name in self.names.items():
@@ -228,28 +233,42 @@ def view_text(order):
     return "\n".join(lines + [""])
 
 
-def rules_text(writer, order):
+def side_text(name, language, homes):
+    """The function that has the steps of each symbol in a language, by the part with its rule."""
+    lines = [f"/// The steps of a symbol in {language}.", f"fn {name}_side(symbol: Symbol) -> &'static [Step]",
+             f"    ensures {{ steps_view result.now ≡ rule_steps {name} (symbol_view symbol) }}", "{", "    match symbol {"]
+    lines += [f"        Symbol::{camel(n)} => {part}::{capitals(n)}," for n, part in homes.items()]
+    return lines + ["    }", "}", ""]
+
+
+def rules_text(order, homes, own):
     lines = ["//! The symbols of the grammar in which one token decides, and the steps of each,",
              "//! written by tools/dialect.py.", "",
-             "ghost use Rattle.std.specs.Prelude.{◌≡◌};", "ghost use Rattle.wgsl_read_dialect.specs.Steps.{rule_steps};",
+             "ghost use Rattle.std.specs.Prelude.{◌≡◌};",
+             "ghost use Rattle.wgsl_model.specs.Grammar.Symbols.{Dialect.parsed, Dialect.recognized};",
+             "ghost use Rattle.wgsl_read_dialect.specs.Dialects.{dialect_view};",
+             "ghost use Rattle.wgsl_read_dialect.specs.Steps.{rule_steps};",
              "ghost use Rattle.wgsl_read_dialect.specs.Symbols.{symbol_view};",
-             "ghost use Rattle.wgsl_read_dialect.specs.View.{steps_view};", ""]
-    lines += [f"use crate::{part};" for part in writer.parts]
+             "ghost use Rattle.wgsl_read_dialect.specs.View.{steps_view};", "",
+             "use crate::dialect::Dialect;"]
+    lines += [f"use crate::{part};" for part in [*SAYS, OWN]]
     lines += ["use crate::step::Step;", "", *symbols_text(order),
-              "/// The steps of a symbol.", "pub fn right_side(symbol: Symbol) -> &'static [Step]",
-              "    ensures { steps_view result.now ≡ rule_steps (symbol_view symbol) }", "{", "    match symbol {"]
-    lines += [f"        Symbol::{camel(n)} => {part}::{capitals(n)}," for part, symbols in writer.parts.items() for n in symbols]
-    return "\n".join(lines + ["    }", "}", ""])
+              "/// The steps of a symbol.", "pub fn right_side(dialect: Dialect, symbol: Symbol) -> &'static [Step]",
+              "    ensures { steps_view result.now ≡ rule_steps (dialect_view dialect) (symbol_view symbol) }", "{",
+              "    match dialect {", "        Dialect::Parsed => parsed_side(symbol),",
+              "        Dialect::Recognized => recognized_side(symbol),", "    }", "}", ""]
+    lines += side_text("parsed", "the language that is parsed", {n: OWN if n in own else part for n, part in homes.items()})
+    return "\n".join(lines + side_text("recognized", "the smaller language", homes))
 
 
-def answers(found, parts):
+def answers(name, found):
     lines = ["-- Each rule has the steps of its symbol, written by tools/dialect.py.", "use Rattle.wgsl_read_dialect.specs.Steps.{rule_steps}",
-             "use Rattle.wgsl_read_dialect.proofs.Views.{choice_is, repeat_is}", "use Rattle.wgsl_read_dialect.proofs.rules.right_side.Goals as goal"]
-    for n in (n for symbols in parts.values() for n in symbols):
+             "use Rattle.wgsl_read_dialect.proofs.Views.{choice_is, repeat_is}", f"use Rattle.wgsl_read_dialect.proofs.rules.{name}_side.Goals as goal"]
+    for n, steps in found.items():
         goal = f"returns-in-{camel(n)}"
-        kinds = set(kinds_in(found[n]))
+        kinds = set(kinds_in(steps))
         laws = [f"c.in-{camel(n)}.is"] + [law for kind, law in (("Choice", "choice_is"), ("Repeat", "repeat_is")) if kind in kinds]
-        choices = [step for step in found[n] if step[0] == "Choice"]
+        choices = [step for step in steps if step[0] == "Choice"]
         tactic = "simp"
         if len(choices) > 1:
             tactic, laws = "rw", laws[:1] + ["choice_is"] * len(choices)
@@ -257,23 +276,34 @@ def answers(found, parts):
     return "\n".join(lines + [""])
 
 
+def steps_in(language, steps):
+    """The steps of every symbol in a language."""
+    every = {n: steps.of(g) for n, g in rules(THEORY, language).items()}
+    every[OPENED] = opened(every[OPENED], every)
+    return every
+
+
 def main(crate):
     classes = re.findall(r"^(\w+) = \d+$", (MODEL / "Tokens" / "Classes.antt").read_text(), re.M)
     tables = Tables(rules(THEORY, "parsed"))
     steps = Steps(tables, {c: i for i, c in enumerate(classes)})
-    every = {n: steps.of(g) for n, g in rules(THEORY, "recognized").items()}
-    every[OPENED] = opened(every[OPENED], every)
-    needed = reached(every, ("of", "unit"))
-    found = {n: s for n, s in every.items() if n in needed}
-    parts = in_parts(every, needed)
-    writer = Writer(found, parts, tables.empty)
-    for part in parts:
+    found = {language: steps_in(language, steps) for language in DIALECTS}
+    needed = set.union(*(reached(every, ("of", "unit")) for every in found.values()))
+    found = {language: {n: s for n, s in every.items() if n in needed} for language, every in found.items()}
+    parsed, smaller = found["parsed"], found["recognized"]
+    own = {n: s for n, s in parsed.items() if s != smaller[n]}
+    parts = in_parts(smaller, needed)
+    writers = {part: Writer(smaller, parts, tables.empty) for part in parts}
+    writers[OWN] = Writer(own, {OWN: list(own)}, tables.empty)
+    for part, writer in writers.items():
         (crate / f"src/{part}.rt").write_text(writer.rules(part))
-    (crate / "src/rules.rt").write_text(rules_text(writer, found))
-    (crate / "specs/Symbols.antt").write_text(view_text(found))
-    proofs = crate / "proofs/rules/right_side"
-    proofs.mkdir(parents=True, exist_ok=True)
-    (proofs / "Answers.antt").write_text(answers(found, parts))
+    homes = {n: part for part, symbols in parts.items() for n in symbols}
+    (crate / "src/rules.rt").write_text(rules_text(smaller, homes, own))
+    (crate / "specs/Symbols.antt").write_text(view_text(smaller))
+    for language, every in found.items():
+        proofs = crate / f"proofs/rules/{language}_side"
+        proofs.mkdir(parents=True, exist_ok=True)
+        (proofs / "Answers.antt").write_text(answers(language, {n: every[n] for n in homes}))
 
 
 if __name__ == "__main__":

@@ -9,6 +9,7 @@ use Rattle.wgsl_format_layout.specs.declared.joint.Joint.TheVariants as joint
 -- what a token does
 abbrev pub role_view : Role → plain.Role
 role_view role.Name = plain.name
+role_view role.Unsuffixed = plain.unsuffixed
 role_view role.Number = plain.number
 role_view role.Word = plain.word
 role_view role.ElseWord = plain.else_word

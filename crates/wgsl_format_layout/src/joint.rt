@@ -51,13 +51,14 @@ fn is_template(left: Role, right: Role) -> bool
         || (right.is(Role::TemplateEnd) && (left.ends_operand() || left.is(Role::Comma)))
 }
 
-/// Whether the right one is `.`, `++` or `--` behind an operand other than a number.
+/// Whether the right one is a `.` after an operand that does not go on with it, or `++` or `--`
+/// after an operand other than a number.
 fn is_continued(left: Role, right: Role) -> bool
     ensures { result ≡ is_continued (role_view left) (role_view right) }
 {
-    (right.is(Role::Period) || right.is(Role::Step))
-        && left.ends_operand()
-        && !left.is(Role::Number)
+    left.ends_operand()
+        && ((right.is(Role::Period) && !left.is(Role::Unsuffixed))
+            || (right.is(Role::Step) && !(left.is(Role::Number) || left.is(Role::Unsuffixed))))
 }
 
 /// Whether two neighbours are closed up.

@@ -12,6 +12,9 @@ use wgsl_lex_token::kind::TokenKind;
 pub(crate) enum Role {
     /// A name, `true`, `false`, or the `diagnostic` of a directive.
     Name,
+    /// A whole number without a suffix, which would go on with a `.`.
+    Unsuffixed,
+    /// Every other number.
     Number,
     /// Every other word but `else`, `_` and `->`.
     Word,
@@ -71,8 +74,8 @@ pub(crate) fn role_of(behind_operand: bool, kind: TokenKind) -> Role
         | TokenKind::KwTrue
         | TokenKind::KwFalse
         | TokenKind::KwDiagnostic => Role::Name,
-        TokenKind::AbstractInt
-        | TokenKind::I32
+        TokenKind::AbstractInt => Role::Unsuffixed,
+        TokenKind::I32
         | TokenKind::U32
         | TokenKind::AbstractFloat
         | TokenKind::F32
@@ -138,7 +141,7 @@ impl Role {
     {
         matches!(
             self,
-            Role::Name | Role::Number | Role::Closing | Role::TemplateEnd
+            Role::Name | Role::Unsuffixed | Role::Number | Role::Closing | Role::TemplateEnd
         )
     }
 
@@ -148,7 +151,13 @@ impl Role {
     {
         matches!(
             self,
-            Role::Name | Role::Number | Role::Opening | Role::Minus | Role::Ampersand | Role::Prefix
+            Role::Name
+                | Role::Unsuffixed
+                | Role::Number
+                | Role::Opening
+                | Role::Minus
+                | Role::Ampersand
+                | Role::Prefix
         )
     }
 

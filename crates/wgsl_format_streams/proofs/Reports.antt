@@ -1,11 +1,12 @@
 -- What a source asks for that is refused, or is no text.
-use Rattle.std.proofs.Common.{◌≡◌, ◌⊎◌, inl, inr, ℕ, ◌≤◌, ◌<◌, List, ◌++◌, chars, sym, subst, ap, arith}
+use Rattle.std.proofs.Common.{◌≡◌, ◌⊎◌, inl, inr, ℕ, ◌≤◌, false, List, ◌++◌, sym, subst, ap, arith}
 use Rattle.std.specs.Prelude.{codes, Result, Ok, Err, IfOk}
 use Rattle.std.specs.declared.alloc.AllocError.{AllocError}
 use Rattle.std.specs.Str.{is_utf8, IsUtf8}
 use Rattle.std.proofs.lemmas.Bool.{false_from_ne_true}
-use Rattle.std.proofs.lemmas.Str.{IsUtf8-from_is_utf8, is_utf8-from_IsUtf8}
-use Rattle.wgsl_model.specs.Program.{ProcessOutput, complaint, Formats, Formats.printed, Formats.refused, Formats.not_utf8, IsFaultOf, shown_fault}
+use Rattle.std.proofs.lemmas.Str.{IsUtf8-from_is_utf8}
+use Rattle.grammar.specs.Tokens.{Fault}
+use Rattle.wgsl_model.specs.Program.{ProcessOutput, complaint, Formats, Formats.printed, Formats.refused, Formats.not_utf8, shown_fault}
 use Rattle.wgsl_error.specs.declared.Error.{Error}
 use Rattle.wgsl_error.specs.declared.ErrorKind.TheVariants as kinds
 use Rattle.wgsl_error.specs.declared.ParseError.TheVariants as parse
@@ -15,23 +16,22 @@ use Rattle.wgsl_format_streams.specs.declared.report.Report.{Report}
 use Rattle.wgsl_format_streams.specs.Report.{outcome_of}
 
 -- the bytes are no text
-pub formats_no_text : (bytes : List ℕ) → (IsUtf8 bytes → ⊥) → Formats bytes (complaint 2 (codes "input is not UTF-8\n"))
-formats_no_text bytes invalid = not_utf8 (false_from_ne_true (is_utf8 bytes) (λ valid. invalid (IsUtf8-from_is_utf8 bytes valid)))
+pub no_text : (bytes : List ℕ) → (IsUtf8 bytes → ⊥) → is_utf8 bytes ≡ false
+no_text bytes invalid = false_from_ne_true (is_utf8 bytes) (λ valid. invalid (IsUtf8-from_is_utf8 bytes valid))
 
 -- an error that is no want of memory is the fault that is named
-is_fault : (source : List ℕ) (e : Error) → (e ≡ error_at parse.OutOfMemory 0 0) ⊎ IsFaultOf source (fault_view e) → ¬ (e.error ≡ kinds.OutOfMemory) → IsFaultOf source (fault_view e)
-is_fault source e (inl memory) other = absurd (other (ap (λ (x : Error). x.error) memory))
-is_fault source e (inr fault) other = fault
+is_fault : (IsFault : Fault → Type 0) (e : Error) → (e ≡ error_at parse.OutOfMemory 0 0) ⊎ IsFault (fault_view e) → ¬ (e.error ≡ kinds.OutOfMemory) → IsFault (fault_view e)
+is_fault IsFault e (inl memory) other = absurd (other (ap (λ (x : Error). x.error) memory))
+is_fault IsFault e (inr fault) other = fault
 
--- A report of an error is what a source asks for that is refused with it: for a program that writes of such bytes what is written of them where modules are printed.
-pub refused_writes : {K : Type 0} (Writes : List ℕ → ProcessOutput → Type 0) (bytes : List ℕ) (e : Error) (made : Result (Report K) AllocError)
-    → ((due : ProcessOutput) → Formats bytes due → 0 < due.status → Writes bytes due)
-    → IsUtf8 bytes → (e ≡ error_at parse.OutOfMemory 0 0) ⊎ IsFaultOf (chars bytes) (fault_view e)
+-- A report of an error is what a program writes of bytes for which this fault is named.
+pub refused_writes : {K : Type 0} (Writes : List ℕ → ProcessOutput → Type 0) (IsFault : Fault → Type 0) (bytes : List ℕ) (e : Error) (made : Result (Report K) AllocError)
+    → ((x : Fault) → IsFault x → Writes bytes (complaint 1 (shown_fault x ++ codes "\n")))
+    → (e ≡ error_at parse.OutOfMemory 0 0) ⊎ IsFault (fault_view e)
     → IfOk made (λ report. outcome_of report ≡ complaint 1 (shown_fault (fault_view e) ++ codes "\n")) → IfOk made (λ _. ¬ (e.error ≡ kinds.OutOfMemory))
     → IfOk made (λ report. Writes bytes (outcome_of report))
-refused_writes Writes bytes e (Ok report) writes valid named told other =
-    subst (Writes bytes) (sym told) (writes _ (refused (fault_view e) (is_utf8-from_IsUtf8 bytes valid) (is_fault (chars bytes) e named other)) (omega arith))
-refused_writes Writes bytes e (Err memory) writes valid named told other = told
+refused_writes Writes IsFault bytes e (Ok report) writes named told other = subst (Writes bytes) (sym told) (writes (fault_view e) (is_fault IsFault e named other))
+refused_writes Writes IsFault bytes e (Err memory) writes named told other = told
 
 -- the statuses of what bytes ask for
 pub formats_within : (bytes : List ℕ) (due : ProcessOutput) → Formats bytes due → due.status ≤ 4

@@ -6,11 +6,12 @@ ghost use Rattle.grammar.specs.Grammar.{Mode, Mode.checking, Derives, IsSentence
 ghost use Rattle.grammar.specs.Endings.{Ending, Ending.finished};
 ghost use Rattle.grammar.specs.Faults.{FaultIn};
 ghost use Rattle.grammar.specs.Reading.{read_all, Outcome.ok};
-ghost use Rattle.wgsl_model.specs.Grammar.Symbols.{Symbol, Value, is_read_alone};
+ghost use Rattle.wgsl_model.specs.Grammar.Symbols.{Symbol, Symbol.unit, Value, is_read_alone};
 ghost use Rattle.wgsl_model.specs.Grammar.Written.{written};
 ghost use Rattle.wgsl_model.specs.Grammar.Small.{small};
 ghost use Rattle.wgsl_model.specs.Faults.NamedFault.{IsNamed, IsNamedSmall};
 ghost use Rattle.wgsl_model.specs.Faults.Checked.{IsCheckedFault, wants_memory};
+ghost use Rattle.wgsl_model_tidy.specs.Syntax.{IsSyntaxFault};
 ghost use Rattle.wgsl_theory_grammar.specs.Factored.{FactoredSymbol.of, body, small_body};
 ghost use Rattle.wgsl_theory_grammar.specs.Tables.{tables, rank_limit};
 ghost use Rattle.wgsl_theory_grammar.specs.Apart.{apart};
@@ -83,6 +84,14 @@ pub fn one_name()
         IsNamedSmall n ts ending x → IsNamedSmall n ts ending y → x ≡ y }
     ensures alone_no_tree { (n : Symbol) (ts : List Token) (x : Fault) →
         IsNamedSmall n ts finished x → (v : Value n) → Derives checking small n v ts → ⊥ }
+{}
+
+/// The fault that is named of a module's tokens where nothing is checked is the one that is named
+/// with the checks too, unless one of these finds a fault.
+pub fn syntax_fault()
+    ensures { (ts : List Token) (ending : Ending) (x : Fault) → IsSyntaxFault ts ending x →
+        ((y : Fault) (ys : List Token) → IsCheckedFault ts ending y ys → ⊥) →
+        IsNamed unit ts ending x }
 {}
 
 /// What is derived with attributes in fewer places, the grammar derives: the same tree, whose lists

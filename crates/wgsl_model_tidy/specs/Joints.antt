@@ -1,6 +1,6 @@
 -- What stands between two neighbouring tokens.
 use Rattle.std.specs.Prelude.{Bool, not, ◌&&◌, ◌||◌, if◌then◌else◌}
-use Rattle.wgsl_model_tidy.specs.Roles.{Role, name, number, word, else_word, opening, template_start, template_end, block_start, block_end, comma, period, at, minus, ampersand, binary, step, item_end, attribute, semicolon, is, ends_operand, begins_operand, wants_operand, is_tight, opens, closes}
+use Rattle.wgsl_model_tidy.specs.Roles.{Role, name, unsuffixed, number, word, else_word, opening, template_start, template_end, block_start, block_end, comma, period, at, minus, ampersand, binary, step, item_end, attribute, semicolon, is, ends_operand, begins_operand, wants_operand, is_tight, opens, closes}
 
 pub data Joint : Type 0 where
   -- a line end
@@ -27,9 +27,9 @@ is_applied left right = is right opening && (ends_operand left || is left attrib
 abbrev pub is_template : Role → Role → Bool
 is_template left right = (is right template_start && (is left name || is left word)) || (is right template_end && (ends_operand left || is left comma))
 
--- nor before `.`, `++` and `--`, but behind a number, which would go on with them
+-- nor before `.`, but after a whole number without a suffix, which would go on with it; nor before `++` and `--`, but after a number
 abbrev pub is_continued : Role → Role → Bool
-is_continued left right = (is right period || is right step) && (ends_operand left && not (is left number))
+is_continued left right = ends_operand left && ((is right period && not (is left unsuffixed)) || (is right step && not (is left number || is left unsuffixed)))
 
 -- two neighbours are closed up
 abbrev pub closed_up : Role → Role → Bool

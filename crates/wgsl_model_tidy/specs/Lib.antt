@@ -7,4 +7,5 @@ pub mod LaidOut
 pub mod NonBlank
 pub mod Lines
 pub mod Kept
+pub mod Syntax
 pub mod Tidied

@@ -4,8 +4,8 @@ use Rattle.grammar.specs.Grammar.{is_among}
 use Rattle.wgsl_model.specs.Tokens.Classes.{SymAnd, SymAndAnd, SymAttr, SymForwardSlash, SymBang, SymBracketLeft, SymBracketRight, SymBraceLeft, SymBraceRight, SymColon, SymComma, SymEqual, SymEqualEqual, SymNotEqual, SymGreaterThan, SymGreaterThanEqual, SymShiftRight, SymLessThan, SymLessThanEqual, SymShiftLeft, SymModulo, SymMinus, SymMinusMinus, SymPeriod, SymPlus, SymPlusPlus, SymOr, SymOrOr, SymParenLeft, SymParenRight, SymSemicolon, SymStar, SymTilde, SymXor, SymPlusEqual, SymMinusEqual, SymTimesEqual, SymDivisionEqual, SymModuloEqual, SymAndEqual, SymOrEqual, SymXorEqual, SymShiftRightAssign, SymShiftLeftAssign, KwDiagnostic, KwElse, KwFalse, KwTrue, Ident, ReservedWord, AbstractInt, I32, U32, AbstractFloat, F32, F16, TemplateArgsStart, TemplateArgsEnd}
 
 pub data Role : Type 0 where
-  -- a name or a number
-  name number : Role
+  -- a name; a whole number without a suffix, which would go on with a `.`; every other number
+  name unsuffixed number : Role
   -- every other word, `_` and `->`; and `else`
   word else_word : Role
   -- `(` or `[`, and `)` or `]`
@@ -28,28 +28,29 @@ pub data Role : Type 0 where
 -- its place among the roles
 abbrev pub role_number : Role → ℕ
 role_number name = 0
-role_number number = 1
-role_number word = 2
-role_number else_word = 3
-role_number opening = 4
-role_number closing = 5
-role_number template_start = 6
-role_number template_end = 7
-role_number block_start = 8
-role_number block_end = 9
-role_number comma = 10
-role_number semicolon = 11
-role_number colon = 12
-role_number period = 13
-role_number at = 14
-role_number minus = 15
-role_number ampersand = 16
-role_number prefix = 17
-role_number binary = 18
-role_number step = 19
-role_number beginning = 20
-role_number item_end = 21
-role_number attribute = 22
+role_number unsuffixed = 1
+role_number number = 2
+role_number word = 3
+role_number else_word = 4
+role_number opening = 5
+role_number closing = 6
+role_number template_start = 7
+role_number template_end = 8
+role_number block_start = 9
+role_number block_end = 10
+role_number comma = 11
+role_number semicolon = 12
+role_number colon = 13
+role_number period = 14
+role_number at = 15
+role_number minus = 16
+role_number ampersand = 17
+role_number prefix = 18
+role_number binary = 19
+role_number step = 20
+role_number beginning = 21
+role_number item_end = 22
+role_number attribute = 23
 
 -- it is this one
 abbrev pub is : Role → Role → Bool
@@ -58,6 +59,7 @@ is role other = role_number role == role_number other
 -- an operand can end with it
 abbrev pub ends_operand : Role → Bool
 ends_operand name = true
+ends_operand unsuffixed = true
 ends_operand number = true
 ends_operand closing = true
 ends_operand template_end = true
@@ -66,6 +68,7 @@ ends_operand role = false
 -- an operand can begin with it
 abbrev pub begins_operand : Role → Bool
 begins_operand name = true
+begins_operand unsuffixed = true
 begins_operand number = true
 begins_operand opening = true
 begins_operand minus = true
@@ -130,7 +133,8 @@ sign_role false class = if class == SymMinus then minus else if class == SymAnd 
 abbrev pub role_of : Bool → ℕ → Role
 role_of behind_operand class =
     if is_among class (Ident ∷ ReservedWord ∷ KwTrue ∷ KwFalse ∷ KwDiagnostic ∷ []) then name
-    else if is_among class (AbstractInt ∷ I32 ∷ U32 ∷ AbstractFloat ∷ F32 ∷ F16 ∷ []) then number
+    else if class == AbstractInt then unsuffixed
+    else if is_among class (I32 ∷ U32 ∷ AbstractFloat ∷ F32 ∷ F16 ∷ []) then number
     else if class == KwElse then else_word
     else if is_among class (SymParenLeft ∷ SymBracketLeft ∷ []) then opening
     else if is_among class (SymParenRight ∷ SymBracketRight ∷ []) then closing

@@ -1,12 +1,22 @@
--- What the program that lays out owes: its status, and what it writes of the bytes that it read.
-use Rattle.std.specs.Prelude.{◌≡◌, ℕ, ◌<◌, true, List, [], chars}
+-- What the program that formats owes: its status, and what it writes of the bytes that it read.
+use Rattle.std.specs.Prelude.{◌≡◌, ℕ, true, false, List, [], ◌++◌, chars, codes}
 use Rattle.std.specs.Str.{is_utf8}
+use Rattle.grammar.specs.Tokens.{Fault}
 use Rattle.wgsl_model.specs.Trees.Units.{TranslationUnit}
-use Rattle.wgsl_model.specs.Program.{ProcessOutput, Formats, IsUnit}
+use Rattle.wgsl_model.specs.Program.{ProcessOutput, complaint, shown_fault, IsUnit}
+use Rattle.wgsl_model_tidy.specs.NonBlank.{non_blank}
 use Rattle.wgsl_model_tidy.specs.Kept.{IsLaidOut, Keeps}
+use Rattle.wgsl_model_tidy.specs.Syntax.{IsModuleInSyntax, IsSyntaxFaultOf}
 
--- What the program writes of these bytes: of a module its laid-out text; where they are none, what the program writes that prints modules.
+-- The text is the laid-out text of a source that is a module by its syntax. It has the characters of the source that are not blank space, in the same order; and where the source is a module, it keeps it.
+pub record IsTidyTextOf (source text : List ℕ) : Type 0 where
+  pub accepted : IsModuleInSyntax source
+  pub laid_out : IsLaidOut source text
+  pub characters : non_blank text ≡ non_blank source
+  pub kept : (u : TranslationUnit) → IsUnit source u → Keeps source text
+
+-- What the program writes of these bytes: of a module by its syntax its laid-out text, else the fault that is named, or that they are no text.
 pub data Tidies (bytes : List ℕ) : ProcessOutput → Type 0 where
-  tidied : (u : TranslationUnit) (text : List ℕ) → is_utf8 bytes ≡ true → IsUnit (chars bytes) u → is_utf8 text ≡ true → IsLaidOut (chars bytes) (chars text) → Keeps (chars bytes) (chars text)
-      → Tidies bytes (record { status = 0; output = text; errors = [] })
-  refused : (end : ProcessOutput) → Formats bytes end → 0 < end.status → Tidies bytes end
+  tidied : (text : List ℕ) → is_utf8 bytes ≡ true → is_utf8 text ≡ true → IsTidyTextOf (chars bytes) (chars text) → Tidies bytes (record { status = 0; output = text; errors = [] })
+  refused : (x : Fault) → is_utf8 bytes ≡ true → IsSyntaxFaultOf (chars bytes) x → Tidies bytes (complaint 1 (shown_fault x ++ codes "\n"))
+  not_utf8 : is_utf8 bytes ≡ false → Tidies bytes (complaint 2 (codes "input is not UTF-8\n"))

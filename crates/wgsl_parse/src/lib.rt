@@ -92,7 +92,7 @@ pub mod tidy {
 pub mod laws {
     pub use wgsl_laws::attributes::statement_attributes;
     pub use wgsl_laws::grammar_laws::{
-        checked_is_full, no_less_derived, one_fault, one_name, one_tree,
+        checked_is_full, no_less_derived, one_fault, one_name, one_tree, syntax_fault,
     };
     pub use wgsl_laws::laid_out::{formatted_characters, formatted_lines, laid_out_keeps};
     pub use wgsl_laws::paths::{join_laws, path_text, starts_with_laws};

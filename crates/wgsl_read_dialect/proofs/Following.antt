@@ -7,12 +7,13 @@ use Rattle.grammar.specs.States.{State, Read, Read.done, Read.stop, ◌>>=◌, i
 use Rattle.grammar.proofs.Reading.Sets.{and_true}
 use Rattle.grammar.proofs.Reading.Beginnings.{pick}
 use Rattle.grammar.proofs.States.{reads_is}
-use Rattle.wgsl_model.specs.Grammar.Symbols.{Symbol.ident}
-use Rattle.wgsl_theory_grammar.specs.Factored.{Further.components, Further.braced_part, FactoredSymbol, FactoredSymbol.of, FactoredSymbol.further, FactoredValue, FactoredRule, small_body}
+use Rattle.wgsl_model.specs.Grammar.Symbols.{Dialect, Dialect.parsed, Dialect.recognized, Symbol.ident}
+use Rattle.wgsl_theory_grammar.specs.Factored.{Further.components, Further.braced_part, FactoredSymbol, FactoredSymbol.of, FactoredSymbol.further, FactoredValue, FactoredRule}
 use Rattle.wgsl_theory_grammar.specs.Tables.{rank_limit, tables}
-use Rattle.wgsl_theory_grammar.proofs.Passes.{small_passes}
 use Rattle.wgsl_read_dialect.specs.Steps.{Steps, Steps.no_step, Steps.a_token, Steps.a_symbol, Steps.a_choice, Steps.items, steps_of, opened, rule_steps}
+use Rattle.wgsl_read_dialect.specs.Dialects.{followed_body}
 use Rattle.wgsl_read_dialect.specs.Following.{forgotten, passes, repeated, follow}
+use Rattle.wgsl_read_dialect.proofs.SyntaxTested.{followed_passes}
 
 -- ---- values that are forgotten
 abbrev pub Passed : Type 0
@@ -77,60 +78,62 @@ is_unchecked (checked f g) = false
 is_unchecked (symbol n) = true
 is_unchecked (left_chain f g h) = is_unchecked g && is_unchecked h
 
-none_checked : (n : FactoredSymbol) → is_unchecked (small_body n) ≡ true
-none_checked (of ident) = refl
-none_checked (of n) = refl
-none_checked (further components) = refl
-none_checked (further x) = refl
+none_checked : (L : Dialect) (n : FactoredSymbol) → is_unchecked (followed_body L n) ≡ true
+none_checked parsed (of ident) = refl
+none_checked recognized (of ident) = refl
+none_checked L (of n) = refl
+none_checked parsed (further components) = refl
+none_checked recognized (further components) = refl
+none_checked L (further x) = refl
 
-abbrev reading : {A : Type 0} → FactoredRule A → State → Read A
-reading g s = go tables (reads tables small_body rank_limit) g s
+abbrev reading : {A : Type 0} → Dialect → FactoredRule A → State → Read A
+reading L g s = go tables (reads tables (followed_body L) rank_limit) g s
 
-follow_is : {A : Type 0} (g : FactoredRule A) → is_unchecked g ≡ true → (k : Steps) (s : State) → follow (steps_of g k) s ≡ behind (forgotten (reading g s)) (follow k)
+follow_is : (L : Dialect) {A : Type 0} (g : FactoredRule A) → is_unchecked g ≡ true → (k : Steps) (s : State) → follow L (steps_of g k) s ≡ behind (forgotten (reading L g s)) (follow L k)
 unfolding passes
-follow_is (empty a) u k s = refl
-follow_is (token cs) u k s = refl
-follow_is (sequence g h) u k s =
+follow_is L (empty a) u k s = refl
+follow_is L (token cs) u k s = refl
+follow_is L (sequence g h) u k s =
     let u' = and_true _ _ u in
-    follow_is g u'.0 (steps_of h k) s ∙ behind_alike (forgotten (reading g s)) _ _ (λ s'. follow_is h u'.1 k s') ∙ in_sequence (reading g s) (reading h) (follow k)
-follow_is (choice g h) u k s =
+    follow_is L g u'.0 (steps_of h k) s ∙ behind_alike (forgotten (reading L g s)) _ _ (λ s'. follow_is L h u'.1 k s') ∙ in_sequence (reading L g s) (reading L h) (follow L k)
+follow_is L (choice g h) u k s =
     let u' = and_true _ _ u in
-    let first_is = follow_is g u'.0 no_step s ∙ behind_done (forgotten (reading g s)) in
-    let second_is = follow_is h u'.1 no_step s ∙ behind_done (forgotten (reading h s)) in
-    ap (λ (x : Passed). behind (cond (is_any (first tables g) s) x (follow (steps_of h no_step) s)) (follow k)) first_is
-    ∙ ap (λ (x : Passed). behind (cond (is_any (first tables g) s) (forgotten (reading g s)) x) (follow k)) second_is
-    ∙ ap (λ (x : Passed). behind x (follow k)) (chosen (is_any (first tables g) s) (reading g s) (reading h s))
-follow_is (mapped f g) u k s = follow_is g u k s ∙ ap (λ (x : Passed). behind x (follow k)) (sym (valued (reading g s) (λ a s'. f a)))
-follow_is (node f g) u k s = follow_is g u k s ∙ ap (λ (x : Passed). behind x (follow k)) (sym (valued (reading g s) (λ a s'. f a (span_from (next_start s) s'))))
-follow_is (checked f g) u k s = absurd cc
-follow_is (symbol n) u k s = refl
-follow_is (left_chain f g h) u k s =
+    let first_is = follow_is L g u'.0 no_step s ∙ behind_done (forgotten (reading L g s)) in
+    let second_is = follow_is L h u'.1 no_step s ∙ behind_done (forgotten (reading L h s)) in
+    ap (λ (x : Passed). behind (cond (is_any (first tables g) s) x (follow L (steps_of h no_step) s)) (follow L k)) first_is
+    ∙ ap (λ (x : Passed). behind (cond (is_any (first tables g) s) (forgotten (reading L g s)) x) (follow L k)) second_is
+    ∙ ap (λ (x : Passed). behind x (follow L k)) (chosen (is_any (first tables g) s) (reading L g s) (reading L h s))
+follow_is L (mapped f g) u k s = follow_is L g u k s ∙ ap (λ (x : Passed). behind x (follow L k)) (sym (valued (reading L g s) (λ a s'. f a)))
+follow_is L (node f g) u k s = follow_is L g u k s ∙ ap (λ (x : Passed). behind x (follow L k)) (sym (valued (reading L g s) (λ a s'. f a (span_from (next_start s) s'))))
+follow_is L (checked f g) u k s = absurd cc
+follow_is L (symbol n) u k s = refl
+follow_is L (left_chain f g h) u k s =
     let u' = and_true _ _ u in
-    follow_is g u'.0 (items (first tables h) (steps_of h no_step) k) s
-    ∙ in_chain (reading g s) f (first tables h) (reading h) (follow (steps_of h no_step)) (λ s'. sym (follow_is h u'.1 no_step s' ∙ behind_done (forgotten (reading h s')))) (next_start s) (follow k)
+    follow_is L g u'.0 (items (first tables h) (steps_of h no_step) k) s
+    ∙ in_chain (reading L g s) f (first tables h) (reading L h) (follow L (steps_of h no_step)) (λ s'. sym (follow_is L h u'.1 no_step s' ∙ behind_done (forgotten (reading L h s')))) (next_start s) (follow L k)
 
 -- the steps of a symbol's right side, before others
-symbol_follow : (n : FactoredSymbol) (k : Steps) (s : State) → follow (steps_of (small_body n) k) s ≡ behind (passes n s) (follow k)
+symbol_follow : (L : Dialect) (n : FactoredSymbol) (k : Steps) (s : State) → follow L (steps_of (followed_body L n) k) s ≡ behind (passes L n s) (follow L k)
 unfolding passes
-symbol_follow n k s =
-    follow_is (small_body n) (none_checked n) k s
-    ∙ ap (λ (x : Read (FactoredValue n)). behind (forgotten x) (follow k)) (sym (reads_is tables small_body rank_limit small_passes n s))
+symbol_follow L n k s =
+    follow_is L (followed_body L n) (none_checked L n) k s
+    ∙ ap (λ (x : Read (FactoredValue n)). behind (forgotten x) (follow L k)) (sym (reads_is tables (followed_body L) rank_limit (followed_passes L) n s))
 
 -- steps pass over the same where those of the symbols stand in their places
-opened_is : (w : Steps) (s : State) → follow (opened w) s ≡ follow w s
-opened_is no_step s = refl
-opened_is (a_token cs k) s = behind_alike (forgotten (take_any cs s)) _ _ (opened_is k)
-opened_is (a_symbol n k) s = symbol_follow n (opened k) s ∙ behind_alike (passes n s) _ _ (opened_is k)
-opened_is (a_choice cs g h k) s =
-    ap (λ (x : Passed). behind (cond (is_any cs s) x (follow (opened h) s)) (follow (opened k))) (opened_is g s)
-    ∙ ap (λ (x : Passed). behind (cond (is_any cs s) (follow g s) x) (follow (opened k))) (opened_is h s)
-    ∙ behind_alike (cond (is_any cs s) (follow g s) (follow h s)) _ _ (opened_is k)
-opened_is (items cs h k) s = behind_alike (repeated cs (follow h) s) _ _ (opened_is k)
+opened_is : (L : Dialect) (w : Steps) (s : State) → follow L (opened L w) s ≡ follow L w s
+opened_is L no_step s = refl
+opened_is L (a_token cs k) s = behind_alike (forgotten (take_any cs s)) _ _ (opened_is L k)
+opened_is L (a_symbol n k) s = symbol_follow L n (opened L k) s ∙ behind_alike (passes L n s) _ _ (opened_is L k)
+opened_is L (a_choice cs g h k) s =
+    ap (λ (x : Passed). behind (cond (is_any cs s) x (follow L (opened L h) s)) (follow L (opened L k))) (opened_is L g s)
+    ∙ ap (λ (x : Passed). behind (cond (is_any cs s) (follow L g s) x) (follow L (opened L k))) (opened_is L h s)
+    ∙ behind_alike (cond (is_any cs s) (follow L g s) (follow L h s)) _ _ (opened_is L k)
+opened_is L (items cs h k) s = behind_alike (repeated cs (follow L h) s) _ _ (opened_is L k)
 
 -- what a symbol passes over is what the steps of its right side pass over
-pub passes_is : (n : FactoredSymbol) (s : State) → passes n s ≡ follow (rule_steps n) s
+pub passes_is : (L : Dialect) (n : FactoredSymbol) (s : State) → passes L n s ≡ follow L (rule_steps L n) s
 unfolding rule_steps
-passes_is (of n) s = sym (symbol_follow (of n) no_step s ∙ behind_done (passes (of n) s))
-passes_is (further braced_part) s =
-    sym (opened_is (steps_of (small_body (further braced_part)) no_step) s ∙ symbol_follow (further braced_part) no_step s ∙ behind_done (passes (further braced_part) s))
-passes_is (further x) s = sym (symbol_follow (further x) no_step s ∙ behind_done (passes (further x) s))
+passes_is L (of n) s = sym (symbol_follow L (of n) no_step s ∙ behind_done (passes L (of n) s))
+passes_is L (further braced_part) s =
+    sym (opened_is L (steps_of (followed_body L (further braced_part)) no_step) s ∙ symbol_follow L (further braced_part) no_step s ∙ behind_done (passes L (further braced_part) s))
+passes_is L (further x) s = sym (symbol_follow L (further x) no_step s ∙ behind_done (passes L (further x) s))

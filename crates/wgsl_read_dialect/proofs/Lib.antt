@@ -1,3 +1,7 @@
+pub mod WithoutChecks
+pub mod SyntaxTested
+pub mod SyntaxAnswers
+pub mod SyntaxPlaces
 pub mod Following
 pub mod Weights
 pub mod Views

@@ -7,38 +7,46 @@ use Rattle.grammar.specs.States.{State, Read, Read.done, Read.stop, ◌>>=◌, r
 use Rattle.grammar.proofs.Reading.Beginnings.{pick}
 use Rattle.grammar.proofs.Reading.Exact.{part_front}
 use Rattle.grammar.proofs.States.{turns_are, shortens, read_is_part}
-use Rattle.wgsl_model.specs.Grammar.Symbols.{Symbol.ident}
+use Rattle.wgsl_model.specs.Grammar.Symbols.{Dialect, Dialect.parsed, Dialect.recognized, Symbol.ident}
 use Rattle.wgsl_theory_grammar.specs.Factored.{Further.components, FactoredSymbol, FactoredSymbol.of, FactoredSymbol.further, FactoredValue, small_body}
 use Rattle.wgsl_theory_grammar.specs.Tables.{rank_limit, empties, tables}
 use Rattle.wgsl_theory_grammar.proofs.Passes.{small_passes}
 use Rattle.wgsl_read_dialect.specs.Steps.{Steps, Steps.no_step, Steps.a_token, Steps.a_symbol, Steps.a_choice, Steps.items, rule_steps}
+use Rattle.wgsl_read_dialect.specs.Dialects.{followed_body}
 use Rattle.wgsl_read_dialect.specs.Following.{forgotten, passes, repeated, follow}
 use Rattle.wgsl_read_dialect.specs.Weights.{can_be_empty, symbol_weight, weight, token_weight, is_settled}
+use Rattle.wgsl_read_dialect.proofs.SyntaxTested.{followed_passes}
 
 -- ---- the steps of each symbol
-pub rule_settled : (n : FactoredSymbol) → is_settled (rule_steps n) ≡ true
+pub rule_settled : (L : Dialect) (n : FactoredSymbol) → is_settled (rule_steps L n) ≡ true
 unfolding rule_steps symbol_weight token_weight
-rule_settled (of ident) = refl
-rule_settled (of n) = refl
-rule_settled (further components) = refl
-rule_settled (further x) = refl
+rule_settled parsed (of ident) = refl
+rule_settled recognized (of ident) = refl
+rule_settled L (of n) = refl
+rule_settled parsed (further components) = refl
+rule_settled recognized (further components) = refl
+rule_settled L (further x) = refl
 
-pub rule_empty : (n : FactoredSymbol) → can_be_empty (rule_steps n) ≡ empties n
+pub rule_empty : (L : Dialect) (n : FactoredSymbol) → can_be_empty (rule_steps L n) ≡ empties n
 unfolding rule_steps
-rule_empty (of ident) = refl
-rule_empty (of n) = refl
-rule_empty (further components) = refl
-rule_empty (further x) = refl
+rule_empty parsed (of ident) = refl
+rule_empty recognized (of ident) = refl
+rule_empty L (of n) = refl
+rule_empty parsed (further components) = refl
+rule_empty recognized (further components) = refl
+rule_empty L (further x) = refl
 
-lighter : (n : FactoredSymbol) → nat_le (weight (rule_steps n)) (symbol_weight n) ≡ true
+lighter : (L : Dialect) (n : FactoredSymbol) → nat_le (weight (rule_steps L n)) (symbol_weight n) ≡ true
 unfolding rule_steps symbol_weight
-lighter (of ident) = refl
-lighter (of n) = refl
-lighter (further components) = refl
-lighter (further x) = refl
+lighter parsed (of ident) = refl
+lighter recognized (of ident) = refl
+lighter L (of n) = refl
+lighter parsed (further components) = refl
+lighter recognized (further components) = refl
+lighter L (further x) = refl
 
-pub rule_weighs : (n : FactoredSymbol) → weight (rule_steps n) ≤ symbol_weight n
-rule_weighs n = let h = lighter n in grind (arith, nat_tests)
+pub rule_weighs : (L : Dialect) (n : FactoredSymbol) → weight (rule_steps L n) ≤ symbol_weight n
+rule_weighs L n = let h = lighter L n in grind (arith, nat_tests)
 
 -- ---- what is taken
 -- a token, unless it may be none
@@ -57,18 +65,18 @@ behind_part : {A : Type 0} (m : Read A) (u : Unit {0}) (s' : State) → forgotte
 behind_part (done a t) u s' e = let q : t ≡ s' = cc in (a, ap (λ (z : State). done a z) q)
 behind_part (stop x) u s' e = absurd cc
 
-symbol_takes : (n : FactoredSymbol) (s : State) (u : Unit {0}) (s' : State) → passes n s ≡ done u s' → length s'.rest + least (empties n) ≤ length s.rest
+symbol_takes : (L : Dialect) (n : FactoredSymbol) (s : State) (u : Unit {0}) (s' : State) → passes L n s ≡ done u s' → length s'.rest + least (empties n) ≤ length s.rest
 unfolding passes
-symbol_takes n s u s' e =
-    let q = behind_part (reads tables small_body rank_limit n s) u s' e in
+symbol_takes L n s u s' e =
+    let q = behind_part (reads tables (followed_body L) rank_limit n s) u s' e in
     by_case (empties n) refl q.0 q.1
   where
-    by_case : (b : Bool) → empties n ≡ b → (v : FactoredValue n) → reads tables small_body rank_limit n s ≡ done v s' → length s'.rest + least b ≤ length s.rest
+    by_case : (b : Bool) → empties n ≡ b → (v : FactoredValue n) → reads tables (followed_body L) rank_limit n s ≡ done v s' → length s'.rest + least b ≤ length s.rest
     by_case true w v h =
-        let p = part_front checking small_body n v s.rest s'.rest (read_is_part tables small_body rank_limit n s v s' h) in
+        let p = part_front checking (followed_body L) n v s.rest s'.rest (read_is_part tables (followed_body L) rank_limit n s v s' h) in
         let same : length s.rest ≡ length (p.0 ++ s'.rest) = ap (λ (x : List Token). length x) p.1 in
         omega (arith, same, length-append p.0 s'.rest)
-    by_case false w v h = let l = shortens tables small_body rank_limit small_passes (symbol n) refl refl w s v s' h in omega (arith, l)
+    by_case false w v h = let l = shortens tables (followed_body L) rank_limit (followed_passes L) (symbol n) refl refl w s v s' h in omega (arith, l)
 
 never_refused : {A : Type 0} (ts : List Token) (a : A) (s : State) → refused ts ≡ done a s → ⊥
 never_refused [] a s e = cc
@@ -117,31 +125,31 @@ both_least true b = omega arith
 both_least false b = omega arith
 
 -- steps that take a token at least, unless they may take none
-pub follow_takes : (k : Steps) → Leaves (follow k) (least (can_be_empty k))
+pub follow_takes : (L : Dialect) (k : Steps) → Leaves (follow L k) (least (can_be_empty k))
 unfolding repeated
-follow_takes no_step s u s' e = let l = stayed s _ u s' e in omega (arith, l)
-follow_takes (a_token cs k) s u s' e =
+follow_takes L no_step s u s' e = let l = stayed s _ u s' e in omega (arith, l)
+follow_takes L (a_token cs k) s u s' e =
     let p = parted (forgotten (take_any cs s)) _ u s' e in
     let q = behind_part (take_any cs s) p.0 p.1 p.2 in
-    let a = token_takes cs s q.0 p.1 q.1 in let b = follow_takes k p.1 u s' p.3 in omega (arith, a, b)
-follow_takes (a_symbol n k) s u s' e =
-    let p = parted (passes n s) _ u s' e in
-    let a = symbol_takes n s p.0 p.1 p.2 in let b = follow_takes k p.1 u s' p.3 in let c = both_least (empties n) (can_be_empty k) in omega (arith, a, b, c)
-follow_takes (a_choice cs g h k) s u s' e =
-    let p = parted (cond (is_any cs s) (follow g s) (follow h s)) _ u s' e in
-    let b = follow_takes k p.1 u s' p.3 in let c = both_least (can_be_empty g || can_be_empty h) (can_be_empty k) in
-    elim (condition (is_any cs s) (follow g s) (follow h s) p.0 p.1 p.2) [
-      | inl x ↦ let a = follow_takes g s p.0 p.1 x in let d = either_least (can_be_empty g) (can_be_empty h) in omega (arith, a, b, c, d)
-      | inr x ↦ let a = follow_takes h s p.0 p.1 x in let d = other_least (can_be_empty g) (can_be_empty h) in omega (arith, a, b, c, d)
+    let a = token_takes cs s q.0 p.1 q.1 in let b = follow_takes L k p.1 u s' p.3 in omega (arith, a, b)
+follow_takes L (a_symbol n k) s u s' e =
+    let p = parted (passes L n s) _ u s' e in
+    let a = symbol_takes L n s p.0 p.1 p.2 in let b = follow_takes L k p.1 u s' p.3 in let c = both_least (empties n) (can_be_empty k) in omega (arith, a, b, c)
+follow_takes L (a_choice cs g h k) s u s' e =
+    let p = parted (cond (is_any cs s) (follow L g s) (follow L h s)) _ u s' e in
+    let b = follow_takes L k p.1 u s' p.3 in let c = both_least (can_be_empty g || can_be_empty h) (can_be_empty k) in
+    elim (condition (is_any cs s) (follow L g s) (follow L h s) p.0 p.1 p.2) [
+      | inl x ↦ let a = follow_takes L g s p.0 p.1 x in let d = either_least (can_be_empty g) (can_be_empty h) in omega (arith, a, b, c, d)
+      | inr x ↦ let a = follow_takes L h s p.0 p.1 x in let d = other_least (can_be_empty g) (can_be_empty h) in omega (arith, a, b, c, d)
     ]
-follow_takes (items cs h k) s u s' e =
-    let p = parted (repeated cs (follow h) s) _ u s' e in
-    let each : Leaves (follow h) 0 = λ t v t' x. let l = follow_takes h t v t' x in omega (arith, l) in
-    let a = turns_take (length s.rest) cs (follow h) each s p.0 p.1 p.2 in let b = follow_takes k p.1 u s' p.3 in omega (arith, a, b)
+follow_takes L (items cs h k) s u s' e =
+    let p = parted (repeated cs (follow L h) s) _ u s' e in
+    let each : Leaves (follow L h) 0 = λ t v t' x. let l = follow_takes L h t v t' x in omega (arith, l) in
+    let a = turns_take (length s.rest) cs (follow L h) each s p.0 p.1 p.2 in let b = follow_takes L k p.1 u s' p.3 in omega (arith, a, b)
 
 -- one item more, where the next token is of one of the classes
-pub repeated_is : (cs : List ℕ) (h : Steps) (s : State) → can_be_empty h ≡ false
-    → repeated cs (follow h) s ≡ cond (is_any cs s) (follow h s >>= λ u s'. repeated cs (follow h) s') (done (tt {0}) s)
+pub repeated_is : (L : Dialect) (cs : List ℕ) (h : Steps) (s : State) → can_be_empty h ≡ false
+    → repeated cs (follow L h) s ≡ cond (is_any cs s) (follow L h s >>= λ u s'. repeated cs (follow L h) s') (done (tt {0}) s)
 unfolding repeated
-repeated_is cs h s w =
-    turns_are (λ u v span. u) cs (follow h) (λ t u t' e. let l = follow_takes h t u t' e in let one : least (can_be_empty h) ≡ 1 = ap least w in omega (arith, l, one)) 0 (tt {0}) s
+repeated_is L cs h s w =
+    turns_are (λ u v span. u) cs (follow L h) (λ t u t' e. let l = follow_takes L h t u t' e in let one : least (can_be_empty h) ≡ 1 = ap least w in omega (arith, l, one)) 0 (tt {0}) s

@@ -1,3 +1,4 @@
+pub mod Dialects
 pub mod Steps
 pub mod Following
 pub mod Weights

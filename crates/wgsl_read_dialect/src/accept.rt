@@ -5,10 +5,12 @@ ghost use Rattle.std.specs.List.{list_any};
 ghost use Rattle.grammar.specs.States.{is_at, is_any, take_any};
 ghost use Rattle.wgsl_lex_token.specs.View.{class_of_kind, classes};
 ghost use Rattle.wgsl_read_cursor.specs.Reading.{state, Gives};
+ghost use Rattle.wgsl_read_dialect.specs.Dialects.{dialect_view};
 ghost use Rattle.wgsl_read_dialect.specs.Following.{forgotten, repeated, follow};
 ghost use Rattle.wgsl_read_dialect.specs.Weights.{can_be_empty, is_settled};
 ghost use Rattle.wgsl_read_dialect.specs.View.{steps_view};
 
+use crate::dialect::Dialect;
 use crate::rules::right_side;
 use crate::step::Step;
 use wgsl_lex_token::kind::TokenKind;
@@ -54,10 +56,10 @@ fn choose(
 
 /// Follows steps. The last one is followed in their place, so that a long list needs no deeper a stack than a short one.
 #[cycle(accept)]
-pub fn accept(steps: &'static [Step], tokens: &mut Cursor) -> Result<(), Fault>
+pub fn accept(dialect: Dialect, steps: &'static [Step], tokens: &mut Cursor) -> Result<(), Fault>
     requires { is_settled (steps_view steps.now) ≡ true }
-    ensures { Gives
-        (λ u. u) result (state tokens.new) (follow (steps_view steps.now) (state tokens.old)) }
+    ensures { Gives (λ u. u) result (state tokens.new)
+        (follow (dialect_view dialect) (steps_view steps.now) (state tokens.old)) }
 {
     let mut left = steps;
     'steps: while let Some((step, rest)) = left.split_first() {
@@ -68,17 +70,17 @@ pub fn accept(steps: &'static [Step], tokens: &mut Cursor) -> Result<(), Fault>
                 continue;
             }
             Step::Repeat(kinds, each) => {
-                accept_each(kinds, each, tokens)?;
+                accept_each(dialect, kinds, each, tokens)?;
                 left = rest;
                 continue;
             }
             Step::Rule(symbol) => {
-                let inner = right_side(*symbol);
+                let inner = right_side(dialect, *symbol);
                 if rest.is_empty() {
                     left = inner;
                     continue;
                 }
-                accept(inner, tokens)?;
+                accept(dialect, inner, tokens)?;
                 left = rest;
                 continue;
             }
@@ -88,7 +90,7 @@ pub fn accept(steps: &'static [Step], tokens: &mut Cursor) -> Result<(), Fault>
                     left = chosen;
                     continue;
                 }
-                accept(chosen, tokens)?;
+                accept(dialect, chosen, tokens)?;
                 left = rest;
                 continue;
             }
@@ -100,6 +102,7 @@ pub fn accept(steps: &'static [Step], tokens: &mut Cursor) -> Result<(), Fault>
 /// Follows steps as long as the next token is of one of some kinds.
 #[cycle(accept)]
 fn accept_each(
+    dialect: Dialect,
     kinds: &'static [TokenKind],
     each: &'static [Step],
     tokens: &mut Cursor,
@@ -107,10 +110,11 @@ fn accept_each(
     requires taking { can_be_empty (steps_view each.now) ≡ false }
     requires settled { is_settled (steps_view each.now) ≡ true }
     ensures { Gives (λ u. u) result (state tokens.new)
-        (repeated (classes kinds.now) (follow (steps_view each.now)) (state tokens.old)) }
+        (repeated (classes kinds.now) (follow (dialect_view dialect) (steps_view each.now))
+        (state tokens.old)) }
 {
     'items: while is_at_any(kinds, tokens) {
-        accept(each, tokens)?;
+        accept(dialect, each, tokens)?;
     }
     Ok(())
 }

@@ -139,6 +139,26 @@ pub const MULTIPLICATIVE_EXPRESSION: &[Step] = &[
     ),
 ];
 
+pub const NEGATED_EXPRESSION: &[Step] = &[
+    Token(&[TokenKind::SymMinusMinus]),
+    Rule(Symbol::UnaryExpression),
+    Repeat(
+        CONTINUES_MULTIPLICATIVE_EXPRESSION,
+        &[
+            Choice(
+                &[TokenKind::SymStar],
+                &[Token(&[TokenKind::SymStar])],
+                &[Choice(
+                    &[TokenKind::SymForwardSlash],
+                    &[Token(&[TokenKind::SymForwardSlash])],
+                    &[Token(&[TokenKind::SymModulo])],
+                )],
+            ),
+            Rule(Symbol::UnaryExpression),
+        ],
+    ),
+];
+
 pub const SHIFT_EXPRESSION: &[Step] = &[Rule(Symbol::UnaryExpression), Rule(Symbol::SumRest)];
 
 pub const RELATIONAL_EXPRESSION: &[Step] = &[

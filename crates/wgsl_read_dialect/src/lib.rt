@@ -1,8 +1,11 @@
-//! Recognising a text: whether it is a module of the dialect without checks. The rules are steps over tokens.
+//! Recognising a text: whether its tokens are a module, where nothing is checked. The rules are
+//! steps over tokens.
 #![tactic(auto)]
 
 mod accept;
+mod dialect;
 mod expressions;
+mod parsed;
 mod recognize;
 mod rules;
 mod simple;
@@ -10,4 +13,4 @@ mod statements;
 mod step;
 mod units;
 
-pub use recognize::recognize_str;
+pub use recognize::{check_syntax, recognize_str};

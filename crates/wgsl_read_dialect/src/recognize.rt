@@ -4,26 +4,33 @@ ghost use Rattle.std.specs.Prelude.{◌≡◌, ◌⊎◌, false, chars, length, 
 ghost use Rattle.grammar.specs.Tokens.{Token};
 ghost use Rattle.grammar.specs.Endings.{Ending};
 ghost use Rattle.wgsl_model.specs.Faults.Checked.{wants_memory};
+ghost use Rattle.wgsl_model_tidy.specs.Syntax.{IsModuleInSyntax, IsSyntaxFaultOf};
 ghost use Rattle.wgsl_error.specs.View.{fault_view};
 ghost use Rattle.wgsl_read_cursor.specs.Answers.{IsOutOfMemory};
 ghost use Rattle.wgsl_read_cursor.specs.Origins.{IsSourceOf};
 ghost use Rattle.wgsl_read_cursor.specs.Places.{StandsWithin};
+ghost use Rattle.wgsl_read_dialect.specs.Dialects.{dialect_view};
 ghost use Rattle.wgsl_read_dialect.specs.Recognized.{IsRecognized, IsRefused, Recognized};
 
 use crate::accept::accept;
+use crate::dialect::Dialect;
 use crate::rules::{Symbol, right_side};
 use std::alloc::Global;
 use wgsl_error::Error;
 use wgsl_read_cursor::{Expected, TokenSource};
 
-/// Whether the tokens of a source are a module.
+/// Whether the tokens of a source are a module of a dialect.
 #[tactic(auto, using(crate::proofs::Weights::rule_settled, crate::proofs::Recognized::unit_is))]
-fn recognize_unit(alloc: Global, source: TokenSource) -> Result<(), Error>
+fn recognize_unit(alloc: Global, dialect: Dialect, source: TokenSource) -> Result<(), Error>
     ensures { (ts : List Token) (ending : Ending) → IsSourceOf source.entry ts ending →
-        wants_memory ending ≡ false → Recognized result ts ending }
+        wants_memory ending ≡ false → Recognized (dialect_view dialect) result ts ending }
 {
     let mut source = source;
-    let read = accept(right_side(Symbol::Unit), &mut source.tokens);
+    let read = accept(
+        dialect,
+        right_side(dialect, Symbol::Unit),
+        &mut source.tokens,
+    );
     source.answer(alloc, read, Expected::DECLARATION)
 }
 
@@ -36,5 +43,22 @@ pub fn recognize_str(alloc: Global, source: &str) -> Result<(), Error>
         IsOutOfMemory e ⊎ IsRefused (chars source.now) (fault_view e)) }
     ensures placed { IfErr result (λ e. StandsWithin e.span (length source.now)) }
 {
-    recognize_unit(alloc, TokenSource::of_text(alloc, source)?)
+    recognize_unit(
+        alloc,
+        Dialect::Recognized,
+        TokenSource::of_text(alloc, source)?,
+    )
+}
+
+/// Whether a text is a module by its tokens, as `parse_str` reads them but without its checks:
+/// a reserved word is a name, and attributes, `var` templates and severities may say anything.
+/// Otherwise the error is the first token that can't be where it is; else the text that is no
+/// token; else that the text ends too early. No tree is made.
+pub fn check_syntax(alloc: Global, source: &str) -> Result<(), Error>
+    ensures accepted { IfOk result (λ _. IsModuleInSyntax (chars source.now)) }
+    ensures refused { IfErr result (λ e.
+        IsOutOfMemory e ⊎ IsSyntaxFaultOf (chars source.now) (fault_view e)) }
+    ensures placed { IfErr result (λ e. StandsWithin e.span (length source.now)) }
+{
+    recognize_unit(alloc, Dialect::Parsed, TokenSource::of_text(alloc, source)?)
 }

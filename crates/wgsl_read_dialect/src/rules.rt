@@ -2,12 +2,15 @@
 //! written by tools/dialect.py.
 
 ghost use Rattle.std.specs.Prelude.{◌≡◌};
+ghost use Rattle.wgsl_model.specs.Grammar.Symbols.{Dialect.parsed, Dialect.recognized};
+ghost use Rattle.wgsl_read_dialect.specs.Dialects.{dialect_view};
 ghost use Rattle.wgsl_read_dialect.specs.Steps.{rule_steps};
 ghost use Rattle.wgsl_read_dialect.specs.Symbols.{symbol_view};
 ghost use Rattle.wgsl_read_dialect.specs.View.{steps_view};
 
+use crate::dialect::Dialect;
 use crate::step::Step;
-use crate::{expressions, simple, statements, units};
+use crate::{expressions, parsed, simple, statements, units};
 
 /// A symbol: those of the written grammar, and behind them those that stand for a part of a rule.
 #[derive(Clone, Copy)]
@@ -22,6 +25,7 @@ pub enum Symbol {
     Component,
     UnaryExpression,
     MultiplicativeExpression,
+    NegatedExpression,
     ShiftExpression,
     RelationalExpression,
     Expression,
@@ -107,8 +111,119 @@ pub enum Symbol {
 }
 
 /// The steps of a symbol.
-pub fn right_side(symbol: Symbol) -> &'static [Step]
-    ensures { steps_view result.now ≡ rule_steps (symbol_view symbol) }
+pub fn right_side(dialect: Dialect, symbol: Symbol) -> &'static [Step]
+    ensures { steps_view result.now ≡ rule_steps (dialect_view dialect) (symbol_view symbol) }
+{
+    match dialect {
+        Dialect::Parsed => parsed_side(symbol),
+        Dialect::Recognized => recognized_side(symbol),
+    }
+}
+
+/// The steps of a symbol in the language that is parsed.
+fn parsed_side(symbol: Symbol) -> &'static [Step]
+    ensures { steps_view result.now ≡ rule_steps parsed (symbol_view symbol) }
+{
+    match symbol {
+        Symbol::Ident => parsed::IDENT,
+        Symbol::TypeSpecifier => expressions::TYPE_SPECIFIER,
+        Symbol::TemplateList => expressions::TEMPLATE_LIST,
+        Symbol::Arguments => expressions::ARGUMENTS,
+        Symbol::Literal => expressions::LITERAL,
+        Symbol::PrimaryExpression => expressions::PRIMARY_EXPRESSION,
+        Symbol::SingularExpression => expressions::SINGULAR_EXPRESSION,
+        Symbol::Component => expressions::COMPONENT,
+        Symbol::UnaryExpression => expressions::UNARY_EXPRESSION,
+        Symbol::MultiplicativeExpression => expressions::MULTIPLICATIVE_EXPRESSION,
+        Symbol::NegatedExpression => expressions::NEGATED_EXPRESSION,
+        Symbol::ShiftExpression => expressions::SHIFT_EXPRESSION,
+        Symbol::RelationalExpression => expressions::RELATIONAL_EXPRESSION,
+        Symbol::Expression => expressions::EXPRESSION,
+        Symbol::LhsExpression => expressions::LHS_EXPRESSION,
+        Symbol::TemplateItems => expressions::TEMPLATE_ITEMS,
+        Symbol::TemplateRest => expressions::TEMPLATE_REST,
+        Symbol::TemplateMore => expressions::TEMPLATE_MORE,
+        Symbol::ArgumentRest => expressions::ARGUMENT_REST,
+        Symbol::ArgumentMore => expressions::ARGUMENT_MORE,
+        Symbol::Components => expressions::COMPONENTS,
+        Symbol::Factors => expressions::FACTORS,
+        Symbol::Summands => parsed::SUMMANDS,
+        Symbol::SumRest => expressions::SUM_REST,
+        Symbol::RelationRest => expressions::RELATION_REST,
+        Symbol::AndRest => expressions::AND_REST,
+        Symbol::OrRest => expressions::OR_REST,
+        Symbol::BitwiseAndRest => expressions::BITWISE_AND_REST,
+        Symbol::BitwiseOrRest => expressions::BITWISE_OR_REST,
+        Symbol::BitwiseXorRest => expressions::BITWISE_XOR_REST,
+        Symbol::ExpressionRest => expressions::EXPRESSION_REST,
+        Symbol::LeftSideInParentheses => expressions::LEFT_SIDE_IN_PARENTHESES,
+        Symbol::PrefixedLeftSide => expressions::PREFIXED_LEFT_SIDE,
+        Symbol::CompoundStatement => statements::COMPOUND_STATEMENT,
+        Symbol::Statement => parsed::STATEMENT,
+        Symbol::SwitchClause => parsed::SWITCH_CLAUSE,
+        Symbol::CaseSelector => statements::CASE_SELECTOR,
+        Symbol::ForInit => parsed::FOR_INIT,
+        Symbol::ForUpdate => parsed::FOR_UPDATE,
+        Symbol::Selectors => statements::SELECTORS,
+        Symbol::StatementRest => statements::STATEMENT_REST,
+        Symbol::LoopRest => parsed::LOOP_REST,
+        Symbol::ContinuingRest => parsed::CONTINUING_REST,
+        Symbol::ClauseRest => statements::CLAUSE_REST,
+        Symbol::ElseRest => statements::ELSE_REST,
+        Symbol::InitPart => statements::INIT_PART,
+        Symbol::ConditionPart => statements::CONDITION_PART,
+        Symbol::UpdatePart => statements::UPDATE_PART,
+        Symbol::BracedPart => statements::BRACED_PART,
+        Symbol::EndedPart => statements::ENDED_PART,
+        Symbol::ClausePart => statements::CLAUSE_PART,
+        Symbol::ContinuingPart => statements::CONTINUING_PART,
+        Symbol::Attribute => parsed::ATTRIBUTE,
+        Symbol::VarTemplate => units::VAR_TEMPLATE,
+        Symbol::TypedIdent => units::TYPED_IDENT,
+        Symbol::StructMember => units::STRUCT_MEMBER,
+        Symbol::FormalParameter => units::FORMAL_PARAMETER,
+        Symbol::GlobalDeclaration => parsed::GLOBAL_DECLARATION,
+        Symbol::DiagnosticSeverity => units::DIAGNOSTIC_SEVERITY,
+        Symbol::Unit => units::UNIT,
+        Symbol::MemberItems => units::MEMBER_ITEMS,
+        Symbol::MemberRest => units::MEMBER_REST,
+        Symbol::MemberMore => units::MEMBER_MORE,
+        Symbol::ParameterRest => units::PARAMETER_REST,
+        Symbol::ParameterMore => units::PARAMETER_MORE,
+        Symbol::NameItems => units::NAME_ITEMS,
+        Symbol::NameRest => units::NAME_REST,
+        Symbol::NameMore => units::NAME_MORE,
+        Symbol::AttributeList => units::ATTRIBUTE_LIST,
+        Symbol::VarPart => units::VAR_PART,
+        Symbol::OverridePart => units::OVERRIDE_PART,
+        Symbol::FunctionPart => units::FUNCTION_PART,
+        Symbol::ConstPart => units::CONST_PART,
+        Symbol::AliasPart => units::ALIAS_PART,
+        Symbol::StructPart => units::STRUCT_PART,
+        Symbol::EnablePart => units::ENABLE_PART,
+        Symbol::RequiresPart => units::REQUIRES_PART,
+        Symbol::DiagnosticPart => units::DIAGNOSTIC_PART,
+        Symbol::AttributedPart => units::ATTRIBUTED_PART,
+        Symbol::LedPart => units::LED_PART,
+        Symbol::DirectivePart => units::DIRECTIVE_PART,
+        Symbol::DeclarationList => units::DECLARATION_LIST,
+        Symbol::Front => parsed::FRONT,
+        Symbol::ReturningPart => simple::RETURNING_PART,
+        Symbol::LocalPart => simple::LOCAL_PART,
+        Symbol::ValuePart => simple::VALUE_PART,
+        Symbol::PhonyPart => simple::PHONY_PART,
+        Symbol::SimplePart => simple::SIMPLE_PART,
+        Symbol::AssertPart => simple::ASSERT_PART,
+        Symbol::LeftSideRest => simple::LEFT_SIDE_REST,
+        Symbol::NameRestStatement => simple::NAME_REST_STATEMENT,
+        Symbol::ParenthesizedStatement => simple::PARENTHESIZED_STATEMENT,
+        Symbol::PlainStatement => simple::PLAIN_STATEMENT,
+    }
+}
+
+/// The steps of a symbol in the smaller language.
+fn recognized_side(symbol: Symbol) -> &'static [Step]
+    ensures { steps_view result.now ≡ rule_steps recognized (symbol_view symbol) }
 {
     match symbol {
         Symbol::Ident => expressions::IDENT,
@@ -121,6 +236,7 @@ pub fn right_side(symbol: Symbol) -> &'static [Step]
         Symbol::Component => expressions::COMPONENT,
         Symbol::UnaryExpression => expressions::UNARY_EXPRESSION,
         Symbol::MultiplicativeExpression => expressions::MULTIPLICATIVE_EXPRESSION,
+        Symbol::NegatedExpression => expressions::NEGATED_EXPRESSION,
         Symbol::ShiftExpression => expressions::SHIFT_EXPRESSION,
         Symbol::RelationalExpression => expressions::RELATIONAL_EXPRESSION,
         Symbol::Expression => expressions::EXPRESSION,

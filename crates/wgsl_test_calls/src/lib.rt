@@ -1,4 +1,4 @@
-//! Callers of the library, as README.md and CALLING.md show them, each under a contract that
+//! Callers of the library, as CALLING.md shows them, each under a contract that
 //! follows from those of the calls that it makes.
 #![tactic(auto)]
 

@@ -5,6 +5,7 @@ ghost use Rattle.wgsl_parse.specs.Program.{IsUnit, IsFaultOf};
 ghost use Rattle.wgsl_parse.specs.Units.{TranslationUnit};
 ghost use Rattle.wgsl_parse.specs.PrintedUnits.{print_unit};
 ghost use Rattle.wgsl_parse.specs.KeptPieces.{Keeps};
+ghost use Rattle.wgsl_parse.specs.Syntax.{IsSyntaxFaultOf};
 ghost use Rattle.wgsl_parse.specs.Answers.{IsOutOfMemory};
 ghost use Rattle.wgsl_parse.specs.ErrorView.{fault_view};
 
@@ -26,9 +27,10 @@ pub fn formatted(alloc: Global, source: &str) -> Result<String, Error>
 
 /// A module laid out for people, with its comments.
 pub fn laid_out(alloc: Global, source: &str) -> Result<String, Error>
-    ensures kept { IfOk result (λ text. Keeps (chars source.now) (chars (string_bytes text))) }
+    ensures kept { IfOk result (λ text. (unit : TranslationUnit) →
+        IsUnit (chars source.now) unit → Keeps (chars source.now) (chars (string_bytes text))) }
     ensures refused { IfErr result (λ e.
-        IsOutOfMemory e ⊎ IsFaultOf (chars source.now) (fault_view e)) }
+        IsOutOfMemory e ⊎ IsSyntaxFaultOf (chars source.now) (fault_view e)) }
 {
     tidy(alloc, source)
 }

@@ -5,3 +5,4 @@ pub mod Laid
 pub mod NextRoles
 pub mod Followed
 pub mod Kept
+pub mod SyntaxFaults

@@ -12,7 +12,7 @@ use Rattle.wgsl_model_tidy.specs.Roles.{Role, opening, closing, template_start, 
 use Rattle.wgsl_model_tidy.specs.Joints.{Joint, line, nothing, space, nothing_or_line, space_or_line, closed_up, close_joint, continues_line, joint}
 use Rattle.wgsl_model_tidy.specs.Open.{LayoutState, in_arguments, in_members, in_brackets, last_behind}
 use Rattle.wgsl_theory_tidy.proofs.Kept.Alone.{IsAlone, alone_ends, alone_before, space_alone, line_end_alone, brace_right_alone}
-use Rattle.wgsl_theory_tidy.proofs.Kept.Touching.{less_no_name, slash_no_name, at_one, starts, is_tight_only, tight_only, Shaped, is_name, is_word, is_else, is_number, is_opening, is_closing, is_less, is_other, touches}
+use Rattle.wgsl_theory_tidy.proofs.Kept.Touching.{less_no_name, slash_no_name, at_one, starts, is_tight_only, tight_only, Shaped, is_name, is_word, is_else, is_unsuffixed, is_number, is_opening, is_closing, is_less, is_other, touches}
 
 -- ---- a token has characters, and is not what stands before the text
 
@@ -128,7 +128,8 @@ slash_is_tight : (left : Role) (w : List ℕ) → Shaped left w → is_slash w �
 slash_is_tight left w (is_name x xs b) s = absurd (first_no_slash begins_name x xs slash_no_name b s)
 slash_is_tight left w (is_word x xs b) s = absurd (first_no_slash begins_name x xs slash_no_name b s)
 slash_is_tight left w (is_else x xs b) s = absurd (first_no_slash begins_name x xs slash_no_name b s)
-slash_is_tight left w (is_number x xs b) s = absurd (first_no_slash begins_number x xs refl b s)
+slash_is_tight left w (is_unsuffixed x xs b) s = absurd (first_no_slash begins_number x xs refl b s)
+slash_is_tight left w (is_number x xs b p) s = absurd (first_no_slash begins_number x xs refl b s)
 slash_is_tight left w (is_opening c a) s = absurd (alone_no_slash c a s)
 slash_is_tight left w (is_closing c a) s = absurd (alone_no_slash c a s)
 slash_is_tight left w (is_other role x xs t) s = t

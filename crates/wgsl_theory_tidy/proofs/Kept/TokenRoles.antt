@@ -1,6 +1,6 @@
 -- What the characters of a token are by what it does, and with which one it begins.
-use Rattle.std.proofs.Common.{◌≡◌, ℕ, ◌==◌, ◌^◌, ◌&&◌, ◌||◌, Bool, true, false, cond, not, refl, sym, subst, List, [], ◌∷◌, Option, Some, None, ◌⊎◌, inl, inr}
-use Rattle.std.specs.Prelude.{codes, bytes_eq, nat_lt, option_map, pos}
+use Rattle.std.proofs.Common.{◌≡◌, ℕ, ◌==◌, ◌^◌, ◌&&◌, ◌||◌, Bool, true, false, cond, not, refl, sym, subst, List, [], ◌∷◌, ◌++◌, Option, Some, None, ◌⊎◌, inl, inr}
+use Rattle.std.specs.Prelude.{codes, bytes_eq, nat_lt, option_map, pos, if◌then◌else◌}
 use Rattle.std.specs.Char.{is_ascii_digit}
 use Rattle.std.specs.Str.{encode_utf8_all}
 use Rattle.std.proofs.lemmas.Bool.{true≢false, and_parts, or_left, or_right}
@@ -15,13 +15,16 @@ use Rattle.wgsl_model.specs.Tokens.Pattern.{empty, spells}
 use Rattle.wgsl_model.specs.Tokens.Raw.{kind_of_spelling, kind_of_word, keyword_or_name}
 use Rattle.wgsl_model.specs.Tokens.Words.{look_up, is_word_among, reserved_words}
 use Rattle.wgsl_theory_printed.proofs.Spelling.Split.{by_either}
-use Rattle.wgsl_theory_printed.proofs.Spelling.Signs.{begins_name, begins_number}
-use Rattle.wgsl_model_tidy.specs.Roles.{Role, name, number, word, else_word, opening, closing, block_start, block_end, comma, semicolon, colon, period, at, minus, ampersand, prefix, binary, step, role_of}
+use Rattle.wgsl_theory_printed.proofs.Spelling.Spellings.{EndsAt}
+use Rattle.wgsl_theory_printed.proofs.Spelling.Signs.{begins_name, begins_number, one_of_three}
+use Rattle.wgsl_theory_printed.proofs.Spelling.Ends.{number_no_name, number_no_symbol}
+use Rattle.wgsl_theory_printed.proofs.Fits.PointBehind.{no_point_behind}
+use Rattle.wgsl_model_tidy.specs.Roles.{Role, name, unsuffixed, number, word, else_word, opening, closing, block_start, block_end, comma, semicolon, colon, period, at, minus, ampersand, prefix, binary, step, role_of}
 use Rattle.wgsl_theory_tidy.proofs.Kept.Alone.{paren_left_alone, paren_right_alone, bracket_left_alone, bracket_right_alone}
 use Rattle.wgsl_theory_tidy.proofs.Kept.Readings.{IsToken, is_word, is_slash, is_slash_equal, is_start, is_end}
 use Rattle.wgsl_theory_grammar.proofs.Tokens.Symbols.{each_passes, found_passes}
 use Rattle.wgsl_theory_tidy.proofs.Kept.Touching as touching
-use Rattle.wgsl_theory_tidy.proofs.Kept.Touching.{Shaped, starts, is_name, is_else, is_arrow, is_number, is_opening, is_closing, is_comma, is_at, is_less, is_minus, is_and, is_bang, is_star, is_tilde, is_plus_plus, is_minus_minus, is_period, is_other}
+use Rattle.wgsl_theory_tidy.proofs.Kept.Touching.{Shaped, starts, is_name, is_else, is_arrow, is_unsuffixed, is_number, is_opening, is_closing, is_comma, is_at, is_less, is_minus, is_and, is_bang, is_star, is_tilde, is_plus_plus, is_minus_minus, is_period, is_other}
 
 -- a token that does so begins with the first of these characters
 abbrev pub Starts : Role → List ℕ → Type 0
@@ -67,9 +70,13 @@ word_role behind bytes = by_underscore (bytes_eq bytes (codes "_"))
 
 -- ---- numbers
 
+-- what a number does
+abbrev number_does : ℕ → Role
+number_does c = if c == AbstractInt then unsuffixed else number
+
 -- a class whose tokens do what a number does
 abbrev IsNumberClass : ℕ → Type 0
-IsNumberClass c = (behind : Bool) → role_of behind c ≡ number
+IsNumberClass c = (behind : Bool) → role_of behind c ≡ number_does c
 
 below_role : (class limit n : ℕ) (k : Kind) → IsNumberClass class → number_below class limit n ≡ Some k → IsNumberClass k.class
 below_role class limit n k r h = go (nat_lt n limit) h
@@ -104,6 +111,18 @@ number_role w k h = go (spells (whole_number empty) w) (spells (whole_number i_s
 number_first : (x : ℕ) (xs : List ℕ) → (is_ascii_digit x || (x == 46 && not (is_empty xs))) ≡ true → begins_number x ≡ true
 number_first x xs h =
     by_either (is_ascii_digit x) (x == 46 && not (is_empty xs)) h (λ d. or_left (is_ascii_digit x) (x == 46) d) (λ p. or_right (is_ascii_digit x) (x == 46) (and_parts (x == 46) (not (is_empty xs)) p).0)
+
+-- a number of another class than `AbstractInt` does not go on with a point
+ends_at_point : (x : ℕ) (xs : List ℕ) (k : Kind) → number_of (x ∷ xs) ≡ Some k → (k.class == AbstractInt) ≡ false → begins_number x ≡ true → EndsAt (x ∷ xs) 46
+ends_at_point x xs k v a b z h =
+    one_of_three ((x ∷ xs) ++ (46 ∷ z)) h (λ s. number_no_name x (xs ++ (46 ∷ z)) b s) (λ s. no_point_behind (x ∷ xs) k v a z s) (λ s. number_no_symbol x xs 46 z b s)
+
+number_fits : (x : ℕ) (xs : List ℕ) (k : Kind) → number_of (x ∷ xs) ≡ Some k → begins_number x ≡ true → Fits (number_does k.class) (x ∷ xs)
+number_fits x xs k v b = go (k.class == AbstractInt) refl
+  where
+    go : (a : Bool) → (k.class == AbstractInt) ≡ a → Fits (if a then unsuffixed else number) (x ∷ xs)
+    go true e = (is_unsuffixed x xs b, b)
+    go false e = (is_number x xs b (ends_at_point x xs k v e b), b)
 
 -- ---- symbols
 
@@ -181,7 +200,7 @@ valued_fits behind k (x ∷ xs) h = by (begins_name x) (is_ascii_digit x || (x =
         word_fits (role_of behind k.class) x xs does e
     by false true e f v =
         let first = number_first x xs f in
-        subst (λ (role : Role). Fits role (x ∷ xs)) (sym (number_role (x ∷ xs) k v behind)) (is_number x xs first, first)
+        subst (λ (role : Role). Fits role (x ∷ xs)) (sym (number_role (x ∷ xs) k v behind)) (number_fits x xs k v first)
     by false false e f v = of_symbol (look_up symbols (x ∷ xs)) refl v
 
 -- what a token does says what its characters are, but for the end of a template list

@@ -12,7 +12,7 @@ use Rattle.wgsl_theory_printed.proofs.Spelling.Signs.{begins_name, begins_number
 use Rattle.wgsl_theory_printed.proofs.Spelling.Ends.{no_such, name_no_number, name_no_symbol, number_ends_before}
 use Rattle.wgsl_theory_printed.proofs.Fits.FittingWords.{point_number, no_digit}
 use Rattle.wgsl_theory_printed.proofs.Spelling.NoPeriods.{identifier_takes_none}
-use Rattle.wgsl_model_tidy.specs.Roles.{Role, begins_operand, wants_operand, name, number, word, else_word, opening, closing, template_start, template_end, block_start, block_end, comma, semicolon, colon, period, at, minus, ampersand, prefix, binary, step, item_end, attribute}
+use Rattle.wgsl_model_tidy.specs.Roles.{Role, begins_operand, wants_operand, name, unsuffixed, number, word, else_word, opening, closing, template_start, template_end, block_start, block_end, comma, semicolon, colon, period, at, minus, ampersand, prefix, binary, step, item_end, attribute}
 use Rattle.wgsl_model_tidy.specs.Joints.{closed_up}
 use Rattle.wgsl_theory_tidy.proofs.Kept.Alone.{IsAlone, alone_ends, alone_before, paren_left_alone, paren_right_alone, comma_alone, colon_alone, semicolon_alone, at_alone, bracket_left_alone, bracket_right_alone, tilde_alone}
 
@@ -20,6 +20,7 @@ use Rattle.wgsl_theory_tidy.proofs.Kept.Alone.{IsAlone, alone_ends, alone_before
 
 abbrev pub starts : Role → ℕ → Bool
 starts name d = begins_name d
+starts unsuffixed d = begins_number d
 starts number d = begins_number d
 starts word d = begins_name d || d == 45
 starts else_word d = begins_name d
@@ -108,14 +109,25 @@ else_is_closed_up right h = absurd (true≢false (sym h))
 
 -- ---- behind a number
 
-behind_number : (x : ℕ) (xs : List ℕ) → begins_number x ≡ true → (right : Role) (d : ℕ) → closed_up number right ≡ true → starts right d ≡ true → EndsAt (x ∷ xs) d
-behind_number x xs b comma d h s = tight_ends x xs comma d refl s
-behind_number x xs b semicolon d h s = tight_ends x xs semicolon d refl s
-behind_number x xs b colon d h s = tight_ends x xs colon d refl s
-behind_number x xs b closing d h s = tight_ends x xs closing d refl s
-behind_number x xs b opening d h s = tight_ends x xs opening d refl s
-behind_number x xs b template_end d h s = at_one (EndsAt (x ∷ xs)) d 62 s (number_ends_before x xs (62 ∷ []) b refl)
-behind_number x xs b right d h s = absurd (true≢false (sym h))
+after_unsuffixed : (x : ℕ) (xs : List ℕ) → begins_number x ≡ true → (right : Role) (d : ℕ) → closed_up unsuffixed right ≡ true → starts right d ≡ true → EndsAt (x ∷ xs) d
+after_unsuffixed x xs b comma d h s = tight_ends x xs comma d refl s
+after_unsuffixed x xs b semicolon d h s = tight_ends x xs semicolon d refl s
+after_unsuffixed x xs b colon d h s = tight_ends x xs colon d refl s
+after_unsuffixed x xs b closing d h s = tight_ends x xs closing d refl s
+after_unsuffixed x xs b opening d h s = tight_ends x xs opening d refl s
+after_unsuffixed x xs b template_end d h s = at_one (EndsAt (x ∷ xs)) d 62 s (number_ends_before x xs (62 ∷ []) b refl)
+after_unsuffixed x xs b right d h s = absurd (true≢false (sym h))
+
+-- one that no `.` goes on with
+after_number : (x : ℕ) (xs : List ℕ) → begins_number x ≡ true → EndsAt (x ∷ xs) 46 → (right : Role) (d : ℕ) → closed_up number right ≡ true → starts right d ≡ true → EndsAt (x ∷ xs) d
+after_number x xs b p period d h s = at_one (EndsAt (x ∷ xs)) d 46 s p
+after_number x xs b p comma d h s = tight_ends x xs comma d refl s
+after_number x xs b p semicolon d h s = tight_ends x xs semicolon d refl s
+after_number x xs b p colon d h s = tight_ends x xs colon d refl s
+after_number x xs b p closing d h s = tight_ends x xs closing d refl s
+after_number x xs b p opening d h s = tight_ends x xs opening d refl s
+after_number x xs b p template_end d h s = at_one (EndsAt (x ∷ xs)) d 62 s (number_ends_before x xs (62 ∷ []) b refl)
+after_number x xs b p right d h s = absurd (true≢false (sym h))
 
 -- ---- behind a sign before an operand
 
@@ -192,6 +204,7 @@ minus_minus_touches d = sign_ends_before 45 (45 ∷ []) (d ∷ []) minus_no_name
 -- the first character of an operand
 joins : (right : Role) (d : ℕ) → begins_operand right ≡ true → starts right d ≡ true → JoinsNothing d
 joins name d h s = name_joins d s
+joins unsuffixed d h s = test_joins begins_number d s refl refl refl
 joins number d h s = test_joins begins_number d s refl refl refl
 joins opening d h s = test_joins (λ x. x == 40 || x == 91) d s refl refl refl
 joins minus d h s = test_joins (λ x. x == 45) d s refl refl refl
@@ -219,6 +232,7 @@ behind_sign left semicolon w h = tight refl
 behind_sign left colon w h = tight refl
 behind_sign left closing w h = tight refl
 behind_sign left name w h = operand refl
+behind_sign left unsuffixed w h = operand refl
 behind_sign left number w h = operand refl
 behind_sign left opening w h = operand refl
 behind_sign left minus w h = operand refl
@@ -302,7 +316,8 @@ pub data Shaped : Role → List ℕ → Type 0 where
   is_word : (x : ℕ) (xs : List ℕ) → begins_name x ≡ true → Shaped word (x ∷ xs)
   is_arrow : Shaped word (45 ∷ (62 ∷ []))
   is_else : (x : ℕ) (xs : List ℕ) → begins_name x ≡ true → Shaped else_word (x ∷ xs)
-  is_number : (x : ℕ) (xs : List ℕ) → begins_number x ≡ true → Shaped number (x ∷ xs)
+  is_unsuffixed : (x : ℕ) (xs : List ℕ) → begins_number x ≡ true → Shaped unsuffixed (x ∷ xs)
+  is_number : (x : ℕ) (xs : List ℕ) → begins_number x ≡ true → EndsAt (x ∷ xs) 46 → Shaped number (x ∷ xs)
   is_opening : (c : ℕ) → IsAlone c → Shaped opening (c ∷ [])
   is_closing : (c : ℕ) → IsAlone c → Shaped closing (c ∷ [])
   is_comma : Shaped comma (44 ∷ [])
@@ -324,7 +339,8 @@ touches left right w d (is_name x xs b) h s = behind_name x xs b right d h s
 touches left right w d (is_word x xs b) h s = behind_name x xs b right d (word_is_closed_up right h) s
 touches left right w d (is_arrow) h s = arrow_touches d
 touches left right w d (is_else x xs b) h s = behind_name x xs b right d (else_is_closed_up right h) s
-touches left right w d (is_number x xs b) h s = behind_number x xs b right d h s
+touches left right w d (is_unsuffixed x xs b) h s = after_unsuffixed x xs b right d h s
+touches left right w d (is_number x xs b p) h s = after_number x xs b p right d h s
 touches left right w d (is_opening c a) h s = alone_before c d a
 touches left right w d (is_closing c a) h s = alone_before c d a
 touches left right w d (is_comma) h s = alone_before 44 d comma_alone

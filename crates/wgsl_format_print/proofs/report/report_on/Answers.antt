@@ -1,13 +1,14 @@
 use Rattle.std.proofs.Common.{ap, ◌∙◌, ◌++◌}
+use Rattle.std.proofs.lemmas.Str.{is_utf8-from_IsUtf8}
 use Rattle.wgsl_model.specs.Printed.Units.{print_unit}
-use Rattle.wgsl_model.specs.Program.{Formats}
+use Rattle.wgsl_model.specs.Program.{Formats, Formats.refused, Formats.not_utf8}
 use Rattle.wgsl_tree_unit.specs.View.{unit_view}
-use Rattle.wgsl_format_streams.proofs.Reports.{refused_writes, formats_no_text}
+use Rattle.wgsl_format_streams.proofs.Reports.{refused_writes, no_text}
 use Rattle.wgsl_format_print.proofs.Reports.{formats_unit}
 use Rattle.wgsl_format_print.proofs.report.report_on.Goals as goal
 
 pub returns-in_default : goal.returns-in_default
-returns-in_default c = formats_no_text _ c.in_default.ensures.cases.0
+returns-in_default c = not_utf8 (no_text _ c.in_default.ensures.cases.0)
 
 pub returns-in_ok-write-in-Ok-parse_str : goal.returns-in_ok-write-in-Ok-parse_str
 returns-in_ok-write-in-Ok-parse_str c =
@@ -22,4 +23,4 @@ pub returns-in-Err : goal.returns-in-Err
 returns-in-Err c =
     let source = c.in-Ok.ensures.cases in
     let named = rw source.0 at c.in-Err.ensures.refused in
-    refused_writes Formats _ _ _ (λ due asked late. asked) source.1 named c.refused.ensures.told c.refused.ensures.memory
+    refused_writes Formats _ _ _ _ (λ x fault. refused x (is_utf8-from_IsUtf8 _ source.1) fault) named c.refused.ensures.told c.refused.ensures.memory

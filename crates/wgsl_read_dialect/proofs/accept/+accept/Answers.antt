@@ -3,6 +3,7 @@ use Rattle.std.proofs.Common.{rules, ◌≡◌, ◌<◌, ◌≤◌, suc, length,
 use Rattle.grammar.specs.States.{is_any}
 use Rattle.wgsl_lex_token.specs.View.{classes}
 use Rattle.wgsl_read_cursor.specs.Reading.{state}
+use Rattle.wgsl_read_dialect.specs.Dialects.{dialect_view}
 use Rattle.wgsl_read_dialect.specs.Work.{work}
 use Rattle.wgsl_read_dialect.specs.View.{steps_view}
 use Rattle.wgsl_read_dialect.proofs.AnyKind.{any_is}
@@ -132,22 +133,22 @@ accept_each-accept-requires t c =
 pub accept_each-items-smaller : goal.accept_each-items-smaller
 accept_each-items-smaller t c =
     let more : is_any (classes c.args.kinds.now) (state c.items.tokens) ≡ true = sym (any_is c.args.kinds.now (state c.items.tokens)) ∙ sym c.items-test.ensures in
-    (items_turn (classes c.args.kinds.now) (steps_view c.args.each.now) (state c.items.tokens) (state c.accept.new.tokens) _ _ c.requires.taking more c.in_ok-accept.ensures c.items.invariant.whole).1
+    (items_turn (dialect_view c.args.dialect) (classes c.args.kinds.now) (steps_view c.args.each.now) (state c.items.tokens) (state c.accept.new.tokens) _ _ c.requires.taking more c.in_ok-accept.ensures c.items.invariant.whole).1
 
 pub accept_each-items-preserved : goal.accept_each-items-preserved
 accept_each-items-preserved t c =
     let more : is_any (classes c.args.kinds.now) (state c.items.tokens) ≡ true = sym (any_is c.args.kinds.now (state c.items.tokens)) ∙ sym c.items-test.ensures in
-    let turn = items_turn (classes c.args.kinds.now) (steps_view c.args.each.now) (state c.items.tokens) (state c.accept.new.tokens) _ _ c.requires.taking more c.in_ok-accept.ensures c.items.invariant.whole in
+    let turn = items_turn (dialect_view c.args.dialect) (classes c.args.kinds.now) (steps_view c.args.each.now) (state c.items.tokens) (state c.accept.new.tokens) _ _ c.requires.taking more c.in_ok-accept.ensures c.items.invariant.whole in
     let fewer = turn.1 in let most : length (state c.items.tokens).rest ≤ length (state c.args.tokens.now).rest = c.items.invariant.shorter in
     record { whole = turn.0; shorter = omega arith }
 
 pub accept_each-returns-in_err-accept : goal.accept_each-returns-in_err-accept
 accept_each-returns-in_err-accept t c =
     let more : is_any (classes c.args.kinds.now) (state c.items.tokens) ≡ true = sym (any_is c.args.kinds.now (state c.items.tokens)) ∙ sym c.items-test.ensures in
-    let failed = items_fail (classes c.args.kinds.now) (steps_view c.args.each.now) (state c.items.tokens) _ _ c.requires.taking more c.in_err-accept.ensures c.items.invariant.whole in
+    let failed = items_fail (dialect_view c.args.dialect) (classes c.args.kinds.now) (steps_view c.args.each.now) (state c.items.tokens) _ _ c.requires.taking more c.in_err-accept.ensures c.items.invariant.whole in
     search rules
 
 pub accept_each-returns : goal.accept_each-returns
 accept_each-returns t c =
-    items_stop (classes c.args.kinds.now) (steps_view c.args.each.now) (state c.items.tokens) _ c.requires.taking
+    items_stop (dialect_view c.args.dialect) (classes c.args.kinds.now) (steps_view c.args.each.now) (state c.items.tokens) _ c.requires.taking
     (sym (any_is c.args.kinds.now (state c.items.tokens)) ∙ sym c.items-test.ensures) c.items.invariant.whole

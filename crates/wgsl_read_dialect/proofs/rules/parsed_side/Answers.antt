@@ -1,7 +1,7 @@
 -- Each rule has the steps of its symbol, written by tools/dialect.py.
 use Rattle.wgsl_read_dialect.specs.Steps.{rule_steps}
 use Rattle.wgsl_read_dialect.proofs.Views.{choice_is, repeat_is}
-use Rattle.wgsl_read_dialect.proofs.rules.right_side.Goals as goal
+use Rattle.wgsl_read_dialect.proofs.rules.parsed_side.Goals as goal
 
 pub returns-in-Ident : goal.returns-in-Ident
 unfolding rule_steps
@@ -42,6 +42,10 @@ returns-in-UnaryExpression c = simp (c.in-UnaryExpression.is, choice_is)
 pub returns-in-MultiplicativeExpression : goal.returns-in-MultiplicativeExpression
 unfolding rule_steps
 returns-in-MultiplicativeExpression c = simp (c.in-MultiplicativeExpression.is, choice_is, repeat_is)
+
+pub returns-in-NegatedExpression : goal.returns-in-NegatedExpression
+unfolding rule_steps
+returns-in-NegatedExpression c = simp (c.in-NegatedExpression.is, choice_is, repeat_is)
 
 pub returns-in-ShiftExpression : goal.returns-in-ShiftExpression
 unfolding rule_steps
