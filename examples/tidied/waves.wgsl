@@ -44,8 +44,10 @@ fn height_at(place: vec2<f32>) -> vec3<f32> {
 }
 
 @fragment
-fn shade(@location(0) normal: vec3<f32>,
-    @location(1) depth: f32) -> @location(0) Color {
+fn shade(
+    @location(0) normal: vec3<f32>,
+    @location(1) depth: f32
+) -> @location(0) Color {
     if depth > 0.5 && normal.y < 0.99 {
         return deep;
     }

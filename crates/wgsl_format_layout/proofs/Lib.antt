@@ -1,4 +1,9 @@
 pub mod CommentKinds
 pub mod TokenClasses
 pub mod TokensCut
+pub mod FlagsRight
+pub mod TriviaScanned
+pub mod TokensFound
+pub mod TokensMarked
+pub mod MarkedLeft
 pub mod SourcesLaid

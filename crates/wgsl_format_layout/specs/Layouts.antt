@@ -3,11 +3,14 @@ use Rattle.std.specs.Prelude.{◌≡◌, ℕ, Bool, List, ◌∷◌, ◌++◌, c
 use Rattle.wgsl_model.specs.Tokens.Trivia.{outside}
 use Rattle.wgsl_model_tidy.specs.Pieces.{Piece, comments}
 use Rattle.wgsl_model_tidy.specs.Roles.{Role}
-use Rattle.wgsl_model_tidy.specs.LaidOut.{Spot, laid_from, next_role, owned, in_line_of}
+use Rattle.wgsl_model_tidy.specs.LaidOut.{Spot, has_lines, laid_from, next_role, owned, in_line_of}
+use Rattle.wgsl_theory_tidy.proofs.Comments.{piece}
+use Rattle.wgsl_lex_token.specs.View.{class_of_kind}
 use Rattle.wgsl_format_layout.specs.States.{state_view}
 use Rattle.wgsl_format_layout.specs.Gaps.{last_view}
 use Rattle.wgsl_format_layout.specs.Comments.{MayFollow}
 use Rattle.wgsl_format_layout.specs.declared.layout.Layout.{Layout}
+use Rattle.wgsl_format_layout.specs.declared.marks.MarkedToken.{MarkedToken}
 
 -- the state behind the last token, and what the last piece is
 abbrev pub spot_of : Layout → Spot
@@ -25,6 +28,10 @@ Writes old p right own new = (ps : List Piece) → next_role (state_view old.sta
 abbrev pub WritesComments : Layout → List ℕ → Role → Bool → ℕ → Layout → Type 0
 WritesComments old text right has_next n new =
     (behind : ℕ → List Piece) → ((m : ℕ) → next_role (state_view old.state) (behind m) ≡ right) → MayFollow behind has_next → text_with old (comments behind outside 0 text) ≡ text_with new (behind n)
+
+-- a token with its characters was written after so many line ends, before pieces by which it is marked
+abbrev pub WritesToken : Layout → MarkedToken → List ℕ → ℕ → Layout → Type 0
+WritesToken old token text n new = (ps : List Piece) → token.lines ≡ has_lines ps → text_with old (piece (class_of_kind token.kind) text n ∷ ps) ≡ text_with new ps
 
 -- of the state only the depth of the line changed
 abbrev pub StaysBehind : Layout → Layout → Type 0

@@ -4,3 +4,5 @@ pub mod States
 pub mod Gaps
 pub mod Comments
 pub mod Layouts
+pub mod Flags
+pub mod Marks

@@ -7,9 +7,11 @@ ghost use Rattle.wgsl_model_tidy.specs.Roles.{closes};
 ghost use Rattle.wgsl_model_tidy.specs.Joints.{joint};
 ghost use Rattle.wgsl_format_layout.specs.View.{role_view, joint_view};
 ghost use Rattle.wgsl_format_layout.specs.Gaps.{comment_class, gap_view, last_view};
+ghost use Rattle.wgsl_format_layout.specs.Kinds.{enclosing_view};
 
 use crate::comment::CommentKind;
 use crate::joint::{Joint, joint_of};
+use crate::opened::Enclosing;
 use crate::role::Role;
 
 /// What is written before a piece.
@@ -111,11 +113,11 @@ fn behind_comment(joint: Joint, right: Role) -> Joint
     loose_joint(right)
 }
 
-/// What stands between a comment that leads and a token.
-fn behind_leading(right: Role) -> Joint
-    ensures { joint_view result ≡ plain.behind_leading (role_view right) }
+/// What is between a comment that leads and a token, by what is between the tokens before and after.
+fn behind_leading(joint: Joint, right: Role) -> Joint
+    ensures { joint_view result ≡ plain.behind_leading (joint_view joint) (role_view right) }
 {
-    if right.is(Role::BlockEnd) {
+    if right.is(Role::BlockEnd) || (is_line(joint) && right.closes_bracket()) {
         return Joint::Line;
     }
     loose_joint(right)
@@ -123,17 +125,17 @@ fn behind_leading(right: Role) -> Joint
 
 /// The gap before a token.
 pub(crate) fn token_gap(
-    in_brackets: bool,
+    enclosing: Enclosing,
     last: Last,
     left: Role,
     right: Role,
     line_ends: usize,
     broken: Gap,
 ) -> Gap
-    ensures { gap_view result ≡ plain.token_gap in_brackets
+    ensures { gap_view result ≡ plain.token_gap (enclosing_view enclosing)
         (last_view last) (role_view left) (role_view right) line_ends (gap_view broken) }
 {
-    let joint = joint_of(in_brackets, left, right);
+    let joint = joint_of(enclosing, left, right);
     match last {
         Last::Token => {
             if left.is(Role::Beginning) {
@@ -142,7 +144,7 @@ pub(crate) fn token_gap(
             joint_gap(joint, line_ends, broken)
         }
         Last::Comment(CommentKind::Line) => broken,
-        Last::Leading => joint_gap(behind_leading(right), line_ends, broken),
+        Last::Leading => joint_gap(behind_leading(joint, right), line_ends, broken),
         Last::Comment(CommentKind::Block | CommentKind::Open) => {
             joint_gap(behind_comment(joint, right), line_ends, broken)
         }

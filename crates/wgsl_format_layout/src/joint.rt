@@ -1,9 +1,11 @@
 //! What stands between two neighbouring tokens.
 
 ghost use Rattle.std.specs.Prelude.{◌≡◌};
-ghost use Rattle.wgsl_model_tidy.specs.Joints.{stay_apart, tight_behind, is_applied, is_template, is_continued, closed_up, close_joint, continues_line, behind_block, joint};
+ghost use Rattle.wgsl_model_tidy.specs.Joints.{stay_apart, tight_behind, is_applied, is_template, is_continued, closed_up, continues_line, behind_block, joint_in_line, joint_in_lines, joint};
 ghost use Rattle.wgsl_format_layout.specs.View.{role_view, joint_view};
+ghost use Rattle.wgsl_format_layout.specs.Kinds.{enclosing_view};
 
+use crate::opened::Enclosing;
 use crate::role::Role;
 
 /// What stands between two neighbouring tokens.
@@ -72,17 +74,6 @@ fn closed_up(left: Role, right: Role) -> bool
         || is_continued(left, right)
 }
 
-/// What stands between two that are closed up.
-fn close_joint(in_brackets: bool, left: Role, right: Role) -> Joint
-    ensures { joint_view result ≡ close_joint in_brackets (role_view left) (role_view right) }
-{
-    if in_brackets && ((left.opens() && !right.closes()) || (right.closes() && !left.opens())) {
-        Joint::NothingOrLine
-    } else {
-        Joint::Nothing
-    }
-}
-
 /// Whether a line end of the author's stays between two that are not closed up.
 fn goes_on(left: Role, right: Role) -> bool
     ensures { result ≡ continues_line (role_view left) (role_view right) }
@@ -108,9 +99,20 @@ fn behind_block(right: Role) -> Joint
     }
 }
 
-/// What stands between two neighbours, in brackets or not.
-pub(crate) fn joint_of(in_brackets: bool, left: Role, right: Role) -> Joint
-    ensures { joint_view result ≡ joint in_brackets (role_view left) (role_view right) }
+/// What is between two neighbours in a bracket in one line.
+fn joint_in_line(left: Role, right: Role) -> Joint
+    ensures { joint_view result ≡ joint_in_line (role_view left) (role_view right) }
+{
+    if closed_up(left, right) {
+        Joint::Nothing
+    } else {
+        Joint::Space
+    }
+}
+
+/// What is between two neighbours where a line may end, in brackets or not.
+fn joint_in_lines(in_brackets: bool, left: Role, right: Role) -> Joint
+    ensures { joint_view result ≡ joint_in_lines in_brackets (role_view left) (role_view right) }
 {
     if left.is(Role::BlockStart) {
         if right.is(Role::BlockEnd) {
@@ -125,10 +127,27 @@ pub(crate) fn joint_of(in_brackets: bool, left: Role, right: Role) -> Joint
     } else if right.is(Role::BlockStart) {
         Joint::Space
     } else if closed_up(left, right) {
-        close_joint(in_brackets, left, right)
+        Joint::Nothing
     } else if in_brackets || goes_on(left, right) {
         Joint::SpaceOrLine
     } else {
         Joint::Space
+    }
+}
+
+/// What is between two neighbours, by what they are in.
+pub(crate) fn joint_of(enclosing: Enclosing, left: Role, right: Role) -> Joint
+    ensures { joint_view result
+        ≡ joint (enclosing_view enclosing) (role_view left) (role_view right) }
+{
+    match enclosing {
+        Enclosing::NoBracket => joint_in_lines(false, left, right),
+        Enclosing::OneLine => joint_in_line(left, right),
+        Enclosing::OwnLines => {
+            if left.opens_bracket() || right.closes_bracket() {
+                return Joint::Line;
+            }
+            joint_in_lines(true, left, right)
+        }
     }
 }

@@ -1,6 +1,6 @@
 //! Laying a source out.
 
-ghost use Rattle.std.specs.Prelude.{◌≡◌, if◌then◌else◌, ℕ, [], ◌∷◌, List, codes, chars, string_bytes, false, IfOk};
+ghost use Rattle.std.specs.Prelude.{◌≡◌, if◌then◌else◌, ℕ, [], List, codes, chars, string_bytes, false, IfOk};
 ghost use Rattle.grammar.specs.Tokens.{Token};
 ghost use Rattle.grammar.specs.Endings.{Ending};
 ghost use Rattle.wgsl_model.specs.Tokens.TokenList.{IsTokenList};
@@ -14,20 +14,19 @@ ghost use Rattle.wgsl_format_layout.specs.View.{role_view};
 ghost use Rattle.wgsl_format_layout.specs.States.{state_view};
 ghost use Rattle.wgsl_format_layout.specs.Gaps.{comment_class, gap_view, last_view};
 ghost use Rattle.wgsl_format_layout.specs.Comments.{MayFollow};
-ghost use Rattle.wgsl_format_layout.specs.Layouts.{spot_of, text_with, Writes, WritesComments, StaysBehind};
+ghost use Rattle.wgsl_format_layout.specs.Layouts.{spot_of, text_with, Writes, WritesComments, WritesToken, StaysBehind};
 
 use crate::comment::{Comment, CommentKind, comment_at, is_followed, line_ends_at};
 use crate::gap::{
     Gap, Last, comment_gap, comment_last, depth_behind, is_line, is_token, line_end, token_gap,
 };
 use crate::joint::joint_of;
+use crate::marks::{MarkedToken, marked_tokens};
 use crate::role::Role;
 use crate::state::LayoutState;
 use crate::text::{put, put_gap};
 use std::alloc::{AllocError, Global};
 use wgsl_lex_scanner::text::split_first;
-use wgsl_lex_token::kind::TokenKind;
-use wgsl_lexer::TextTokens;
 
 /// A text that is laid out up to a place.
 #[derive(Drop)]
@@ -68,11 +67,8 @@ impl Layout {
             model.owned (spot_of self.now) (role_view right)
             (plain.comments behind outside 0 (chars text.now)) ≡ result }
     {
-        let joint = joint_of(self.state.opened.in_brackets(), self.state.last, right);
-        is_token(self.last)
-            && is_line(joint)
-            && !right.is(Role::BlockEnd)
-            && is_followed(text, has_next)
+        let joint = joint_of(self.state.opened.enclosing(), self.state.last, right);
+        is_token(self.last) && is_line(joint) && !right.closes() && is_followed(text, has_next)
     }
 
     /// The gap before a comment after so many line ends, before a token that has this role and owns
@@ -103,8 +99,8 @@ impl Layout {
         let depth = self.state.depth_of(right)?;
         let items = self.state.between_items(right);
         let broken = line_end(items, self.last, left, right, line_ends, depth);
-        let in_brackets = self.state.opened.in_brackets();
-        Ok(token_gap(in_brackets, self.last, left, right, line_ends, broken))
+        let enclosing = self.state.opened.enclosing();
+        Ok(token_gap(enclosing, self.last, left, right, line_ends, broken))
     }
 
     /// Writes a comment after so many line ends, before a token that has this role and owns it or
@@ -156,26 +152,26 @@ impl Layout {
         Ok(line_ends)
     }
 
-    /// Writes a token that does so behind so many line ends.
+    /// Writes a token of this role after so many line ends.
     fn write_token(
         &mut self,
-        kind: TokenKind,
+        token: MarkedToken,
         right: Role,
         text: &str,
         line_ends: usize,
     ) -> Result<(), AllocError>
-        requires token { model.is_comment (class_of_kind kind) ≡ false }
+        requires token { model.is_comment (class_of_kind token.kind) ≡ false }
         requires right { role_view right
-            ≡ role_in (state_view self.old.state) (class_of_kind kind) }
-        ensures laid { IfOk result (λ _. (ps : List plain.Piece) → text_with self.old
-            (piece (class_of_kind kind) (chars text.now) line_ends ∷ ps) ≡ text_with self.new ps) }
+            ≡ role_in (state_view self.old.state) (class_of_kind token.kind) }
+        ensures laid { IfOk result (λ _. WritesToken self.old token (chars text.now)
+            line_ends self.new) }
     {
         let gap = self.gap_before_token(line_ends, right)?;
         put_gap(&mut self.text, gap)?;
         put(&mut self.text, text)?;
         self.state.line = depth_behind(gap, self.state.line);
         self.last = Last::Token;
-        self.state.take(kind, right)
+        self.state.take(token.kind, right, token.lines)
     }
 
     /// Writes what stands behind the last piece.
@@ -196,15 +192,15 @@ pub fn laid_out(alloc: Global, source: &str) -> Result<String, AllocError>
         (ts : List Token) × (e : Ending) × IsTokenList (chars source.now) ts e ×
         (chars (string_bytes text) ≡ model.laid_out (plain.pieces (chars source.now) ts))) }
 {
-    let mut tokens = TextTokens::new(alloc, source)?;
+    let mut tokens = marked_tokens(alloc, source)?;
     let mut layout = Layout::new(alloc, source)?;
     let mut place = 0;
-    'tokens: while let (Some(kind), Some(span)) = (tokens.kind(), tokens.span()) {
-        let right = layout.state.role_in(kind);
+    'tokens: while let Some(token) = tokens.pop() {
+        let right = layout.state.role_in(token.kind);
+        let span = token.span;
         let line_ends = layout.write_comments(&source[place..span.start], right, true)?;
-        layout.write_token(kind, right, &source[span.start..span.end], line_ends)?;
+        layout.write_token(token, right, &source[span.start..span.end], line_ends)?;
         place = span.end;
-        tokens.skip();
     }
     layout.write_comments(&source[place..], Role::Beginning, false)?;
     layout.end()

@@ -2,9 +2,11 @@
 #![tactic(auto)]
 
 mod comment;
+mod flags;
 mod gap;
 mod joint;
 mod layout;
+mod marks;
 mod opened;
 mod role;
 mod state;

@@ -2,7 +2,7 @@
 
 ghost use Rattle.std.specs.Prelude.{◌≡◌, suc, [], ◌∷◌, drop, map, reverse, IfOk};
 ghost use Rattle.wgsl_model_tidy.specs.Open as plain;
-ghost use Rattle.wgsl_format_layout.specs.Kinds.{open_view};
+ghost use Rattle.wgsl_format_layout.specs.Kinds.{open_view, enclosing_view};
 ghost use Rattle.wgsl_format_layout.specs.declared.opened.OpenAt.{OpenAt};
 
 use std::alloc::{AllocError, Global};
@@ -15,10 +15,31 @@ pub enum Open {
     Block,
     /// The members of a structure.
     Members,
-    /// The arguments of an attribute.
-    Arguments,
+    /// The arguments of an attribute, in lines of their own or not.
+    Arguments { lines: bool },
     /// Every other bracket, and a template list.
-    Bracket,
+    Bracket { lines: bool },
+}
+
+/// What a place is in.
+#[derive(Clone, Copy)]
+pub enum Enclosing {
+    NoBracket,
+    /// A bracket in one line.
+    OneLine,
+    /// A bracket in lines of its own.
+    OwnLines,
+}
+
+/// The bracket in lines of its own or not.
+fn enclosed_by(lines: bool) -> Enclosing
+    ensures { enclosing_view result ≡ plain.enclosed_by lines }
+{
+    if lines {
+        Enclosing::OwnLines
+    } else {
+        Enclosing::OneLine
+    }
 }
 
 /// Something that is open, and the depth of the line where it closes.
@@ -78,8 +99,21 @@ impl Opened {
         ensures { result ≡ plain.in_brackets self.now }
     {
         match self.items.last() {
-            Some(open) => matches!(open.kind, Open::Bracket | Open::Arguments),
+            Some(open) => matches!(open.kind, Open::Bracket { .. } | Open::Arguments { .. }),
             None => false,
+        }
+    }
+
+    /// The innermost, as far as it is a bracket.
+    pub(crate) fn enclosing(&self) -> Enclosing
+        ensures { enclosing_view result ≡ plain.enclosing self.now }
+    {
+        match self.items.last() {
+            Some(open) => match open.kind {
+                Open::Block | Open::Members => Enclosing::NoBracket,
+                Open::Arguments { lines } | Open::Bracket { lines } => enclosed_by(lines),
+            },
+            None => Enclosing::NoBracket,
         }
     }
 
@@ -98,7 +132,7 @@ impl Opened {
         ensures { result ≡ plain.in_arguments self.now }
     {
         match self.items.last() {
-            Some(open) => matches!(open.kind, Open::Arguments),
+            Some(open) => matches!(open.kind, Open::Arguments { .. }),
             None => false,
         }
     }

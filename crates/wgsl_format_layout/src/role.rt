@@ -1,7 +1,7 @@
 //! What a token does where it stands.
 
 ghost use Rattle.std.specs.Prelude.{◌≡◌};
-ghost use Rattle.wgsl_model_tidy.specs.Roles.{role_of, sign_role, is, ends_operand, begins_operand, wants_operand, is_tight, opens, closes, begins_item};
+ghost use Rattle.wgsl_model_tidy.specs.Roles.{role_of, sign_role, is, ends_operand, begins_operand, wants_operand, is_tight, opens, opens_bracket, closes, closes_bracket, begins_item};
 ghost use Rattle.wgsl_lex_token.specs.View.{class_of_kind};
 ghost use Rattle.wgsl_format_layout.specs.View.{role_view};
 
@@ -193,6 +193,20 @@ impl Role {
         ensures { result ≡ closes (role_view self) }
     {
         matches!(self, Role::Closing | Role::TemplateEnd | Role::BlockEnd)
+    }
+
+    /// Whether it opens a bracket or a template list.
+    pub(crate) fn opens_bracket(self) -> bool
+        ensures { result ≡ opens_bracket (role_view self) }
+    {
+        matches!(self, Role::Opening | Role::TemplateStart)
+    }
+
+    /// Whether it closes a bracket or a template list.
+    pub(crate) fn closes_bracket(self) -> bool
+        ensures { result ≡ closes_bracket (role_view self) }
+    {
+        matches!(self, Role::Closing | Role::TemplateEnd)
     }
 
     /// Whether a statement, a declaration, a member or a clause can begin behind it.

@@ -114,7 +114,7 @@ impl LayoutState {
     fn last_behind(&self, right: Role) -> Role
         ensures { role_view result ≡ plain.last_behind (state_view self.now) (role_view right) }
     {
-        if self.last.is(Role::At) {
+        if !right.opens_bracket() && self.last.is(Role::At) {
             return Role::Attribute;
         }
         if right.is(Role::Closing) && self.opened.in_arguments() {
@@ -140,23 +140,22 @@ impl LayoutState {
         }
     }
 
-    /// What a `(` or a `[` opens.
-    fn bracket_kind(&self) -> Open
-        ensures { open_view result ≡ plain.bracket_opened (state_view self.now) }
+    /// What a `(` or a `[` opens, in lines of its own or not.
+    fn bracket_kind(&self, lines: bool) -> Open
+        ensures { open_view result ≡ plain.bracket_opened (state_view self.now) lines }
     {
         if self.last.is(Role::Attribute) {
-            Open::Arguments
+            Open::Arguments { lines }
         } else {
-            Open::Bracket
+            Open::Bracket { lines }
         }
     }
 
-    /// Opens or closes what such a token does.
-    fn open_or_close(&mut self, right: Role) -> Result<(), AllocError>
+    /// Opens or closes what such a token does; a bracket that it opens is in lines of its own or not.
+    fn open_or_close(&mut self, right: Role, lines: bool) -> Result<(), AllocError>
         ensures opened { IfOk result (λ _. self.new.opened
-            ≡ plain.opened_behind (state_view self.old) self.old.line (role_view right)) }
-        ensures line { IfOk result (λ _. self.new.line
-            ≡ plain.line_behind (state_view self.old) self.old.line (role_view right)) }
+            ≡ plain.opened_behind (state_view self.old) self.old.line (role_view right) lines) }
+        ensures line { IfOk result (λ _. self.new.line ≡ self.old.line) }
     {
         if right.is(Role::BlockStart) {
             let depth = self.opened.inner_depth()?;
@@ -164,14 +163,13 @@ impl LayoutState {
             return self.opened.push(kind, depth);
         }
         if right.is(Role::Opening) {
-            let kind = self.bracket_kind();
+            let kind = self.bracket_kind(lines);
             return self.opened.push(kind, self.line);
         }
         if right.is(Role::TemplateStart) {
-            return self.opened.push(Open::Bracket, self.line);
+            return self.opened.push(Open::Bracket { lines }, self.line);
         }
         if right.closes() {
-            self.line = self.opened.outer_depth();
             self.opened.pop();
         }
         Ok(())
@@ -202,15 +200,20 @@ impl LayoutState {
         self.leading
     }
 
-    /// Goes behind a token that does so.
-    pub(crate) fn take(&mut self, kind: TokenKind, right: Role) -> Result<(), AllocError>
+    /// Goes behind a token of this role; a bracket that it opens is in lines of its own or not.
+    pub(crate) fn take(
+        &mut self,
+        kind: TokenKind,
+        right: Role,
+        lines: bool,
+    ) -> Result<(), AllocError>
         ensures { IfOk result (λ _. state_view self.new ≡ plain.behind_token
-            (state_view self.old) self.old.line (class_of_kind kind) (role_view right)) }
+            (state_view self.old) self.old.line (class_of_kind kind) (role_view right) lines) }
     {
         let last = self.last_behind(right);
         let leading = self.leading_behind(right);
         let structure = self.structure_behind(kind, right);
-        self.open_or_close(right)?;
+        self.open_or_close(right, lines)?;
         self.last = last;
         self.leading = leading;
         self.structure = structure;

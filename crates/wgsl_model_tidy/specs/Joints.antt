@@ -1,6 +1,7 @@
 -- What stands between two neighbouring tokens.
-use Rattle.std.specs.Prelude.{Bool, not, ◌&&◌, ◌||◌, if◌then◌else◌}
-use Rattle.wgsl_model_tidy.specs.Roles.{Role, name, unsuffixed, number, word, else_word, opening, template_start, template_end, block_start, block_end, comma, period, at, minus, ampersand, binary, step, item_end, attribute, semicolon, is, ends_operand, begins_operand, wants_operand, is_tight, opens, closes}
+use Rattle.std.specs.Prelude.{Bool, true, false, not, ◌&&◌, ◌||◌, if◌then◌else◌}
+use Rattle.wgsl_model_tidy.specs.Roles.{Role, name, unsuffixed, number, word, else_word, opening, template_start, template_end, block_start, block_end, comma, period, at, minus, ampersand, binary, step, item_end, attribute, semicolon, is, ends_operand, begins_operand, wants_operand, is_tight, opens_bracket, closes_bracket}
+use Rattle.wgsl_model_tidy.specs.Open.{Enclosing, no_bracket, one_line, own_lines}
 
 pub data Joint : Type 0 where
   -- a line end
@@ -35,11 +36,6 @@ is_continued left right = ends_operand left && ((is right period && not (is left
 abbrev pub closed_up : Role → Role → Bool
 closed_up left right = (is_tight right || tight_behind left right) || (is_applied left right || (is_template left right || is_continued left right))
 
--- where two are closed up: in brackets a line end may stay behind the opening one or before the closing one, unless nothing stands between these
-abbrev pub close_joint : Bool → Role → Role → Joint
-close_joint in_brackets left right =
-    if in_brackets && ((opens left && not (closes right)) || (closes right && not (opens left))) then nothing_or_line else nothing
-
 -- elsewhere a line end of the author's stays around an operator between operands, behind `,` and behind an attribute
 abbrev pub continues_line : Role → Role → Bool
 continues_line left right = (is left binary || is right binary) || (is left comma || is left attribute)
@@ -48,13 +44,23 @@ continues_line left right = (is left binary || is right binary) || (is left comm
 abbrev pub behind_block : Role → Joint
 behind_block right = if is right else_word then space else if is_tight right then (if is right semicolon then nothing_or_line else nothing) else line
 
--- what stands between two neighbours, in brackets or not; `{` stands in the line of what it belongs to
-abbrev pub joint : Bool → Role → Role → Joint
-joint in_brackets left right =
+-- what is between two neighbours in a bracket in one line
+abbrev pub joint_in_line : Role → Role → Joint
+joint_in_line left right = if closed_up left right then nothing else space
+
+-- what is between them where a line may end, in brackets or not; `{` is in the line of what it belongs to
+abbrev pub joint_in_lines : Bool → Role → Role → Joint
+joint_in_lines in_brackets left right =
     if is left block_start then (if is right block_end then nothing else line)
     else if is right block_end || is left item_end then line
     else if is left block_end then behind_block right
     else if is right block_start then space
-    else if closed_up left right then close_joint in_brackets left right
+    else if closed_up left right then nothing
     else if in_brackets || continues_line left right then space_or_line
     else space
+
+-- what is between two neighbours; in a bracket in lines of its own a line ends after the opening and before the closing bracket
+abbrev pub joint : Enclosing → Role → Role → Joint
+joint no_bracket left right = joint_in_lines false left right
+joint one_line left right = joint_in_line left right
+joint own_lines left right = if opens_bracket left || closes_bracket right then line else joint_in_lines true left right

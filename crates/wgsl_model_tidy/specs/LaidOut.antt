@@ -1,10 +1,11 @@
 -- The laid-out text of pieces: each piece as it stands, and before it nothing, a space, or a line end, an empty line at most, and the blank space of the line's depth.
 use Rattle.std.specs.Prelude.{ℕ, zero, suc, Bool, true, false, not, ◌&&◌, ◌||◌, ◌==◌, nat_lt, if◌then◌else◌, List, [], ◌∷◌, ◌++◌, codes}
-use Rattle.wgsl_model.specs.Tokens.Classes.{LineComment, BlockComment}
+use Rattle.grammar.specs.Grammar.{is_among}
+use Rattle.wgsl_model.specs.Tokens.Classes.{LineComment, BlockComment, SymBraceLeft, SymBraceRight}
 use Rattle.wgsl_model_tidy.specs.Pieces.{Piece, OpenComment}
-use Rattle.wgsl_model_tidy.specs.Roles.{Role, beginning, opening, template_start, template_end, block_end, is, is_tight, opens, closes}
+use Rattle.wgsl_model_tidy.specs.Roles.{Role, beginning, opening, template_start, template_end, block_end, is, is_tight, opens, opens_bracket, closes_bracket, closes, role_of}
 use Rattle.wgsl_model_tidy.specs.Joints.{Joint, line, nothing, space, nothing_or_line, space_or_line, joint}
-use Rattle.wgsl_model_tidy.specs.Open.{LayoutState, start, in_brackets, between_items, depth_of, comment_depth, role_in, behind_token}
+use Rattle.wgsl_model_tidy.specs.Open.{LayoutState, Enclosing, start, enclosing, between_items, depth_of, comment_depth, role_in, behind_token}
 
 -- nothing, a space, or a line end, with an empty line or without, and the blank space of a line so deep
 pub data Gap : Type 0 where
@@ -35,6 +36,16 @@ joint_gap space n break = blank
 joint_gap nothing_or_line n break = kept_gap n break closed
 joint_gap space_or_line n break = kept_gap n break blank
 
+-- the last piece is a token, or there is none
+abbrev pub is_token : Last → Bool
+is_token token = true
+is_token last = false
+
+-- a line end has to be there
+abbrev pub is_line : Joint → Bool
+is_line line = true
+is_line joint = false
+
 -- what nothing stands before, behind a comment too
 abbrev pub closes_up : Role → Bool
 closes_up right = is_tight right || is right template_end
@@ -48,26 +59,16 @@ abbrev pub behind_comment : Joint → Role → Joint
 behind_comment line right = line
 behind_comment joint right = loose_joint right
 
--- between a comment that leads and a token: `}` alone has to stand in a line of its own
-abbrev pub behind_leading : Role → Joint
-behind_leading right = if is right block_end then line else loose_joint right
+-- between a comment that leads and a token: `}` begins a line, and so does a closing bracket before which a line has to end
+abbrev pub behind_leading : Joint → Role → Joint
+behind_leading between right = if is right block_end || (is_line between && closes_bracket right) then line else loose_joint right
 
 -- before a token: what stands between it and the token before, by what they do
-abbrev pub token_gap : Bool → Last → Role → Role → ℕ → Gap → Gap
-token_gap in_brackets token left right n break = if is left beginning then closed else joint_gap (joint in_brackets left right) n break
-token_gap in_brackets line_comment left right n break = break
-token_gap in_brackets leading_comment left right n break = joint_gap (behind_leading right) n break
-token_gap in_brackets last left right n break = joint_gap (behind_comment (joint in_brackets left right) right) n break
-
--- the last piece is a token, or there is none
-abbrev pub is_token : Last → Bool
-is_token token = true
-is_token last = false
-
--- a line end has to be there
-abbrev pub is_line : Joint → Bool
-is_line line = true
-is_line joint = false
+abbrev pub token_gap : Enclosing → Last → Role → Role → ℕ → Gap → Gap
+token_gap enclosing token left right n break = if is left beginning then closed else joint_gap (joint enclosing left right) n break
+token_gap enclosing line_comment left right n break = break
+token_gap enclosing leading_comment left right n break = joint_gap (behind_leading (joint enclosing left right) right) n break
+token_gap enclosing last left right n break = joint_gap (behind_comment (joint enclosing left right) right) n break
 
 -- before a comment after a token: a line end where it belongs to the next token; else nothing before a block comment after an opening bracket, and a space elsewhere, or a line end of the author's
 abbrev pub comment_behind : ℕ → Role → Bool → ℕ → Gap → Gap
@@ -106,9 +107,9 @@ abbrev pub is_followed : List Piece → Bool
 is_followed [] = false
 is_followed (p ∷ ps) = p.line_ends == 0 && (if is_comment p.class then is_followed ps else true)
 
--- The first comment after a token belongs to the next token, of the role on the right: that follows in the line of the comment, and begins a line after the token before. A `}` owns none. Later comments go by the gap before them.
+-- The first comment after a token belongs to the next token, of the role on the right: that follows in the line of the comment, and begins a line after the token before. A closing bracket owns none. Later comments go by the gap before them.
 abbrev pub owned : Spot → Role → List Piece → Bool
-owned spot right ps = is_token spot.last && ((is_line (joint (in_brackets spot.state.opened) spot.state.last right) && not (is right block_end)) && is_followed ps)
+owned spot right ps = is_token spot.last && ((is_line (joint (enclosing spot.state.opened) spot.state.last right) && not (closes right)) && is_followed ps)
 
 -- the gap before a comment of a class, after so many line ends; the next token is of the role on the right, and owns it or does not
 abbrev pub gap_before_comment : Spot → Role → ℕ → Bool → ℕ → Gap
@@ -119,11 +120,35 @@ gap_before_comment spot right class owned n =
 -- the gap before a token of the role on the right
 abbrev pub gap_before_token : Spot → Role → ℕ → Gap
 gap_before_token spot right n =
-    token_gap (in_brackets spot.state.opened) spot.last spot.state.last right n (line_end (between_items spot.state right) spot.last spot.state.last right n (depth_of spot.state right))
+    token_gap (enclosing spot.state.opened) spot.last spot.state.last right n (line_end (between_items spot.state right) spot.last spot.state.last right n (depth_of spot.state right))
 
 -- the gap before a piece, with others after it; the first token from there on is of the role on the right
 abbrev pub gap_before : Spot → Role → Piece → List Piece → Gap
 gap_before spot right p ps = if is_comment p.class then gap_before_comment spot right p.class (owned spot right ps) p.line_ends else gap_before_token spot right p.line_ends
+
+-- ---- brackets in lines of their own
+
+-- a line ends before a piece or after it, or a block begins or ends with it
+abbrev pub breaks : Piece → Bool
+breaks p = not (p.line_ends == 0) || is_among p.class (LineComment ∷ SymBraceLeft ∷ SymBraceRight ∷ [])
+
+-- a token of a class opens a bracket or a template list, or closes one
+abbrev pub opens_one : ℕ → Bool
+opens_one class = opens_bracket (role_of false class)
+
+abbrev pub closes_one : ℕ → Bool
+closes_one class = closes_bracket (role_of false class)
+
+-- where n brackets are open, a line ends before the last of them is closed
+abbrev pub has_break : ℕ → List Piece → Bool
+has_break zero ps = false
+has_break (suc n) [] = false
+has_break (suc n) (p ∷ ps) = breaks p || has_break (if closes_one p.class then n else if opens_one p.class then suc (suc n) else suc n) ps
+
+-- a bracket before these pieces is in lines of its own: something is in it, and a line ends there
+abbrev pub has_lines : List Piece → Bool
+has_lines [] = false
+has_lines (p ∷ ps) = not (closes_one p.class) && has_break 1 (p ∷ ps)
 
 -- ---- the whole text
 
@@ -158,12 +183,12 @@ leads gap last left = false
 abbrev pub comment_last : ℕ → Bool → Last
 comment_last class leading = if class == LineComment then line_comment else if class == BlockComment then (if leading then leading_comment else block_comment) else open_comment
 
--- behind a piece behind this gap
-abbrev pub behind_piece : Spot → Gap → Role → Piece → Spot
-behind_piece spot gap right p =
+-- after a piece after this gap, before others
+abbrev pub behind_piece : Spot → Gap → Role → Piece → List Piece → Spot
+behind_piece spot gap right p ps =
     let depth = depth_behind gap spot.state.line in
     if is_comment p.class then record { state = in_line_of spot.state depth; last = comment_last p.class (leads gap spot.last spot.state.last) }
-    else record { state = behind_token spot.state depth p.class right; last = token }
+    else record { state = behind_token spot.state depth p.class right (has_lines ps); last = token }
 
 -- what stands behind the last piece: a line end, but not where a comment would go on with it, nor where there is no piece
 abbrev pub ending : Last → Role → List ℕ
@@ -177,7 +202,7 @@ laid_from spot [] = ending spot.last spot.state.last
 laid_from spot (p ∷ ps) =
     let right = next_role spot.state (p ∷ ps) in
     let gap = gap_before spot right p ps in
-    gap_text gap ++ (p.text ++ laid_from (behind_piece spot gap right p) ps)
+    gap_text gap ++ (p.text ++ laid_from (behind_piece spot gap right p ps) ps)
 
 -- the laid-out text of pieces
 abbrev pub laid_out : List Piece → List ℕ

@@ -1,11 +1,12 @@
 -- What is open at a place, how deep a line there stands, and what a token does to it.
 use Rattle.std.specs.Prelude.{ℕ, suc, Bool, true, false, ◌&&◌, ◌||◌, not, ◌==◌, if◌then◌else◌, List, [], ◌∷◌, drop}
 use Rattle.wgsl_model.specs.Tokens.Classes.{KwStruct}
-use Rattle.wgsl_model_tidy.specs.Roles.{Role, else_word, opening, closing, template_start, block_start, block_end, comma, semicolon, at, item_end, attribute, beginning, is, closes, ends_operand, begins_item, role_of}
+use Rattle.wgsl_model_tidy.specs.Roles.{Role, else_word, opening, closing, template_start, block_start, block_end, comma, semicolon, at, item_end, attribute, beginning, is, opens_bracket, closes, ends_operand, begins_item, role_of}
 
--- a block, the members of a structure, the arguments of an attribute, every other bracket
+-- a block, the members of a structure, the arguments of an attribute, every other bracket; the last two are in lines of their own or not
 pub data Open : Type 0 where
-  block members arguments bracket : Open
+  block members : Open
+  arguments bracket : Bool → Open
 
 -- what is open, the innermost first, each with the depth of the line where it closes
 abbrev pub Opened : Type 0
@@ -25,9 +26,22 @@ start = record { opened = []; line = 0; last = beginning; leading = false; struc
 
 -- the innermost is a bracket or a template list, and no block
 abbrev pub in_brackets : Opened → Bool
-in_brackets ((bracket, depth) ∷ outer) = true
-in_brackets ((arguments, depth) ∷ outer) = true
+in_brackets ((bracket lines, depth) ∷ outer) = true
+in_brackets ((arguments lines, depth) ∷ outer) = true
 in_brackets opened = false
+
+-- the innermost is no bracket, a bracket in one line, or one in lines of its own
+pub data Enclosing : Type 0 where
+  no_bracket one_line own_lines : Enclosing
+
+abbrev pub enclosed_by : Bool → Enclosing
+enclosed_by true = own_lines
+enclosed_by false = one_line
+
+abbrev pub enclosing : Opened → Enclosing
+enclosing ((bracket lines, depth) ∷ outer) = enclosed_by lines
+enclosing ((arguments lines, depth) ∷ outer) = enclosed_by lines
+enclosing opened = no_bracket
 
 -- the innermost has the members of a structure
 abbrev pub in_members : Opened → Bool
@@ -36,7 +50,7 @@ in_members opened = false
 
 -- the innermost has the arguments of an attribute
 abbrev pub in_arguments : Opened → Bool
-in_arguments ((arguments, depth) ∷ outer) = true
+in_arguments ((arguments lines, depth) ∷ outer) = true
 in_arguments opened = false
 
 -- how deep the lines in the innermost stand
@@ -84,7 +98,7 @@ role_in state class = role_of (ends_operand state.last) class
 -- What a token is to what follows it. An attribute ends with its name or with the `)` behind its arguments, a member with the `,` behind it, and a statement or a declaration with its `;`, but not in the header of a `for`.
 abbrev pub last_behind : LayoutState → Role → Role
 last_behind state right =
-    if is state.last at then attribute
+    if not (opens_bracket right) && is state.last at then attribute
     else if is right closing && in_arguments state.opened then attribute
     else if is right comma && in_members state.opened then item_end
     else if is right semicolon && not (in_brackets state.opened) then item_end
@@ -94,16 +108,16 @@ last_behind state right =
 abbrev pub block_opened : LayoutState → Open
 block_opened state = if state.structure then members else block
 
--- what a `(` or a `[` opens
-abbrev pub bracket_opened : LayoutState → Open
-bracket_opened state = if is state.last attribute then arguments else bracket
+-- what a `(` or a `[` opens, in lines of its own or not
+abbrev pub bracket_opened : LayoutState → Bool → Open
+bracket_opened state lines = if is state.last attribute then arguments lines else bracket lines
 
--- a block stands as deep as the statement or the declaration that it is part of, a bracket as deep as the line where it opens
-abbrev pub opened_behind : LayoutState → ℕ → Role → Opened
-opened_behind state line right =
+-- a block is as deep as the statement or the declaration that it is part of, a bracket as deep as the line where it opens
+abbrev pub opened_behind : LayoutState → ℕ → Role → Bool → Opened
+opened_behind state line right lines =
     if is right block_start then (block_opened state, inner_depth state.opened) ∷ state.opened
-    else if is right opening then (bracket_opened state, line) ∷ state.opened
-    else if is right template_start then (bracket, line) ∷ state.opened
+    else if is right opening then (bracket_opened state lines, line) ∷ state.opened
+    else if is right template_start then (bracket lines, line) ∷ state.opened
     else if closes right then drop 1 state.opened
     else state.opened
 
@@ -116,11 +130,7 @@ structure_behind state class right =
 abbrev pub leading_behind : LayoutState → Role → Bool
 leading_behind state right = if is right at then begins state else state.leading
 
--- behind a closing bracket the line counts as deep as the line of the opening one
-abbrev pub line_behind : LayoutState → ℕ → Role → ℕ
-line_behind state line right = if closes right then outer_depth state.opened else line
-
--- the state behind a token that does so, in a line of this depth
-abbrev pub behind_token : LayoutState → ℕ → ℕ → Role → LayoutState
-behind_token state line class right =
-    record { opened = opened_behind state line right; line = line_behind state line right; last = last_behind state right; leading = leading_behind state right; structure = structure_behind state class right }
+-- the state after a token of the role on the right, in a line of this depth; a bracket that it opens is in lines of its own or not
+abbrev pub behind_token : LayoutState → ℕ → ℕ → Role → Bool → LayoutState
+behind_token state line class right lines =
+    record { opened = opened_behind state line right lines; line = line; last = last_behind state right; leading = leading_behind state right; structure = structure_behind state class right }

@@ -100,7 +100,19 @@ opens template_start = true
 opens block_start = true
 opens role = false
 
+-- it opens a bracket or a template list
+abbrev pub opens_bracket : Role → Bool
+opens_bracket opening = true
+opens_bracket template_start = true
+opens_bracket role = false
+
 -- it closes one
+abbrev pub closes_bracket : Role → Bool
+closes_bracket closing = true
+closes_bracket template_end = true
+closes_bracket role = false
+
+-- it closes a bracket, a template list or a block
 abbrev pub closes : Role → Bool
 closes closing = true
 closes template_end = true

@@ -18,6 +18,15 @@ pub mod Trails
 pub mod Gaps
 pub mod NeatPieces
 pub mod Relaid
+mod RelaidEnds
+mod GapsAgain
+mod PieceSpots
+mod BracketRoles
+mod Breaks
+mod OneLine
+mod OwnLines
+mod RelaidBrackets
+mod RelaidAgain
 pub mod LaidTrails
 pub mod LaidTokens
 pub mod NeatWords

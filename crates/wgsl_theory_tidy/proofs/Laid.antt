@@ -3,7 +3,7 @@ use Rattle.std.proofs.Common.{◌≡◌, ℕ, Bool, true, false, refl, sym, ap, 
 use Rattle.wgsl_model_tidy.specs.Pieces.{Piece}
 use Rattle.wgsl_model_tidy.specs.Roles.{Role}
 use Rattle.wgsl_model_tidy.specs.Open.{LayoutState, role_in, behind_token}
-use Rattle.wgsl_model_tidy.specs.LaidOut.{Gap, Last, token, Spot, next_role, owned, gap_before_comment, gap_before_token, gap_text, depth_behind, in_line_of, is_comment, leads, comment_last, laid_from}
+use Rattle.wgsl_model_tidy.specs.LaidOut.{Gap, Last, token, Spot, next_role, has_lines, owned, gap_before_comment, gap_before_token, gap_text, depth_behind, in_line_of, is_comment, leads, comment_last, laid_from}
 use Rattle.wgsl_theory_tidy.proofs.Comments.{piece}
 
 -- a gap and a comment are written, and others are laid out behind them
@@ -32,16 +32,16 @@ comment_laid class h spot right own written text n ps e i =
 token_laid_here : (class : ℕ) → is_comment class ≡ false → (spot : Spot) (text : List ℕ) (n : ℕ) (ps : List Piece)
     → laid_from spot (piece class text n ∷ ps)
     ≡ gap_text (gap_before_token spot (role_in spot.state class) n)
-    ++ (text ++ laid_from (record { state = behind_token spot.state (depth_behind (gap_before_token spot (role_in spot.state class) n) spot.state.line) class (role_in spot.state class); last = token }) ps)
+    ++ (text ++ laid_from (record { state = behind_token spot.state (depth_behind (gap_before_token spot (role_in spot.state class) n) spot.state.line) class (role_in spot.state class) (has_lines ps); last = token }) ps)
 token_laid_here class h spot text n ps = rw h refl
 
 pub token_laid : (class : ℕ) → is_comment class ≡ false → (spot : Spot) (right : Role) (written text : List ℕ) (n : ℕ) (ps : List Piece) → right ≡ role_in spot.state class
     → written ++ laid_from spot (piece class text n ∷ ps)
     ≡ ((written ++ gap_text (gap_before_token spot right n)) ++ text)
-    ++ laid_from (record { state = behind_token spot.state (depth_behind (gap_before_token spot right n) spot.state.line) class right; last = token }) ps
+    ++ laid_from (record { state = behind_token spot.state (depth_behind (gap_before_token spot right n) spot.state.line) class right (has_lines ps); last = token }) ps
 token_laid class h spot right written text n ps e =
     ap (λ cs. written ++ cs) (token_laid_here class h spot text n ps
-    ∙ ap (λ r. gap_text (gap_before_token spot r n) ++ (text ++ laid_from (record { state = behind_token spot.state (depth_behind (gap_before_token spot r n) spot.state.line) class r; last = token }) ps)) (sym e))
+    ∙ ap (λ r. gap_text (gap_before_token spot r n) ++ (text ++ laid_from (record { state = behind_token spot.state (depth_behind (gap_before_token spot r n) spot.state.line) class r (has_lines ps); last = token }) ps)) (sym e))
     ∙ behind_written written (gap_text (gap_before_token spot right n)) text _
 
 -- the same, where what was written and the gap are known by equations
@@ -59,12 +59,12 @@ comment_written class h spot right own written text first second n depth gap las
 
 pub token_written : (class : ℕ) → is_comment class ≡ false → (spot : Spot) (right : Role) (written text first second : List ℕ) (n depth : ℕ) (gap : Gap) (after : LayoutState) (ps : List Piece)
     → right ≡ role_in spot.state class → gap ≡ gap_before_token spot right n → first ≡ written ++ gap_text gap → second ≡ first ++ text → depth ≡ depth_behind gap spot.state.line
-    → after ≡ behind_token spot.state depth class right
+    → after ≡ behind_token spot.state depth class right (has_lines ps)
     → written ++ laid_from spot (piece class text n ∷ ps) ≡ second ++ laid_from (record { state = after; last = token }) ps
 token_written class h spot right written text first second n depth gap after ps e g f s d a =
     token_laid class h spot right written text n ps e
-    ∙ ap (λ g. ((written ++ gap_text g) ++ text) ++ laid_from (record { state = behind_token spot.state (depth_behind g spot.state.line) class right; last = token }) ps) (sym g)
-    ∙ ap (λ m. ((written ++ gap_text gap) ++ text) ++ laid_from (record { state = behind_token spot.state m class right; last = token }) ps) (sym d)
+    ∙ ap (λ g. ((written ++ gap_text g) ++ text) ++ laid_from (record { state = behind_token spot.state (depth_behind g spot.state.line) class right (has_lines ps); last = token }) ps) (sym g)
+    ∙ ap (λ m. ((written ++ gap_text gap) ++ text) ++ laid_from (record { state = behind_token spot.state m class right (has_lines ps); last = token }) ps) (sym d)
     ∙ ap (λ s. ((written ++ gap_text gap) ++ text) ++ laid_from (record { state = s; last = token }) ps) (sym a)
     ∙ ap (λ cs. (cs ++ text) ++ laid_from (record { state = after; last = token }) ps) (sym f)
     ∙ ap (λ cs. cs ++ laid_from (record { state = after; last = token }) ps) (sym s)

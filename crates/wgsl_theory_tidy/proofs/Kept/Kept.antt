@@ -12,7 +12,8 @@ use Rattle.wgsl_model_tidy.specs.LaidOut.{laid_out}
 use Rattle.wgsl_model_tidy.specs.Kept.{unplaced, class_and_text, Keeps}
 use Rattle.wgsl_theory_tidy.proofs.Kept.Read.{read}
 use Rattle.wgsl_theory_tidy.proofs.Kept.SameShape.{same_shape}
-use Rattle.wgsl_theory_tidy.proofs.Kept.Relaid.{relaid_spelled, relaid_again}
+use Rattle.wgsl_theory_tidy.proofs.Kept.Relaid.{relaid_spelled}
+use Rattle.wgsl_theory_tidy.proofs.Kept.RelaidAgain.{relaid_again}
 use Rattle.wgsl_theory_tidy.proofs.Kept.LaidText.{laid_along, laid_pieces}
 use Rattle.wgsl_theory_tidy.proofs.Kept.SameCharacters.{first_spot, same_characters}
 

@@ -5,8 +5,8 @@ use Rattle.wgsl_model.specs.Tokens.Kind.{Kind}
 use Rattle.wgsl_model.specs.Tokens.Trivia.{outside, after_trivia}
 use Rattle.wgsl_model_tidy.specs.Pieces.{Piece, comments}
 use Rattle.wgsl_model_tidy.specs.Roles.{Role, beginning, is}
-use Rattle.wgsl_model_tidy.specs.Open.{LayoutState, in_brackets, between_items, depth_of, comment_depth, role_in, last_behind, behind_token}
-use Rattle.wgsl_model_tidy.specs.LaidOut.{broken, Last, token, line_comment, block_comment, leading_comment, open_comment, Spot, is_comment, next_role, owned, line_end, gap_before_comment, gap_before_token, gap_text, token_gap, comment_gap, depth_behind, in_line_of, leads, comment_last, laid_from, ending}
+use Rattle.wgsl_model_tidy.specs.Open.{LayoutState, enclosing, between_items, depth_of, comment_depth, role_in, last_behind, behind_token}
+use Rattle.wgsl_model_tidy.specs.LaidOut.{broken, Last, token, line_comment, block_comment, leading_comment, open_comment, Spot, is_comment, next_role, has_lines, owned, line_end, gap_before_comment, gap_before_token, gap_text, token_gap, comment_gap, depth_behind, in_line_of, leads, comment_last, laid_from, ending}
 use Rattle.wgsl_theory_tidy.proofs.Comments.{piece, AtLineEnd, nothing_left}
 use Rattle.wgsl_theory_tidy.proofs.Kept.Readings.{token_piece}
 use Rattle.wgsl_theory_tidy.proofs.Kept.ClosedComments.{Closed, Unclosed, unclosed, AllClosed, AllClosedButLast, no_more, one_more, last_open}
@@ -18,9 +18,9 @@ use Rattle.wgsl_theory_tidy.proofs.Kept.NeatPieces.{NeatAt, token_gap_neat, comm
 -- ---- one piece laid out
 
 -- the spot behind a token, and behind a comment; the first token from there on does so
-abbrev spot_behind_token : Spot → ℕ → ℕ → Spot
-spot_behind_token spot class n =
-    record { state = behind_token spot.state (depth_behind (gap_before_token spot (role_in spot.state class) n) spot.state.line) class (role_in spot.state class); last = token }
+abbrev spot_behind_token : Spot → ℕ → ℕ → List Piece → Spot
+spot_behind_token spot class n ps =
+    record { state = behind_token spot.state (depth_behind (gap_before_token spot (role_in spot.state class) n) spot.state.line) class (role_in spot.state class) (has_lines ps); last = token }
 
 abbrev spot_behind_comment : Spot → Role → ℕ → Bool → ℕ → Spot
 spot_behind_comment spot right class own n =
@@ -28,11 +28,11 @@ spot_behind_comment spot right class own n =
     record { state = in_line_of spot.state (depth_behind gap spot.state.line); last = comment_last class (leads gap spot.last spot.state.last) }
 
 token_laid : (spot : Spot) (class : ℕ) (w : List ℕ) (n : ℕ) (ps : List Piece) → is_comment class ≡ false
-    → laid_from spot (piece class w n ∷ ps) ≡ gap_text (gap_before_token spot (role_in spot.state class) n) ++ (w ++ laid_from (spot_behind_token spot class n) ps)
+    → laid_from spot (piece class w n ∷ ps) ≡ gap_text (gap_before_token spot (role_in spot.state class) n) ++ (w ++ laid_from (spot_behind_token spot class n ps) ps)
 token_laid spot class w n ps h = rw h refl
 
 token_relaid : (spot : Spot) (class : ℕ) (w : List ℕ) (n : ℕ) (ps : List Piece) → is_comment class ≡ false
-    → relaid spot (piece class w n ∷ ps) ≡ piece class w (gap_ends (gap_before_token spot (role_in spot.state class) n)) ∷ relaid (spot_behind_token spot class n) ps
+    → relaid spot (piece class w n ∷ ps) ≡ piece class w (gap_ends (gap_before_token spot (role_in spot.state class) n)) ∷ relaid (spot_behind_token spot class n ps) ps
 token_relaid spot class w n ps h = rw h refl
 
 comment_laid : (spot : Spot) (right : Role) (class : ℕ) (text : List ℕ) (n : ℕ) (ps : List Piece) → is_comment class ≡ true → next_role spot.state ps ≡ right
@@ -52,7 +52,7 @@ broken_ends false depth r = refl
 token_gap_ends : (spot : Spot) (right : Role) (n : ℕ) → spot.last ≡ line_comment → (r : List ℕ) → AtLineEnd (gap_text (gap_before_token spot right n) ++ r)
 token_gap_ends spot right n e r =
     let break = line_end (between_items spot.state right) spot.last spot.state.last right n (depth_of spot.state right) in
-    subst (λ l. AtLineEnd (gap_text (token_gap (in_brackets spot.state.opened) l spot.state.last right n break) ++ r)) (sym e) (broken_ends _ (depth_of spot.state right) r)
+    subst (λ l. AtLineEnd (gap_text (token_gap (enclosing spot.state.opened) l spot.state.last right n break) ++ r)) (sym e) (broken_ends _ (depth_of spot.state right) r)
 
 comment_gap_ends : (spot : Spot) (right : Role) (class : ℕ) (own : Bool) (n : ℕ) → spot.last ≡ line_comment → (r : List ℕ) → AtLineEnd (gap_text (gap_before_comment spot right class own n) ++ r)
 comment_gap_ends spot right class own n e r =
@@ -96,7 +96,7 @@ laid_token : (spot : Spot) (k : Kind) (w : List ℕ) (m : ℕ) (ps : List Piece)
 laid_token spot k w m ps h =
     let right = role_in spot.state k.class in
     let gap = gap_before_token spot right m in
-    let behind = spot_behind_token spot k.class m in
+    let behind = spot_behind_token spot k.class m ps in
     let b : ℕ → List Piece = λ n. token_piece k w n ∷ relaid behind ps in
     record {
       trivia = gap_text gap;

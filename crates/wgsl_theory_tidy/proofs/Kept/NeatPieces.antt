@@ -2,7 +2,7 @@
 use Rattle.std.proofs.Common.{◌≡◌, ℕ, Bool, true, false, cond, refl, sym, subst, List, [], ◌∷◌, ◌++◌}
 use Rattle.wgsl_model.specs.Tokens.Trivia.{outside, in_line}
 use Rattle.wgsl_model_tidy.specs.Roles.{Role, beginning, is}
-use Rattle.wgsl_model_tidy.specs.Open.{in_brackets, depth_of, comment_depth}
+use Rattle.wgsl_model_tidy.specs.Open.{Enclosing, enclosing, depth_of, comment_depth}
 use Rattle.wgsl_model_tidy.specs.LaidOut.{Gap, closed, broken, Last, token, line_comment, block_comment, leading_comment, open_comment, Spot, token_gap, comment_gap, comment_last, gap_before_comment, gap_before_token, gap_text, ending}
 use Rattle.wgsl_theory_tidy.proofs.Kept.NeatTexts.{start, solid, Neat, NeatWord, neat_word, broken_neat, gap_neat, line_neat}
 use Rattle.wgsl_theory_tidy.proofs.Kept.ClosedComments.{Closed, closed_line, closed_block, Unclosed, unclosed}
@@ -33,7 +33,7 @@ follows open_comment left gap r m h = tt
 follows block_comment left gap r m h = gap_neat gap r h
 follows leading_comment left gap r m h = gap_neat gap r h
 
-before_token : (inside : Bool) (last : Last) (left right : Role) (n : ℕ) (empty : Bool) (depth : ℕ) → MayFollow last left (token_gap inside last left right n (broken empty depth))
+before_token : (inside : Enclosing) (last : Last) (left right : Role) (n : ℕ) (empty : Bool) (depth : ℕ) → MayFollow last left (token_gap inside last left right n (broken empty depth))
 before_token inside token left right n empty depth = λ h. rw h refl
 before_token inside line_comment left right n empty depth = (empty, depth, refl)
 before_token inside open_comment left right n empty depth = tt
@@ -50,7 +50,7 @@ before_comment class leading_comment left own n empty depth = tt
 -- the gap before a token and a neat text
 pub token_gap_neat : (spot : Spot) (right : Role) (n : ℕ) (r : List ℕ) → NeatWord r → NeatAt spot.last spot.state.last (gap_text (gap_before_token spot right n) ++ r)
 token_gap_neat spot right n r h =
-    follows spot.last spot.state.last (gap_before_token spot right n) r (before_token (in_brackets spot.state.opened) spot.last spot.state.last right n _ (depth_of spot.state right)) h
+    follows spot.last spot.state.last (gap_before_token spot right n) r (before_token (enclosing spot.state.opened) spot.last spot.state.last right n _ (depth_of spot.state right)) h
 
 -- and the gap before a comment
 pub comment_gap_neat : (spot : Spot) (right : Role) (class : ℕ) (own : Bool) (n : ℕ) (r : List ℕ) → NeatWord r → NeatAt spot.last spot.state.last (gap_text (gap_before_comment spot right class own n) ++ r)

@@ -8,9 +8,9 @@ use Rattle.wgsl_model.proofs.Tokens.Characters.{other_than}
 use Rattle.wgsl_theory_printed.proofs.Spelling.Spellings.{EndsAt}
 use Rattle.wgsl_theory_printed.proofs.Spelling.Signs.{begins_name, begins_number, sign_ends_before}
 use Rattle.wgsl_theory_printed.proofs.Spelling.Split.{goes_on_with}
-use Rattle.wgsl_model_tidy.specs.Roles.{Role, opening, closing, template_start, block_start, block_end, comma, semicolon, colon, else_word, at, beginning, item_end, attribute, is, is_tight}
-use Rattle.wgsl_model_tidy.specs.Joints.{Joint, line, nothing, space, nothing_or_line, space_or_line, closed_up, close_joint, continues_line, joint}
-use Rattle.wgsl_model_tidy.specs.Open.{LayoutState, in_arguments, in_members, in_brackets, last_behind}
+use Rattle.wgsl_model_tidy.specs.Roles.{Role, opening, closing, template_start, block_start, block_end, comma, semicolon, colon, else_word, at, beginning, item_end, attribute, is, is_tight, opens_bracket, closes_bracket}
+use Rattle.wgsl_model_tidy.specs.Joints.{Joint, line, nothing, space, nothing_or_line, space_or_line, closed_up, continues_line, joint_in_line, joint_in_lines, joint}
+use Rattle.wgsl_model_tidy.specs.Open.{LayoutState, Enclosing, no_bracket, one_line, own_lines, in_arguments, in_members, in_brackets, last_behind}
 use Rattle.wgsl_theory_tidy.proofs.Kept.Alone.{IsAlone, alone_ends, alone_before, space_alone, line_end_alone, brace_right_alone}
 use Rattle.wgsl_theory_tidy.proofs.Kept.Touching.{less_no_name, slash_no_name, at_one, starts, is_tight_only, tight_only, Shaped, is_name, is_word, is_else, is_unsuffixed, is_number, is_opening, is_closing, is_less, is_other, touches}
 
@@ -40,7 +40,7 @@ tight_behind left right [] t h = absurd (no_characters right h)
 tight_behind left right (x ∷ xs) t h = is_other left x xs t
 
 pub shaped_behind : (state : LayoutState) (right : Role) (w : List ℕ) → Shaped right w → Shaped (last_behind state right) w
-shaped_behind state right w h = go (is state.last at) (is right closing && in_arguments state.opened) (is right comma && in_members state.opened) (is right semicolon && not (in_brackets state.opened))
+shaped_behind state right w h = go (not (opens_bracket right) && is state.last at) (is right closing && in_arguments state.opened) (is right comma && in_members state.opened) (is right semicolon && not (in_brackets state.opened))
   where
     go : (a b c d : Bool) → Shaped (cond a attribute (cond b attribute (cond c item_end (cond d item_end right)))) w
     go true b c d = tight_behind attribute right w refl h
@@ -62,11 +62,19 @@ may_close nothing = true
 may_close nothing_or_line = true
 may_close joint = false
 
-pub by_joint : (in_brackets : Bool) (left right : Role) → may_close (joint in_brackets left right) ≡ true → Close left right
-by_joint in_brackets left right = go (is left block_start) (is right block_end) (is left item_end) (is left block_end) (is right else_word) (is_tight right) (is right semicolon) (is right block_start) (closed_up left right) (in_brackets || continues_line left right) refl refl refl
+in_line_close : (left right : Role) → may_close (joint_in_line left right) ≡ true → Close left right
+in_line_close left right = go (closed_up left right) refl
+  where
+    go : (h : Bool) → closed_up left right ≡ h → may_close (cond h nothing space) ≡ true → Close left right
+    go true z m = close_up z
+    go false z m = absurd (true≢false (sym m))
+
+in_lines_close : (inside : Bool) (left right : Role) → may_close (joint_in_lines inside left right) ≡ true → Close left right
+in_lines_close inside left right =
+    go (is left block_start) (is right block_end) (is left item_end) (is left block_end) (is right else_word) (is_tight right) (is right semicolon) (is right block_start) (closed_up left right) (inside || continues_line left right) refl refl refl
   where
     go : (a b c d e f s g h i : Bool) → is right block_end ≡ b → is_tight right ≡ f → closed_up left right ≡ h
-        → may_close (cond a (cond b nothing line) (cond (b || c) line (cond d (cond e space (cond f (cond s nothing_or_line nothing) line)) (cond g space (cond h (close_joint in_brackets left right) (cond i space_or_line space)))))) ≡ true → Close left right
+        → may_close (cond a (cond b nothing line) (cond (b || c) line (cond d (cond e space (cond f (cond s nothing_or_line nothing) line)) (cond g space (cond h nothing (cond i space_or_line space)))))) ≡ true → Close left right
     go true true c d e f s g h i x y z m = braces x
     go true false c d e f s g h i x y z m = absurd (true≢false (sym m))
     go false true c d e f s g h i x y z m = absurd (true≢false (sym m))
@@ -78,6 +86,15 @@ by_joint in_brackets left right = go (is left block_start) (is right block_end) 
     go false false false false e f s false true i x y z m = close_up z
     go false false false false e f s false false true x y z m = absurd (true≢false (sym m))
     go false false false false e f s false false false x y z m = absurd (true≢false (sym m))
+
+pub by_joint : (inside : Enclosing) (left right : Role) → may_close (joint inside left right) ≡ true → Close left right
+by_joint no_bracket left right = in_lines_close false left right
+by_joint one_line left right = in_line_close left right
+by_joint own_lines left right = go (opens_bracket left || closes_bracket right)
+  where
+    go : (b : Bool) → may_close (cond b line (joint_in_lines true left right)) ≡ true → Close left right
+    go true m = absurd (true≢false (sym m))
+    go false m = in_lines_close true left right m
 
 closing_brace : (right : Role) (x : ℕ) → is right block_end ≡ true → starts right x ≡ true → (x == 125) ≡ true
 closing_brace block_end x h s = s

@@ -14,7 +14,7 @@ use Rattle.wgsl_theory_printed.proofs.Spelling.Spellings.{IsSpelling, EndsBefore
 use Rattle.wgsl_theory_printed.proofs.Spelling.Signs.{looked_up, spelled_symbol}
 use Rattle.wgsl_model_tidy.specs.Roles.{Role, template_start, beginning, is, ends_operand}
 use Rattle.wgsl_model_tidy.specs.Joints.{Joint, line, nothing, space, nothing_or_line, space_or_line, joint}
-use Rattle.wgsl_model_tidy.specs.Open.{LayoutState, in_brackets, between_items, depth_of, comment_depth, role_in, last_behind}
+use Rattle.wgsl_model_tidy.specs.Open.{LayoutState, enclosing, between_items, depth_of, comment_depth, role_in, last_behind}
 use Rattle.wgsl_model_tidy.specs.LaidOut.{Gap, closed, blank, broken, token, Spot, kept_gap, joint_gap, line_end, gap_before_comment, gap_before_token, gap_text, ending}
 use Rattle.wgsl_theory_tidy.proofs.Kept.Neighbours.{not_beginning, shaped_behind, may_close, by_joint, is_before_comment, NoComment, PartsAt, Parts, parts}
 use Rattle.wgsl_theory_tidy.proofs.Kept.Readings.{IsToken, is_word, is_slash, is_slash_equal, is_start, is_end}
@@ -51,8 +51,8 @@ token_parts state right n w [] more h s = absurd s
 token_parts state right n w (x ∷ xs) more h s =
     let p = parts state.last w h in
     rw (not_beginning state.last w h)
-    (joint_parts state.last w (joint (in_brackets state.opened) state.last right) n _ (depth_of state right) (x ∷ (xs ++ more)) p
-    (λ m. p.token right x s (by_joint (in_brackets state.opened) state.last right m)))
+    (joint_parts state.last w (joint (enclosing state.opened) state.last right) n _ (depth_of state right) (x ∷ (xs ++ more)) p
+    (λ m. p.token right x s (by_joint (enclosing state.opened) state.last right m)))
 
 comment_parts : (state : LayoutState) (right : Role) (class : ℕ) (owned : Bool) (n : ℕ) (w more : List ℕ) → Shaped state.last w
     → PartsBefore w (gap_text (gap_before_comment (record { state = state; last = token }) right class owned n) ++ (47 ∷ more))

@@ -59,11 +59,11 @@ laid_same spot [] = ending_blank spot.last spot.state.last
 laid_same spot (p ∷ ps) =
     let right = next_role spot.state (p ∷ ps) in
     let gap = gap_before spot right p ps in
-    let rest = laid_from (behind_piece spot gap right p) ps in
+    let rest = laid_from (behind_piece spot gap right p ps) ps in
     joined (gap_text gap) (p.text ++ rest)
     ∙ ap (λ xs. xs ++ non_blank (p.text ++ rest)) (gap_blank gap)
     ∙ joined p.text rest
-    ∙ ap (λ xs. non_blank p.text ++ xs) (laid_same (behind_piece spot gap right p) ps)
+    ∙ ap (λ xs. non_blank p.text ++ xs) (laid_same (behind_piece spot gap right p ps) ps)
 
 -- ---- a laid-out text
 
