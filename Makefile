@@ -34,18 +34,19 @@ tables:
 	@tools/make_tables
 
 # The quotes in README.md, docs/USE.md and CALLING.md have to be in the sources; the documents have
-# to use the words of the dictionary; the tables that tools write have to be up to date; each crate
-# has to pass rt ci, and each wrong body has to be refused; each shader of examples/ has to print as
-# its file in examples/printed/, and that file as itself; the built programs are run on made texts,
-# and wgsltidy on its rows; each allocation of each call fails in turn; the rows are run over the
-# library and the programs; and the library is called from C, and from Rust if there is cargo.
-# ANEW=--anew takes nothing from earlier runs.
+# to use the words of the dictionary; the tables that tools write have to be up to date; each wrong
+# body has to be one that can be applied; each crate has to pass rt ci, and each wrong body has to be
+# refused; each shader of examples/ has to print as its file in examples/printed/, and that file as
+# itself; the built programs are run on made texts, and wgsltidy on its rows; each allocation of each
+# call fails in turn; the rows are run over the library and the programs; and the library is called
+# from C, and from Rust if there is cargo. ANEW=--anew takes nothing from earlier runs.
 test:
 	@test "$$(cat HANDLES)" = "Handles allowed: none." \
 	    || { echo "Failed: the file HANDLES."; exit 1; }
 	@tools/snippets || { echo "Failed: tools/snippets, as the lines above say."; exit 1; }
 	@tools/words || { echo "Failed: tools/words, as the lines above say."; exit 1; }
 	@tools/make_tables --check || { echo "Failed: run \`make tables\`."; exit 1; }
+	@tools/edits_apply || { echo "Failed: tools/edits_apply, as the lines above say."; exit 1; }
 	@tools/prove_all $(ANEW) || { echo "Failed: rt ci, as the lines above say."; exit 1; }
 	@tools/edits $(ANEW) || { echo "Failed: tools/edits, as the lines above say."; exit 1; }
 	@cd examples && for shader in *.wgsl printed/*.wgsl; do \
