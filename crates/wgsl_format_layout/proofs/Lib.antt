@@ -1,9 +1,13 @@
+pub mod Added
 pub mod CommentKinds
 pub mod TokenClasses
 pub mod TokensCut
 pub mod FlagsRight
 pub mod TriviaScanned
 pub mod TokensFound
+pub mod SeveralBehind
 pub mod TokensMarked
 pub mod MarkedLeft
+pub mod TokensWritten
 pub mod SourcesLaid
+pub mod Deciding

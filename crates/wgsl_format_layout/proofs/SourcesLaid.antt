@@ -1,10 +1,10 @@
 -- A source that is laid out token by token, and behind its last token.
-use Rattle.std.proofs.Common.{◌≡◌, ℕ, ◌-◌, ◌==◌, ◌&&◌, true, false, List, [], ◌∷◌, ◌++◌, drop, take, length, length-drop, reverse, chars, cond, refl, sym, ap, subst, ◌∙◌}
+use Rattle.std.proofs.Common.{◌≡◌, ℕ, suc, ◌<◌, ◌≤◌, ◌-◌, ◌==◌, ◌&&◌, Bool, true, false, List, [], ◌∷◌, drop, take, length, length-drop, get_or, chars, cond, refl, sym, ap, subst, ◌∙◌}
 use mathlib.Core.Path.{fun_ext}
 use Rattle.std.specs.Prelude.{slice_range}
 use Rattle.std.specs.Str.{IsUtf8}
 use Rattle.std.proofs.lemmas.Str.{encodes-chars}
-use Rattle.std.proofs.lemmas.List.{reverse-append}
+use Rattle.std.proofs.lemmas.List.{drop_all}
 use Rattle.std.proofs.Math.Seq.{take-length}
 use Rattle.grammar.specs.Tokens.{Token}
 use Rattle.grammar.specs.Endings.{Ending}
@@ -14,16 +14,18 @@ use Rattle.wgsl_model.specs.Tokens.Trivia.{outside}
 use Rattle.wgsl_model_tidy.specs.Pieces.{Piece, between, piece_of, pieces_from, pieces, comments}
 use Rattle.wgsl_model_tidy.specs.Roles.{Role, beginning}
 use Rattle.wgsl_model_tidy.specs.Open.{role_in}
-use Rattle.wgsl_model_tidy.specs.LaidOut.{is_comment, next_role, is_followed, laid_out}
+use Rattle.wgsl_model_tidy.specs.LaidOut.{is_comment, next_role, is_followed, has_lines, has_several, laid_out}
 use Rattle.wgsl_theory_tidy.proofs.Comments.{piece, and_false}
 use Rattle.wgsl_lex_token.specs.View.{class_of_kind}
 use Rattle.wgsl_format_layout.specs.States.{state_view}
-use Rattle.wgsl_format_layout.specs.Layouts.{text_with, WritesComments, WritesToken}
+use Rattle.wgsl_format_layout.specs.Outputs.{seen_with, seen_by, can_part, WritesComments, WritesToken, Parts, IsAt, left_at, WritesNext, Decides}
 use Rattle.wgsl_format_layout.specs.Marks.{AreMarked}
-use Rattle.wgsl_format_layout.specs.declared.layout.Layout.{Layout}
+use Rattle.wgsl_format_layout.specs.declared.output.Output.{Output}
+use Rattle.wgsl_format_layout.specs.declared.output.Place.{Place}
+use Rattle.wgsl_format_layout.specs.declared.output.Step.{Step}
+use Rattle.wgsl_model_tidy.specs.Layout.{Layout as Plain}
 use Rattle.wgsl_format_layout.specs.declared.marks.MarkedToken.{MarkedToken}
-use Rattle.wgsl_format_layout.proofs.TokensCut.{AreLeftFrom}
-use Rattle.wgsl_format_layout.proofs.MarkedLeft.{MarkedNext, marked_next, none_marked}
+use Rattle.wgsl_format_layout.proofs.MarkedLeft.{MarkedNext, marked_at, none_marked}
 
 -- the characters of a part of a source
 part_chars : (source part : List ℕ) (from to : ℕ) → IsUtf8 source → part ≡ slice_range source from to → chars part ≡ between (chars source) from to
@@ -39,14 +41,14 @@ rest_chars source part from u e =
 follows_here : (class : ℕ) (text : List ℕ) (m : ℕ) (ps : List Piece) → is_comment class ≡ false → is_followed (piece class text m ∷ ps) ≡ (m == 0 && true)
 follows_here class text m ps plain = rw plain refl
 
-first_does : (layout : Layout) (class : ℕ) (right : Role) (text : List ℕ) (n : ℕ) (ps : List Piece) → is_comment class ≡ false → right ≡ role_in (state_view layout.state) class → next_role (state_view layout.state) (piece class text n ∷ ps) ≡ right
-first_does layout class right text n ps plain does = ap (λ b. cond b (next_role (state_view layout.state) ps) (role_in (state_view layout.state) class)) plain ∙ sym does
+first_does : (output : Output) (class : ℕ) (right : Role) (text : List ℕ) (n : ℕ) (ps : List Piece) → is_comment class ≡ false → right ≡ role_in (state_view output.state) class → next_role (state_view output.state) (piece class text n ∷ ps) ≡ right
+first_does output class right text n ps plain does = ap (λ b. cond b (next_role (state_view output.state) ps) (role_in (state_view output.state) class)) plain ∙ sym does
 
 -- the comments before a token and the token are laid out
-pub token_turn : (before middle after : Layout) (source trivia text : List ℕ) (n : ℕ) (ts : List Token) (token : MarkedToken) (ms : List MarkedToken) (right : Role) (line_ends : ℕ) → IsUtf8 source → (s : MarkedNext source n ts token ms)
+pub token_turn : (before middle after : Output) (source trivia text : List ℕ) (n : ℕ) (ts : List Token) (token : MarkedToken) (ms : List MarkedToken) (right : Role) (line_ends : ℕ) → IsUtf8 source → (s : MarkedNext source n ts token ms)
     → trivia ≡ slice_range source n token.span.start → text ≡ slice_range source token.span.start token.span.end → right ≡ role_in (state_view before.state) (class_of_kind token.kind)
     → WritesComments before (chars trivia) right true line_ends middle → WritesToken middle token (chars text) line_ends after
-    → text_with before (pieces_from (chars source) n ts) ≡ text_with after (pieces_from (chars source) token.span.end s.stands.others)
+    → seen_with before (pieces_from (chars source) n ts) ≡ seen_by after (can_part middle token) (pieces_from (chars source) token.span.end s.stands.others)
 token_turn before middle after source trivia text n ts token ms right line_ends u m b t does wrote put =
     let cs = chars source in
     let s = m.stands in
@@ -59,35 +61,86 @@ token_turn before middle after source trivia text n ts token ms right line_ends 
     let same : (m : ℕ) → behind m ≡ piece_of cs s.first m ∷ pieces_from cs s.first.end s.others = λ m.
     ap (λ k. piece k (chars text) m ∷ left) (sym s.class) ∙ ap (λ w. piece s.first.class w m ∷ left) words ∙ ap (λ e. piece_of cs s.first m ∷ pieces_from cs e s.others) (sym s.stops) in
     let trivia_is : chars trivia ≡ between cs n s.first.start = part_chars source trivia n span.start u b ∙ ap (λ m. between cs n m) (sym s.starts) in
-    ap (λ xs. text_with before (pieces_from cs n xs)) s.whole
-    ∙ ap (λ xs. text_with before (comments (λ m. piece_of cs s.first m ∷ pieces_from cs s.first.end s.others) outside 0 xs)) (sym trivia_is)
-    ∙ ap (λ f. text_with before (comments f outside 0 (chars trivia))) (sym (fun_ext same))
+    ap (λ xs. seen_with before (pieces_from cs n xs)) s.whole
+    ∙ ap (λ xs. seen_with before (comments (λ m. piece_of cs s.first m ∷ pieces_from cs s.first.end s.others) outside 0 xs)) (sym trivia_is)
+    ∙ ap (λ f. seen_with before (comments f outside 0 (chars trivia))) (sym (fun_ext same))
     ∙ wrote behind (λ m. first_does before class right (chars text) m left s.plain does) (λ m. follows_here class (chars text) m left s.plain)
-    ∙ put left m.mark
+    ∙ put left m.lines m.several
 
 -- the comments behind the last token are laid out
-pub last_turn : (before after : Layout) (source trivia : List ℕ) (n : ℕ) (ts : List Token) (line_ends : ℕ) → IsUtf8 source → ts ≡ [] → trivia ≡ drop n source → WritesComments before (chars trivia) beginning false line_ends after
-    → text_with before (pieces_from (chars source) n ts) ≡ text_with after []
+pub last_turn : (before after : Output) (source trivia : List ℕ) (n : ℕ) (ts : List Token) (line_ends : ℕ) → IsUtf8 source → ts ≡ [] → trivia ≡ drop n source → WritesComments before (chars trivia) beginning false line_ends after
+    → seen_with before (pieces_from (chars source) n ts) ≡ seen_with after []
 last_turn before after source trivia n ts line_ends u none t wrote =
-    ap (λ xs. text_with before (pieces_from (chars source) n xs)) none
-    ∙ ap (λ xs. text_with before (comments (λ m. []) outside 0 xs)) (sym (rest_chars source trivia n u t))
+    ap (λ xs. seen_with before (pieces_from (chars source) n xs)) none
+    ∙ ap (λ xs. seen_with before (comments (λ m. []) outside 0 xs)) (sym (rest_chars source trivia n u t))
     ∙ wrote (λ m. []) (λ m. refl) (λ m. sym (and_false (m == 0)))
 
--- ---- a source that is laid out up to a place, with the marked tokens that are left, the last one first
+-- ---- a place in a source
 
-pub record IsLaid (source : List ℕ) (n : ℕ) (layout : Layout) (tokens : List MarkedToken) : Type 0 where
+-- the next token there
+pub next_at : (source : List ℕ) (tokens : List MarkedToken) (at : Place) (left : List Token) (other : MarkedToken) → IsUtf8 source → at.token < length tokens → IsAt source tokens at left
+    → MarkedNext source at.byte left (get_or tokens at.token other) (drop (suc at.token) tokens)
+next_at source tokens at left other u inside h = marked_at source at.byte left tokens at.token (get_or tokens at.token other) other u h.places inside refl h.marked
+
+-- none is left where the list has none
+pub none_at : (source : List ℕ) (tokens : List MarkedToken) (at : Place) (left : List Token) → length tokens ≤ at.token → IsAt source tokens at left → left ≡ []
+none_at source tokens at left past h = none_marked (chars source) left (subst (AreMarked (chars source) left) (drop_all at.token tokens past) h.marked)
+
+-- ---- the next token is written
+
+pub written_next : (source : List ℕ) (tokens : List MarkedToken) (before middle after : Output) (at : Place) (left : List Token) (token : MarkedToken) (trivia text : List ℕ) (right : Role) (line_ends i : ℕ) (undecided : Bool) → IsUtf8 source
+    → (n : MarkedNext source at.byte left token (drop (suc at.token) tokens))
+    → trivia ≡ slice_range source at.byte token.span.start → text ≡ slice_range source token.span.start token.span.end → right ≡ role_in (state_view before.state) (class_of_kind token.kind)
+    → WritesComments before (chars trivia) right true line_ends middle → WritesToken middle token (chars text) line_ends after
+    → ((ps : List Piece) → token.lines ≡ has_lines ps → token.several ≡ has_several ps → can_part middle token ≡ true → Parts after ps)
+    → undecided ≡ can_part middle token → suc at.token ≡ i
+    → WritesNext source tokens before at left after (record { at = record { token = i; byte = token.span.end }; undecided = undecided })
+written_next source tokens before middle after at left token trivia text right line_ends i undecided u n b t does wrote put parts can index =
+    let others = n.stands.others in
+    let ps = pieces_from (chars source) token.span.end others in
+    record {
+      others = others;
+      is_at = record { places = n.stands.left; marked = subst (λ k. AreMarked (chars source) others (drop k tokens)) index n.marked };
+      laid = token_turn before middle after source trivia text at.byte left token (drop (suc at.token) tokens) right line_ends u n b t does wrote put ∙ ap (λ c. seen_by after c ps) (sym can);
+      parts = λ e. parts ps n.lines n.several (sym can ∙ e);
+    }
+
+-- ---- a source that is laid out up to a place
+
+pub record IsLaid (source : List ℕ) (layout : Plain) (tokens : List MarkedToken) (at : Place) (output : Output) : Type 0 where
   pub all : List Token
   pub ending : Ending
   pub read : IsTokenList (chars source) all ending
   pub left : List Token
-  pub places : AreLeftFrom source n left
-  pub marked : AreMarked (chars source) left (reverse tokens)
-  pub laid : text_with layout (pieces_from (chars source) n left) ≡ laid_out (pieces (chars source) all)
+  pub is_at : IsAt source tokens at left
+  pub laid : (seen_with output (left_at source at left)).0 ≡ laid_out layout (pieces (chars source) all)
 
--- the first of them is the last of the list
-pub token_next : (source : List ℕ) (n : ℕ) (layout : Layout) (before after : List MarkedToken) (token : MarkedToken) → IsUtf8 source → (l : IsLaid source n layout before) → before ≡ after ++ (token ∷ []) → MarkedNext source n l.left token (reverse after)
-token_next source n layout before after token u l e = marked_next source n l.left token (reverse after) u l.places (subst (AreMarked (chars source) l.left) (ap reverse e ∙ reverse-append after (token ∷ [])) l.marked)
+-- the next token is written then
+pub next_laid : (source : List ℕ) (layout : Plain) (tokens slice : List MarkedToken) (at : Place) (old new : Output) (step : Step) → (l : IsLaid source layout tokens at old) → slice ≡ tokens
+    → ((left : List Token) → IsAt source slice at left → WritesNext source slice old at left new step) → WritesNext source tokens old at l.left new step
+next_laid source layout tokens slice at old new step l e next =
+    subst (λ ts. WritesNext source ts old at l.left new step) e (next l.left (subst (λ ts. IsAt source ts at l.left) (sym e) l.is_at))
 
--- none are left where the list has none
-pub none_next : (source : List ℕ) (n : ℕ) (layout : Layout) (tokens : List MarkedToken) → (l : IsLaid source n layout tokens) → tokens ≡ [] → l.left ≡ []
-none_next source n layout tokens l e = none_marked (chars source) l.left (subst (AreMarked (chars source) l.left) (ap reverse e) l.marked)
+-- it is no bracket to decide
+pub laid_on : (source : List ℕ) (layout : Plain) (tokens : List MarkedToken) (at : Place) (old new : Output) (step : Step) → (l : IsLaid source layout tokens at old) → WritesNext source tokens old at l.left new step → step.undecided ≡ false
+    → IsLaid source layout tokens step.at new
+laid_on source layout tokens at old new step l w e = record {
+  all = l.all;
+  ending = l.ending;
+  read = l.read;
+  left = w.others;
+  is_at = w.is_at;
+  laid = sym (ap (λ (x : List ℕ × Bool). x.0) (w.laid ∙ ap (λ b. seen_by new b (left_at source step.at w.others)) e)) ∙ l.laid;
+}
+
+-- it is a bracket, which is decided
+pub laid_decided : (source : List ℕ) (layout : Plain) (tokens : List MarkedToken) (at after : Place) (old middle new : Output) (step : Step) → (l : IsLaid source layout tokens at old) → (w : WritesNext source tokens old at l.left middle step) → step.undecided ≡ true
+    → Decides source tokens middle step.at w.others new after → IsLaid source layout tokens after new
+laid_decided source layout tokens at after old middle new step l w e d = record {
+  all = l.all;
+  ending = l.ending;
+  read = l.read;
+  left = d.others;
+  is_at = d.is_at;
+  laid = sym (ap (λ (x : List ℕ × Bool). x.0) (w.laid ∙ ap (λ b. seen_by middle b (left_at source step.at w.others)) e) ∙ d.laid) ∙ l.laid;
+}

@@ -16,21 +16,8 @@ use Rattle.wgsl_span.specs.declared.Span.{Span}
 use Rattle.wgsl_lex_token.specs.declared.kind.TokenKind.{TokenKind}
 use Rattle.wgsl_lex_token.specs.View.{class_of_kind}
 use Rattle.wgsl_lexer.specs.TextTokens.{StartWithKind, BeginAt}
+use Rattle.wgsl_format_layout.specs.Left.{AreCutOff, AreLeftFrom}
 use Rattle.wgsl_format_layout.proofs.TokenClasses.{raw_class}
-
--- a token stands in a text and another text behind it; it is no comment
-pub record IsCutOff (total : ℕ) (text after : List ℕ) (t : Token) : Type 0 where
-  pub from : List ℕ
-  pub ends : EndsWith text from
-  pub goes_on : EndsWith from after
-  pub starts : t.start ≡ place total from
-  pub stops : t.end ≡ place total after
-  pub plain : is_comment t.class ≡ false
-
--- tokens stand behind one another in a text
-abbrev pub AreCutOff : ℕ → List ℕ → List Token → Type 0
-AreCutOff total text [] = Unit {0}
-AreCutOff total text (t ∷ ts) = (after : List ℕ) × IsCutOff total text after t × AreCutOff total after ts
 
 -- so do those that are left of a text
 left_cut : (total : ℕ) (ends : List ℕ) (word : Bool) (text : List ℕ) (ts : List Token) (e : Ending) → LeftOf total ends word text ts e → AreCutOff total text ts
@@ -51,12 +38,6 @@ source_cut : (source : List ℕ) (ts : List Token) (e : Ending) → IsTokenList 
 source_cut source ts e h = left_cut (width source) [] false source ts e (stream (width source) source ts e (omega arith) h)
 
 -- ---- the tokens that are left of a source, from a place on
-
-pub record AreLeftFrom (source : List ℕ) (n : ℕ) (ts : List Token) : Type 0 where
-  pub rest : List ℕ
-  pub ends : EndsWith (chars source) rest
-  pub stands : n ≡ place (width (chars source)) rest
-  pub cut : AreCutOff (width (chars source)) rest ts
 
 -- at first they are all left
 pub all_left : (source : List ℕ) (ts : List Token) (e : Ending) → IsTokenList (chars source) ts e → AreLeftFrom source 0 ts

@@ -5,12 +5,12 @@ use Rattle.grammar.specs.Grammar.{is_among}
 use Rattle.wgsl_model.specs.Tokens.Classes.{LineComment, SymBraceLeft, SymBraceRight}
 use Rattle.wgsl_model.specs.Tokens.Trivia.{outside}
 use Rattle.wgsl_model_tidy.specs.Pieces.{Piece, comments, line_ends_at}
-use Rattle.wgsl_model_tidy.specs.LaidOut.{breaks, opens_one, closes_one, has_break}
+use Rattle.wgsl_model_tidy.specs.LaidOut.{opens_one, closes_one, has_break, ends_bracket}
 use Rattle.wgsl_format_layout.specs.declared.comment.CommentKind.{CommentKind}
 use Rattle.wgsl_format_layout.specs.declared.comment.CommentKind.TheVariants as comment
 use Rattle.wgsl_format_layout.specs.Gaps.{comment_class}
 use Rattle.wgsl_format_layout.specs.Comments.{IsNone}
-use Rattle.wgsl_format_layout.specs.Marks.{ends_bracket, IsTrivia}
+use Rattle.wgsl_format_layout.specs.Marks.{IsTrivia}
 use Rattle.wgsl_theory_tidy.proofs.Comments.{piece, nothing_left, and_false}
 use Rattle.wgsl_format_layout.proofs.FlagsRight.{breaks_behind, first_parts}
 

@@ -4,5 +4,9 @@ pub mod States
 pub mod Gaps
 pub mod Comments
 pub mod Layouts
+pub mod Lines
+pub mod Parted
 pub mod Flags
 pub mod Marks
+pub mod Left
+pub mod Outputs

@@ -1,4 +1,4 @@
--- The tokens of a source, each with whether a bracket that it opens is in lines of its own.
+-- The tokens of a source, each with what is in a bracket that it opens.
 use Rattle.std.specs.Prelude.{◌≡◌, ℕ, suc, Bool, true, false, not, ◌&&◌, ◌||◌, ◌==◌, List, [], ◌∷◌}
 use Rattle.grammar.specs.Grammar.{is_among}
 use Rattle.grammar.specs.Tokens.{Token}
@@ -6,26 +6,21 @@ use Rattle.wgsl_model.specs.Tokens.Classes.{LineComment, SymBraceLeft, SymBraceR
 use Rattle.wgsl_model.specs.Tokens.Places.{width}
 use Rattle.wgsl_model.specs.Tokens.Trivia.{outside}
 use Rattle.wgsl_model_tidy.specs.Pieces.{Piece, comments, between, pieces_from}
-use Rattle.wgsl_model_tidy.specs.LaidOut.{closes_one, has_break, has_lines}
+use Rattle.wgsl_model_tidy.specs.LaidOut.{is_comment, closes_one, has_break, has_lines, ends_bracket, has_several}
 use Rattle.wgsl_lex_token.specs.View.{class_of_kind}
 use Rattle.wgsl_format_layout.specs.Flags.{first_flag, flags_before}
 use Rattle.wgsl_format_layout.specs.declared.marks.MarkedToken.{MarkedToken}
-use Rattle.wgsl_format_layout.specs.declared.marks.FoundToken.{FoundToken}
 use Rattle.wgsl_format_layout.specs.declared.marks.Trivia.{Trivia}
 
--- each token with its mark
+-- each token with its marks
 abbrev pub AreMarked : List ℕ → List Token → List MarkedToken → Type 0
 AreMarked source [] [] = Unit {0}
 AreMarked source (t ∷ ts) (m ∷ ms) =
-    (class_of_kind m.kind ≡ t.class) × (m.span.start ≡ t.start) × (m.span.end ≡ t.end) × (m.lines ≡ has_lines (pieces_from source t.end ts)) × AreMarked source ts ms
+    let behind = pieces_from source t.end ts in
+    (class_of_kind m.kind ≡ t.class) × (m.span.start ≡ t.start) × (m.span.end ≡ t.end) × (m.lines ≡ has_lines behind) × (m.several ≡ has_several behind) × AreMarked source ts ms
 AreMarked source ts ms = ⊥
 
 -- ---- what is between two tokens
-
--- the pieces end, or begin with a closing bracket
-abbrev pub ends_bracket : List Piece → Bool
-ends_bracket [] = true
-ends_bracket (p ∷ ps) = closes_one p.class
 
 -- of pieces after m line ends these count as a line end, where a token is next
 abbrev pub CountsEnds : (ℕ → List Piece) → Bool → ℕ → Type 0
@@ -37,34 +32,47 @@ IsTrivia text has_next trivia =
     ((behind : ℕ → List Piece) (depth : ℕ) → CountsEnds behind has_next depth → has_break (suc depth) (comments behind outside 0 text) ≡ (trivia.breaks || has_break (suc depth) (behind 0)))
     × ((behind : ℕ → List Piece) → ((m : ℕ) → ends_bracket (behind m) ≡ ends_bracket (behind 0)) → ends_bracket (comments behind outside 0 text) ≡ (not trivia.has_comment && ends_bracket (behind 0)))
 
--- the tokens of a source from a place on, and what is before each and after the last
-abbrev pub AreFound : List ℕ → ℕ → List Token → List FoundToken → Trivia → Type 0
+-- the tokens of a source from a place on, none of which is a comment, and what is before each and after the last
+abbrev pub AreFound : List ℕ → ℕ → List Token → List MarkedToken → Trivia → Type 0
 AreFound source from [] [] last = IsTrivia (between source from (width source)) false last
 AreFound source from (t ∷ ts) (f ∷ fs) last =
-    (class_of_kind f.kind ≡ t.class) × (f.span.start ≡ t.start) × (f.span.end ≡ t.end) × IsTrivia (between source from t.start) true f.before × AreFound source t.end ts fs last
+    (class_of_kind f.kind ≡ t.class) × (f.span.start ≡ t.start) × (f.span.end ≡ t.end) × (is_comment t.class ≡ false) × IsTrivia (between source from t.start) true f.before × AreFound source t.end ts fs last
 AreFound source from ts fs last = ⊥
 
--- ---- each token with its mark, by the flags of the open brackets
+-- ---- each token with its marks
 
 -- a line ends before or after a token, or a block begins or ends with it
-abbrev pub token_breaks : FoundToken → Bool
+abbrev pub token_breaks : MarkedToken → Bool
 token_breaks f = f.before.breaks || is_among (class_of_kind f.kind) (LineComment ∷ SymBraceLeft ∷ SymBraceRight ∷ [])
 
--- before these tokens and what is before the first
-abbrev pub flags_of : List FoundToken → Trivia → List Bool
+-- a token closes a bracket, with no comment before it
+abbrev pub token_ends : MarkedToken → Bool
+token_ends f = not f.before.has_comment && closes_one (class_of_kind f.kind)
+
+-- the flags of the open brackets before these tokens and what is before the first
+abbrev pub flags_of : List MarkedToken → Trivia → List Bool
 flags_of [] last = last.breaks ∷ []
 flags_of (f ∷ fs) last = flags_before (token_breaks f) (class_of_kind f.kind) (flags_of fs last)
 
--- a bracket before a token and what is before that is in lines of its own, by the flags there
-abbrev pub lines_at : FoundToken → List Bool → Bool
-lines_at f flags = (f.before.has_comment || not (closes_one (class_of_kind f.kind))) && first_flag flags
+-- a bracket ends there
+abbrev pub ends_of : List MarkedToken → Trivia → Bool
+ends_of [] last = not last.has_comment
+ends_of (f ∷ fs) last = token_ends f
 
--- the same of a bracket before these tokens
-abbrev pub lines_of : List FoundToken → Trivia → Bool
-lines_of [] last = last.has_comment && last.breaks
-lines_of (f ∷ fs) last = lines_at f (flags_of (f ∷ fs) last)
+-- a bracket before these tokens is in lines of its own
+abbrev pub lines_of : List MarkedToken → Trivia → Bool
+lines_of fs last = not (ends_of fs last) && first_flag (flags_of fs last)
 
--- each with its mark
-abbrev pub marks : List FoundToken → Trivia → List MarkedToken
+-- something is after the first token in a bracket before these tokens
+abbrev pub several_of : List MarkedToken → Trivia → Bool
+several_of [] last = false
+several_of (f ∷ fs) last = not (closes_one (class_of_kind f.kind)) && not (ends_of fs last)
+
+-- a token with these marks
+abbrev pub with_marks : MarkedToken → Bool → Bool → MarkedToken
+with_marks f lines several = record { kind = f.kind; span = f.span; before = f.before; lines = lines; several = several }
+
+-- each with its marks
+abbrev pub marks : List MarkedToken → Trivia → List MarkedToken
 marks [] last = []
-marks (f ∷ fs) last = record { kind = f.kind; span = f.span; lines = lines_of fs last } ∷ marks fs last
+marks (f ∷ fs) last = with_marks f (lines_of fs last) (several_of fs last) ∷ marks fs last

@@ -25,7 +25,7 @@ impl Model for Flags {
 }
 
 /// Whether a token opens a bracket or a template list.
-fn opens_one(kind: TokenKind) -> bool
+pub(crate) fn opens_one(kind: TokenKind) -> bool
     ensures { result ≡ plain.opens_one (class_of_kind kind) }
 {
     role_of(false, kind).opens_bracket()

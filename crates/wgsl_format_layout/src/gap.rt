@@ -113,7 +113,8 @@ fn behind_comment(joint: Joint, right: Role) -> Joint
     loose_joint(right)
 }
 
-/// What is between a comment that leads and a token, by what is between the tokens before and after.
+/// What is between a comment that leads and a token, by what is between the tokens before and after
+/// them.
 fn behind_leading(joint: Joint, right: Role) -> Joint
     ensures { joint_view result ≡ plain.behind_leading (joint_view joint) (role_view right) }
 {

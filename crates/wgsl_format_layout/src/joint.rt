@@ -1,7 +1,7 @@
 //! What stands between two neighbouring tokens.
 
 ghost use Rattle.std.specs.Prelude.{◌≡◌};
-ghost use Rattle.wgsl_model_tidy.specs.Joints.{stay_apart, tight_behind, is_applied, is_template, is_continued, closed_up, continues_line, behind_block, joint_in_line, joint_in_lines, joint};
+ghost use Rattle.wgsl_model_tidy.specs.Joints.{stay_apart, tight_behind, is_applied, is_template, is_continued, closed_up, continues_line, behind_block, joint_in_line, joint_in_lines, ended, joint};
 ghost use Rattle.wgsl_format_layout.specs.View.{role_view, joint_view};
 ghost use Rattle.wgsl_format_layout.specs.Kinds.{enclosing_view};
 
@@ -135,6 +135,16 @@ fn joint_in_lines(in_brackets: bool, left: Role, right: Role) -> Joint
     }
 }
 
+/// Where a line may end it ends, after an item.
+fn ended(after_item: bool, joint: Joint) -> Joint
+    ensures { joint_view result ≡ ended after_item (joint_view joint) }
+{
+    match joint {
+        Joint::SpaceOrLine if after_item => Joint::Line,
+        _ => joint,
+    }
+}
+
 /// What is between two neighbours, by what they are in.
 pub(crate) fn joint_of(enclosing: Enclosing, left: Role, right: Role) -> Joint
     ensures { joint_view result
@@ -148,6 +158,13 @@ pub(crate) fn joint_of(enclosing: Enclosing, left: Role, right: Role) -> Joint
                 return Joint::Line;
             }
             joint_in_lines(true, left, right)
+        }
+        Enclosing::ItemLines => {
+            if left.opens_bracket() || right.closes_bracket() {
+                return Joint::Line;
+            }
+            let after_item = left.is(Role::Comma) || left.is(Role::Semicolon);
+            ended(after_item, joint_in_lines(true, left, right))
         }
     }
 }

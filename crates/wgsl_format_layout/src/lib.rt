@@ -1,4 +1,4 @@
-//! The laid-out text of a source: its tokens and comments as they stand, and what stands between them anew.
+//! The formatted text of a source: its tokens and comments as they are, with new white space between.
 #![tactic(auto)]
 
 mod comment;
@@ -6,10 +6,13 @@ mod flags;
 mod gap;
 mod joint;
 mod layout;
+mod line;
 mod marks;
 mod opened;
+mod output;
 mod role;
 mod state;
 mod text;
 
-pub use layout::laid_out;
+pub use layout::{Indent, Layout};
+pub use output::laid_out;

@@ -1,13 +1,13 @@
-//! Which brackets of a source are in lines of their own.
+//! The tokens of a source, each with what is in a bracket that it opens.
 
-ghost use Rattle.std.specs.Prelude.{◌≡◌, ◌&&◌, [], ◌∷◌, List, chars, reverse, IfOk};
+ghost use Rattle.std.specs.Prelude.{◌≡◌, [], ◌∷◌, List, chars, IfOk};
 ghost use Rattle.grammar.specs.Grammar.{is_among};
 ghost use Rattle.grammar.specs.Tokens.{Token};
 ghost use Rattle.grammar.specs.Endings.{Ending};
 ghost use Rattle.wgsl_model.specs.Tokens.Classes.{LineComment, SymBraceLeft, SymBraceRight};
 ghost use Rattle.wgsl_model.specs.Tokens.TokenList.{IsTokenList};
 ghost use Rattle.wgsl_format_layout.specs.Gaps.{comment_class};
-ghost use Rattle.wgsl_format_layout.specs.Marks.{IsTrivia, AreFound, AreMarked, token_breaks, lines_at, marks};
+ghost use Rattle.wgsl_format_layout.specs.Marks.{IsTrivia, AreFound, AreMarked, token_breaks, token_ends, marks};
 
 use crate::comment::{CommentKind, comment_at, line_ends_at};
 use crate::flags::{Flags, closes_one};
@@ -17,14 +17,6 @@ use wgsl_lex_token::kind::TokenKind;
 use wgsl_lexer::TextTokens;
 use wgsl_span::Span;
 
-/// A token of a source, and whether a bracket that it opens is in lines of its own.
-#[derive(Clone, Copy)]
-pub struct MarkedToken {
-    pub kind: TokenKind,
-    pub span: Span,
-    pub lines: bool,
-}
-
 /// The blank space and the comments before a token of a source, or after the last one.
 #[derive(Clone, Copy)]
 pub struct Trivia {
@@ -33,31 +25,26 @@ pub struct Trivia {
     has_comment: bool,
 }
 
-/// A token of a source, and what is before it.
+/// A token of a source, what is before it, and what is in a bracket that it opens.
 #[derive(Clone, Copy)]
-pub struct FoundToken {
-    kind: TokenKind,
-    span: Span,
+pub struct MarkedToken {
+    pub kind: TokenKind,
+    pub span: Span,
     before: Trivia,
+    /// Whether the bracket is in lines of its own.
+    pub lines: bool,
+    /// Whether something is after the first token in the bracket.
+    pub several: bool,
 }
 
-/// The tokens of a source, and what is after the last one.
+/// The tokens of a source, not yet marked, and what is after the last one.
 #[derive(Drop)]
 pub struct Found {
-    tokens: Vec<FoundToken>,
+    tokens: Vec<MarkedToken>,
     last: Trivia,
 }
 
-impl Trivia {
-    /// At the end of a source, whether a bracket that opens just before it is in lines of its own.
-    fn has_lines(self) -> bool
-        ensures { result ≡ (self.has_comment && self.breaks) }
-    {
-        self.has_comment && self.breaks
-    }
-}
-
-impl FoundToken {
+impl MarkedToken {
     /// Whether a line ends before or after it, or a block begins or ends with it.
     fn breaks(self) -> bool
         ensures { result ≡ token_breaks self }
@@ -69,12 +56,11 @@ impl FoundToken {
             )
     }
 
-    /// Whether a bracket that the token before it opens is in lines of its own, by the flags between
-    /// the two.
-    fn has_lines(self, flags: &Flags) -> bool
-        ensures { result ≡ lines_at self flags.now }
+    /// Whether it closes a bracket, with no comment before it.
+    fn ends_bracket(self) -> bool
+        ensures { result ≡ token_ends self }
     {
-        (self.before.has_comment || !closes_one(self.kind)) && flags.first()
+        !self.before.has_comment && closes_one(self.kind)
     }
 }
 
@@ -128,7 +114,13 @@ fn found_tokens(alloc: Global, source: &str) -> Result<Found, AllocError>
     let mut place = 0;
     'tokens: while let (Some(kind), Some(span)) = (left.kind(), left.span()) {
         let before = trivia_in(&source[place..span.start], true);
-        tokens.push(FoundToken { kind, span, before })?;
+        tokens.push(MarkedToken {
+            kind,
+            span,
+            before,
+            lines: false,
+            several: false,
+        })?;
         place = span.end;
         left.skip();
     }
@@ -136,35 +128,37 @@ fn found_tokens(alloc: Global, source: &str) -> Result<Found, AllocError>
     Ok(Found { tokens, last })
 }
 
-/// Each token with its mark, the last one first.
-fn marked(alloc: Global, found: Found) -> Result<Vec<MarkedToken>, AllocError>
-    ensures { IfOk result (λ tokens.
-        reverse tokens.items ≡ marks found.tokens.items found.last) }
+/// Marks the tokens of a source, the last one first.
+fn mark(alloc: Global, tokens: &mut [MarkedToken], last: Trivia) -> Result<(), AllocError>
+    ensures { IfOk result (λ _. tokens.new ≡ marks tokens.old last) }
 {
-    let last = found.last;
-    let mut left = found.tokens;
-    let mut tokens = Vec::with_capacity(alloc, left.len())?;
     let mut flags = Flags::new(alloc);
     flags.push(last.breaks)?;
-    let mut lines = last.has_lines();
-    'tokens: while let Some(token) = left.pop() {
-        tokens.push(MarkedToken {
-            kind: token.kind,
-            span: token.span,
+    // Whether a bracket ends before the next token, or at the end of the source.
+    let mut ends = !last.has_comment;
+    let mut several = false;
+    'tokens: for i in (0..tokens.len()).rev() {
+        let token = tokens[i];
+        let lines = !ends && flags.first();
+        tokens[i] = MarkedToken {
             lines,
-        })?;
+            several,
+            ..token
+        };
         flags.pass(token.kind, token.breaks())?;
-        lines = token.has_lines(&flags);
+        several = !closes_one(token.kind) && !ends;
+        ends = token.ends_bracket();
     }
-    Ok(tokens)
+    Ok(())
 }
 
-/// The tokens of a source up to its end or its first invalid token, each with its mark, the last
-/// one first.
+/// The tokens of a source up to its end or its first invalid token, each with its marks.
 pub(crate) fn marked_tokens(alloc: Global, source: &str) -> Result<Vec<MarkedToken>, AllocError>
     ensures { IfOk result (λ tokens.
         (ts : List Token) × (e : Ending) × IsTokenList (chars source.now) ts e ×
-        AreMarked (chars source.now) ts (reverse tokens.items)) }
+        AreMarked (chars source.now) ts tokens.items) }
 {
-    marked(alloc, found_tokens(alloc, source)?)
+    let Found { mut tokens, last } = found_tokens(alloc, source)?;
+    mark(alloc, &mut tokens, last)?;
+    Ok(tokens)
 }

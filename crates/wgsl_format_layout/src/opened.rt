@@ -2,11 +2,24 @@
 
 ghost use Rattle.std.specs.Prelude.{◌≡◌, suc, [], ◌∷◌, drop, map, reverse, IfOk};
 ghost use Rattle.wgsl_model_tidy.specs.Open as plain;
-ghost use Rattle.wgsl_format_layout.specs.Kinds.{open_view, enclosing_view};
+ghost use Rattle.wgsl_model_tidy.specs.LaidOut.{may_break};
+ghost use Rattle.wgsl_format_layout.specs.Kinds.{open_view, enclosing_view, style_view};
+ghost use Rattle.wgsl_format_layout.specs.Parted.{parted_open, parted_opened};
 ghost use Rattle.wgsl_format_layout.specs.declared.opened.OpenAt.{OpenAt};
 
 use std::alloc::{AllocError, Global};
 use std::marker::Model;
+
+/// How a bracket is written.
+#[derive(Clone, Copy)]
+pub enum Style {
+    /// In one line.
+    Together,
+    /// In lines of its own, those inside as the author has them.
+    AsWritten,
+    /// In lines of its own, with each item in a line.
+    ItemByItem,
+}
 
 /// Something that is open.
 #[derive(Clone, Copy)]
@@ -15,10 +28,10 @@ pub enum Open {
     Block,
     /// The members of a structure.
     Members,
-    /// The arguments of an attribute, in lines of their own or not.
-    Arguments { lines: bool },
+    /// The arguments of an attribute.
+    Arguments(Style),
     /// Every other bracket, and a template list.
-    Bracket { lines: bool },
+    Bracket(Style),
 }
 
 /// What a place is in.
@@ -27,18 +40,42 @@ pub enum Enclosing {
     NoBracket,
     /// A bracket in one line.
     OneLine,
-    /// A bracket in lines of its own.
+    /// A bracket in lines of its own, as the author has them.
     OwnLines,
+    /// A bracket in lines of its own, with each item in a line.
+    ItemLines,
 }
 
-/// The bracket in lines of its own or not.
-fn enclosed_by(lines: bool) -> Enclosing
-    ensures { enclosing_view result ≡ plain.enclosed_by lines }
+/// The bracket of a style.
+fn enclosed_by(style: Style) -> Enclosing
+    ensures { enclosing_view result ≡ plain.enclosed_by (style_view style) }
 {
-    if lines {
-        Enclosing::OwnLines
-    } else {
-        Enclosing::OneLine
+    match style {
+        Style::Together => Enclosing::OneLine,
+        Style::AsWritten => Enclosing::OwnLines,
+        Style::ItemByItem => Enclosing::ItemLines,
+    }
+}
+
+impl Enclosing {
+    /// Whether a line may end in it.
+    pub(crate) fn may_break(self) -> bool
+        ensures { result ≡ may_break (enclosing_view self) }
+    {
+        !matches!(self, Enclosing::OneLine)
+    }
+}
+
+impl Open {
+    /// The same, but with each item in a line if it is a bracket.
+    fn parted(self) -> Open
+        ensures { open_view result ≡ parted_open (open_view self) }
+    {
+        match self {
+            Open::Arguments(_) => Open::Arguments(Style::ItemByItem),
+            Open::Bracket(_) => Open::Bracket(Style::ItemByItem),
+            Open::Block | Open::Members => self,
+        }
     }
 }
 
@@ -80,6 +117,14 @@ impl Opened {
         }
     }
 
+    pub(crate) fn clone(&self, alloc: Global) -> Result<Opened, AllocError>
+        ensures { IfOk result (λ copy. copy ≡ self.now) }
+    {
+        Ok(Opened {
+            items: Vec::from_slice(alloc, self.items.as_slice())?,
+        })
+    }
+
     pub(crate) fn push(&mut self, kind: Open, depth: usize) -> Result<(), AllocError>
         ensures { IfOk result (λ _. self.new ≡ (open_view kind, depth) ∷ self.old) }
     {
@@ -94,12 +139,22 @@ impl Opened {
         self.items.pop();
     }
 
+    /// Writes the innermost with each item in a line, if it is a bracket.
+    pub(crate) fn part(&mut self) -> Result<(), AllocError>
+        ensures { IfOk result (λ _. self.new ≡ parted_opened self.old) }
+    {
+        match self.items.pop() {
+            Some(open) => self.push(open.kind.parted(), open.depth),
+            None => Ok(()),
+        }
+    }
+
     /// Whether the innermost is a bracket or a template list.
     pub(crate) fn in_brackets(&self) -> bool
         ensures { result ≡ plain.in_brackets self.now }
     {
         match self.items.last() {
-            Some(open) => matches!(open.kind, Open::Bracket { .. } | Open::Arguments { .. }),
+            Some(open) => matches!(open.kind, Open::Bracket(_) | Open::Arguments(_)),
             None => false,
         }
     }
@@ -111,7 +166,7 @@ impl Opened {
         match self.items.last() {
             Some(open) => match open.kind {
                 Open::Block | Open::Members => Enclosing::NoBracket,
-                Open::Arguments { lines } | Open::Bracket { lines } => enclosed_by(lines),
+                Open::Arguments(style) | Open::Bracket(style) => enclosed_by(style),
             },
             None => Enclosing::NoBracket,
         }
@@ -132,7 +187,7 @@ impl Opened {
         ensures { result ≡ plain.in_arguments self.now }
     {
         match self.items.last() {
-            Some(open) => matches!(open.kind, Open::Arguments { .. }),
+            Some(open) => matches!(open.kind, Open::Arguments(_)),
             None => false,
         }
     }

@@ -5,9 +5,9 @@ ghost use Rattle.wgsl_model_tidy.specs.Open as plain;
 ghost use Rattle.wgsl_lex_token.specs.View.{class_of_kind};
 ghost use Rattle.wgsl_format_layout.specs.View.{role_view};
 ghost use Rattle.wgsl_format_layout.specs.States.{state_view};
-ghost use Rattle.wgsl_format_layout.specs.Kinds.{open_view};
+ghost use Rattle.wgsl_format_layout.specs.Kinds.{open_view, style_view};
 
-use crate::opened::{Open, Opened, deeper};
+use crate::opened::{Open, Opened, Style, deeper};
 use crate::role::{Role, role_of};
 use std::alloc::{AllocError, Global};
 use wgsl_lex_token::kind::TokenKind;
@@ -37,6 +37,18 @@ impl LayoutState {
             leading: false,
             structure: false,
         }
+    }
+
+    pub(crate) fn clone(&self, alloc: Global) -> Result<LayoutState, AllocError>
+        ensures { IfOk result (λ copy. copy ≡ self.now) }
+    {
+        Ok(LayoutState {
+            opened: self.opened.clone(alloc)?,
+            line: self.line,
+            last: self.last,
+            leading: self.leading,
+            structure: self.structure,
+        })
     }
 
     /// Whether a statement, a declaration, a member or a clause begins here, or goes on after its
@@ -140,21 +152,22 @@ impl LayoutState {
         }
     }
 
-    /// What a `(` or a `[` opens, in lines of its own or not.
-    fn bracket_kind(&self, lines: bool) -> Open
-        ensures { open_view result ≡ plain.bracket_opened (state_view self.now) lines }
+    /// What a `(` or a `[` opens.
+    fn bracket_kind(&self, style: Style) -> Open
+        ensures { open_view result
+            ≡ plain.bracket_opened (state_view self.now) (style_view style) }
     {
         if self.last.is(Role::Attribute) {
-            Open::Arguments { lines }
+            Open::Arguments(style)
         } else {
-            Open::Bracket { lines }
+            Open::Bracket(style)
         }
     }
 
-    /// Opens or closes what such a token does; a bracket that it opens is in lines of its own or not.
-    fn open_or_close(&mut self, right: Role, lines: bool) -> Result<(), AllocError>
-        ensures opened { IfOk result (λ _. self.new.opened
-            ≡ plain.opened_behind (state_view self.old) self.old.line (role_view right) lines) }
+    /// Opens or closes what such a token does; a bracket that it opens is of this style.
+    fn open_or_close(&mut self, right: Role, style: Style) -> Result<(), AllocError>
+        ensures opened { IfOk result (λ _. self.new.opened ≡ plain.opened_behind
+            (state_view self.old) self.old.line (role_view right) (style_view style)) }
         ensures line { IfOk result (λ _. self.new.line ≡ self.old.line) }
     {
         if right.is(Role::BlockStart) {
@@ -163,11 +176,11 @@ impl LayoutState {
             return self.opened.push(kind, depth);
         }
         if right.is(Role::Opening) {
-            let kind = self.bracket_kind(lines);
+            let kind = self.bracket_kind(style);
             return self.opened.push(kind, self.line);
         }
         if right.is(Role::TemplateStart) {
-            return self.opened.push(Open::Bracket { lines }, self.line);
+            return self.opened.push(Open::Bracket(style), self.line);
         }
         if right.closes() {
             self.opened.pop();
@@ -200,20 +213,21 @@ impl LayoutState {
         self.leading
     }
 
-    /// Goes behind a token of this role; a bracket that it opens is in lines of its own or not.
+    /// Goes behind a token of this role; a bracket that it opens is of this style.
     pub(crate) fn take(
         &mut self,
         kind: TokenKind,
         right: Role,
-        lines: bool,
+        style: Style,
     ) -> Result<(), AllocError>
         ensures { IfOk result (λ _. state_view self.new ≡ plain.behind_token
-            (state_view self.old) self.old.line (class_of_kind kind) (role_view right) lines) }
+            (state_view self.old) self.old.line (class_of_kind kind) (role_view right)
+            (style_view style)) }
     {
         let last = self.last_behind(right);
         let leading = self.leading_behind(right);
         let structure = self.structure_behind(kind, right);
-        self.open_or_close(right, lines)?;
+        self.open_or_close(right, style)?;
         self.last = last;
         self.leading = leading;
         self.structure = structure;

@@ -1,46 +1,88 @@
-//! Writing to a text.
+//! A text that is written piece by piece.
 
 ghost use Rattle.std.specs.Prelude.{◌≡◌, ◌++◌, chars, string_bytes, IfOk};
 ghost use Rattle.wgsl_model_tidy.specs.LaidOut.{gap_text, indentation};
+ghost use Rattle.wgsl_model_tidy.specs.Layout.{level};
 ghost use Rattle.wgsl_format_layout.specs.Gaps.{gap_view};
+ghost use Rattle.wgsl_format_layout.specs.Layouts.{layout_view};
+ghost use Rattle.wgsl_format_layout.specs.Lines.{Adds, IsEmpty};
 
 use crate::gap::Gap;
-use std::alloc::AllocError;
+use crate::layout::{Indent, Layout};
+use crate::line::Line;
+use std::alloc::{AllocError, Global};
 
-pub(crate) fn put(text: &mut String, piece: &str) -> Result<(), AllocError>
-    ensures { IfOk result (λ _.
-        chars (string_bytes text.new) ≡ chars (string_bytes text.old) ++ chars piece.now) }
-{
-    text.push_str(piece)?;
-    Ok(())
+/// A text, and its last line.
+#[derive(Drop)]
+pub struct Text {
+    pub string: String,
+    pub line: Line,
 }
 
-/// Writes four spaces for each level.
-fn indent(text: &mut String, depth: usize) -> Result<(), AllocError>
-    ensures { IfOk result (λ _.
-        chars (string_bytes text.new) ≡ chars (string_bytes text.old) ++ indentation depth) }
-{
-    'levels: for _ in 0..depth {
-        put(text, "    ")?;
+impl Text {
+    /// An empty text with room for so many bytes.
+    pub(crate) fn with_capacity(
+        alloc: Global,
+        bytes: usize,
+        layout: Layout,
+    ) -> Result<Text, AllocError>
+        ensures { IfOk result (λ text. IsEmpty layout text) }
+    {
+        Ok(Text {
+            string: String::with_capacity(alloc, bytes)?,
+            line: Line::new(layout),
+        })
     }
-    Ok(())
-}
 
-/// Writes what a gap has.
-pub(crate) fn put_gap(text: &mut String, gap: Gap) -> Result<(), AllocError>
-    ensures { IfOk result (λ _.
-        chars (string_bytes text.new) ≡ chars (string_bytes text.old) ++ gap_text (gap_view gap)) }
-{
-    match gap {
-        Gap::Closed => Ok(()),
-        Gap::Blank => put(text, " "),
-        Gap::Broken { empty, depth } => {
-            if empty {
-                put(text, "\n\n")?;
-                return indent(text, depth);
+    pub(crate) fn put(&mut self, piece: &str) -> Result<(), AllocError>
+        ensures { IfOk result (λ _. Adds self.old (chars piece.now) self.new) }
+    {
+        self.string.push_str(piece)?;
+        self.line.pass(piece)
+    }
+
+    /// Writes one level of indentation.
+    fn put_level(&mut self) -> Result<(), AllocError>
+        ensures { IfOk result (λ _.
+            Adds self.old (level (layout_view self.old.line.layout)) self.new) }
+    {
+        match self.line.layout.indent {
+            Indent::Tab(_) => self.put("\t"),
+            Indent::Spaces(count) => {
+                'fours: for _ in 0..count / 4 {
+                    self.put("    ")?;
+                }
+                'ones: for _ in 0..count % 4 {
+                    self.put(" ")?;
+                }
+                Ok(())
             }
-            put(text, "\n")?;
-            indent(text, depth)
+        }
+    }
+
+    /// Writes so many levels of indentation.
+    fn indent(&mut self, depth: usize) -> Result<(), AllocError>
+        ensures { IfOk result (λ _.
+            Adds self.old (indentation (layout_view self.old.line.layout) depth) self.new) }
+    {
+        'levels: for _ in 0..depth {
+            self.put_level()?;
+        }
+        Ok(())
+    }
+
+    /// Writes what a gap has.
+    pub(crate) fn put_gap(&mut self, gap: Gap) -> Result<(), AllocError>
+        ensures { IfOk result (λ _. Adds self.old
+            (gap_text (layout_view self.old.line.layout) (gap_view gap)) self.new) }
+    {
+        match gap {
+            Gap::Closed => Ok(()),
+            Gap::Blank => self.put(" "),
+            Gap::Broken { empty, depth } => {
+                self.put(if empty { "\n\n" } else { "\n" })?;
+                self.indent(depth)
+            }
         }
     }
 }

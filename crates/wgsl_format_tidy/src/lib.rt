@@ -16,7 +16,8 @@ ghost use Rattle.wgsl_format_tidy.specs.RunOutput.{IsTidied, no_arguments};
 use report::report_of;
 use std::alloc::Global;
 use std::io::{Read, Write};
-pub use tidied::tidy;
+pub use tidied::{tidy, tidy_with};
+pub use wgsl_format_layout::{Indent, Layout};
 pub use wgsl_format_streams::refuse_memory;
 use wgsl_format_streams::{deliver, read_all, tell};
 

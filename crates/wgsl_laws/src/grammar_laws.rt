@@ -6,12 +6,11 @@ ghost use Rattle.grammar.specs.Grammar.{Mode, Mode.checking, Derives, IsSentence
 ghost use Rattle.grammar.specs.Endings.{Ending, Ending.finished};
 ghost use Rattle.grammar.specs.Faults.{FaultIn};
 ghost use Rattle.grammar.specs.Reading.{read_all, Outcome.ok};
-ghost use Rattle.wgsl_model.specs.Grammar.Symbols.{Symbol, Symbol.unit, Value, is_read_alone};
-ghost use Rattle.wgsl_model.specs.Grammar.Written.{written};
+ghost use Rattle.wgsl_model.specs.Grammar.Symbols.{Dialect, Symbol, Symbol.unit, Value, is_read_alone};
+ghost use Rattle.wgsl_model.specs.Grammar.Written.{rules, written};
 ghost use Rattle.wgsl_model.specs.Grammar.Small.{small};
-ghost use Rattle.wgsl_model.specs.Faults.NamedFault.{IsNamed, IsNamedSmall};
+ghost use Rattle.wgsl_model.specs.Faults.NamedFault.{IsNamed, IsNamedSmall, IsNamedUnchecked, IsSyntaxFault};
 ghost use Rattle.wgsl_model.specs.Faults.Checked.{IsCheckedFault, wants_memory};
-ghost use Rattle.wgsl_model_tidy.specs.Syntax.{IsSyntaxFault};
 ghost use Rattle.wgsl_theory_grammar.specs.Factored.{FactoredSymbol.of, body, small_body};
 ghost use Rattle.wgsl_theory_grammar.specs.Tables.{tables, rank_limit};
 ghost use Rattle.wgsl_theory_grammar.specs.Apart.{apart};
@@ -74,14 +73,17 @@ pub fn same_faults()
         (ts ++ (opening ∷ [])) x (ys ++ (opening ∷ [])) ↔ IsCheckedFault ts ending x ys }
 {}
 
-/// One fault alone is named, and none where the tokens derive a tree and ended of themselves.
+/// One fault alone is named, and none where the tokens derive a tree and ended of themselves; so
+/// it is where nothing is checked.
 pub fn one_name()
     ensures once { (n : Symbol) (ts : List Token) (ending : Ending) (x y : Fault) →
         IsNamed n ts ending x → IsNamed n ts ending y → x ≡ y }
     ensures no_tree { (n : Symbol) (ts : List Token) (x : Fault) →
         IsNamed n ts finished x → (v : Value n) → Derives checking written n v ts → ⊥ }
-    ensures alone_once { (n : Symbol) (ts : List Token) (ending : Ending) (x y : Fault) →
-        IsNamedSmall n ts ending x → IsNamedSmall n ts ending y → x ≡ y }
+    ensures unchecked_once { (L : Dialect) (n : Symbol) (ts : List Token) (ending : Ending)
+        (x y : Fault) → IsNamedUnchecked L n ts ending x → IsNamedUnchecked L n ts ending y → x ≡ y }
+    ensures unchecked_no_sentence { (L : Dialect) (n : Symbol) (ts : List Token) (x : Fault) →
+        IsNamedUnchecked L n ts finished x → IsSentence (rules L) n ts → ⊥ }
     ensures alone_no_tree { (n : Symbol) (ts : List Token) (x : Fault) →
         IsNamedSmall n ts finished x → (v : Value n) → Derives checking small n v ts → ⊥ }
 {}

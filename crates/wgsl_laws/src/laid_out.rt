@@ -4,9 +4,8 @@ ghost use Rattle.std.specs.Prelude.{◌≡◌, ℕ, List};
 ghost use Rattle.grammar.specs.Tokens.{Token};
 ghost use Rattle.grammar.specs.Endings.{Ending.finished};
 ghost use Rattle.wgsl_model.specs.Tokens.TokenList.{IsTokenList};
-ghost use Rattle.wgsl_model.specs.Trees.Units.{TranslationUnit};
-ghost use Rattle.wgsl_model.specs.Program.{IsUnit};
 ghost use Rattle.wgsl_model_tidy.specs.Pieces.{pieces};
+ghost use Rattle.wgsl_model_tidy.specs.Layout.{Layout};
 ghost use Rattle.wgsl_model_tidy.specs.LaidOut.{laid_out};
 ghost use Rattle.wgsl_model_tidy.specs.NonBlank.{non_blank};
 ghost use Rattle.wgsl_model_tidy.specs.Lines.{BreaksLinesByLF, HasNoTrailingWhiteSpace};
@@ -14,37 +13,40 @@ ghost use Rattle.wgsl_model_tidy.specs.Lines.{HasNoTwoEmptyLines, BeginsWithNoLi
 ghost use Rattle.wgsl_model_tidy.specs.Lines.{EndsWithOneLineEnd};
 ghost use Rattle.wgsl_model_tidy.specs.Kept.{Keeps};
 
-/// The laid-out text of a module has the module's tokens and its comments, derives the same unit,
-/// and is laid out already.
+/// A text without an invalid token, formatted by any layout, has the same tokens and comments,
+/// derives the same unit if it is a module, and is formatted already by that layout.
 pub fn laid_out_keeps()
-    ensures { (source : List ℕ) (unit : TranslationUnit) (read : IsUnit source unit) →
-        Keeps source (laid_out (pieces source read.0)) }
+    ensures { (layout : Layout) (source : List ℕ) (ts : List Token)
+        (read : IsTokenList source ts finished) →
+        Keeps layout source (laid_out layout (pieces source ts)) }
 {}
 
-/// A text without an invalid token, formatted, has the same characters in the same order, but for
-/// blank space.
+/// A text without an invalid token, formatted by any layout, has the same characters in the same
+/// order, but for blank space.
 pub fn formatted_characters()
-    ensures { (source : List ℕ) (ts : List Token) (read : IsTokenList source ts finished) →
-        non_blank (laid_out (pieces source ts)) ≡ non_blank source }
+    ensures { (layout : Layout) (source : List ℕ) (ts : List Token)
+        (read : IsTokenList source ts finished) →
+        non_blank (laid_out layout (pieces source ts)) ≡ non_blank source }
 {}
 
-/// Outside block comments, the lines of a formatted text end with LF alone and with no white space
-/// before it, and no two empty ones follow one another. The text does not begin with a line break.
-/// Unless it is empty or ends in a block comment that is not closed, it ends with one line end.
+/// Outside block comments, the lines of a text formatted by any layout end with LF alone and with
+/// no white space before it, and no two empty ones follow one another. The text does not begin with
+/// a line break. Unless it is empty or ends in a block comment that is not closed, it ends with one
+/// line end.
 pub fn formatted_lines()
-    ensures line_breaks { (source : List ℕ) (ts : List Token)
+    ensures line_breaks { (layout : Layout) (source : List ℕ) (ts : List Token)
         (read : IsTokenList source ts finished) →
-        BreaksLinesByLF (laid_out (pieces source ts)) }
-    ensures no_trailing_white_space { (source : List ℕ) (ts : List Token)
+        BreaksLinesByLF (laid_out layout (pieces source ts)) }
+    ensures no_trailing_white_space { (layout : Layout) (source : List ℕ) (ts : List Token)
         (read : IsTokenList source ts finished) →
-        HasNoTrailingWhiteSpace (laid_out (pieces source ts)) }
-    ensures no_two_empty_lines { (source : List ℕ) (ts : List Token)
+        HasNoTrailingWhiteSpace (laid_out layout (pieces source ts)) }
+    ensures no_two_empty_lines { (layout : Layout) (source : List ℕ) (ts : List Token)
         (read : IsTokenList source ts finished) →
-        HasNoTwoEmptyLines (laid_out (pieces source ts)) }
-    ensures no_first_break { (source : List ℕ) (ts : List Token)
+        HasNoTwoEmptyLines (laid_out layout (pieces source ts)) }
+    ensures no_first_break { (layout : Layout) (source : List ℕ) (ts : List Token)
         (read : IsTokenList source ts finished) →
-        BeginsWithNoLineBreak (laid_out (pieces source ts)) }
-    ensures one_line_end { (source : List ℕ) (ts : List Token)
+        BeginsWithNoLineBreak (laid_out layout (pieces source ts)) }
+    ensures one_line_end { (layout : Layout) (source : List ℕ) (ts : List Token)
         (read : IsTokenList source ts finished) →
-        EndsWithOneLineEnd (laid_out (pieces source ts)) }
+        EndsWithOneLineEnd (laid_out layout (pieces source ts)) }
 {}

@@ -1,7 +1,7 @@
 -- What stands between two neighbouring tokens.
 use Rattle.std.specs.Prelude.{Bool, true, false, not, ◌&&◌, ◌||◌, if◌then◌else◌}
 use Rattle.wgsl_model_tidy.specs.Roles.{Role, name, unsuffixed, number, word, else_word, opening, template_start, template_end, block_start, block_end, comma, period, at, minus, ampersand, binary, step, item_end, attribute, semicolon, is, ends_operand, begins_operand, wants_operand, is_tight, opens_bracket, closes_bracket}
-use Rattle.wgsl_model_tidy.specs.Open.{Enclosing, no_bracket, one_line, own_lines}
+use Rattle.wgsl_model_tidy.specs.Open.{Enclosing, no_bracket, one_line, own_lines, item_lines}
 
 pub data Joint : Type 0 where
   -- a line end
@@ -59,8 +59,14 @@ joint_in_lines in_brackets left right =
     else if in_brackets || continues_line left right then space_or_line
     else space
 
--- what is between two neighbours; in a bracket in lines of its own a line ends after the opening and before the closing bracket
+-- where a line may end it ends, after an item
+abbrev pub ended : Bool → Joint → Joint
+ended true space_or_line = line
+ended after_item joint = joint
+
+-- what is between two neighbours; in a bracket in lines of its own a line ends after the opening and before the closing bracket, and where each item is in a line, after each `,` and `;`
 abbrev pub joint : Enclosing → Role → Role → Joint
 joint no_bracket left right = joint_in_lines false left right
 joint one_line left right = joint_in_line left right
 joint own_lines left right = if opens_bracket left || closes_bracket right then line else joint_in_lines true left right
+joint item_lines left right = if opens_bracket left || closes_bracket right then line else ended (is left comma || is left semicolon) (joint_in_lines true left right)

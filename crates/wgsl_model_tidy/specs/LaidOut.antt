@@ -5,7 +5,8 @@ use Rattle.wgsl_model.specs.Tokens.Classes.{LineComment, BlockComment, SymBraceL
 use Rattle.wgsl_model_tidy.specs.Pieces.{Piece, OpenComment}
 use Rattle.wgsl_model_tidy.specs.Roles.{Role, beginning, opening, template_start, template_end, block_end, is, is_tight, opens, opens_bracket, closes_bracket, closes, role_of}
 use Rattle.wgsl_model_tidy.specs.Joints.{Joint, line, nothing, space, nothing_or_line, space_or_line, joint}
-use Rattle.wgsl_model_tidy.specs.Open.{LayoutState, Enclosing, start, enclosing, between_items, depth_of, comment_depth, role_in, behind_token}
+use Rattle.wgsl_model_tidy.specs.Layout.{Layout, level, column_after, line_fits}
+use Rattle.wgsl_model_tidy.specs.Open.{Style, together, as_written, item_by_item, LayoutState, Enclosing, one_line, start, enclosing, between_items, depth_of, comment_depth, role_in, behind_token}
 
 -- nothing, a space, or a line end, with an empty line or without, and the blank space of a line so deep
 pub data Gap : Type 0 where
@@ -16,10 +17,11 @@ pub data Gap : Type 0 where
 pub data Last : Type 0 where
   token line_comment block_comment leading_comment open_comment : Last
 
--- the state behind the last token, and what the last piece is
+-- the state behind the last token, what the last piece is, and the column behind it
 pub record Spot : Type 0 where
   pub state : LayoutState
   pub last : Last
+  pub column : ℕ
 
 -- ---- which gap stands before a piece; n is how many line ends stand there, and break what a line end is there
 
@@ -150,18 +152,46 @@ abbrev pub has_lines : List Piece → Bool
 has_lines [] = false
 has_lines (p ∷ ps) = not (closes_one p.class) && has_break 1 (p ∷ ps)
 
+-- ---- long lines
+
+-- no bracket, or one that may contain line ends
+abbrev pub may_break : Enclosing → Bool
+may_break one_line = false
+may_break enclosing = true
+
+-- the pieces end, or begin with a closing bracket
+abbrev pub ends_bracket : List Piece → Bool
+ends_bracket [] = true
+ends_bracket (p ∷ ps) = closes_one p.class
+
+-- a token is in a bracket before these pieces, and something is after it there
+abbrev pub has_several : List Piece → Bool
+has_several [] = false
+has_several (p ∷ ps) = if is_comment p.class then has_several ps else not (closes_one p.class) && not (ends_bracket ps)
+
+-- a line may be added in a bracket of a class before these pieces
+abbrev pub may_part : Layout → Enclosing → ℕ → List Piece → Bool
+may_part layout enclosing class ps = (not (layout.width == 0) && opens_one class) && (may_break enclosing && has_several ps)
+
+-- How a bracket of a class is written, with these pieces after it: it keeps the author's lines; without any it is in one line, unless the line is too long then, by the column after the bracket and what follows if it is in one line.
+abbrev pub style_of : Layout → Enclosing → ℕ → ℕ → List Piece → List ℕ → Style
+style_of layout enclosing class column ps in_one_line =
+    if has_lines ps then as_written
+    else if may_part layout enclosing class ps && not (line_fits layout column in_one_line) then item_by_item
+    else together
+
 -- ---- the whole text
 
 -- blank space so deep
-abbrev pub indentation : ℕ → List ℕ
-indentation zero = []
-indentation (suc depth) = codes "    " ++ indentation depth
+abbrev pub indentation : Layout → ℕ → List ℕ
+indentation layout zero = []
+indentation layout (suc depth) = level layout ++ indentation layout depth
 
-abbrev pub gap_text : Gap → List ℕ
-gap_text closed = []
-gap_text blank = codes " "
-gap_text (broken true depth) = codes "\n\n" ++ indentation depth
-gap_text (broken false depth) = codes "\n" ++ indentation depth
+abbrev pub gap_text : Layout → Gap → List ℕ
+gap_text layout closed = []
+gap_text layout blank = codes " "
+gap_text layout (broken true depth) = codes "\n\n" ++ indentation layout depth
+gap_text layout (broken false depth) = codes "\n" ++ indentation layout depth
 
 -- how deep a line is in which a piece stands behind a gap
 abbrev pub depth_behind : Gap → ℕ → ℕ
@@ -183,12 +213,19 @@ leads gap last left = false
 abbrev pub comment_last : ℕ → Bool → Last
 comment_last class leading = if class == LineComment then line_comment else if class == BlockComment then (if leading then leading_comment else block_comment) else open_comment
 
--- after a piece after this gap, before others
-abbrev pub behind_piece : Spot → Gap → Role → Piece → List Piece → Spot
-behind_piece spot gap right p ps =
+-- after a piece after this gap; a bracket that it opens is of the style
+abbrev pub behind_piece : Layout → Spot → Gap → Role → Piece → Style → Spot
+behind_piece layout spot gap right p style =
     let depth = depth_behind gap spot.state.line in
-    if is_comment p.class then record { state = in_line_of spot.state depth; last = comment_last p.class (leads gap spot.last spot.state.last) }
-    else record { state = behind_token spot.state depth p.class right (has_lines ps); last = token }
+    let column = column_after layout spot.column (gap_text layout gap ++ p.text) in
+    if is_comment p.class then record { state = in_line_of spot.state depth; last = comment_last p.class (leads gap spot.last spot.state.last); column = column }
+    else record { state = behind_token spot.state depth p.class right style; last = token; column = column }
+
+-- the same by the pieces after it
+abbrev pub behind_first : Layout → Spot → Piece → List Piece → Style → Spot
+behind_first layout spot p ps style =
+    let right = next_role spot.state (p ∷ ps) in
+    behind_piece layout spot (gap_before spot right p ps) right p style
 
 -- what stands behind the last piece: a line end, but not where a comment would go on with it, nor where there is no piece
 abbrev pub ending : Last → Role → List ℕ
@@ -197,13 +234,17 @@ ending token left = if is left beginning then [] else codes "\n"
 ending last left = codes "\n"
 
 -- pieces laid out behind a spot
-abbrev pub laid_from : Spot → List Piece → List ℕ
-laid_from spot [] = ending spot.last spot.state.last
-laid_from spot (p ∷ ps) =
-    let right = next_role spot.state (p ∷ ps) in
-    let gap = gap_before spot right p ps in
-    gap_text gap ++ (p.text ++ laid_from (behind_piece spot gap right p ps) ps)
+abbrev pub laid_from : Layout → Spot → List Piece → List ℕ
+laid_from layout spot [] = ending spot.last spot.state.last
+laid_from layout spot (p ∷ ps) =
+    let after = behind_first layout spot p ps in
+    let style = style_of layout (enclosing spot.state.opened) p.class (after together).column ps (laid_from layout (after together) ps) in
+    gap_text layout (gap_before spot (next_role spot.state (p ∷ ps)) p ps) ++ (p.text ++ laid_from layout (after style) ps)
+
+-- nothing is laid out yet
+abbrev pub first_spot : Spot
+first_spot = record { state = start; last = token; column = 0 }
 
 -- the laid-out text of pieces
-abbrev pub laid_out : List Piece → List ℕ
-laid_out ps = laid_from (record { state = start; last = token }) ps
+abbrev pub laid_out : Layout → List Piece → List ℕ
+laid_out layout ps = laid_from layout first_spot ps

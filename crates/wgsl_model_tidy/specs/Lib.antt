@@ -3,6 +3,7 @@ pub mod Pieces
 pub mod Roles
 pub mod Joints
 pub mod Open
+pub mod Layout
 pub mod LaidOut
 pub mod NonBlank
 pub mod Lines

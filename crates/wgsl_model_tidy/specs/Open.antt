@@ -3,10 +3,14 @@ use Rattle.std.specs.Prelude.{ℕ, suc, Bool, true, false, ◌&&◌, ◌||◌, n
 use Rattle.wgsl_model.specs.Tokens.Classes.{KwStruct}
 use Rattle.wgsl_model_tidy.specs.Roles.{Role, else_word, opening, closing, template_start, block_start, block_end, comma, semicolon, at, item_end, attribute, beginning, is, opens_bracket, closes, ends_operand, begins_item, role_of}
 
--- a block, the members of a structure, the arguments of an attribute, every other bracket; the last two are in lines of their own or not
+-- how a bracket is written: in one line; in lines of its own, those inside as the author has them; or in lines of its own, with each item in a line
+pub data Style : Type 0 where
+  together as_written item_by_item : Style
+
+-- a block, the members of a structure, the arguments of an attribute, every other bracket
 pub data Open : Type 0 where
   block members : Open
-  arguments bracket : Bool → Open
+  arguments bracket : Style → Open
 
 -- what is open, the innermost first, each with the depth of the line where it closes
 abbrev pub Opened : Type 0
@@ -26,21 +30,22 @@ start = record { opened = []; line = 0; last = beginning; leading = false; struc
 
 -- the innermost is a bracket or a template list, and no block
 abbrev pub in_brackets : Opened → Bool
-in_brackets ((bracket lines, depth) ∷ outer) = true
-in_brackets ((arguments lines, depth) ∷ outer) = true
+in_brackets ((bracket style, depth) ∷ outer) = true
+in_brackets ((arguments style, depth) ∷ outer) = true
 in_brackets opened = false
 
--- the innermost is no bracket, a bracket in one line, or one in lines of its own
+-- the innermost is no bracket, or a bracket of a style
 pub data Enclosing : Type 0 where
-  no_bracket one_line own_lines : Enclosing
+  no_bracket one_line own_lines item_lines : Enclosing
 
-abbrev pub enclosed_by : Bool → Enclosing
-enclosed_by true = own_lines
-enclosed_by false = one_line
+abbrev pub enclosed_by : Style → Enclosing
+enclosed_by together = one_line
+enclosed_by as_written = own_lines
+enclosed_by item_by_item = item_lines
 
 abbrev pub enclosing : Opened → Enclosing
-enclosing ((bracket lines, depth) ∷ outer) = enclosed_by lines
-enclosing ((arguments lines, depth) ∷ outer) = enclosed_by lines
+enclosing ((bracket style, depth) ∷ outer) = enclosed_by style
+enclosing ((arguments style, depth) ∷ outer) = enclosed_by style
 enclosing opened = no_bracket
 
 -- the innermost has the members of a structure
@@ -50,7 +55,7 @@ in_members opened = false
 
 -- the innermost has the arguments of an attribute
 abbrev pub in_arguments : Opened → Bool
-in_arguments ((arguments lines, depth) ∷ outer) = true
+in_arguments ((arguments style, depth) ∷ outer) = true
 in_arguments opened = false
 
 -- how deep the lines in the innermost stand
@@ -108,16 +113,16 @@ last_behind state right =
 abbrev pub block_opened : LayoutState → Open
 block_opened state = if state.structure then members else block
 
--- what a `(` or a `[` opens, in lines of its own or not
-abbrev pub bracket_opened : LayoutState → Bool → Open
-bracket_opened state lines = if is state.last attribute then arguments lines else bracket lines
+-- what a `(` or a `[` opens
+abbrev pub bracket_opened : LayoutState → Style → Open
+bracket_opened state style = if is state.last attribute then arguments style else bracket style
 
 -- a block is as deep as the statement or the declaration that it is part of, a bracket as deep as the line where it opens
-abbrev pub opened_behind : LayoutState → ℕ → Role → Bool → Opened
-opened_behind state line right lines =
+abbrev pub opened_behind : LayoutState → ℕ → Role → Style → Opened
+opened_behind state line right style =
     if is right block_start then (block_opened state, inner_depth state.opened) ∷ state.opened
-    else if is right opening then (bracket_opened state lines, line) ∷ state.opened
-    else if is right template_start then (bracket lines, line) ∷ state.opened
+    else if is right opening then (bracket_opened state style, line) ∷ state.opened
+    else if is right template_start then (bracket style, line) ∷ state.opened
     else if closes right then drop 1 state.opened
     else state.opened
 
@@ -130,7 +135,7 @@ structure_behind state class right =
 abbrev pub leading_behind : LayoutState → Role → Bool
 leading_behind state right = if is right at then begins state else state.leading
 
--- the state after a token of the role on the right, in a line of this depth; a bracket that it opens is in lines of its own or not
-abbrev pub behind_token : LayoutState → ℕ → ℕ → Role → Bool → LayoutState
-behind_token state line class right lines =
-    record { opened = opened_behind state line right lines; line = line; last = last_behind state right; leading = leading_behind state right; structure = structure_behind state class right }
+-- the state after a token of the role on the right, in a line of this depth; a bracket that it opens is of the style
+abbrev pub behind_token : LayoutState → ℕ → ℕ → Role → Style → LayoutState
+behind_token state line class right style =
+    record { opened = opened_behind state line right style; line = line; last = last_behind state right; leading = leading_behind state right; structure = structure_behind state class right }

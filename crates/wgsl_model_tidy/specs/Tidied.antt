@@ -2,18 +2,16 @@
 use Rattle.std.specs.Prelude.{◌≡◌, ℕ, true, false, List, [], ◌++◌, chars, codes}
 use Rattle.std.specs.Str.{is_utf8}
 use Rattle.grammar.specs.Tokens.{Fault}
-use Rattle.wgsl_model.specs.Trees.Units.{TranslationUnit}
-use Rattle.wgsl_model.specs.Program.{ProcessOutput, complaint, shown_fault, IsUnit}
-use Rattle.wgsl_model_tidy.specs.NonBlank.{non_blank}
+use Rattle.wgsl_model.specs.Program.{ProcessOutput, complaint, shown_fault}
+use Rattle.wgsl_model_tidy.specs.Layout.{standard}
 use Rattle.wgsl_model_tidy.specs.Kept.{IsLaidOut, Keeps}
 use Rattle.wgsl_model_tidy.specs.Syntax.{IsModuleInSyntax, IsSyntaxFaultOf}
 
--- The text is the laid-out text of a source that is a module by its syntax. It has the characters of the source that are not blank space, in the same order; and where the source is a module, it keeps it.
+-- The text is the laid-out text of a source that is a module by its syntax, and keeps what the source has.
 pub record IsTidyTextOf (source text : List ℕ) : Type 0 where
   pub accepted : IsModuleInSyntax source
-  pub laid_out : IsLaidOut source text
-  pub characters : non_blank text ≡ non_blank source
-  pub kept : (u : TranslationUnit) → IsUnit source u → Keeps source text
+  pub laid_out : IsLaidOut standard source text
+  pub kept : Keeps standard source text
 
 -- What the program writes of these bytes: of a module by its syntax its laid-out text, else the fault that is named, or that they are no text.
 pub data Tidies (bytes : List ℕ) : ProcessOutput → Type 0 where

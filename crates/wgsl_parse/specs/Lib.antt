@@ -79,6 +79,7 @@ pub use Rattle.wgsl_tree_simple.specs.Kinds as KindWords
 pub use Rattle.wgsl_tree_unit.specs.Variants as UnitVariants
 -- errors, and what is answered of texts and of the tokens of iterators
 pub use Rattle.wgsl_error.specs.Kinds as ErrorKinds
+pub use Rattle.wgsl_error.specs.Places as MarkedLines
 pub use Rattle.wgsl_error.specs.Printing as PrintedErrors
 pub use Rattle.wgsl_read_cursor.specs.Answers
 pub use Rattle.wgsl_read_cursor.specs.Places as ErrorPlaces
@@ -117,10 +118,12 @@ pub use Rattle.wgsl_model_tidy.specs.Pieces as TextPieces
 pub use Rattle.wgsl_model_tidy.specs.Roles as TokenRoles
 pub use Rattle.wgsl_model_tidy.specs.Joints as TokenJoints
 pub use Rattle.wgsl_model_tidy.specs.Open as OpenBrackets
+pub use Rattle.wgsl_model_tidy.specs.Layout
 pub use Rattle.wgsl_model_tidy.specs.LaidOut
 pub use Rattle.wgsl_model_tidy.specs.NonBlank
 pub use Rattle.wgsl_model_tidy.specs.Lines
 pub use Rattle.wgsl_model_tidy.specs.Kept as KeptPieces
 pub use Rattle.wgsl_model_tidy.specs.Syntax
 pub use Rattle.wgsl_model_tidy.specs.Tidied
+pub use Rattle.wgsl_format_layout.specs.Layouts
 pub use Rattle.wgsl_laws.specs.Hashes

@@ -14,7 +14,9 @@ pub mod span {
 
 /// What is wrong with a text, and its messages.
 pub mod error {
-    pub use wgsl_error::{Error, ErrorKind, ErrorWithSource, ParseError, WithoutExpected};
+    pub use wgsl_error::{
+        Error, ErrorInFile, ErrorKind, ErrorWithSource, ParseError, WithoutExpected,
+    };
 }
 
 /// Tokens, and what gives them.
@@ -85,7 +87,7 @@ pub mod parser {
 
 /// Laying modules out for people: comments and the author's line breaks stay.
 pub mod tidy {
-    pub use wgsl_format_tidy::tidy;
+    pub use wgsl_format_tidy::{Indent, Layout, tidy, tidy_with};
 }
 
 /// What holds of all texts and trees, as contracts of functions that do nothing.

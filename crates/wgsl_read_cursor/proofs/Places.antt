@@ -6,8 +6,8 @@ use Rattle.grammar.specs.Endings.{Ending, Ending.carried}
 use Rattle.wgsl_model.specs.Faults.Kinds.{span_of_token, next_place, last_place, unexpected_end}
 use Rattle.wgsl_model.specs.Grammar.Checks.{Checked, right, wrong, fault_in}
 use Rattle.wgsl_model.specs.Faults.Checked.{IsCheckedFault, IsCheckedFault.reserved_fault, IsCheckedFault.severity_fault_at, IsCheckedFault.attribute_fault_at, IsCheckedFault.var_template_fault}
-use Rattle.wgsl_model.specs.Faults.NamedFault.{IsNamed, IsNamed.checked_first, IsNamed.unexpected_first, IsNamed.carried_last, IsNamed.missing_last, IsNamedSmall, IsNamedSmall.unexpected_first_small, IsNamedSmall.carried_last_small, IsNamedSmall.missing_last_small}
-use Rattle.wgsl_model.specs.Grammar.Symbols.{Symbol}
+use Rattle.wgsl_model.specs.Faults.NamedFault.{IsNamed, IsNamed.checked_first, IsNamed.unexpected_first, IsNamed.carried_last, IsNamed.missing_last, IsNamedUnchecked, IsNamedUnchecked.unchecked_unexpected, IsNamedUnchecked.unchecked_carried, IsNamedUnchecked.unchecked_missing}
+use Rattle.wgsl_model.specs.Grammar.Symbols.{Dialect, Symbol}
 use Rattle.wgsl_model.specs.Tokens.TokenList.{IsTokenList, width}
 use Rattle.wgsl_lexer.specs.InOrder.{AreInOrder, IsFaultBehind}
 use Rattle.wgsl_error.specs.declared.Error.{Error}
@@ -89,11 +89,11 @@ named_within n source ts e x l (unexpected_first p us t h v r m) = unexpected_wi
 named_within n source ts e x l (carried_last y v m q) = carried_within source ts e y l q
 named_within n source ts e x l (missing_last v r m q) = missing_within source ts e l
 
--- the same where a text is recognised alone
-pub named_within_small : (n : Symbol) (source : List ℕ) (ts : List Token) (e : Ending) (x : Fault) → IsTokenList source ts e → IsNamedSmall n ts e x → Within x.span (width source)
-named_within_small n source ts e x l (unexpected_first_small p us t h v r) = unexpected_within source ts e p us t l h
-named_within_small n source ts e x l (carried_last_small y v q) = carried_within source ts e y l q
-named_within_small n source ts e x l (missing_last_small v r q) = missing_within source ts e l
+-- the same where nothing is checked
+pub unchecked_within : (L : Dialect) (n : Symbol) (source : List ℕ) (ts : List Token) (e : Ending) (x : Fault) → IsTokenList source ts e → IsNamedUnchecked L n ts e x → Within x.span (width source)
+unchecked_within L n source ts e x l (unchecked_unexpected p us t h v r) = unexpected_within source ts e p us t l h
+unchecked_within L n source ts e x l (unchecked_carried y v q) = carried_within source ts e y l q
+unchecked_within L n source ts e x l (unchecked_missing v r q) = missing_within source ts e l
 
 -- a want of memory
 pub memory_within : (size : ℕ) (e : Error) → IsOutOfMemory e → StandsWithin e.span size

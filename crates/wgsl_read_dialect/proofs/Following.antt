@@ -8,12 +8,12 @@ use Rattle.grammar.proofs.Reading.Sets.{and_true}
 use Rattle.grammar.proofs.Reading.Beginnings.{pick}
 use Rattle.grammar.proofs.States.{reads_is}
 use Rattle.wgsl_model.specs.Grammar.Symbols.{Dialect, Dialect.parsed, Dialect.recognized, Symbol.ident}
+use Rattle.wgsl_theory_grammar.specs.Unchecked.{unchecked_body}
 use Rattle.wgsl_theory_grammar.specs.Factored.{Further.components, Further.braced_part, FactoredSymbol, FactoredSymbol.of, FactoredSymbol.further, FactoredValue, FactoredRule}
 use Rattle.wgsl_theory_grammar.specs.Tables.{rank_limit, tables}
+use Rattle.wgsl_theory_grammar.proofs.UncheckedTested.{unchecked_passes}
 use Rattle.wgsl_read_dialect.specs.Steps.{Steps, Steps.no_step, Steps.a_token, Steps.a_symbol, Steps.a_choice, Steps.items, steps_of, opened, rule_steps}
-use Rattle.wgsl_read_dialect.specs.Dialects.{followed_body}
 use Rattle.wgsl_read_dialect.specs.Following.{forgotten, passes, repeated, follow}
-use Rattle.wgsl_read_dialect.proofs.SyntaxTested.{followed_passes}
 
 -- ---- values that are forgotten
 abbrev pub Passed : Type 0
@@ -78,7 +78,7 @@ is_unchecked (checked f g) = false
 is_unchecked (symbol n) = true
 is_unchecked (left_chain f g h) = is_unchecked g && is_unchecked h
 
-none_checked : (L : Dialect) (n : FactoredSymbol) → is_unchecked (followed_body L n) ≡ true
+none_checked : (L : Dialect) (n : FactoredSymbol) → is_unchecked (unchecked_body L n) ≡ true
 none_checked parsed (of ident) = refl
 none_checked recognized (of ident) = refl
 none_checked L (of n) = refl
@@ -87,7 +87,7 @@ none_checked recognized (further components) = refl
 none_checked L (further x) = refl
 
 abbrev reading : {A : Type 0} → Dialect → FactoredRule A → State → Read A
-reading L g s = go tables (reads tables (followed_body L) rank_limit) g s
+reading L g s = go tables (reads tables (unchecked_body L) rank_limit) g s
 
 follow_is : (L : Dialect) {A : Type 0} (g : FactoredRule A) → is_unchecked g ≡ true → (k : Steps) (s : State) → follow L (steps_of g k) s ≡ behind (forgotten (reading L g s)) (follow L k)
 unfolding passes
@@ -113,11 +113,11 @@ follow_is L (left_chain f g h) u k s =
     ∙ in_chain (reading L g s) f (first tables h) (reading L h) (follow L (steps_of h no_step)) (λ s'. sym (follow_is L h u'.1 no_step s' ∙ behind_done (forgotten (reading L h s')))) (next_start s) (follow L k)
 
 -- the steps of a symbol's right side, before others
-symbol_follow : (L : Dialect) (n : FactoredSymbol) (k : Steps) (s : State) → follow L (steps_of (followed_body L n) k) s ≡ behind (passes L n s) (follow L k)
+symbol_follow : (L : Dialect) (n : FactoredSymbol) (k : Steps) (s : State) → follow L (steps_of (unchecked_body L n) k) s ≡ behind (passes L n s) (follow L k)
 unfolding passes
 symbol_follow L n k s =
-    follow_is L (followed_body L n) (none_checked L n) k s
-    ∙ ap (λ (x : Read (FactoredValue n)). behind (forgotten x) (follow L k)) (sym (reads_is tables (followed_body L) rank_limit (followed_passes L) n s))
+    follow_is L (unchecked_body L n) (none_checked L n) k s
+    ∙ ap (λ (x : Read (FactoredValue n)). behind (forgotten x) (follow L k)) (sym (reads_is tables (unchecked_body L) rank_limit (unchecked_passes L) n s))
 
 -- steps pass over the same where those of the symbols stand in their places
 opened_is : (L : Dialect) (w : Steps) (s : State) → follow L (opened L w) s ≡ follow L w s
@@ -135,5 +135,5 @@ pub passes_is : (L : Dialect) (n : FactoredSymbol) (s : State) → passes L n s 
 unfolding rule_steps
 passes_is L (of n) s = sym (symbol_follow L (of n) no_step s ∙ behind_done (passes L (of n) s))
 passes_is L (further braced_part) s =
-    sym (opened_is L (steps_of (followed_body L (further braced_part)) no_step) s ∙ symbol_follow L (further braced_part) no_step s ∙ behind_done (passes L (further braced_part) s))
+    sym (opened_is L (steps_of (unchecked_body L (further braced_part)) no_step) s ∙ symbol_follow L (further braced_part) no_step s ∙ behind_done (passes L (further braced_part) s))
 passes_is L (further x) s = sym (symbol_follow L (further x) no_step s ∙ behind_done (passes L (further x) s))

@@ -1,7 +1,3 @@
-pub mod WithoutChecks
-pub mod SyntaxTested
-pub mod SyntaxAnswers
-pub mod SyntaxPlaces
 pub mod Following
 pub mod Weights
 pub mod Views

@@ -1,5 +1,5 @@
 -- What is answered of the tokens of a text is what the definitions name.
-use Rattle.std.proofs.Common.{◌≡◌, ◌⊎◌, ◌+◌, ◌≤◌, inl, inr, ℕ, false, List, [], ◌∷◌, length, refl, sym, ap, subst, ◌∙◌}
+use Rattle.std.proofs.Common.{◌≡◌, ◌⊎◌, inl, inr, ℕ, false, List, [], ◌∷◌, length, refl, sym, ap, subst, ◌∙◌}
 use Rattle.std.specs.Prelude.{Result, Ok, Err, IfOk, IfErr, chars}
 use Rattle.std.specs.Str.{IsUtf8}
 use Rattle.grammar.specs.Tokens.{Token, Fault, last_end}
@@ -10,11 +10,13 @@ use Rattle.grammar.specs.States.{State, start_state, Read, tag, reads}
 use Rattle.wgsl_model.specs.Faults.Checked.{wants_memory}
 use Rattle.wgsl_model.specs.Trees.Units.{TranslationUnit}
 use Rattle.wgsl_model.specs.Grammar.Symbols.{Dialect, Dialect.parsed, Dialect.recognized, Symbol.unit}
-use Rattle.wgsl_model.specs.Tokens.TokenList.{IsTokenList, width}
+use Rattle.wgsl_model.specs.Faults.NamedFault.{IsNamedUnchecked}
+use Rattle.wgsl_model.specs.Tokens.TokenList.{IsTokenList}
+use Rattle.wgsl_theory_grammar.specs.Unchecked.{unchecked_body}
 use Rattle.wgsl_theory_grammar.specs.Factored.{FactoredSymbol.of}
 use Rattle.wgsl_theory_grammar.specs.Tables.{rank_limit, tables}
-use Rattle.wgsl_theory_grammar.specs.Answers.{answer_said, small_answer_of, IsSmallAnswer}
-use Rattle.wgsl_theory_grammar.proofs.Faults.SmallAnswers.{small_answers_are_true}
+use Rattle.wgsl_theory_grammar.specs.Answers.{answer_said, unchecked_answer_of, IsUncheckedAnswer, small_answer_of, IsSmallAnswer}
+use Rattle.wgsl_theory_grammar.proofs.Faults.UncheckedAnswers.{syntax_answers_are_true, small_answers_are_true}
 use Rattle.wgsl_theory_grammar.proofs.Tokens.Places.{bytes_width}
 use Rattle.wgsl_error.specs.declared.Error.{Error}
 use Rattle.wgsl_error.specs.View.{fault_view}
@@ -25,15 +27,12 @@ use Rattle.wgsl_read_cursor.specs.Places.{StandsWithin}
 use Rattle.wgsl_read_cursor.specs.declared.source.TokenSource.{TokenSource}
 use Rattle.wgsl_read_cursor.specs.Origins.{AreOf, IsSourceOf, IsReadTo}
 use Rattle.wgsl_read_cursor.proofs.Origins.{read_alone, all_taken}
-use Rattle.wgsl_read_cursor.proofs.Places.{named_within_small, memory_within}
+use Rattle.wgsl_read_cursor.proofs.Places.{unchecked_within, memory_within}
 use Rattle.wgsl_read_cursor.proofs.Seen.{said_seen}
-use Rattle.wgsl_read_dialect.specs.Dialects.{followed_body}
 use Rattle.wgsl_read_dialect.specs.Steps.{rule_steps}
 use Rattle.wgsl_read_dialect.specs.Following.{forgotten, passes, follow}
-use Rattle.wgsl_read_dialect.specs.Recognized.{AreUnit, HaveFault, Recognized}
+use Rattle.wgsl_read_dialect.specs.Recognized.{AreUnit, Recognized}
 use Rattle.wgsl_read_dialect.proofs.Following.{passes_is}
-use Rattle.wgsl_read_dialect.proofs.SyntaxAnswers.{IsSyntaxAnswer, syntax_answers_are_true}
-use Rattle.wgsl_read_dialect.proofs.SyntaxPlaces.{syntax_within}
 
 -- an outcome and an answer, their value forgotten
 abbrev without_value : {A : Type 0} → Outcome A → Outcome (Unit {0})
@@ -65,7 +64,7 @@ said_without_value ts ending out = refl
 
 -- what the reader on lists says of a unit
 abbrev outcome : Dialect → List Token → Outcome TranslationUnit
-outcome L ts = read_all tables checking (followed_body L) rank_limit (of unit) ts
+outcome L ts = read_all tables checking (unchecked_body L) rank_limit (of unit) ts
 
 followed : (L : Dialect) (ts : List Token) → follow L (rule_steps L (of unit)) (start_state ts) ≡ tag (start_state ts) (without_value (outcome L ts))
 unfolding passes reads
@@ -73,19 +72,14 @@ followed L ts = sym (passes_is L (of unit) (start_state ts)) ∙ tagged (start_s
 
 -- a true answer in a dialect
 abbrev IsTrue : Dialect → List Token → Ending → Answer TranslationUnit → Type 0
-IsTrue L ts ending (accepted v) = (ending ≡ finished) × AreUnit L ts
-IsTrue L ts ending (denied x) = HaveFault L ts ending x
+IsTrue L ts ending a = IsUncheckedAnswer L unit (λ v. AreUnit L ts) ts ending a
 
 small_true : (ts : List Token) (ending : Ending) (a : Answer TranslationUnit) → IsSmallAnswer unit ts ending a → IsTrue recognized ts ending a
 small_true ts ending (accepted v) h = (h.0, (v, h.1))
 small_true ts ending (denied x) h = h
 
-syntax_true : (ts : List Token) (ending : Ending) (a : Answer TranslationUnit) → IsSyntaxAnswer ts ending a → IsTrue parsed ts ending a
-syntax_true ts ending (accepted v) h = h
-syntax_true ts ending (denied x) h = h
-
-answers_are_true : (L : Dialect) (ts : List Token) (ending : Ending) → IsTrue L ts ending (answer_said ts ending (outcome L ts))
-answers_are_true parsed ts ending = syntax_true ts ending (answer_said ts ending (outcome parsed ts)) (syntax_answers_are_true ts ending)
+answers_are_true : (L : Dialect) (ts : List Token) (ending : Ending) → IsTrue L ts ending (unchecked_answer_of L unit ts ending)
+answers_are_true parsed ts ending = syntax_answers_are_true unit ts ending
 answers_are_true recognized ts ending = small_true ts ending (small_answer_of unit ts ending) (small_answers_are_true unit ts ending)
 
 -- it says what is promised
@@ -94,7 +88,7 @@ true_is L ts ending (Ok u) (accepted v) h r = h
 true_is L ts ending (Ok u) (denied x) h r = absurd cc
 true_is L ts ending (Err e) a h (inl m) = inl m
 true_is L ts ending (Err e) (accepted v) h (inr r) = absurd cc
-true_is L ts ending (Err e) (denied x) h (inr r) = let same : x ≡ fault_view e = cc in inr (subst (HaveFault L ts ending) same h)
+true_is L ts ending (Err e) (denied x) h (inr r) = let same : x ≡ fault_view e = cc in inr (subst (IsNamedUnchecked L unit ts ending) same h)
 
 -- what is returned of what was followed
 pub unit_is : (L : Dialect) (source : TokenSource) (ts : List Token) (ending : Ending) (read : Result (Unit {0}) declared.Fault) (left : State) (result : Result (Unit {0}) Error) → IsSourceOf source ts ending → wants_memory ending ≡ false
@@ -114,7 +108,7 @@ abbrev IsUnitIn : Dialect → List ℕ → Type 0
 IsUnitIn L source = (ts : List Token) × IsTokenList source ts finished × AreUnit L ts
 
 abbrev IsRefusedIn : Dialect → List ℕ → Fault → Type 0
-IsRefusedIn L source x = (ts : List Token) × (ending : Ending) × IsTokenList source ts ending × HaveFault L ts ending x
+IsRefusedIn L source x = (ts : List Token) × (ending : Ending) × IsTokenList source ts ending × IsNamedUnchecked L unit ts ending x
 
 pub accepted_is : (L : Dialect) (source : List ℕ) (ts : List Token) (ending : Ending) (result : Result (Unit {0}) Error) → IsTokenList source ts ending → Recognized L result ts ending → IfOk result (λ u. IsUnitIn L source)
 accepted_is L source ts ending (Ok u) l h = (ts, subst (IsTokenList source ts) h.0 l, h.1)
@@ -126,12 +120,8 @@ refused_is L source ts ending (Ok u) l h = tt
 refused_is L source ts ending (Err e) l (inl m) = inl m
 refused_is L source ts ending (Err e) l (inr h) = inr (ts, ending, l, h)
 
-fault_within : (L : Dialect) (source : List ℕ) (ts : List Token) (ending : Ending) (x : Fault) → IsTokenList source ts ending → HaveFault L ts ending x → (x.span.start ≤ x.span.end) × (x.span.end ≤ width source + 1)
-fault_within parsed source ts ending x l h = syntax_within source ts ending x l h
-fault_within recognized source ts ending x l h = named_within_small unit source ts ending x l h
-
 pub placed_is : (L : Dialect) (source : List ℕ) (ts : List Token) (ending : Ending) (result : Result (Unit {0}) Error) → IsUtf8 source → IsTokenList (chars source) ts ending → Recognized L result ts ending
     → IfErr result (λ e. StandsWithin e.span (length source))
 placed_is L source ts ending (Ok u) t l h = tt
 placed_is L source ts ending (Err e) t l (inl m) = memory_within (length source) e m
-placed_is L source ts ending (Err e) t l (inr h) = subst (StandsWithin e.span) (bytes_width source t) (fault_within L (chars source) ts ending (fault_view e) l h)
+placed_is L source ts ending (Err e) t l (inr h) = subst (StandsWithin e.span) (bytes_width source t) (unchecked_within L unit (chars source) ts ending (fault_view e) l h)

@@ -8,14 +8,14 @@ use Rattle.grammar.proofs.Reading.Beginnings.{pick}
 use Rattle.grammar.proofs.Reading.Exact.{part_front}
 use Rattle.grammar.proofs.States.{turns_are, shortens, read_is_part}
 use Rattle.wgsl_model.specs.Grammar.Symbols.{Dialect, Dialect.parsed, Dialect.recognized, Symbol.ident}
+use Rattle.wgsl_theory_grammar.specs.Unchecked.{unchecked_body}
 use Rattle.wgsl_theory_grammar.specs.Factored.{Further.components, FactoredSymbol, FactoredSymbol.of, FactoredSymbol.further, FactoredValue, small_body}
 use Rattle.wgsl_theory_grammar.specs.Tables.{rank_limit, empties, tables}
 use Rattle.wgsl_theory_grammar.proofs.Passes.{small_passes}
+use Rattle.wgsl_theory_grammar.proofs.UncheckedTested.{unchecked_passes}
 use Rattle.wgsl_read_dialect.specs.Steps.{Steps, Steps.no_step, Steps.a_token, Steps.a_symbol, Steps.a_choice, Steps.items, rule_steps}
-use Rattle.wgsl_read_dialect.specs.Dialects.{followed_body}
 use Rattle.wgsl_read_dialect.specs.Following.{forgotten, passes, repeated, follow}
 use Rattle.wgsl_read_dialect.specs.Weights.{can_be_empty, symbol_weight, weight, token_weight, is_settled}
-use Rattle.wgsl_read_dialect.proofs.SyntaxTested.{followed_passes}
 
 -- ---- the steps of each symbol
 pub rule_settled : (L : Dialect) (n : FactoredSymbol) → is_settled (rule_steps L n) ≡ true
@@ -68,15 +68,15 @@ behind_part (stop x) u s' e = absurd cc
 symbol_takes : (L : Dialect) (n : FactoredSymbol) (s : State) (u : Unit {0}) (s' : State) → passes L n s ≡ done u s' → length s'.rest + least (empties n) ≤ length s.rest
 unfolding passes
 symbol_takes L n s u s' e =
-    let q = behind_part (reads tables (followed_body L) rank_limit n s) u s' e in
+    let q = behind_part (reads tables (unchecked_body L) rank_limit n s) u s' e in
     by_case (empties n) refl q.0 q.1
   where
-    by_case : (b : Bool) → empties n ≡ b → (v : FactoredValue n) → reads tables (followed_body L) rank_limit n s ≡ done v s' → length s'.rest + least b ≤ length s.rest
+    by_case : (b : Bool) → empties n ≡ b → (v : FactoredValue n) → reads tables (unchecked_body L) rank_limit n s ≡ done v s' → length s'.rest + least b ≤ length s.rest
     by_case true w v h =
-        let p = part_front checking (followed_body L) n v s.rest s'.rest (read_is_part tables (followed_body L) rank_limit n s v s' h) in
+        let p = part_front checking (unchecked_body L) n v s.rest s'.rest (read_is_part tables (unchecked_body L) rank_limit n s v s' h) in
         let same : length s.rest ≡ length (p.0 ++ s'.rest) = ap (λ (x : List Token). length x) p.1 in
         omega (arith, same, length-append p.0 s'.rest)
-    by_case false w v h = let l = shortens tables (followed_body L) rank_limit (followed_passes L) (symbol n) refl refl w s v s' h in omega (arith, l)
+    by_case false w v h = let l = shortens tables (unchecked_body L) rank_limit (unchecked_passes L) (symbol n) refl refl w s v s' h in omega (arith, l)
 
 never_refused : {A : Type 0} (ts : List Token) (a : A) (s : State) → refused ts ≡ done a s → ⊥
 never_refused [] a s e = cc

@@ -2,9 +2,9 @@
 use Rattle.std.specs.Prelude.{ℕ, List, cond}
 use Rattle.grammar.specs.States.{State, Read, Read.done, Read.stop, ◌>>=◌, is_any, take_any, turns, reads}
 use Rattle.wgsl_model.specs.Grammar.Symbols.{Dialect}
+use Rattle.wgsl_theory_grammar.specs.Unchecked.{unchecked_body}
 use Rattle.wgsl_theory_grammar.specs.Factored.{FactoredSymbol}
 use Rattle.wgsl_theory_grammar.specs.Tables.{rank_limit, tables}
-use Rattle.wgsl_read_dialect.specs.Dialects.{followed_body}
 use Rattle.wgsl_read_dialect.specs.Steps.{Steps, Steps.no_step, Steps.a_token, Steps.a_symbol, Steps.a_choice, Steps.items}
 
 -- what was read, its value forgotten
@@ -14,7 +14,7 @@ forgotten (stop e) = stop e
 
 -- what a symbol passes over
 unfoldable pub passes : Dialect → FactoredSymbol → State → Read (Unit {0})
-passes L n s = forgotten (reads tables (followed_body L) rank_limit n s)
+passes L n s = forgotten (reads tables (unchecked_body L) rank_limit n s)
 
 -- what items pass over, as long as the next token is of one of the classes
 unfoldable pub repeated : List ℕ → (State → Read (Unit {0})) → State → Read (Unit {0})

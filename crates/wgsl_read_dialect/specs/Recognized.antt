@@ -8,8 +8,7 @@ use Rattle.wgsl_model.specs.Grammar.Symbols.{Dialect, Dialect.parsed, Dialect.re
 use Rattle.wgsl_model.specs.Tokens.TokenList.{IsTokenList}
 use Rattle.wgsl_model.specs.Grammar.Written.{written}
 use Rattle.wgsl_model.specs.Grammar.Small.{small}
-use Rattle.wgsl_model.specs.Faults.NamedFault.{IsNamedSmall}
-use Rattle.wgsl_model_tidy.specs.Syntax.{IsSyntaxFault}
+use Rattle.wgsl_model.specs.Faults.NamedFault.{IsNamedUnchecked, IsNamedSmall}
 use Rattle.wgsl_error.specs.declared.Error.{Error}
 use Rattle.wgsl_error.specs.View.{fault_view}
 use Rattle.wgsl_read_cursor.specs.Answers.{IsOutOfMemory}
@@ -27,12 +26,7 @@ abbrev pub AreUnit : Dialect → List Token → Type 0
 AreUnit parsed ts = IsSentence written unit ts
 AreUnit recognized ts = (v : TranslationUnit) × Derives checking small unit v ts
 
--- the fault that is named of tokens in a dialect
-abbrev pub HaveFault : Dialect → List Token → Ending → Fault → Type 0
-HaveFault parsed ts ending x = IsSyntaxFault ts ending x
-HaveFault recognized ts ending x = IsNamedSmall unit ts ending x
-
 -- The tokens ended of themselves and are a unit of the dialect; or the fault is the one that is named of them; or memory was refused.
 abbrev pub Recognized : Dialect → Result (Unit {0}) Error → List Token → Ending → Type 0
 Recognized L (Ok u) ts ending = (ending ≡ finished) × AreUnit L ts
-Recognized L (Err e) ts ending = IsOutOfMemory e ⊎ HaveFault L ts ending (fault_view e)
+Recognized L (Err e) ts ending = IsOutOfMemory e ⊎ IsNamedUnchecked L unit ts ending (fault_view e)

@@ -8,7 +8,8 @@ ghost use Rattle.wgsl_parse.specs.Snippets.{snippet};
 ghost use Rattle.wgsl_parse.specs.SpanView.{span_view};
 ghost use Rattle.wgsl_parse.specs.ErrorView.{fault_view};
 ghost use Rattle.wgsl_parse.specs.ErrorPlaces.{StandsWithin};
-ghost use Rattle.wgsl_parse.specs.PrintedErrors.{print_error_kind};
+ghost use Rattle.wgsl_parse.specs.MarkedLines.{message_in_file};
+ghost use Rattle.wgsl_parse.specs.PrintedErrors.{print_error_kind, print_message};
 
 use std::alloc::{AllocError, Global};
 use std::borrow::CowStr;
@@ -50,4 +51,19 @@ pub fn snippet_of(alloc: Global, source: &str, error: Error) -> Result<String, A
 {
     let error = error.with_source(CowStr::Borrowed(source));
     error.to_string(alloc)
+}
+
+/// A message with the name of a file, as compilers print it, the line of the source, and carets
+/// below the span.
+pub fn lines_of(
+    alloc: Global,
+    name: &str,
+    source: &str,
+    error: &Error,
+) -> Result<String, AllocError>
+    ensures { let message = print_message error.now.error in
+        IfOk result (λ text. string_bytes text
+        ≡ message_in_file name.now message (chars source.now) (span_view error.now.span)) }
+{
+    error.in_file(name, source).to_string(alloc)
 }

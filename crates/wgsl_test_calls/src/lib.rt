@@ -10,4 +10,4 @@ mod texts;
 pub use faults::{first_fault, is_module, snippet_of};
 pub use names::function_names;
 pub use parts::{alias_text, expression_of, expression_of_tokens, nests_within};
-pub use texts::{formatted, laid_out};
+pub use texts::{formatted, laid_out, laid_out_with_tabs};

@@ -1,10 +1,11 @@
 //! The two texts of a module: the canonical one, and the one that is laid out for people.
 
-ghost use Rattle.std.specs.Prelude.{◌≡◌, ◌⊎◌, IfOk, IfErr, chars, string_bytes};
+ghost use Rattle.std.specs.Prelude.{◌≡◌, ◌⊎◌, true, IfOk, IfErr, chars, string_bytes};
 ghost use Rattle.wgsl_parse.specs.Program.{IsUnit, IsFaultOf};
 ghost use Rattle.wgsl_parse.specs.Units.{TranslationUnit};
 ghost use Rattle.wgsl_parse.specs.PrintedUnits.{print_unit};
 ghost use Rattle.wgsl_parse.specs.KeptPieces.{Keeps};
+ghost use Rattle.wgsl_parse.specs.Layout.{standard};
 ghost use Rattle.wgsl_parse.specs.Syntax.{IsSyntaxFaultOf};
 ghost use Rattle.wgsl_parse.specs.Answers.{IsOutOfMemory};
 ghost use Rattle.wgsl_parse.specs.ErrorView.{fault_view};
@@ -12,7 +13,7 @@ ghost use Rattle.wgsl_parse.specs.ErrorView.{fault_view};
 use std::alloc::Global;
 use wgsl_parse::error::Error;
 use wgsl_parse::parse_str;
-use wgsl_parse::tidy::tidy;
+use wgsl_parse::tidy::{Indent, Layout, tidy, tidy_with};
 
 /// The canonical text of a module.
 pub fn formatted(alloc: Global, source: &str) -> Result<String, Error>
@@ -25,12 +26,21 @@ pub fn formatted(alloc: Global, source: &str) -> Result<String, Error>
     Ok(unit.to_string(alloc)?)
 }
 
-/// A module laid out for people, with its comments.
+/// A module formatted for people, with its comments.
 pub fn laid_out(alloc: Global, source: &str) -> Result<String, Error>
-    ensures kept { IfOk result (λ text. (unit : TranslationUnit) →
-        IsUnit (chars source.now) unit → Keeps (chars source.now) (chars (string_bytes text))) }
+    ensures kept { IfOk result (λ text.
+        Keeps standard (chars source.now) (chars (string_bytes text))) }
     ensures refused { IfErr result (λ e.
         IsOutOfMemory e ⊎ IsSyntaxFaultOf (chars source.now) (fault_view e)) }
 {
     tidy(alloc, source)
+}
+
+/// The same with lines of up to so many columns, and a tab of eight columns for each level.
+pub fn laid_out_with_tabs(alloc: Global, source: &str, width: usize) -> Result<String, Error>
+    ensures kept { IfOk result (λ text. Keeps (record { width = width; tabs = true; indent = 8 })
+        (chars source.now) (chars (string_bytes text))) }
+{
+    let indent = Indent::Tab(8);
+    tidy_with(alloc, source, Layout { width, indent })
 }

@@ -3,6 +3,7 @@
 use crate::discovered::see_lists;
 use crate::facts::Facts;
 use crate::faults::see_fault;
+use crate::layouts::see_layout;
 use crate::literals::see_literal;
 use crate::paths::see_path;
 use crate::programs::Call;
@@ -49,6 +50,7 @@ fn see_text(
         "discover" => see_lists(text, facts),
         "dialect" => see_dialect(text, facts),
         "path" => see_path(text, facts),
+        "tidy_with" => see_layout(text, argument, facts),
         "snippet" => see_snippet(text, argument, facts),
         _ => facts.expect(false, "a row says how its text is read"),
     }

@@ -8,6 +8,7 @@ mod discovered;
 mod facts;
 mod failing;
 mod faults;
+mod layouts;
 mod literals;
 mod paths;
 mod programs;

@@ -6,8 +6,10 @@ use std::borrow::CowStr;
 use wgsl_error::{Error, ErrorKind};
 use wgsl_span::Span;
 
-/// The snippet of an error in its text, which is that of its copy too.
+/// The snippet of an error in its text, which is that of its copy too; and the error as it is
+/// printed for a file of this text.
 pub fn snippet_of(error: Error, text: &str, facts: &mut Facts<'_>) -> Result<String, AllocError> {
+    facts.tell("named", &error.in_file("a.wgsl", text))?;
     let error = error.with_source(CowStr::Borrowed(text));
     let snippet = error.to_string(facts.alloc)?;
     facts.compare(&error, &error.clone(facts.alloc)?, &snippet)?;

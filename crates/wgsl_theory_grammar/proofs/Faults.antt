@@ -5,5 +5,5 @@ pub mod WrittenEnds
 pub mod FaultEnds
 pub mod Answers
 pub mod Faultless
-pub mod SmallAnswers
+pub mod UncheckedAnswers
 pub mod NamedOnce

@@ -2,6 +2,8 @@
 pub mod Passes
 pub mod Guards
 pub mod Outcomes
+pub mod WithoutChecks
+pub mod UncheckedTested
 pub mod Forms
 pub mod WrittenTree
 pub mod FewerAttributes

@@ -45,5 +45,8 @@ viable_out L n ts (zs, (v, d)) = (zs, (v, factored_is_written L unchecked n v (t
 pub viable_front : (L : Dialect) (n : Symbol) (p q : List Token) → IsViable (rules L) n (p ++ q) → IsViable (rules L) n p
 viable_front L n p q (zs, (v, d)) = (q ++ zs, (v, subst (λ (x : List Token). Derives unchecked (rules L) n v x) (append_assoc p q zs) d))
 
+pub sentence_is_viable : (L : Dialect) (n : Symbol) (ts : List Token) → IsSentence (rules L) n ts → IsViable (rules L) n ts
+sentence_is_viable L n ts (v, d) = ([], (v, subst (λ (x : List Token). Derives unchecked (rules L) n v x) (sym (append-nil ts)) d))
+
 pub checked_is_viable : (L : Dialect) (n : Symbol) (v : Value n) (ts : List Token) → Derives checking (rules L) n v ts → IsViable (rules L) n ts
-checked_is_viable L n v ts d = ([], (v, subst (λ (x : List Token). Derives unchecked (rules L) n v x) (sym (append-nil ts)) (loosen checking (rules L) n v ts [] d)))
+checked_is_viable L n v ts d = sentence_is_viable L n ts (v, loosen checking (rules L) n v ts [] d)

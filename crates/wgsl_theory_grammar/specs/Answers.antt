@@ -7,11 +7,12 @@ use Rattle.grammar.specs.Reading.{Outcome, Outcome.ok, Outcome.stuck, Outcome.ba
 use Rattle.grammar.specs.States.{at_end}
 use Rattle.wgsl_model.specs.Tokens.Classes.{SymParenLeft}
 use Rattle.wgsl_model.specs.Faults.Kinds.{unexpected_token, unexpected_end, out_of_memory_kind}
-use Rattle.wgsl_model.specs.Grammar.Symbols.{Symbol, Value}
+use Rattle.wgsl_model.specs.Grammar.Symbols.{Dialect, Dialect.recognized, Symbol, Value}
 use Rattle.wgsl_model.specs.Grammar.Written.{written}
 use Rattle.wgsl_model.specs.Grammar.Small.{small}
-use Rattle.wgsl_model.specs.Faults.NamedFault.{IsNamed, IsNamedSmall}
-use Rattle.wgsl_theory_grammar.specs.Factored.{FactoredSymbol.of, body, small_body}
+use Rattle.wgsl_model.specs.Faults.NamedFault.{IsNamed, IsNamedUnchecked}
+use Rattle.wgsl_theory_grammar.specs.Factored.{FactoredSymbol.of, body}
+use Rattle.wgsl_theory_grammar.specs.Unchecked.{unchecked_body}
 use Rattle.wgsl_theory_grammar.specs.Tables.{rank_limit, tables}
 
 -- what an outcome says of all tokens
@@ -50,11 +51,18 @@ abbrev pub IsAnswer : (n : Symbol) → List Token → Ending → Answer (Value n
 IsAnswer n ts ending (accepted v) = (ending ≡ finished) × Derives checking written n v ts
 IsAnswer n ts ending (denied x) = IsNamed n ts ending x
 
--- what the reader of a text that is recognised alone answers: nothing is checked there, so no end is read in another way
-abbrev pub small_answer_of : (n : Symbol) → List Token → Ending → Answer (Value n)
-small_answer_of n ts ending = answer_said ts ending (read_all tables checking small_body rank_limit (of n) ts)
+-- what the reader of a dialect answers where nothing is checked, so that no end is read in another way
+abbrev pub unchecked_answer_of : Dialect → (n : Symbol) → List Token → Ending → Answer (Value n)
+unchecked_answer_of L n ts ending = answer_said ts ending (read_all tables checking (unchecked_body L) rank_limit (of n) ts)
 
--- a true answer
+-- a true answer, where a value is accepted of which something holds
+abbrev pub IsUncheckedAnswer : Dialect → (n : Symbol) → (Value n → Type 0) → List Token → Ending → Answer (Value n) → Type 0
+IsUncheckedAnswer L n Holds ts ending (accepted v) = (ending ≡ finished) × Holds v
+IsUncheckedAnswer L n Holds ts ending (denied x) = IsNamedUnchecked L n ts ending x
+
+-- the same where a text is recognised alone
+abbrev pub small_answer_of : (n : Symbol) → List Token → Ending → Answer (Value n)
+small_answer_of n ts ending = unchecked_answer_of recognized n ts ending
+
 abbrev pub IsSmallAnswer : (n : Symbol) → List Token → Ending → Answer (Value n) → Type 0
-IsSmallAnswer n ts ending (accepted v) = (ending ≡ finished) × Derives checking small n v ts
-IsSmallAnswer n ts ending (denied x) = IsNamedSmall n ts ending x
+IsSmallAnswer n ts ending a = IsUncheckedAnswer recognized n (λ v. Derives checking small n v ts) ts ending a

@@ -1,6 +1,7 @@
 -- The form in which one token decides, and what the further symbols mean.
 pub mod Tokens
 pub mod Factored
+pub mod Unchecked
 pub mod Tables
 pub mod Apart
 pub mod FewerAttributes

@@ -16,15 +16,19 @@ mod TextFronts
 mod NonBlankOf
 pub mod Trails
 pub mod Gaps
+pub mod Fitting
 pub mod NeatPieces
 pub mod Relaid
 mod RelaidEnds
-mod GapsAgain
 mod PieceSpots
-mod BracketRoles
+pub mod BracketRoles
 mod Breaks
 mod OneLine
 mod OwnLines
+mod Settled
+mod SettledJoints
+mod GapsAgain
+pub mod ItemLines
 mod RelaidBrackets
 mod RelaidAgain
 pub mod LaidTrails

@@ -1,5 +1,6 @@
 pub mod Moved
 pub mod Comments
+pub mod Levels
 pub mod Written
 pub mod Laid
 pub mod NextRoles

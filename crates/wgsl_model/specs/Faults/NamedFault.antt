@@ -4,9 +4,8 @@ use Rattle.grammar.specs.Tokens.{Token, Fault, last_end}
 use Rattle.grammar.specs.Grammar.{IsSentence, IsViable}
 use Rattle.grammar.specs.Endings.{Ending, Ending.finished, Ending.carried}
 use Rattle.wgsl_model.specs.Faults.Kinds.{unexpected_token, unexpected_end}
-use Rattle.wgsl_model.specs.Grammar.Symbols.{Symbol}
-use Rattle.wgsl_model.specs.Grammar.Written.{written}
-use Rattle.wgsl_model.specs.Grammar.Small.{small}
+use Rattle.wgsl_model.specs.Grammar.Symbols.{Dialect, Dialect.parsed, Dialect.recognized, Symbol, Symbol.unit}
+use Rattle.wgsl_model.specs.Grammar.Written.{rules, written}
 use Rattle.wgsl_model.specs.Faults.Checked.{IsCheckedFault}
 
 -- no checked fault has so many tokens behind it, or more
@@ -20,8 +19,16 @@ pub data IsNamed (n : Symbol) (ts : List Token) (ending : Ending) : Fault → Ty
   carried_last : (x : Fault) → IsViable written n ts → NoFaultBefore ts ending 0 → ending ≡ carried x → IsNamed n ts ending x
   missing_last : IsViable written n ts → (IsSentence written n ts → ⊥) → NoFaultBefore ts ending 0 → ending ≡ finished → IsNamed n ts ending (unexpected_end (last_end 0 ts))
 
--- The same where a text is recognised alone: nothing is checked there.
-pub data IsNamedSmall (n : Symbol) (ts : List Token) (ending : Ending) : Fault → Type 0 where
-  unexpected_first_small : (p us : List Token) (t : Token) → ts ≡ p ++ (t ∷ us) → IsViable small n p → (IsViable small n (p ++ (t ∷ [])) → ⊥) → IsNamedSmall n ts ending (unexpected_token t)
-  carried_last_small : (x : Fault) → IsViable small n ts → ending ≡ carried x → IsNamedSmall n ts ending x
-  missing_last_small : IsViable small n ts → (IsSentence small n ts → ⊥) → ending ≡ finished → IsNamedSmall n ts ending (unexpected_end (last_end 0 ts))
+-- The same where nothing is checked, in a dialect.
+pub data IsNamedUnchecked (L : Dialect) (n : Symbol) (ts : List Token) (ending : Ending) : Fault → Type 0 where
+  unchecked_unexpected : (p us : List Token) (t : Token) → ts ≡ p ++ (t ∷ us) → IsViable (rules L) n p → (IsViable (rules L) n (p ++ (t ∷ [])) → ⊥) → IsNamedUnchecked L n ts ending (unexpected_token t)
+  unchecked_carried : (x : Fault) → IsViable (rules L) n ts → ending ≡ carried x → IsNamedUnchecked L n ts ending x
+  unchecked_missing : IsViable (rules L) n ts → (IsSentence (rules L) n ts → ⊥) → ending ≡ finished → IsNamedUnchecked L n ts ending (unexpected_end (last_end 0 ts))
+
+-- where a text is recognised alone
+abbrev pub IsNamedSmall : Symbol → List Token → Ending → Fault → Type 0
+IsNamedSmall n ts ending x = IsNamedUnchecked recognized n ts ending x
+
+-- The fault of a module's syntax: the one that is named in the whole language where nothing is checked.
+abbrev pub IsSyntaxFault : List Token → Ending → Fault → Type 0
+IsSyntaxFault ts ending x = IsNamedUnchecked parsed unit ts ending x

@@ -1,7 +1,7 @@
 -- One fault alone is named, and none where a tree is derived.
 use Rattle.std.proofs.Common.{◌≡◌, ℕ, zero, suc, ◌<◌, ◌≤◌, List, [], ◌∷◌, ◌++◌, length, ◌⊎◌, inl, inr, refl, sym, ap, ap₂, subst, ◌∙◌, append-nil, arith, length-append}
 use Rattle.grammar.specs.Tokens.{Token, Fault}
-use Rattle.grammar.specs.Grammar.{Mode.checking, Derives, IsViable}
+use Rattle.grammar.specs.Grammar.{Mode.checking, Derives, IsSentence, IsViable}
 use Rattle.grammar.specs.Endings.{Ending, Ending.finished, Ending.carried}
 use Rattle.grammar.proofs.Reading.Depth.{loosen}
 use Rattle.grammar.proofs.Faults.Outcomes.{no_fault}
@@ -10,7 +10,7 @@ use Rattle.wgsl_model.specs.Grammar.Symbols.{Dialect, Dialect.parsed, Dialect.re
 use Rattle.wgsl_model.specs.Grammar.Written.{rules, written}
 use Rattle.wgsl_model.specs.Grammar.Small.{small}
 use Rattle.wgsl_model.specs.Faults.Checked.{IsCheckedFault}
-use Rattle.wgsl_model.specs.Faults.NamedFault.{NoFaultBefore, IsNamed, IsNamed.checked_first, IsNamed.unexpected_first, IsNamed.carried_last, IsNamed.missing_last, IsNamedSmall, IsNamedSmall.unexpected_first_small, IsNamedSmall.carried_last_small, IsNamedSmall.missing_last_small}
+use Rattle.wgsl_model.specs.Faults.NamedFault.{NoFaultBefore, IsNamed, IsNamed.checked_first, IsNamed.unexpected_first, IsNamed.carried_last, IsNamed.missing_last, IsNamedUnchecked, IsNamedUnchecked.unchecked_unexpected, IsNamedUnchecked.unchecked_carried, IsNamedUnchecked.unchecked_missing, IsNamedSmall}
 use Rattle.wgsl_theory_grammar.specs.Factored.{FactoredSymbol.of, body}
 use Rattle.wgsl_theory_grammar.specs.Tables.{rank_limit, tables}
 use Rattle.wgsl_theory_grammar.specs.Apart.{apart}
@@ -18,7 +18,7 @@ use Rattle.wgsl_theory_grammar.proofs.Outcomes.{tested}
 use Rattle.wgsl_theory_grammar.proofs.Faults.PlainFaults.{plain_is_fault}
 use Rattle.wgsl_theory_grammar.proofs.Faults.FaultEnds.{one_fault}
 use Rattle.wgsl_theory_grammar.proofs.Forms.Links.{written_is_factored}
-use Rattle.wgsl_theory_grammar.proofs.WrittenTree.{viable_front, checked_is_viable}
+use Rattle.wgsl_theory_grammar.proofs.WrittenTree.{viable_front, sentence_is_viable, checked_is_viable}
 
 -- two ends of a list that are equally long
 same_end : (p q us vs : List Token) → p ++ us ≡ q ++ vs → length us ≡ length vs → us ≡ vs
@@ -108,21 +108,24 @@ named_excludes n ts _ (unexpected_first q vs t e w none k) v d = all_or_unexpect
 named_excludes n ts _ (carried_last x w m c) v d = not_both x finished c refl
 named_excludes n ts _ (missing_last w s m c) v d = s (v, loosen checking written n v ts [] d)
 
--- at most one fault is named of a text that is recognised alone
-pub named_alone_once : (n : Symbol) (ts : List Token) (ending : Ending) (x y : Fault) → IsNamedSmall n ts ending x → IsNamedSmall n ts ending y → x ≡ y
-named_alone_once n ts ending _ _ (unexpected_first_small p us t e v none) (unexpected_first_small q vs u e' v' none') =
-    ap unexpected_token (one_unexpected recognized n ts p us q vs t u e v none e' v' none')
-named_alone_once n ts ending _ _ (unexpected_first_small q vs t e v' none) (carried_last_small y v c) = absurd (all_or_unexpected recognized n ts v q vs t e none)
-named_alone_once n ts ending _ _ (unexpected_first_small q vs t e v' none) (missing_last_small v s c) = absurd (all_or_unexpected recognized n ts v q vs t e none)
-named_alone_once n ts ending _ _ (carried_last_small y v c) (unexpected_first_small q vs t e v' none) = absurd (all_or_unexpected recognized n ts v q vs t e none)
-named_alone_once n ts ending _ _ (carried_last_small x v c) (carried_last_small y v' d) = same_carried x y ending c d
-named_alone_once n ts ending _ _ (carried_last_small x v c) (missing_last_small v' s d) = absurd (not_both x ending c d)
-named_alone_once n ts ending _ _ (missing_last_small v s c) (unexpected_first_small q vs t e v' none) = absurd (all_or_unexpected recognized n ts v q vs t e none)
-named_alone_once n ts ending _ _ (missing_last_small v' s d) (carried_last_small x v c) = absurd (not_both x ending c d)
-named_alone_once n ts ending _ _ (missing_last_small v s c) (missing_last_small v' s' d) = refl
+-- at most one fault is named where nothing is checked
+pub unchecked_once : (L : Dialect) (n : Symbol) (ts : List Token) (ending : Ending) (x y : Fault) → IsNamedUnchecked L n ts ending x → IsNamedUnchecked L n ts ending y → x ≡ y
+unchecked_once L n ts ending _ _ (unchecked_unexpected p us t e v none) (unchecked_unexpected q vs u e' v' none') = ap unexpected_token (one_unexpected L n ts p us q vs t u e v none e' v' none')
+unchecked_once L n ts ending _ _ (unchecked_unexpected q vs t e v' none) (unchecked_carried y v c) = absurd (all_or_unexpected L n ts v q vs t e none)
+unchecked_once L n ts ending _ _ (unchecked_unexpected q vs t e v' none) (unchecked_missing v s c) = absurd (all_or_unexpected L n ts v q vs t e none)
+unchecked_once L n ts ending _ _ (unchecked_carried y v c) (unchecked_unexpected q vs t e v' none) = absurd (all_or_unexpected L n ts v q vs t e none)
+unchecked_once L n ts ending _ _ (unchecked_carried x v c) (unchecked_carried y v' d) = same_carried x y ending c d
+unchecked_once L n ts ending _ _ (unchecked_carried x v c) (unchecked_missing v' s d) = absurd (not_both x ending c d)
+unchecked_once L n ts ending _ _ (unchecked_missing v s c) (unchecked_unexpected q vs t e v' none) = absurd (all_or_unexpected L n ts v q vs t e none)
+unchecked_once L n ts ending _ _ (unchecked_missing v' s d) (unchecked_carried x v c) = absurd (not_both x ending c d)
+unchecked_once L n ts ending _ _ (unchecked_missing v s c) (unchecked_missing v' s' d) = refl
 
--- tokens that are a unit where they are recognised alone have no fault that is named there
+-- tokens that ended of themselves and are a sentence have no fault that is named there
+pub unchecked_excludes : (L : Dialect) (n : Symbol) (ts : List Token) (x : Fault) → IsNamedUnchecked L n ts finished x → IsSentence (rules L) n ts → ⊥
+unchecked_excludes L n ts _ (unchecked_unexpected q vs t e w none) i = all_or_unexpected L n ts (sentence_is_viable L n ts i) q vs t e none
+unchecked_excludes L n ts _ (unchecked_carried x w c) i = not_both x finished c refl
+unchecked_excludes L n ts _ (unchecked_missing w s c) i = s i
+
+-- the same of a text that is recognised alone
 pub named_alone_excludes : (n : Symbol) (ts : List Token) (x : Fault) → IsNamedSmall n ts finished x → (v : Value n) → Derives checking small n v ts → ⊥
-named_alone_excludes n ts _ (unexpected_first_small q vs t e w none) v d = all_or_unexpected recognized n ts (checked_is_viable recognized n v ts d) q vs t e none
-named_alone_excludes n ts _ (carried_last_small x w c) v d = not_both x finished c refl
-named_alone_excludes n ts _ (missing_last_small w s c) v d = s (v, loosen checking small n v ts [] d)
+named_alone_excludes n ts x h v d = unchecked_excludes recognized n ts x h (v, loosen checking small n v ts [] d)

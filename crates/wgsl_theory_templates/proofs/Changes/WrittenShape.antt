@@ -15,7 +15,7 @@ use Rattle.wgsl_theory_templates.proofs.Reaching.Reach.{Role, role, Role.templat
 use Rattle.wgsl_theory_templates.proofs.Reaching.Moves.{kinds, role_of}
 use Rattle.wgsl_theory_templates.proofs.Reaching.Clear.{AllClear}
 use Rattle.wgsl_theory_templates.proofs.Reaching.ClearRules.{unit_clear, list_clear}
-use Rattle.wgsl_theory_templates.proofs.Lexed.Shapes.{is_word_role, is_greater_role, is_plain_role, shape_end, shape_opening, shape_closing, shape_greater, shape_short_circuit, shape_plain, shape_word, shape_template, NotReached, IsSourceShape, NeverReached, IsWrittenShape}
+use Rattle.wgsl_theory_templates.proofs.Lexed.Shapes.{is_word_role, is_greater_role, is_plain_role, shape_end, shape_opening, shape_closing, shape_greater, shape_short_circuit, shape_plain, shape_word, shape_template, NotReached, IsSourceShape, NeverReached, none_reached, IsWrittenShape}
 use Rattle.wgsl_theory_templates.proofs.Lexed.RoleClasses.{is_mark_role, word_unmarked, greater_unmarked, plain_unmarked}
 use Rattle.wgsl_theory_templates.proofs.Lexed.SourceShape.{source_shape}
 use Rattle.wgsl_theory_templates.proofs.Changes.Edits.{is_stop_role, is_stop, first_among, ends_list, block_begins, Edits, at_the_end, kept, no_comma, no_colon, no_semicolon, two_minuses, with_case, edits_never}
@@ -173,12 +173,12 @@ default_first p c = λ l. clash _ (ap (λ (x : ℕ). is_among x (SymLessThan ∷
 word_turned : (p : Place) (depth : ℕ) (t : Token) (ts : List Token) → is_word_role (role t.class) ≡ true → NeverReached p (kinds ts) → Turned p depth ts → (c : List Kind) → Written t.class (kinds ts) c → ClearAnywhere p c → IsWrittenShape p depth c
 word_turned p depth t ts e n all _ (one j c q m) h =
     let known : is_word_role (role j.class) ≡ true = by_class is_word_role j.class t.class (sym q) e in
-    shape_word known (edits_never p (is_stop t.class) (kinds ts) c (word_is_no_stop (role t.class) e) m n) (all (is_stop t.class) c m (behind_token p j c (word_unmarked (role j.class) known) h))
+    shape_word known (none_reached p c (edits_never p (is_stop t.class) (kinds ts) c (word_is_no_stop (role t.class) e) m n)) (all (is_stop t.class) c m (behind_token p j c (word_unmarked (role j.class) known) h))
 word_turned p depth t ts e n all _ (none b c f m) h = clash _ f (word_is_not_plain (role t.class) e)
 word_turned p depth t ts e n all _ (two c f m) h = clash _ f (word_is_not_plain (role t.class) e)
 word_turned p depth t ts e n all _ (case_before c w m) h =
-    shape_word refl (default_first p c)
-    (shape_word refl (edits_never p false (kinds ts) c refl m n) (all false c m (behind_token p (plain KwDefault) c refl (behind_token p (plain KwCase) (plain KwDefault ∷ c) refl h))))
+    shape_word refl (none_reached p (plain KwDefault ∷ c) (default_first p c))
+    (shape_word refl (none_reached p c (edits_never p false (kinds ts) c refl m n)) (all false c m (behind_token p (plain KwDefault) c refl (behind_token p (plain KwCase) (plain KwDefault ∷ c) refl h))))
 
 -- a word with a template list behind it
 module _ (p : Place) (depth : ℕ) (start end : Token) (us ts : List Token) (f : role start.class ≡ template_start) (g : role end.class ≡ template_end) (l : IsList us) (inner : Turned inside 0 us) (all : Turned p depth ts) where
@@ -200,7 +200,7 @@ module _ (p : Place) (depth : ℕ) (start end : Token) (us ts : List Token) (f :
   template_turned t e _ (one j c q m) h = list_turned j (by_class is_word_role j.class t.class (sym q) e) (is_stop t.class) c m h
   template_turned t e _ (none b c w m) h = clash _ w (word_is_not_plain (role t.class) e)
   template_turned t e _ (two c w m) h = clash _ w (word_is_not_plain (role t.class) e)
-  template_turned t e _ (case_before c w m) h = shape_word refl (default_first p c) (list_turned (plain KwDefault) refl false c m (behind_token p (plain KwCase) (plain KwDefault ∷ c) refl h))
+  template_turned t e _ (case_before c w m) h = shape_word refl (none_reached p (plain KwDefault ∷ c) (default_first p c)) (list_turned (plain KwDefault) refl false c m (behind_token p (plain KwCase) (plain KwDefault ∷ c) refl h))
 
 -- a token in whose place one of the same class is written
 record Next (p : Place) (t : Token) (ts : List Token) (c : List Kind) : Type 0 where

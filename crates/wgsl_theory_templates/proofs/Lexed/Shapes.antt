@@ -1,5 +1,5 @@
 -- How the tokens of a text stand in template lists and brackets.
-use Rattle.std.specs.Prelude.{◌≡◌, ℕ, zero, suc, Bool, true, false, List, [], ◌∷◌, ◌++◌, map}
+use Rattle.std.specs.Prelude.{◌≡◌, ℕ, zero, suc, Bool, true, false, List, [], ◌∷◌, ◌++◌, map, take}
 use Rattle.grammar.specs.Tokens.{Token, first_tokens}
 use Rattle.grammar.specs.Grammar.{Mode.checking, Derives}
 use Rattle.wgsl_model.specs.Tokens.Classes.{SymLessThan}
@@ -9,6 +9,7 @@ use Rattle.wgsl_model.specs.Grammar.Symbols.{Symbol.expressions}
 use Rattle.wgsl_model.specs.Grammar.Written.{written}
 use Rattle.wgsl_theory_reread.specs.CanonicalUnits.{without_place}
 use Rattle.wgsl_theory_templates.proofs.Reaching.Reach.{Role, Role.name, Role.keyword, Role.greater, Role.greater_stop, Role.opening, Role.closing, Role.short_circuit, Role.stop, Role.other, Role.template_start, Role.template_end, role, Place, Place.outside, Place.inside, reach, ahead}
+use Rattle.grammar.proofs.Reading.Sets.{clash}
 use Rattle.wgsl_theory_grammar.proofs.Tokens.Decided.{IsList}
 
 -- words, behind which a template list may stand
@@ -72,6 +73,15 @@ abbrev pub NeverReached : Place → List Kind → Type 0
 NeverReached p [] = Unit {0}
 NeverReached p (k ∷ js) = k.class ≡ SymLessThan → reach p 0 0 js ≡ false
 
+-- after a `<` the kinds up to the token that is reached are those of no list(Expression)
+abbrev pub NoListReached : Place → List Kind → Type 0
+NoListReached p [] = Unit {0}
+NoListReached p (k ∷ js) = k.class ≡ SymLessThan → reach p 0 0 js ≡ true → (ts : List Token) → map without_place ts ≡ take (ahead 0 0 js) js → IsList ts → ⊥
+
+pub none_reached : (p : Place) (ks : List Kind) → NeverReached p ks → NoListReached p ks
+none_reached p [] n = tt
+none_reached p (k ∷ js) n = λ l r ts e i. clash _ r (n l)
+
 -- the shape that lets a text have tokens of the kinds
 abbrev pub IsWrittenShape : Place → ℕ → List Kind → Type 0
-IsWrittenShape p depth ks = Shape (λ (k : Kind). k.class) DerivesAnywhere NeverReached p depth ks
+IsWrittenShape p depth ks = Shape (λ (k : Kind). k.class) DerivesAnywhere NoListReached p depth ks

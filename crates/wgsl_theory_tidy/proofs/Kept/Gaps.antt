@@ -1,9 +1,11 @@
 -- How the gaps and the comments of a laid-out text are read: what stands behind them, and how many line ends a gap has.
-use Rattle.std.proofs.Common.{◌≡◌, ℕ, zero, suc, ◌+◌, true, false, refl, ap, ◌∙◌, List, [], ◌∷◌, ◌++◌, arith}
+use Rattle.std.proofs.Common.{◌≡◌, ℕ, ◌+◌, true, false, refl, ap, ◌∙◌, List, [], ◌∷◌, ◌++◌, arith}
 use Rattle.wgsl_model.specs.Tokens.Classes.{LineComment, BlockComment}
 use Rattle.wgsl_model.specs.Tokens.Trivia.{outside, in_block, after_trivia}
 use Rattle.wgsl_model_tidy.specs.Pieces.{Piece, OpenComment, comments}
+use Rattle.wgsl_model_tidy.specs.Layout.{Layout}
 use Rattle.wgsl_model_tidy.specs.LaidOut.{Gap, closed, blank, broken, gap_text, indentation, is_comment}
+use Rattle.wgsl_theory_tidy.proofs.Levels.{IsIndent, no_indent, one_space, one_tab, indentation_indent}
 use Rattle.wgsl_theory_tidy.proofs.Comments.{piece, no_comment, trimmed, OnLine, AtLineEnd, line_comment, whole_line, whole_block}
 use Rattle.wgsl_theory_tidy.proofs.Kept.ClosedComments.{Closed, closed_line, closed_block, Unclosed, unclosed}
 use Rattle.wgsl_theory_tidy.proofs.Kept.TextFronts.{over_line, at_line_end}
@@ -17,36 +19,47 @@ gap_ends blank = 0
 gap_ends (broken true depth) = 2
 gap_ends (broken false depth) = 1
 
-indentation_passed : (depth : ℕ) (r : List ℕ) → after_trivia outside (indentation depth ++ r) ≡ after_trivia outside r
+indent_passed : (xs r : List ℕ) → IsIndent xs → after_trivia outside (xs ++ r) ≡ after_trivia outside r
 unfolding after_trivia
-indentation_passed zero r = refl
-indentation_passed (suc depth) r = indentation_passed depth r
+indent_passed _ r (no_indent) = refl
+indent_passed _ r (one_space xs h) = indent_passed xs r h
+indent_passed _ r (one_tab xs h) = indent_passed xs r h
+
+indentation_passed : (layout : Layout) (depth : ℕ) (r : List ℕ) → after_trivia outside (indentation layout depth ++ r) ≡ after_trivia outside r
+indentation_passed layout depth r = indent_passed (indentation layout depth) r (indentation_indent layout depth)
 
 -- the same follows the blank space and comments with a gap before them
-pub gap_passed : (g : Gap) (r : List ℕ) → after_trivia outside (gap_text g ++ r) ≡ after_trivia outside r
+pub gap_passed : (layout : Layout) (g : Gap) (r : List ℕ) → after_trivia outside (gap_text layout g ++ r) ≡ after_trivia outside r
 unfolding after_trivia
-gap_passed closed r = refl
-gap_passed blank r = refl
-gap_passed (broken true depth) r = indentation_passed depth r
-gap_passed (broken false depth) r = indentation_passed depth r
+gap_passed layout closed r = refl
+gap_passed layout blank r = refl
+gap_passed layout (broken true depth) r = indentation_passed layout depth r
+gap_passed layout (broken false depth) r = indentation_passed layout depth r
 
 space_counted : (b : ℕ → List Piece) (n : ℕ) (r : List ℕ) → comments b outside n (32 ∷ r) ≡ comments b outside n r
 space_counted b n r =
     let same : n + 0 ≡ n = omega arith in
     no_comment b n 32 r refl refl ∙ ap (λ m. comments b outside m r) same
 
-indentation_counted : (b : ℕ → List Piece) (n depth : ℕ) (r : List ℕ) → comments b outside n (indentation depth ++ r) ≡ comments b outside n r
-indentation_counted b n zero r = refl
-indentation_counted b n (suc depth) r =
-    let rest = indentation depth ++ r in
-    space_counted b n (32 ∷ (32 ∷ (32 ∷ rest))) ∙ space_counted b n (32 ∷ (32 ∷ rest)) ∙ space_counted b n (32 ∷ rest) ∙ space_counted b n rest ∙ indentation_counted b n depth r
+tab_counted : (b : ℕ → List Piece) (n : ℕ) (r : List ℕ) → comments b outside n (9 ∷ r) ≡ comments b outside n r
+tab_counted b n r =
+    let same : n + 0 ≡ n = omega arith in
+    no_comment b n 9 r refl refl ∙ ap (λ m. comments b outside m r) same
+
+indent_counted : (b : ℕ → List Piece) (n : ℕ) (xs r : List ℕ) → IsIndent xs → comments b outside n (xs ++ r) ≡ comments b outside n r
+indent_counted b n _ r (no_indent) = refl
+indent_counted b n _ r (one_space xs h) = space_counted b n (xs ++ r) ∙ indent_counted b n xs r h
+indent_counted b n _ r (one_tab xs h) = tab_counted b n (xs ++ r) ∙ indent_counted b n xs r h
+
+indentation_counted : (b : ℕ → List Piece) (n : ℕ) (layout : Layout) (depth : ℕ) (r : List ℕ) → comments b outside n (indentation layout depth ++ r) ≡ comments b outside n r
+indentation_counted b n layout depth r = indent_counted b n (indentation layout depth) r (indentation_indent layout depth)
 
 -- a gap counts as so many line ends
-pub gap_counted : (b : ℕ → List Piece) (g : Gap) (r : List ℕ) → comments b outside 0 (gap_text g ++ r) ≡ comments b outside (gap_ends g) r
-gap_counted b closed r = refl
-gap_counted b blank r = space_counted b 0 r
-gap_counted b (broken true depth) r = no_comment b 0 10 (10 ∷ (indentation depth ++ r)) refl refl ∙ no_comment b 1 10 (indentation depth ++ r) refl refl ∙ indentation_counted b 2 depth r
-gap_counted b (broken false depth) r = no_comment b 0 10 (indentation depth ++ r) refl refl ∙ indentation_counted b 1 depth r
+pub gap_counted : (layout : Layout) (b : ℕ → List Piece) (g : Gap) (r : List ℕ) → comments b outside 0 (gap_text layout g ++ r) ≡ comments b outside (gap_ends g) r
+gap_counted layout b closed r = refl
+gap_counted layout b blank r = space_counted b 0 r
+gap_counted layout b (broken true depth) r = no_comment b 0 10 (10 ∷ (indentation layout depth ++ r)) refl refl ∙ no_comment b 1 10 (indentation layout depth ++ r) refl refl ∙ indentation_counted b 2 layout depth r
+gap_counted layout b (broken false depth) r = no_comment b 0 10 (indentation layout depth ++ r) refl refl ∙ indentation_counted b 1 layout depth r
 
 -- ---- comments
 

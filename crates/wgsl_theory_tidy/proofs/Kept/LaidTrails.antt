@@ -5,9 +5,11 @@ use Rattle.wgsl_model.specs.Tokens.Kind.{Kind}
 use Rattle.wgsl_model.specs.Tokens.Trivia.{outside, after_trivia}
 use Rattle.wgsl_model_tidy.specs.Pieces.{Piece, comments}
 use Rattle.wgsl_model_tidy.specs.Roles.{Role, beginning, is}
-use Rattle.wgsl_model_tidy.specs.Open.{LayoutState, enclosing, between_items, depth_of, comment_depth, role_in, last_behind, behind_token}
-use Rattle.wgsl_model_tidy.specs.LaidOut.{broken, Last, token, line_comment, block_comment, leading_comment, open_comment, Spot, is_comment, next_role, has_lines, owned, line_end, gap_before_comment, gap_before_token, gap_text, token_gap, comment_gap, depth_behind, in_line_of, leads, comment_last, laid_from, ending}
+use Rattle.wgsl_model_tidy.specs.Layout.{Layout, column_after}
+use Rattle.wgsl_model_tidy.specs.Open.{LayoutState, enclosing, between_items, depth_of, comment_depth, role_in, last_behind}
+use Rattle.wgsl_model_tidy.specs.LaidOut.{broken, Last, token, line_comment, block_comment, leading_comment, open_comment, Spot, is_comment, next_role, owned, line_end, gap_before_comment, gap_before_token, gap_text, token_gap, comment_gap, depth_behind, leads, comment_last, laid_from, ending}
 use Rattle.wgsl_theory_tidy.proofs.Comments.{piece, AtLineEnd, nothing_left}
+use Rattle.wgsl_theory_tidy.proofs.Laid.{behind_comment_at, behind_token_at, style_at}
 use Rattle.wgsl_theory_tidy.proofs.Kept.Readings.{token_piece}
 use Rattle.wgsl_theory_tidy.proofs.Kept.ClosedComments.{Closed, Unclosed, unclosed, AllClosed, AllClosedButLast, no_more, one_more, last_open}
 use Rattle.wgsl_theory_tidy.proofs.Kept.Gaps.{gap_ends, gap_passed, gap_counted, closed_counted, closed_passed, unclosed_counted, unclosed_passed, closed_is_comment, unclosed_is_comment, closed_begins, unclosed_begins}
@@ -18,46 +20,50 @@ use Rattle.wgsl_theory_tidy.proofs.Kept.NeatPieces.{NeatAt, token_gap_neat, comm
 -- ---- one piece laid out
 
 -- the spot behind a token, and behind a comment; the first token from there on does so
-abbrev spot_behind_token : Spot → ℕ → ℕ → List Piece → Spot
-spot_behind_token spot class n ps =
-    record { state = behind_token spot.state (depth_behind (gap_before_token spot (role_in spot.state class) n) spot.state.line) class (role_in spot.state class) (has_lines ps); last = token }
+abbrev spot_behind_token : Layout → Spot → ℕ → List ℕ → ℕ → List Piece → Spot
+spot_behind_token layout spot class w n ps =
+    let right = role_in spot.state class in
+    let gap = gap_before_token spot right n in
+    let depth = depth_behind gap spot.state.line in
+    let column = column_after layout spot.column (gap_text layout gap ++ w) in
+    behind_token_at spot.state depth class right column (style_at layout spot.state depth class right column ps)
 
-abbrev spot_behind_comment : Spot → Role → ℕ → Bool → ℕ → Spot
-spot_behind_comment spot right class own n =
+abbrev spot_behind_comment : Layout → Spot → Role → ℕ → Bool → List ℕ → ℕ → Spot
+spot_behind_comment layout spot right class own text n =
     let gap = gap_before_comment spot right class own n in
-    record { state = in_line_of spot.state (depth_behind gap spot.state.line); last = comment_last class (leads gap spot.last spot.state.last) }
+    behind_comment_at spot.state (depth_behind gap spot.state.line) (comment_last class (leads gap spot.last spot.state.last)) (column_after layout spot.column (gap_text layout gap ++ text))
 
-token_laid : (spot : Spot) (class : ℕ) (w : List ℕ) (n : ℕ) (ps : List Piece) → is_comment class ≡ false
-    → laid_from spot (piece class w n ∷ ps) ≡ gap_text (gap_before_token spot (role_in spot.state class) n) ++ (w ++ laid_from (spot_behind_token spot class n ps) ps)
-token_laid spot class w n ps h = rw h refl
+token_laid : (layout : Layout) (spot : Spot) (class : ℕ) (w : List ℕ) (n : ℕ) (ps : List Piece) → is_comment class ≡ false
+    → laid_from layout spot (piece class w n ∷ ps) ≡ gap_text layout (gap_before_token spot (role_in spot.state class) n) ++ (w ++ laid_from layout (spot_behind_token layout spot class w n ps) ps)
+token_laid layout spot class w n ps h = rw h refl
 
-token_relaid : (spot : Spot) (class : ℕ) (w : List ℕ) (n : ℕ) (ps : List Piece) → is_comment class ≡ false
-    → relaid spot (piece class w n ∷ ps) ≡ piece class w (gap_ends (gap_before_token spot (role_in spot.state class) n)) ∷ relaid (spot_behind_token spot class n ps) ps
-token_relaid spot class w n ps h = rw h refl
+token_relaid : (layout : Layout) (spot : Spot) (class : ℕ) (w : List ℕ) (n : ℕ) (ps : List Piece) → is_comment class ≡ false
+    → relaid layout spot (piece class w n ∷ ps) ≡ piece class w (gap_ends (gap_before_token spot (role_in spot.state class) n)) ∷ relaid layout (spot_behind_token layout spot class w n ps) ps
+token_relaid layout spot class w n ps h = rw h refl
 
-comment_laid : (spot : Spot) (right : Role) (class : ℕ) (text : List ℕ) (n : ℕ) (ps : List Piece) → is_comment class ≡ true → next_role spot.state ps ≡ right
-    → laid_from spot (piece class text n ∷ ps) ≡ gap_text (gap_before_comment spot right class (owned spot right ps) n) ++ (text ++ laid_from (spot_behind_comment spot right class (owned spot right ps) n) ps)
-comment_laid spot right class text n ps h e = rw (h, e) refl
+comment_laid : (layout : Layout) (spot : Spot) (right : Role) (class : ℕ) (text : List ℕ) (n : ℕ) (ps : List Piece) → is_comment class ≡ true → next_role spot.state ps ≡ right
+    → laid_from layout spot (piece class text n ∷ ps) ≡ gap_text layout (gap_before_comment spot right class (owned spot right ps) n) ++ (text ++ laid_from layout (spot_behind_comment layout spot right class (owned spot right ps) text n) ps)
+comment_laid layout spot right class text n ps h e = rw (h, e) refl
 
-comment_relaid : (spot : Spot) (right : Role) (class : ℕ) (text : List ℕ) (n : ℕ) (ps : List Piece) → is_comment class ≡ true → next_role spot.state ps ≡ right
-    → relaid spot (piece class text n ∷ ps) ≡ piece class text (gap_ends (gap_before_comment spot right class (owned spot right ps) n)) ∷ relaid (spot_behind_comment spot right class (owned spot right ps) n) ps
-comment_relaid spot right class text n ps h e = rw (h, e) refl
+comment_relaid : (layout : Layout) (spot : Spot) (right : Role) (class : ℕ) (text : List ℕ) (n : ℕ) (ps : List Piece) → is_comment class ≡ true → next_role spot.state ps ≡ right
+    → relaid layout spot (piece class text n ∷ ps) ≡ piece class text (gap_ends (gap_before_comment spot right class (owned spot right ps) n)) ∷ relaid layout (spot_behind_comment layout spot right class (owned spot right ps) text n) ps
+comment_relaid layout spot right class text n ps h e = rw (h, e) refl
 
 -- ---- behind a line comment the line ends
 
-broken_ends : (empty : Bool) (depth : ℕ) (r : List ℕ) → AtLineEnd (gap_text (broken empty depth) ++ r)
-broken_ends true depth r = refl
-broken_ends false depth r = refl
+broken_ends : (layout : Layout) (empty : Bool) (depth : ℕ) (r : List ℕ) → AtLineEnd (gap_text layout (broken empty depth) ++ r)
+broken_ends layout true depth r = refl
+broken_ends layout false depth r = refl
 
-token_gap_ends : (spot : Spot) (right : Role) (n : ℕ) → spot.last ≡ line_comment → (r : List ℕ) → AtLineEnd (gap_text (gap_before_token spot right n) ++ r)
-token_gap_ends spot right n e r =
+token_gap_ends : (layout : Layout) (spot : Spot) (right : Role) (n : ℕ) → spot.last ≡ line_comment → (r : List ℕ) → AtLineEnd (gap_text layout (gap_before_token spot right n) ++ r)
+token_gap_ends layout spot right n e r =
     let break = line_end (between_items spot.state right) spot.last spot.state.last right n (depth_of spot.state right) in
-    subst (λ l. AtLineEnd (gap_text (token_gap (enclosing spot.state.opened) l spot.state.last right n break) ++ r)) (sym e) (broken_ends _ (depth_of spot.state right) r)
+    subst (λ l. AtLineEnd (gap_text layout (token_gap (enclosing spot.state.opened) l spot.state.last right n break) ++ r)) (sym e) (broken_ends layout _ (depth_of spot.state right) r)
 
-comment_gap_ends : (spot : Spot) (right : Role) (class : ℕ) (own : Bool) (n : ℕ) → spot.last ≡ line_comment → (r : List ℕ) → AtLineEnd (gap_text (gap_before_comment spot right class own n) ++ r)
-comment_gap_ends spot right class own n e r =
+comment_gap_ends : (layout : Layout) (spot : Spot) (right : Role) (class : ℕ) (own : Bool) (n : ℕ) → spot.last ≡ line_comment → (r : List ℕ) → AtLineEnd (gap_text layout (gap_before_comment spot right class own n) ++ r)
+comment_gap_ends layout spot right class own n e r =
     let break = line_end (between_items spot.state right) spot.last spot.state.last beginning n (comment_depth spot.state right) in
-    subst (λ l. AtLineEnd (gap_text (comment_gap class l spot.state.last own n break) ++ r)) (sym e) (broken_ends _ (comment_depth spot.state right) r)
+    subst (λ l. AtLineEnd (gap_text layout (comment_gap class l spot.state.last own n break) ++ r)) (sym e) (broken_ends layout _ (comment_depth spot.state right) r)
 
 -- a comment of this class is a line comment
 last_is_line : (class : ℕ) (leading : Bool) → class ≡ LineComment → comment_last class leading ≡ line_comment
@@ -74,41 +80,41 @@ token_next : (s : LayoutState) (class : ℕ) (w : List ℕ) (n : ℕ) (ps : List
 token_next s class w n ps h = rw h refl
 
 -- what stands before a token begins with the gap before the token, or with that before a comment and with the comment
-pub data TrailFront (spot : Spot) (cs : List Piece) (k : Kind) (m : ℕ) (trivia : List ℕ) : Type 0 where
-  token_front : cs ≡ [] → trivia ≡ gap_text (gap_before_token spot (role_in spot.state k.class) m) → TrailFront spot cs k m trivia
-  comment_front : (class : ℕ) (own : Bool) (n : ℕ) (more : List ℕ) → trivia ≡ gap_text (gap_before_comment spot (role_in spot.state k.class) class own n) ++ (47 ∷ more) → TrailFront spot cs k m trivia
+pub data TrailFront (layout : Layout) (spot : Spot) (cs : List Piece) (k : Kind) (m : ℕ) (trivia : List ℕ) : Type 0 where
+  token_front : cs ≡ [] → trivia ≡ gap_text layout (gap_before_token spot (role_in spot.state k.class) m) → TrailFront layout spot cs k m trivia
+  comment_front : (class : ℕ) (own : Bool) (n : ℕ) (more : List ℕ) → trivia ≡ gap_text layout (gap_before_comment spot (role_in spot.state k.class) class own n) ++ (47 ∷ more) → TrailFront layout spot cs k m trivia
 
 -- Comments and a token laid out behind a spot, and others behind them: what stands before the token, and the spot behind it. That is passed over before whatever follows, and read again it gives the comments.
-pub record LaidTrail (spot : Spot) (cs : List Piece) (k : Kind) (w : List ℕ) (m : ℕ) (ps : List Piece) : Type 0 where
+pub record LaidTrail (layout : Layout) (spot : Spot) (cs : List Piece) (k : Kind) (w : List ℕ) (m : ℕ) (ps : List Piece) : Type 0 where
   pub trivia : List ℕ
   pub behind : Spot
   pub is_token : behind.last ≡ token
   pub is_last : behind.state.last ≡ last_behind spot.state (role_in spot.state k.class)
-  pub whole : laid_from spot (cs ++ (token_piece k w m ∷ ps)) ≡ trivia ++ (w ++ laid_from behind ps)
+  pub whole : laid_from layout spot (cs ++ (token_piece k w m ∷ ps)) ≡ trivia ++ (w ++ laid_from layout behind ps)
   pub passed : (r : List ℕ) → after_trivia outside (trivia ++ r) ≡ after_trivia outside r
-  pub again : comments (λ n. token_piece k w n ∷ relaid behind ps) outside 0 trivia ≡ relaid spot (cs ++ (token_piece k w m ∷ ps))
-  pub front : TrailFront spot cs k m trivia
+  pub again : comments (λ n. token_piece k w n ∷ relaid layout behind ps) outside 0 trivia ≡ relaid layout spot (cs ++ (token_piece k w m ∷ ps))
+  pub front : TrailFront layout spot cs k m trivia
   pub at_line_end : spot.last ≡ line_comment → (r : List ℕ) → AtLineEnd (trivia ++ r)
   pub neat : (r : List ℕ) → NeatWord r → NeatAt spot.last spot.state.last (trivia ++ r)
 
 -- no comment stands there
-laid_token : (spot : Spot) (k : Kind) (w : List ℕ) (m : ℕ) (ps : List Piece) → is_comment k.class ≡ false → LaidTrail spot [] k w m ps
-laid_token spot k w m ps h =
+laid_token : (layout : Layout) (spot : Spot) (k : Kind) (w : List ℕ) (m : ℕ) (ps : List Piece) → is_comment k.class ≡ false → LaidTrail layout spot [] k w m ps
+laid_token layout spot k w m ps h =
     let right = role_in spot.state k.class in
     let gap = gap_before_token spot right m in
-    let behind = spot_behind_token spot k.class m ps in
-    let b : ℕ → List Piece = λ n. token_piece k w n ∷ relaid behind ps in
+    let behind = spot_behind_token layout spot k.class w m ps in
+    let b : ℕ → List Piece = λ n. token_piece k w n ∷ relaid layout behind ps in
     record {
-      trivia = gap_text gap;
+      trivia = gap_text layout gap;
       behind = behind;
       is_token = refl;
       is_last = refl;
-      whole = token_laid spot k.class w m ps h;
-      passed = λ r. gap_passed gap r;
-      again = ap (comments b outside 0) (sym (append-nil (gap_text gap))) ∙ gap_counted b gap [] ∙ nothing_left b (gap_ends gap) ∙ sym (token_relaid spot k.class w m ps h);
+      whole = token_laid layout spot k.class w m ps h;
+      passed = λ r. gap_passed layout gap r;
+      again = ap (comments b outside 0) (sym (append-nil (gap_text layout gap))) ∙ gap_counted layout b gap [] ∙ nothing_left b (gap_ends gap) ∙ sym (token_relaid layout spot k.class w m ps h);
       front = token_front refl refl;
-      at_line_end = λ e r. token_gap_ends spot right m e r;
-      neat = λ r n. token_gap_neat spot right m r n;
+      at_line_end = λ e r. token_gap_ends layout spot right m e r;
+      neat = λ r n. token_gap_neat layout spot right m r n;
     }
 
 -- a gap, a comment, what follows it, and a rest
@@ -116,38 +122,38 @@ joined : (gap text trivia rest : List ℕ) → gap ++ (text ++ (trivia ++ rest))
 joined gap text trivia rest = ap (λ xs. gap ++ xs) (sym (append_assoc text trivia rest)) ∙ sym (append_assoc gap (text ++ trivia) rest)
 
 -- one comment more
-laid_comment : (spot : Spot) (class : ℕ) (text : List ℕ) (n : ℕ) (cs : List Piece) (k : Kind) (w : List ℕ) (m : ℕ) (ps : List Piece)
+laid_comment : (layout : Layout) (spot : Spot) (class : ℕ) (text : List ℕ) (n : ℕ) (cs : List Piece) (k : Kind) (w : List ℕ) (m : ℕ) (ps : List Piece)
     → Closed class text → next_role spot.state (cs ++ (token_piece k w m ∷ ps)) ≡ role_in spot.state k.class
-    → LaidTrail (spot_behind_comment spot (role_in spot.state k.class) class (owned spot (role_in spot.state k.class) (cs ++ (token_piece k w m ∷ ps))) n) cs k w m ps → LaidTrail spot (piece class text n ∷ cs) k w m ps
-laid_comment spot class text n cs k w m ps c e t =
+    → LaidTrail layout (spot_behind_comment layout spot (role_in spot.state k.class) class (owned spot (role_in spot.state k.class) (cs ++ (token_piece k w m ∷ ps))) text n) cs k w m ps → LaidTrail layout spot (piece class text n ∷ cs) k w m ps
+laid_comment layout spot class text n cs k w m ps c e t =
     let right = role_in spot.state k.class in
     let all = cs ++ (token_piece k w m ∷ ps) in
     let gap = gap_before_comment spot right class (owned spot right all) n in
-    let b : ℕ → List Piece = λ i. token_piece k w i ∷ relaid t.behind ps in
+    let b : ℕ → List Piece = λ i. token_piece k w i ∷ relaid layout t.behind ps in
     let is = closed_is_comment class text c in
     let begins = closed_begins class text c in
     let ends : (r : List ℕ) → class ≡ LineComment → AtLineEnd (t.trivia ++ r) = λ r f. t.at_line_end (last_is_line class (leads gap spot.last spot.state.last) f) r in
     record {
-      trivia = gap_text gap ++ (text ++ t.trivia);
+      trivia = gap_text layout gap ++ (text ++ t.trivia);
       behind = t.behind;
       is_token = t.is_token;
       is_last = t.is_last;
-      whole = comment_laid spot right class text n all is e ∙ ap (λ xs. gap_text gap ++ (text ++ xs)) t.whole ∙ joined (gap_text gap) text t.trivia (w ++ laid_from t.behind ps);
-      passed = λ r. ap (after_trivia outside) (sym (joined (gap_text gap) text t.trivia r)) ∙ gap_passed gap (text ++ (t.trivia ++ r)) ∙ closed_passed class text c (t.trivia ++ r) (ends r) ∙ t.passed r;
-      again = gap_counted b gap (text ++ t.trivia) ∙ closed_counted class text c b (gap_ends gap) t.trivia (λ f. subst AtLineEnd (append-nil t.trivia) (ends [] f))
-          ∙ ap (λ xs. piece class text (gap_ends gap) ∷ xs) t.again ∙ sym (comment_relaid spot right class text n all is e);
-      front = comment_front class (owned spot right all) n (begins.0 ++ t.trivia) (ap (λ xs. gap_text gap ++ (xs ++ t.trivia)) begins.1);
-      at_line_end = λ f r. subst AtLineEnd (joined (gap_text gap) text t.trivia r) (comment_gap_ends spot right class (owned spot right all) n f (text ++ (t.trivia ++ r)));
-      neat = λ r h. subst (NeatAt spot.last spot.state.last) (joined (gap_text gap) text t.trivia r)
-          (comment_gap_neat spot right class (owned spot right all) n (text ++ (t.trivia ++ r)) (closed_neat class text c (leads gap spot.last spot.state.last) spot.state.last (t.trivia ++ r) (t.neat r h)));
+      whole = comment_laid layout spot right class text n all is e ∙ ap (λ xs. gap_text layout gap ++ (text ++ xs)) t.whole ∙ joined (gap_text layout gap) text t.trivia (w ++ laid_from layout t.behind ps);
+      passed = λ r. ap (after_trivia outside) (sym (joined (gap_text layout gap) text t.trivia r)) ∙ gap_passed layout gap (text ++ (t.trivia ++ r)) ∙ closed_passed class text c (t.trivia ++ r) (ends r) ∙ t.passed r;
+      again = gap_counted layout b gap (text ++ t.trivia) ∙ closed_counted class text c b (gap_ends gap) t.trivia (λ f. subst AtLineEnd (append-nil t.trivia) (ends [] f))
+          ∙ ap (λ xs. piece class text (gap_ends gap) ∷ xs) t.again ∙ sym (comment_relaid layout spot right class text n all is e);
+      front = comment_front class (owned spot right all) n (begins.0 ++ t.trivia) (ap (λ xs. gap_text layout gap ++ (xs ++ t.trivia)) begins.1);
+      at_line_end = λ f r. subst AtLineEnd (joined (gap_text layout gap) text t.trivia r) (comment_gap_ends layout spot right class (owned spot right all) n f (text ++ (t.trivia ++ r)));
+      neat = λ r h. subst (NeatAt spot.last spot.state.last) (joined (gap_text layout gap) text t.trivia r)
+          (comment_gap_neat layout spot right class (owned spot right all) n (text ++ (t.trivia ++ r)) (closed_neat class text c (leads gap spot.last spot.state.last) spot.state.last (t.trivia ++ r) (t.neat r h)));
     }
 
-pub laid_trail : (spot : Spot) (cs : List Piece) (k : Kind) (w : List ℕ) (m : ℕ) (ps : List Piece) → AllClosed cs → is_comment k.class ≡ false → LaidTrail spot cs k w m ps
-laid_trail spot [] k w m ps h e = laid_token spot k w m ps e
-laid_trail spot (c ∷ cs) k w m ps h e =
-    laid_comment spot c.class c.text c.line_ends cs k w m ps h.0
+pub laid_trail : (layout : Layout) (spot : Spot) (cs : List Piece) (k : Kind) (w : List ℕ) (m : ℕ) (ps : List Piece) → AllClosed cs → is_comment k.class ≡ false → LaidTrail layout spot cs k w m ps
+laid_trail layout spot [] k w m ps h e = laid_token layout spot k w m ps e
+laid_trail layout spot (c ∷ cs) k w m ps h e =
+    laid_comment layout spot c.class c.text c.line_ends cs k w m ps h.0
     (trail_next spot.state cs (token_piece k w m ∷ ps) h.1 ∙ token_next spot.state k.class w m ps e)
-    (laid_trail (spot_behind_comment spot (role_in spot.state k.class) c.class (owned spot (role_in spot.state k.class) (cs ++ (token_piece k w m ∷ ps))) c.line_ends) cs k w m ps h.1 e)
+    (laid_trail layout (spot_behind_comment layout spot (role_in spot.state k.class) c.class (owned spot (role_in spot.state k.class) (cs ++ (token_piece k w m ∷ ps))) c.text c.line_ends) cs k w m ps h.1 e)
 
 -- ---- comments behind the last token
 
@@ -177,20 +183,20 @@ ending_again block_comment left = refl
 ending_again leading_comment left = refl
 
 -- the text behind the last token begins with its end, or with the gap before a comment and with the comment
-pub data LastFront (spot : Spot) (cs : List Piece) : Type 0 where
-  end_front : cs ≡ [] → laid_from spot cs ≡ ending spot.last spot.state.last → LastFront spot cs
-  last_front : (class : ℕ) (own : Bool) (n : ℕ) (more : List ℕ) → laid_from spot cs ≡ gap_text (gap_before_comment spot beginning class own n) ++ (47 ∷ more) → LastFront spot cs
+pub data LastFront (layout : Layout) (spot : Spot) (cs : List Piece) : Type 0 where
+  end_front : cs ≡ [] → laid_from layout spot cs ≡ ending spot.last spot.state.last → LastFront layout spot cs
+  last_front : (class : ℕ) (own : Bool) (n : ℕ) (more : List ℕ) → laid_from layout spot cs ≡ gap_text layout (gap_before_comment spot beginning class own n) ++ (47 ∷ more) → LastFront layout spot cs
 
 -- Comments laid out behind a spot at the end of a text: nothing is left of them, and read again they are the same.
-pub record LastLaid (spot : Spot) (cs : List Piece) : Type 0 where
-  pub passed : after_trivia outside (laid_from spot cs) ≡ []
-  pub again : comments (λ n. []) outside 0 (laid_from spot cs) ≡ relaid spot cs
-  pub front : LastFront spot cs
-  pub at_line_end : spot.last ≡ line_comment → AtLineEnd (laid_from spot cs)
-  pub neat : NeatAt spot.last spot.state.last (laid_from spot cs)
+pub record LastLaid (layout : Layout) (spot : Spot) (cs : List Piece) : Type 0 where
+  pub passed : after_trivia outside (laid_from layout spot cs) ≡ []
+  pub again : comments (λ n. []) outside 0 (laid_from layout spot cs) ≡ relaid layout spot cs
+  pub front : LastFront layout spot cs
+  pub at_line_end : spot.last ≡ line_comment → AtLineEnd (laid_from layout spot cs)
+  pub neat : NeatAt spot.last spot.state.last (laid_from layout spot cs)
 
-laid_end : (spot : Spot) → LastLaid spot []
-laid_end spot = record {
+laid_end : (layout : Layout) (spot : Spot) → LastLaid layout spot []
+laid_end layout spot = record {
   passed = ending_passed spot.last spot.state.last;
   again = ending_again spot.last spot.state.last;
   front = end_front refl refl;
@@ -205,47 +211,47 @@ last_next s cs (one_more p ps c h) = rw (closed_is_comment p.class p.text c) (la
 last_next s cs (last_open p u) = rw (unclosed_is_comment p.class p.text u) refl
 
 -- one comment more
-last_comment : (spot : Spot) (class : ℕ) (text : List ℕ) (n : ℕ) (cs : List Piece) → Closed class text → next_role spot.state cs ≡ beginning
-    → LastLaid (spot_behind_comment spot beginning class (owned spot beginning cs) n) cs → LastLaid spot (piece class text n ∷ cs)
-last_comment spot class text n cs c e t =
+last_comment : (layout : Layout) (spot : Spot) (class : ℕ) (text : List ℕ) (n : ℕ) (cs : List Piece) → Closed class text → next_role spot.state cs ≡ beginning
+    → LastLaid layout (spot_behind_comment layout spot beginning class (owned spot beginning cs) text n) cs → LastLaid layout spot (piece class text n ∷ cs)
+last_comment layout spot class text n cs c e t =
     let gap = gap_before_comment spot beginning class (owned spot beginning cs) n in
     let b : ℕ → List Piece = λ m. [] in
     let is = closed_is_comment class text c in
     let begins = closed_begins class text c in
-    let left = laid_from (spot_behind_comment spot beginning class (owned spot beginning cs) n) cs in
-    let whole : laid_from spot (piece class text n ∷ cs) ≡ gap_text gap ++ (text ++ left) = comment_laid spot beginning class text n cs is e in
+    let left = laid_from layout (spot_behind_comment layout spot beginning class (owned spot beginning cs) text n) cs in
+    let whole : laid_from layout spot (piece class text n ∷ cs) ≡ gap_text layout gap ++ (text ++ left) = comment_laid layout spot beginning class text n cs is e in
     let ends : class ≡ LineComment → AtLineEnd left = λ f. t.at_line_end (last_is_line class (leads gap spot.last spot.state.last) f) in
     record {
-      passed = ap (after_trivia outside) whole ∙ gap_passed gap (text ++ left) ∙ closed_passed class text c left ends ∙ t.passed;
-      again = ap (comments b outside 0) whole ∙ gap_counted b gap (text ++ left) ∙ closed_counted class text c b (gap_ends gap) left ends
-          ∙ ap (λ xs. piece class text (gap_ends gap) ∷ xs) t.again ∙ sym (comment_relaid spot beginning class text n cs is e);
-      front = last_front class (owned spot beginning cs) n (begins.0 ++ left) (whole ∙ ap (λ xs. gap_text gap ++ (xs ++ left)) begins.1);
-      at_line_end = λ f. subst AtLineEnd (sym whole) (comment_gap_ends spot beginning class (owned spot beginning cs) n f (text ++ left));
-      neat = subst (NeatAt spot.last spot.state.last) (sym whole) (comment_gap_neat spot beginning class (owned spot beginning cs) n (text ++ left) (closed_neat class text c (leads gap spot.last spot.state.last) spot.state.last left t.neat));
+      passed = ap (after_trivia outside) whole ∙ gap_passed layout gap (text ++ left) ∙ closed_passed class text c left ends ∙ t.passed;
+      again = ap (comments b outside 0) whole ∙ gap_counted layout b gap (text ++ left) ∙ closed_counted class text c b (gap_ends gap) left ends
+          ∙ ap (λ xs. piece class text (gap_ends gap) ∷ xs) t.again ∙ sym (comment_relaid layout spot beginning class text n cs is e);
+      front = last_front class (owned spot beginning cs) n (begins.0 ++ left) (whole ∙ ap (λ xs. gap_text layout gap ++ (xs ++ left)) begins.1);
+      at_line_end = λ f. subst AtLineEnd (sym whole) (comment_gap_ends layout spot beginning class (owned spot beginning cs) n f (text ++ left));
+      neat = subst (NeatAt spot.last spot.state.last) (sym whole) (comment_gap_neat layout spot beginning class (owned spot beginning cs) n (text ++ left) (closed_neat class text c (leads gap spot.last spot.state.last) spot.state.last left t.neat));
     }
 
 -- nothing is written behind a comment that is not closed
 unclosed_end : (class : ℕ) (text : List ℕ) → Unclosed class text → (leading : Bool) (left : Role) → ending (comment_last class leading) left ≡ []
 unclosed_end class text (unclosed xs h k i) leading left = refl
 
-open_comment_last : (spot : Spot) (class : ℕ) (text : List ℕ) (n : ℕ) → Unclosed class text → LastLaid spot (piece class text n ∷ [])
-open_comment_last spot class text n u =
+open_comment_last : (layout : Layout) (spot : Spot) (class : ℕ) (text : List ℕ) (n : ℕ) → Unclosed class text → LastLaid layout spot (piece class text n ∷ [])
+open_comment_last layout spot class text n u =
     let gap = gap_before_comment spot beginning class (owned spot beginning []) n in
     let b : ℕ → List Piece = λ m. [] in
     let is = unclosed_is_comment class text u in
     let begins = unclosed_begins class text u in
-    let whole : laid_from spot (piece class text n ∷ []) ≡ gap_text gap ++ text =
-    comment_laid spot beginning class text n [] is refl ∙ ap (λ xs. gap_text gap ++ (text ++ xs)) (unclosed_end class text u (leads gap spot.last spot.state.last) spot.state.last) ∙ ap (λ xs. gap_text gap ++ xs) (append-nil text) in
+    let whole : laid_from layout spot (piece class text n ∷ []) ≡ gap_text layout gap ++ text =
+    comment_laid layout spot beginning class text n [] is refl ∙ ap (λ xs. gap_text layout gap ++ (text ++ xs)) (unclosed_end class text u (leads gap spot.last spot.state.last) spot.state.last) ∙ ap (λ xs. gap_text layout gap ++ xs) (append-nil text) in
     record {
-      passed = ap (after_trivia outside) whole ∙ gap_passed gap text ∙ unclosed_passed class text u;
-      again = ap (comments b outside 0) whole ∙ gap_counted b gap text ∙ unclosed_counted class text u b (gap_ends gap) ∙ sym (comment_relaid spot beginning class text n [] is refl);
-      front = last_front class (owned spot beginning []) n begins.0 (whole ∙ ap (λ xs. gap_text gap ++ xs) begins.1);
-      at_line_end = λ f. subst AtLineEnd (sym whole) (comment_gap_ends spot beginning class (owned spot beginning []) n f text);
-      neat = subst (NeatAt spot.last spot.state.last) (sym whole) (comment_gap_neat spot beginning class (owned spot beginning []) n text (unclosed_neat class text u));
+      passed = ap (after_trivia outside) whole ∙ gap_passed layout gap text ∙ unclosed_passed class text u;
+      again = ap (comments b outside 0) whole ∙ gap_counted layout b gap text ∙ unclosed_counted class text u b (gap_ends gap) ∙ sym (comment_relaid layout spot beginning class text n [] is refl);
+      front = last_front class (owned spot beginning []) n begins.0 (whole ∙ ap (λ xs. gap_text layout gap ++ xs) begins.1);
+      at_line_end = λ f. subst AtLineEnd (sym whole) (comment_gap_ends layout spot beginning class (owned spot beginning []) n f text);
+      neat = subst (NeatAt spot.last spot.state.last) (sym whole) (comment_gap_neat layout spot beginning class (owned spot beginning []) n text (unclosed_neat class text u));
     }
 
-pub last_laid : (spot : Spot) (cs : List Piece) → AllClosedButLast cs → LastLaid spot cs
-last_laid spot cs (no_more) = laid_end spot
-last_laid spot cs (one_more p ps c h) =
-    last_comment spot p.class p.text p.line_ends ps c (last_next spot.state ps h) (last_laid (spot_behind_comment spot beginning p.class (owned spot beginning ps) p.line_ends) ps h)
-last_laid spot cs (last_open p u) = open_comment_last spot p.class p.text p.line_ends u
+pub last_laid : (layout : Layout) (spot : Spot) (cs : List Piece) → AllClosedButLast cs → LastLaid layout spot cs
+last_laid layout spot cs (no_more) = laid_end layout spot
+last_laid layout spot cs (one_more p ps c h) =
+    last_comment layout spot p.class p.text p.line_ends ps c (last_next spot.state ps h) (last_laid layout (spot_behind_comment layout spot beginning p.class (owned spot beginning ps) p.text p.line_ends) ps h)
+last_laid layout spot cs (last_open p u) = open_comment_last layout spot p.class p.text p.line_ends u

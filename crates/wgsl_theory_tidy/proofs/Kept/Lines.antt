@@ -9,13 +9,13 @@ use Rattle.wgsl_model.specs.Tokens.TokenList.{IsTokenList}
 use Rattle.wgsl_model.specs.Tokens.Trivia.{Place, outside, in_line, in_block, second}
 use Rattle.wgsl_model_tidy.specs.Kept.{unplaced}
 use Rattle.wgsl_model_tidy.specs.Lines.{next_place, place_after, place_of, in_block_comment, BreaksLinesByLF, HasNoTrailingWhiteSpace, HasNoTwoEmptyLines, BeginsWithNoLineBreak, EndsWithOneLineEnd, no_text, in_open_comment, with_line_end}
-use Rattle.wgsl_model_tidy.specs.LaidOut.{laid_out}
+use Rattle.wgsl_model_tidy.specs.Layout.{Layout}
+use Rattle.wgsl_model_tidy.specs.LaidOut.{first_spot, laid_out}
 use Rattle.wgsl_model_tidy.specs.Pieces.{pieces}
 use Rattle.wgsl_theory_tidy.proofs.Kept.TextFronts.{by_test}
 use Rattle.wgsl_theory_tidy.proofs.Kept.NeatTexts.{Before, start, solid, space, one_end, more_ends, line_end_more, then, may_end, MayCome, is_end, may_stop, Neat}
 use Rattle.wgsl_theory_tidy.proofs.Kept.Read.{read}
 use Rattle.wgsl_theory_tidy.proofs.Kept.LaidText.{laid_neat}
-use Rattle.wgsl_theory_tidy.proofs.Kept.SameCharacters.{first_spot}
 
 -- ---- a place in a neat text
 
@@ -180,20 +180,20 @@ ends_so text n = go (end_of text)
 
 -- ---- laid-out texts
 
-neat : (source : List ℕ) (ts : List Token) → IsTokenList source ts finished → Neat outside start (laid_out (pieces source ts))
-neat source ts h = laid_neat source (map unplaced ts) (pieces source ts) (read source ts h) first_spot
+neat : (layout : Layout) (source : List ℕ) (ts : List Token) → IsTokenList source ts finished → Neat outside start (laid_out layout (pieces source ts))
+neat layout source ts h = laid_neat layout source (map unplaced ts) (pieces source ts) (read source ts h) first_spot
 
-pub line_breaks : (source : List ℕ) (ts : List Token) → IsTokenList source ts finished → BreaksLinesByLF (laid_out (pieces source ts))
-line_breaks source ts h = lf_breaks (laid_out (pieces source ts)) (neat source ts h)
+pub line_breaks : (layout : Layout) (source : List ℕ) (ts : List Token) → IsTokenList source ts finished → BreaksLinesByLF (laid_out layout (pieces source ts))
+line_breaks layout source ts h = lf_breaks (laid_out layout (pieces source ts)) (neat layout source ts h)
 
-pub no_trailing_white_space : (source : List ℕ) (ts : List Token) → IsTokenList source ts finished → HasNoTrailingWhiteSpace (laid_out (pieces source ts))
-no_trailing_white_space source ts h = blank_free (laid_out (pieces source ts)) (neat source ts h)
+pub no_trailing_white_space : (layout : Layout) (source : List ℕ) (ts : List Token) → IsTokenList source ts finished → HasNoTrailingWhiteSpace (laid_out layout (pieces source ts))
+no_trailing_white_space layout source ts h = blank_free (laid_out layout (pieces source ts)) (neat layout source ts h)
 
-pub no_two_empty_lines : (source : List ℕ) (ts : List Token) → IsTokenList source ts finished → HasNoTwoEmptyLines (laid_out (pieces source ts))
-no_two_empty_lines source ts h = never_two_empty (laid_out (pieces source ts)) (neat source ts h)
+pub no_two_empty_lines : (layout : Layout) (source : List ℕ) (ts : List Token) → IsTokenList source ts finished → HasNoTwoEmptyLines (laid_out layout (pieces source ts))
+no_two_empty_lines layout source ts h = never_two_empty (laid_out layout (pieces source ts)) (neat layout source ts h)
 
-pub no_first_break : (source : List ℕ) (ts : List Token) → IsTokenList source ts finished → BeginsWithNoLineBreak (laid_out (pieces source ts))
-no_first_break source ts h = begins_so (laid_out (pieces source ts)) (neat source ts h)
+pub no_first_break : (layout : Layout) (source : List ℕ) (ts : List Token) → IsTokenList source ts finished → BeginsWithNoLineBreak (laid_out layout (pieces source ts))
+no_first_break layout source ts h = begins_so (laid_out layout (pieces source ts)) (neat layout source ts h)
 
-pub one_line_end : (source : List ℕ) (ts : List Token) → IsTokenList source ts finished → EndsWithOneLineEnd (laid_out (pieces source ts))
-one_line_end source ts h = ends_so (laid_out (pieces source ts)) (neat source ts h)
+pub one_line_end : (layout : Layout) (source : List ℕ) (ts : List Token) → IsTokenList source ts finished → EndsWithOneLineEnd (laid_out layout (pieces source ts))
+one_line_end layout source ts h = ends_so (laid_out layout (pieces source ts)) (neat layout source ts h)

@@ -2,6 +2,7 @@
 use Rattle.std.proofs.Common.{◌≡◌, ℕ, Bool, true, false, cond, refl, sym, subst, List, [], ◌∷◌, ◌++◌}
 use Rattle.wgsl_model.specs.Tokens.Trivia.{outside, in_line}
 use Rattle.wgsl_model_tidy.specs.Roles.{Role, beginning, is}
+use Rattle.wgsl_model_tidy.specs.Layout.{Layout}
 use Rattle.wgsl_model_tidy.specs.Open.{Enclosing, enclosing, depth_of, comment_depth}
 use Rattle.wgsl_model_tidy.specs.LaidOut.{Gap, closed, broken, Last, token, line_comment, block_comment, leading_comment, open_comment, Spot, token_gap, comment_gap, comment_last, gap_before_comment, gap_before_token, gap_text, ending}
 use Rattle.wgsl_theory_tidy.proofs.Kept.NeatTexts.{start, solid, Neat, NeatWord, neat_word, broken_neat, gap_neat, line_neat}
@@ -22,16 +23,16 @@ MayFollow token left gap = is left beginning ≡ true → gap ≡ closed
 MayFollow line_comment left gap = (empty : Bool) × (depth : ℕ) × (gap ≡ broken empty depth)
 MayFollow last left gap = Unit {0}
 
-follows : (last : Last) (left : Role) (gap : Gap) (r : List ℕ) → MayFollow last left gap → NeatWord r → NeatAt last left (gap_text gap ++ r)
-follows token left gap r m h = go (is left beginning) m
+follows : (layout : Layout) (last : Last) (left : Role) (gap : Gap) (r : List ℕ) → MayFollow last left gap → NeatWord r → NeatAt last left (gap_text layout gap ++ r)
+follows layout token left gap r m h = go (is left beginning) m
   where
-    go : (b : Bool) → (b ≡ true → gap ≡ closed) → Neat outside (cond b start solid) (gap_text gap ++ r)
-    go true m = subst (λ g. Neat outside start (gap_text g ++ r)) (sym (m refl)) (neat_word start r h)
-    go false m = gap_neat gap r h
-follows line_comment left gap r m h = subst (λ g. Neat in_line solid (gap_text g ++ r)) (sym m.2) (broken_neat in_line m.0 m.1 r tt h)
-follows open_comment left gap r m h = tt
-follows block_comment left gap r m h = gap_neat gap r h
-follows leading_comment left gap r m h = gap_neat gap r h
+    go : (b : Bool) → (b ≡ true → gap ≡ closed) → Neat outside (cond b start solid) (gap_text layout gap ++ r)
+    go true m = subst (λ g. Neat outside start (gap_text layout g ++ r)) (sym (m refl)) (neat_word start r h)
+    go false m = gap_neat layout gap r h
+follows layout line_comment left gap r m h = subst (λ g. Neat in_line solid (gap_text layout g ++ r)) (sym m.2) (broken_neat layout in_line m.0 m.1 r tt h)
+follows layout open_comment left gap r m h = tt
+follows layout block_comment left gap r m h = gap_neat layout gap r h
+follows layout leading_comment left gap r m h = gap_neat layout gap r h
 
 before_token : (inside : Enclosing) (last : Last) (left right : Role) (n : ℕ) (empty : Bool) (depth : ℕ) → MayFollow last left (token_gap inside last left right n (broken empty depth))
 before_token inside token left right n empty depth = λ h. rw h refl
@@ -48,14 +49,14 @@ before_comment class block_comment left own n empty depth = tt
 before_comment class leading_comment left own n empty depth = tt
 
 -- the gap before a token and a neat text
-pub token_gap_neat : (spot : Spot) (right : Role) (n : ℕ) (r : List ℕ) → NeatWord r → NeatAt spot.last spot.state.last (gap_text (gap_before_token spot right n) ++ r)
-token_gap_neat spot right n r h =
-    follows spot.last spot.state.last (gap_before_token spot right n) r (before_token (enclosing spot.state.opened) spot.last spot.state.last right n _ (depth_of spot.state right)) h
+pub token_gap_neat : (layout : Layout) (spot : Spot) (right : Role) (n : ℕ) (r : List ℕ) → NeatWord r → NeatAt spot.last spot.state.last (gap_text layout (gap_before_token spot right n) ++ r)
+token_gap_neat layout spot right n r h =
+    follows layout spot.last spot.state.last (gap_before_token spot right n) r (before_token (enclosing spot.state.opened) spot.last spot.state.last right n _ (depth_of spot.state right)) h
 
 -- and the gap before a comment
-pub comment_gap_neat : (spot : Spot) (right : Role) (class : ℕ) (own : Bool) (n : ℕ) (r : List ℕ) → NeatWord r → NeatAt spot.last spot.state.last (gap_text (gap_before_comment spot right class own n) ++ r)
-comment_gap_neat spot right class own n r h =
-    follows spot.last spot.state.last (gap_before_comment spot right class own n) r (before_comment class spot.last spot.state.last own n _ (comment_depth spot.state right)) h
+pub comment_gap_neat : (layout : Layout) (spot : Spot) (right : Role) (class : ℕ) (own : Bool) (n : ℕ) (r : List ℕ) → NeatWord r → NeatAt spot.last spot.state.last (gap_text layout (gap_before_comment spot right class own n) ++ r)
+comment_gap_neat layout spot right class own n r h =
+    follows layout spot.last spot.state.last (gap_before_comment spot right class own n) r (before_comment class spot.last spot.state.last own n _ (comment_depth spot.state right)) h
 
 -- ---- comments, and the end of the text
 

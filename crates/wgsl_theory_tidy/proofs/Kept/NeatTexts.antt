@@ -1,5 +1,5 @@
 -- Texts whose lines outside block comments end with LF and no white space before it, and of which no two one after the other are empty.
-use Rattle.std.proofs.Common.{◌≡◌, ℕ, zero, suc, ◌==◌, ◌&&◌, Bool, true, false, cond, refl, sym, subst, ◌∙◌, List, [], ◌∷◌, ◌++◌, arith}
+use Rattle.std.proofs.Common.{◌≡◌, ℕ, ◌==◌, ◌&&◌, Bool, true, false, cond, refl, sym, subst, ◌∙◌, List, [], ◌∷◌, ◌++◌, arith}
 use Rattle.std.proofs.lemmas.Bool.{true≢false}
 use Rattle.std.proofs.lemmas.Grind.{common_steps}
 use Rattle.grammar.specs.Tables.{is_empty}
@@ -7,8 +7,10 @@ use Rattle.std.specs.Char.{is_whitespace}
 use Rattle.wgsl_model.specs.Tokens.Characters.{is_line_break}
 use Rattle.wgsl_model.specs.Tokens.Trivia.{Place, outside, in_line, in_block, second}
 use Rattle.wgsl_model_tidy.specs.Lines.{next_place}
+use Rattle.wgsl_model_tidy.specs.Layout.{Layout}
 use Rattle.wgsl_model_tidy.specs.LaidOut.{Gap, closed, blank, broken, gap_text, indentation}
 use Rattle.wgsl_theory_tidy.proofs.Comments.{trimmed, OnLine}
+use Rattle.wgsl_theory_tidy.proofs.Levels.{IsIndent, no_indent, one_space, one_tab, indentation_indent}
 
 -- what comes before a character: nothing, a character that is not white, a space or the like, one line end, or more
 pub data Before : Type 0 where
@@ -68,11 +70,13 @@ neat_word b (c ∷ cs) h = ((λ l. absurd (true≢false (sym (break_is_blank c l
 -- ---- gaps
 
 -- white space before it
-indentation_neat : (depth : ℕ) (b : Before) (r : List ℕ) → NeatWord r → Neat outside b (indentation depth ++ r)
-indentation_neat zero b r h = neat_word b r h
-indentation_neat (suc depth) b r h =
-    let other : (a : Before) → MayCome outside a 32 = λ a e. absurd (true≢false (sym e)) in
-    (other b, (other space, (other space, (other space, indentation_neat depth space r h))))
+indent_neat : (xs : List ℕ) (b : Before) (r : List ℕ) → IsIndent xs → NeatWord r → Neat outside b (xs ++ r)
+indent_neat _ b r (no_indent) h = neat_word b r h
+indent_neat _ b r (one_space xs i) h = ((λ e. absurd (true≢false (sym e))), indent_neat xs space r i h)
+indent_neat _ b r (one_tab xs i) h = ((λ e. absurd (true≢false (sym e))), indent_neat xs space r i h)
+
+indentation_neat : (layout : Layout) (depth : ℕ) (b : Before) (r : List ℕ) → NeatWord r → Neat outside b (indentation layout depth ++ r)
+indentation_neat layout depth b r h = indent_neat (indentation layout depth) b r (indentation_indent layout depth) h
 
 -- a line end, at the end of a line comment or outside
 abbrev pub CanBreak : Place → Type 0
@@ -80,18 +84,18 @@ CanBreak outside = Unit {0}
 CanBreak in_line = Unit {0}
 CanBreak p = ⊥
 
-pub broken_neat : (p : Place) (empty : Bool) (depth : ℕ) (r : List ℕ) → CanBreak p → NeatWord r → Neat p solid (gap_text (broken empty depth) ++ r)
-broken_neat outside true depth r o h = ((λ e. (refl, refl)), ((λ e. (refl, refl)), indentation_neat depth more_ends r h))
-broken_neat outside false depth r o h = ((λ e. (refl, refl)), indentation_neat depth one_end r h)
-broken_neat in_line true depth r o h = ((λ e. (refl, refl)), ((λ e. (refl, refl)), indentation_neat depth more_ends r h))
-broken_neat in_line false depth r o h = ((λ e. (refl, refl)), indentation_neat depth one_end r h)
-broken_neat (in_block n) empty depth r o h = absurd o
-broken_neat (second p) empty depth r o h = absurd o
+pub broken_neat : (layout : Layout) (p : Place) (empty : Bool) (depth : ℕ) (r : List ℕ) → CanBreak p → NeatWord r → Neat p solid (gap_text layout (broken empty depth) ++ r)
+broken_neat layout outside true depth r o h = ((λ e. (refl, refl)), ((λ e. (refl, refl)), indentation_neat layout depth more_ends r h))
+broken_neat layout outside false depth r o h = ((λ e. (refl, refl)), indentation_neat layout depth one_end r h)
+broken_neat layout in_line true depth r o h = ((λ e. (refl, refl)), ((λ e. (refl, refl)), indentation_neat layout depth more_ends r h))
+broken_neat layout in_line false depth r o h = ((λ e. (refl, refl)), indentation_neat layout depth one_end r h)
+broken_neat layout (in_block n) empty depth r o h = absurd o
+broken_neat layout (second p) empty depth r o h = absurd o
 
-pub gap_neat : (gap : Gap) (r : List ℕ) → NeatWord r → Neat outside solid (gap_text gap ++ r)
-gap_neat closed r h = neat_word solid r h
-gap_neat blank r h = ((λ e. absurd (true≢false (sym e))), neat_word space r h)
-gap_neat (broken empty depth) r h = broken_neat outside empty depth r tt h
+pub gap_neat : (layout : Layout) (gap : Gap) (r : List ℕ) → NeatWord r → Neat outside solid (gap_text layout gap ++ r)
+gap_neat layout closed r h = neat_word solid r h
+gap_neat layout blank r h = ((λ e. absurd (true≢false (sym e))), neat_word space r h)
+gap_neat layout (broken empty depth) r h = broken_neat layout outside empty depth r tt h
 
 -- ---- the text of a line comment
 

@@ -9,8 +9,8 @@ use Rattle.wgsl_theory_printed.proofs.Spelling.Spellings.{EndsAt}
 use Rattle.wgsl_theory_printed.proofs.Spelling.Signs.{begins_name, begins_number, sign_ends_before}
 use Rattle.wgsl_theory_printed.proofs.Spelling.Split.{goes_on_with}
 use Rattle.wgsl_model_tidy.specs.Roles.{Role, opening, closing, template_start, block_start, block_end, comma, semicolon, colon, else_word, at, beginning, item_end, attribute, is, is_tight, opens_bracket, closes_bracket}
-use Rattle.wgsl_model_tidy.specs.Joints.{Joint, line, nothing, space, nothing_or_line, space_or_line, closed_up, continues_line, joint_in_line, joint_in_lines, joint}
-use Rattle.wgsl_model_tidy.specs.Open.{LayoutState, Enclosing, no_bracket, one_line, own_lines, in_arguments, in_members, in_brackets, last_behind}
+use Rattle.wgsl_model_tidy.specs.Joints.{Joint, line, nothing, space, nothing_or_line, space_or_line, closed_up, continues_line, joint_in_line, joint_in_lines, ended, joint}
+use Rattle.wgsl_model_tidy.specs.Open.{LayoutState, Enclosing, no_bracket, one_line, own_lines, item_lines, in_arguments, in_members, in_brackets, last_behind}
 use Rattle.wgsl_theory_tidy.proofs.Kept.Alone.{IsAlone, alone_ends, alone_before, space_alone, line_end_alone, brace_right_alone}
 use Rattle.wgsl_theory_tidy.proofs.Kept.Touching.{less_no_name, slash_no_name, at_one, starts, is_tight_only, tight_only, Shaped, is_name, is_word, is_else, is_unsuffixed, is_number, is_opening, is_closing, is_less, is_other, touches}
 
@@ -87,6 +87,15 @@ in_lines_close inside left right =
     go false false false false e f s false false true x y z m = absurd (true≢false (sym m))
     go false false false false e f s false false false x y z m = absurd (true≢false (sym m))
 
+-- where a line ends nothing is closed up
+ended_close : (b : Bool) (j : Joint) → may_close (ended b j) ≡ true → may_close j ≡ true
+ended_close true space_or_line m = absurd (true≢false (sym m))
+ended_close true line m = m
+ended_close true nothing m = m
+ended_close true space m = m
+ended_close true nothing_or_line m = m
+ended_close false j m = m
+
 pub by_joint : (inside : Enclosing) (left right : Role) → may_close (joint inside left right) ≡ true → Close left right
 by_joint no_bracket left right = in_lines_close false left right
 by_joint one_line left right = in_line_close left right
@@ -95,6 +104,11 @@ by_joint own_lines left right = go (opens_bracket left || closes_bracket right)
     go : (b : Bool) → may_close (cond b line (joint_in_lines true left right)) ≡ true → Close left right
     go true m = absurd (true≢false (sym m))
     go false m = in_lines_close true left right m
+by_joint item_lines left right = go (opens_bracket left || closes_bracket right)
+  where
+    go : (b : Bool) → may_close (cond b line (ended (is left comma || is left semicolon) (joint_in_lines true left right))) ≡ true → Close left right
+    go true m = absurd (true≢false (sym m))
+    go false m = in_lines_close true left right (ended_close (is left comma || is left semicolon) (joint_in_lines true left right) m)
 
 closing_brace : (right : Role) (x : ℕ) → is right block_end ≡ true → starts right x ≡ true → (x == 125) ≡ true
 closing_brace block_end x h s = s

@@ -1,14 +1,16 @@
 -- A bracket in one line has no line end where its pieces are laid out.
-use Rattle.std.proofs.Common.{◌≡◌, ℕ, zero, suc, ◌&&◌, ◌||◌, ◌==◌, Bool, true, false, cond, not, refl, sym, ap, subst, ◌∙◌, List, [], ◌∷◌}
+use Rattle.std.proofs.Common.{◌≡◌, ℕ, zero, suc, ◌&&◌, ◌||◌, ◌==◌, ◌++◌, Bool, true, false, cond, not, refl, sym, ap, subst, ◌∙◌, List, [], ◌∷◌}
 use Rattle.std.proofs.lemmas.Bool.{true≢false}
 use Rattle.wgsl_model.specs.Tokens.Classes.{LineComment, BlockComment}
 use Rattle.wgsl_model_tidy.specs.Pieces.{Piece}
 use Rattle.wgsl_model_tidy.specs.Roles.{Role, opening, template_start, block_start, block_end, beginning, is, opens_bracket, closes_bracket, closes, ends_operand, role_of}
 use Rattle.wgsl_model_tidy.specs.Joints.{Joint, line, nothing, space, nothing_or_line, space_or_line, closed_up, joint_in_line, joint}
-use Rattle.wgsl_model_tidy.specs.Open.{one_line, enclosing, between_items, depth_of, role_in, opened_behind}
-use Rattle.wgsl_model_tidy.specs.LaidOut.{Gap, closed, blank, Last, token, line_comment, block_comment, leading_comment, open_comment, Spot, joint_gap, is_token, is_line, behind_comment, behind_leading, loose_joint, closes_up, token_gap, comment_gap, line_end, is_followed, owned, gap_before_comment, gap_before_token, gap_before, breaks, opens_one, closes_one, has_break, has_lines, is_comment, next_role, depth_behind, in_line_of, leads, comment_last, behind_piece}
+use Rattle.wgsl_model_tidy.specs.Layout.{Layout, column_after, line_fits}
+use Rattle.wgsl_model_tidy.specs.Open.{Style, together, as_written, item_by_item, Enclosing, one_line, enclosing, between_items, depth_of, role_in, opened_behind}
+use Rattle.wgsl_model_tidy.specs.LaidOut.{Gap, closed, blank, Last, token, line_comment, block_comment, leading_comment, open_comment, Spot, joint_gap, is_token, is_line, behind_comment, behind_leading, loose_joint, closes_up, token_gap, comment_gap, line_end, is_followed, owned, gap_before_comment, gap_before_token, gap_before, breaks, opens_one, closes_one, has_break, has_lines, is_comment, next_role, depth_behind, leads, comment_last, may_break, has_several, may_part, style_of, gap_text, behind_piece, behind_first, laid_from}
+use Rattle.wgsl_theory_tidy.proofs.Laid.{behind_comment_at}
 use Rattle.wgsl_theory_tidy.proofs.Kept.Gaps.{gap_ends}
-use Rattle.wgsl_theory_tidy.proofs.Kept.Relaid.{behind_ends, relaid}
+use Rattle.wgsl_theory_tidy.proofs.Kept.Relaid.{style_first, after_first, behind_ends, relaid}
 use Rattle.wgsl_theory_tidy.proofs.Kept.PieceSpots.{comment_gap_before, token_gap_before, comment_spot, token_spot, token_next}
 use Rattle.wgsl_theory_tidy.proofs.Kept.BracketRoles.{opens_same, closes_same, is_brace, no_brace, opens_only, AreFlat, flat_enclosing, open_behind, flat_behind}
 use Rattle.wgsl_theory_tidy.proofs.Kept.Breaks.{neither, both_false, and_none, IsSmooth, smooth, smooth_again, comment_open, opens_in_one_line}
@@ -131,9 +133,17 @@ goes_on_behind class leading h = go (class == LineComment) (class == BlockCommen
     go false true false e = refl
     go false false d e = refl
 
-flat_piece : (n : ℕ) (spot : Spot) (p : Piece) (ps : List Piece) → IsFlat (suc n) spot → IsSmooth p → has_break (open_behind (closes_one p.class) (opens_one p.class) n) ps ≡ false
-    → IsFlat (open_behind (closes_one p.class) (opens_one p.class) n) (behind_piece spot (gap_before spot (next_role spot.state (p ∷ ps)) p ps) (next_role spot.state (p ∷ ps)) p ps)
-flat_piece n spot p ps i s e = go (is_comment p.class) refl
+-- a bracket in one that has no line ends has none
+style_flat : (layout : Layout) (inside : Enclosing) (class column : ℕ) (ps : List Piece) (in_one_line : List ℕ) → inside ≡ one_line → has_lines ps ≡ false → style_of layout inside class column ps in_one_line ≡ together
+style_flat layout inside class column ps in_one_line e h =
+    let others : Bool = not (layout.width == 0) && opens_one class in
+    let long : Bool = not (line_fits layout column in_one_line) in
+    let none : may_part layout inside class ps ≡ false = ap (λ (i : Enclosing). others && (may_break i && has_several ps)) e ∙ and_none others false refl in
+    ap (λ b. cond b as_written (cond (may_part layout inside class ps && long) item_by_item together)) h ∙ ap (λ b. cond (b && long) item_by_item together) none
+
+flat_piece : (layout : Layout) (n : ℕ) (spot : Spot) (p : Piece) (ps : List Piece) → IsFlat (suc n) spot → IsSmooth p → has_break (open_behind (closes_one p.class) (opens_one p.class) n) ps ≡ false
+    → IsFlat (open_behind (closes_one p.class) (opens_one p.class) n) (after_first layout spot p ps)
+flat_piece layout n spot p ps i s e = go (is_comment p.class) refl
   where
     right : Role
     right = next_role spot.state (p ∷ ps)
@@ -141,43 +151,55 @@ flat_piece n spot p ps i s e = go (is_comment p.class) refl
     gap : Gap
     gap = gap_before spot right p ps
 
-    go : (b : Bool) → is_comment p.class ≡ b → IsFlat (open_behind (closes_one p.class) (opens_one p.class) n) (behind_piece spot gap right p ps)
+    style : Style
+    style = style_first layout spot p ps
+
+    column : ℕ
+    column = column_after layout spot.column (gap_text layout gap ++ p.text)
+
+    together_in : opens_one p.class ≡ true → style ≡ together
+    together_in o =
+        let after = behind_first layout spot p ps together in
+        style_flat layout (enclosing spot.state.opened) p.class after.column ps (laid_from layout after ps) (flat_enclosing n spot.state.opened i.flat)
+        (opens_in_one_line n (closes_one p.class) (opens_one p.class) ps (opens_only (role_of false p.class)) e o)
+
+    go : (b : Bool) → is_comment p.class ≡ b → IsFlat (open_behind (closes_one p.class) (opens_one p.class) n) (behind_piece layout spot gap right p style)
     go true h =
-        let here : IsFlat (suc n) (record { state = in_line_of spot.state (depth_behind gap spot.state.line); last = comment_last p.class (leads gap spot.last spot.state.last) }) =
+        let here : IsFlat (suc n) (behind_comment_at spot.state (depth_behind gap spot.state.line) (comment_last p.class (leads gap spot.last spot.state.last)) column) =
         record { flat = i.flat; goes = goes_on_behind p.class (leads gap spot.last spot.state.last) s.no_line_comment } in
-        subst (λ k. IsFlat k (behind_piece spot gap right p ps)) (sym (comment_open n p.class h)) (subst (IsFlat (suc n)) (sym (comment_spot spot gap right p ps h)) here)
+        subst (λ k. IsFlat k (behind_piece layout spot gap right p style)) (sym (comment_open n p.class h)) (subst (IsFlat (suc n)) (sym (comment_spot layout spot gap right p style h)) here)
     go false h =
         let depth = depth_behind gap spot.state.line in
         let before = ends_operand spot.state.last in
         let does : right ≡ role_in spot.state p.class = token_next spot.state p ps h in
-        let opened : AreFlat (open_behind (closes_one p.class) (opens_one p.class) n) (opened_behind spot.state depth right (has_lines ps)) =
-        flat_behind n spot.state depth right (has_lines ps) (closes_one p.class) (opens_one p.class)
+        let opened : AreFlat (open_behind (closes_one p.class) (opens_one p.class) n) (opened_behind spot.state depth right style) =
+        flat_behind n spot.state depth right style (closes_one p.class) (opens_one p.class)
         (ap closes_bracket does ∙ closes_same before p.class) (ap opens_bracket does ∙ opens_same before p.class) (ap is_brace does ∙ no_brace before p.class s.no_left s.no_right)
-        (opens_in_one_line n (closes_one p.class) (opens_one p.class) ps (opens_only (role_of false p.class)) e) i.flat in
-        subst (IsFlat (open_behind (closes_one p.class) (opens_one p.class) n)) (sym (token_spot spot gap right p ps h)) (record { flat = opened; goes = refl })
+        together_in i.flat in
+        subst (IsFlat (open_behind (closes_one p.class) (opens_one p.class) n)) (sym (token_spot layout spot gap right p style h)) (record { flat = opened; goes = refl })
 
 -- ---- so no line ends in them
 
-flat_step : (n : ℕ) (spot : Spot) (p : Piece) (ps : List Piece) → IsFlat (suc n) spot → has_break (suc n) (p ∷ ps) ≡ false
-    → ((k : ℕ) (after : Spot) → IsFlat k after → has_break k ps ≡ false → has_break k (relaid after ps) ≡ false) → has_break (suc n) (relaid spot (p ∷ ps)) ≡ false
-flat_step n spot p ps i e others =
+flat_step : (layout : Layout) (n : ℕ) (spot : Spot) (p : Piece) (ps : List Piece) → IsFlat (suc n) spot → has_break (suc n) (p ∷ ps) ≡ false
+    → ((k : ℕ) (after : Spot) → IsFlat k after → has_break k ps ≡ false → has_break k (relaid layout after ps) ≡ false) → has_break (suc n) (relaid layout spot (p ∷ ps)) ≡ false
+flat_step layout n spot p ps i e others =
     let right = next_role spot.state (p ∷ ps) in
     let gap = gap_before spot right p ps in
     let parts = neither (breaks p) _ e in
     let s = smooth p parts.0 in
     both_false (breaks (behind_ends p (gap_ends gap))) _ (smooth_again p (gap_ends gap) s (smooth_gap n spot p ps i s))
-    (others (open_behind (closes_one p.class) (opens_one p.class) n) (behind_piece spot gap right p ps) (flat_piece n spot p ps i s parts.1) parts.1)
+    (others (open_behind (closes_one p.class) (opens_one p.class) n) (after_first layout spot p ps) (flat_piece layout n spot p ps i s parts.1) parts.1)
 
-flat_again : (n : ℕ) (spot : Spot) (ps : List Piece) → IsFlat n spot → has_break n ps ≡ false → has_break n (relaid spot ps) ≡ false
-flat_again zero spot ps i e = refl
-flat_again (suc n) spot [] i e = refl
-flat_again (suc n) spot (p ∷ ps) i e = flat_step n spot p ps i e (λ k after j f. flat_again k after ps j f)
+flat_again : (layout : Layout) (n : ℕ) (spot : Spot) (ps : List Piece) → IsFlat n spot → has_break n ps ≡ false → has_break n (relaid layout spot ps) ≡ false
+flat_again layout zero spot ps i e = refl
+flat_again layout (suc n) spot [] i e = refl
+flat_again layout (suc n) spot (p ∷ ps) i e = flat_step layout n spot p ps i e (λ k after j f. flat_again layout k after ps j f)
 
 -- behind an opening bracket in one line its text is in one line again
-pub one_line_again : (spot : Spot) (ps : List Piece) → IsFlat 1 spot → has_lines ps ≡ false → has_lines (relaid spot ps) ≡ false
-one_line_again spot [] i e = refl
-one_line_again spot (p ∷ ps) i e = go (closes_one p.class) e
+pub one_line_again : (layout : Layout) (spot : Spot) (ps : List Piece) → IsFlat 1 spot → has_lines ps ≡ false → has_lines (relaid layout spot ps) ≡ false
+one_line_again layout spot [] i e = refl
+one_line_again layout spot (p ∷ ps) i e = go (closes_one p.class) e
   where
-    go : (c : Bool) → (not c && has_break 1 (p ∷ ps)) ≡ false → (not c && has_break 1 (relaid spot (p ∷ ps))) ≡ false
+    go : (c : Bool) → (not c && has_break 1 (p ∷ ps)) ≡ false → (not c && has_break 1 (relaid layout spot (p ∷ ps))) ≡ false
     go true h = refl
-    go false h = flat_again 1 spot (p ∷ ps) i h
+    go false h = flat_again layout 1 spot (p ∷ ps) i h

@@ -6,10 +6,11 @@ use Rattle.wgsl_model.specs.Tokens.Classes.{LineComment, BlockComment, SymBraceL
 use Rattle.wgsl_model_tidy.specs.Pieces.{Piece}
 use Rattle.wgsl_model_tidy.specs.Roles.{Role, opening, template_start, beginning, is, opens_bracket}
 use Rattle.wgsl_model_tidy.specs.Joints.{line, joint}
+use Rattle.wgsl_model_tidy.specs.Layout.{Layout}
 use Rattle.wgsl_model_tidy.specs.Open.{own_lines, enclosing, between_items, depth_of, comment_depth}
-use Rattle.wgsl_model_tidy.specs.LaidOut.{Gap, closed, blank, broken, Last, token, line_comment, block_comment, leading_comment, open_comment, Spot, kept_gap, joint_gap, behind_comment, token_gap, comment_gap, comment_behind, line_end, owned, gap_before_token, gap_before, breaks, opens_one, closes_one, has_break, has_lines, is_comment, next_role, leads, comment_last, behind_piece}
+use Rattle.wgsl_model_tidy.specs.LaidOut.{Gap, closed, blank, broken, Last, token, line_comment, block_comment, leading_comment, open_comment, Spot, kept_gap, joint_gap, behind_comment, token_gap, comment_gap, comment_behind, line_end, owned, gap_before_token, gap_before, breaks, opens_one, closes_one, has_break, has_lines, is_comment, next_role, leads, comment_last}
 use Rattle.wgsl_theory_tidy.proofs.Kept.Gaps.{gap_ends}
-use Rattle.wgsl_theory_tidy.proofs.Kept.Relaid.{behind_ends, relaid}
+use Rattle.wgsl_theory_tidy.proofs.Kept.Relaid.{style_first, after_first, behind_ends, relaid}
 use Rattle.wgsl_theory_tidy.proofs.Kept.PieceSpots.{comment_gap_before, token_gap_before, comment_spot}
 use Rattle.wgsl_theory_tidy.proofs.Kept.BracketRoles.{opens_later, open_behind}
 use Rattle.wgsl_theory_tidy.proofs.Kept.Breaks.{both_false, among_three, comment_open}
@@ -42,7 +43,7 @@ token_broken open_comment left right n break c h = ap (λ j. joint_gap (behind_c
 token_broken line_comment left right n break c h = absurd (true≢false (sym c))
 token_broken leading_comment left right n break c h = absurd (true≢false (sym c))
 
-some_ends : (empty : Bool) (depth : ℕ) → not (gap_ends (broken empty depth) == 0) ≡ true
+pub some_ends : (empty : Bool) (depth : ℕ) → not (gap_ends (broken empty depth) == 0) ≡ true
 some_ends true depth = refl
 some_ends false depth = refl
 
@@ -90,15 +91,15 @@ beside_last class h = go (class == LineComment) (class == BlockComment) h
     go false true e = refl
     go false false e = refl
 
-lines_token : (spot : Spot) (p : Piece) (ps : List Piece) → IsOpened spot → is_comment p.class ≡ false → has_break 1 (relaid spot (p ∷ ps)) ≡ true
-lines_token spot p ps i h =
+lines_token : (layout : Layout) (spot : Spot) (p : Piece) (ps : List Piece) → IsOpened spot → is_comment p.class ≡ false → has_break 1 (relaid layout spot (p ∷ ps)) ≡ true
+lines_token layout spot p ps i h =
     let right = next_role spot.state (p ∷ ps) in
     let gap = gap_before spot right p ps in
     or_left (breaks (behind_ends p (gap_ends gap))) _ (or_left (not (gap_ends gap == 0)) _ (ap (λ g. not (gap_ends g == 0)) (token_gap_before spot right p ps h) ∙ token_ended spot right p.line_ends i))
 
-lines_comment : (spot : Spot) (p : Piece) (ps : List Piece) → IsOpened spot → is_comment p.class ≡ true → has_break 1 (p ∷ ps) ≡ true
-    → ((after : Spot) → IsOpened after → has_break 1 ps ≡ true → has_break 1 (relaid after ps) ≡ true) → has_break 1 (relaid spot (p ∷ ps)) ≡ true
-lines_comment spot p ps i h e others =
+lines_comment : (layout : Layout) (spot : Spot) (p : Piece) (ps : List Piece) → IsOpened spot → is_comment p.class ≡ true → has_break 1 (p ∷ ps) ≡ true
+    → ((after : Spot) → IsOpened after → has_break 1 ps ≡ true → has_break 1 (relaid layout after ps) ≡ true) → has_break 1 (relaid layout spot (p ∷ ps)) ≡ true
+lines_comment layout spot p ps i h e others =
     go (subst (CommentGap p.line_ends spot.last spot.state.last) (sym (comment_gap_before spot right p ps h))
     (comment_beside p.class spot.last spot.state.last (owned spot right ps) p.line_ends _ (comment_depth spot.state right) i.beside i.opens))
   where
@@ -109,43 +110,43 @@ lines_comment spot p ps i h e others =
     gap = gap_before spot right p ps
 
     after : Spot
-    after = behind_piece spot gap right p ps
+    after = after_first layout spot p ps
 
     again : Piece
     again = behind_ends p (gap_ends gap)
 
     still_opened : leads gap spot.last spot.state.last ≡ false → (p.class == LineComment) ≡ false → IsOpened after
-    still_opened l c = subst IsOpened (sym (comment_spot spot gap right p ps h))
+    still_opened l c = subst IsOpened (sym (comment_spot layout spot gap right p (style_first layout spot p ps) h))
         (record { lines = i.lines; opens = i.opens; beside = ap (λ d. is_beside (comment_last p.class d)) l ∙ beside_last p.class c })
 
     left_of : breaks p ≡ false → has_break 1 ps ≡ true
     left_of calm =
         ap (λ k. has_break k ps) (sym (comment_open 0 p.class h)) ∙ sym (ap (λ b. b || has_break (open_behind (closes_one p.class) (opens_one p.class) 0) ps) calm) ∙ e
 
-    by : (b : Bool) → is_among p.class (LineComment ∷ SymBraceLeft ∷ SymBraceRight ∷ []) ≡ b → p.line_ends ≡ 0 → leads gap spot.last spot.state.last ≡ false → has_break 1 (relaid spot (p ∷ ps)) ≡ true
+    by : (b : Bool) → is_among p.class (LineComment ∷ SymBraceLeft ∷ SymBraceRight ∷ []) ≡ b → p.line_ends ≡ 0 → leads gap spot.last spot.state.last ≡ false → has_break 1 (relaid layout spot (p ∷ ps)) ≡ true
     by true a z l = or_left (breaks again) _ (or_right (not (gap_ends gap == 0)) _ a)
     by false a z l =
         let calm : breaks p ≡ false = both_false (not (p.line_ends == 0)) _ (ap (λ n. not (n == 0)) z) a in
         or_right (breaks again) _
-        (ap (λ k. has_break k (relaid after ps)) (comment_open 0 p.class h) ∙ others after (still_opened l (among_three p.class LineComment SymBraceLeft SymBraceRight a).0) (left_of calm))
+        (ap (λ k. has_break k (relaid layout after ps)) (comment_open 0 p.class h) ∙ others after (still_opened l (among_three p.class LineComment SymBraceLeft SymBraceRight a).0) (left_of calm))
 
-    go : CommentGap p.line_ends spot.last spot.state.last gap → has_break 1 (relaid spot (p ∷ ps)) ≡ true
+    go : CommentGap p.line_ends spot.last spot.state.last gap → has_break 1 (relaid layout spot (p ∷ ps)) ≡ true
     go (line_ended a) = or_left (breaks again) _ (or_left (not (gap_ends gap == 0)) _ a)
     go (none_ended z l) = by (is_among p.class (LineComment ∷ SymBraceLeft ∷ SymBraceRight ∷ [])) refl z l
 
-lines_step : (spot : Spot) (p : Piece) (ps : List Piece) → IsOpened spot → has_break 1 (p ∷ ps) ≡ true
-    → ((after : Spot) → IsOpened after → has_break 1 ps ≡ true → has_break 1 (relaid after ps) ≡ true) → has_break 1 (relaid spot (p ∷ ps)) ≡ true
-lines_step spot p ps i e others = go (is_comment p.class) refl
+lines_step : (layout : Layout) (spot : Spot) (p : Piece) (ps : List Piece) → IsOpened spot → has_break 1 (p ∷ ps) ≡ true
+    → ((after : Spot) → IsOpened after → has_break 1 ps ≡ true → has_break 1 (relaid layout after ps) ≡ true) → has_break 1 (relaid layout spot (p ∷ ps)) ≡ true
+lines_step layout spot p ps i e others = go (is_comment p.class) refl
   where
-    go : (b : Bool) → is_comment p.class ≡ b → has_break 1 (relaid spot (p ∷ ps)) ≡ true
-    go true h = lines_comment spot p ps i h e others
-    go false h = lines_token spot p ps i h
+    go : (b : Bool) → is_comment p.class ≡ b → has_break 1 (relaid layout spot (p ∷ ps)) ≡ true
+    go true h = lines_comment layout spot p ps i h e others
+    go false h = lines_token layout spot p ps i h
 
-lines_again : (spot : Spot) (ps : List Piece) → IsOpened spot → has_break 1 ps ≡ true → has_break 1 (relaid spot ps) ≡ true
-lines_again spot [] i e = absurd (true≢false (sym e))
-lines_again spot (p ∷ ps) i e = lines_step spot p ps i e (λ after j f. lines_again after ps j f)
+lines_again : (layout : Layout) (spot : Spot) (ps : List Piece) → IsOpened spot → has_break 1 ps ≡ true → has_break 1 (relaid layout spot ps) ≡ true
+lines_again layout spot [] i e = absurd (true≢false (sym e))
+lines_again layout spot (p ∷ ps) i e = lines_step layout spot p ps i e (λ after j f. lines_again layout after ps j f)
 
 -- behind an opening bracket in lines of its own its text has lines of its own again
-pub own_lines_again : (spot : Spot) (ps : List Piece) → IsOpened spot → has_lines ps ≡ true → has_lines (relaid spot ps) ≡ true
-own_lines_again spot [] i e = absurd (true≢false (sym e))
-own_lines_again spot (p ∷ ps) i e = let both = and_parts (not (closes_one p.class)) _ e in and_from (not (closes_one p.class)) _ both.0 (lines_again spot (p ∷ ps) i both.1)
+pub own_lines_again : (layout : Layout) (spot : Spot) (ps : List Piece) → IsOpened spot → has_lines ps ≡ true → has_lines (relaid layout spot ps) ≡ true
+own_lines_again layout spot [] i e = absurd (true≢false (sym e))
+own_lines_again layout spot (p ∷ ps) i e = let both = and_parts (not (closes_one p.class)) _ e in and_from (not (closes_one p.class)) _ both.0 (lines_again layout spot (p ∷ ps) i both.1)

@@ -14,6 +14,7 @@ use Rattle.wgsl_theory_printed.proofs.Spelling.Spellings.{IsSpelling, EndsBefore
 use Rattle.wgsl_theory_printed.proofs.Spelling.Signs.{looked_up, spelled_symbol}
 use Rattle.wgsl_model_tidy.specs.Roles.{Role, template_start, beginning, is, ends_operand}
 use Rattle.wgsl_model_tidy.specs.Joints.{Joint, line, nothing, space, nothing_or_line, space_or_line, joint}
+use Rattle.wgsl_model_tidy.specs.Layout.{Layout}
 use Rattle.wgsl_model_tidy.specs.Open.{LayoutState, enclosing, between_items, depth_of, comment_depth, role_in, last_behind}
 use Rattle.wgsl_model_tidy.specs.LaidOut.{Gap, closed, blank, broken, token, Spot, kept_gap, joint_gap, line_end, gap_before_comment, gap_before_token, gap_text, ending}
 use Rattle.wgsl_theory_tidy.proofs.Kept.Neighbours.{not_beginning, shaped_behind, may_close, by_joint, is_before_comment, NoComment, PartsAt, Parts, parts}
@@ -28,35 +29,35 @@ PartsBefore w (c ∷ cs) = PartsAt w c
 
 -- ---- gaps
 
-broken_parts : (left : Role) (w : List ℕ) (empty : Bool) (depth : ℕ) (more : List ℕ) → Parts left w → PartsBefore w (gap_text (broken empty depth) ++ more)
-broken_parts left w true depth more p = p.line_end
-broken_parts left w false depth more p = p.line_end
+broken_parts : (layout : Layout) (left : Role) (w : List ℕ) (empty : Bool) (depth : ℕ) (more : List ℕ) → Parts left w → PartsBefore w (gap_text layout (broken empty depth) ++ more)
+broken_parts layout left w true depth more p = p.line_end
+broken_parts layout left w false depth more p = p.line_end
 
 -- a line end of the author's, or what stands there else
-kept_parts : (left : Role) (w : List ℕ) (n : ℕ) (empty : Bool) (depth : ℕ) (other : Gap) (more : List ℕ) → Parts left w → PartsBefore w (gap_text other ++ more) → PartsBefore w (gap_text (kept_gap n (broken empty depth) other) ++ more)
-kept_parts left w zero empty depth other more p e = e
-kept_parts left w (suc n) empty depth other more p e = broken_parts left w empty depth more p
+kept_parts : (layout : Layout) (left : Role) (w : List ℕ) (n : ℕ) (empty : Bool) (depth : ℕ) (other : Gap) (more : List ℕ) → Parts left w → PartsBefore w (gap_text layout other ++ more) → PartsBefore w (gap_text layout (kept_gap n (broken empty depth) other) ++ more)
+kept_parts layout left w zero empty depth other more p e = e
+kept_parts layout left w (suc n) empty depth other more p e = broken_parts layout left w empty depth more p
 
-joint_parts : (left : Role) (w : List ℕ) (j : Joint) (n : ℕ) (empty : Bool) (depth : ℕ) (more : List ℕ) → Parts left w → (may_close j ≡ true → PartsBefore w more) → PartsBefore w (gap_text (joint_gap j n (broken empty depth)) ++ more)
-joint_parts left w line n empty depth more p e = broken_parts left w empty depth more p
-joint_parts left w nothing n empty depth more p e = e refl
-joint_parts left w space n empty depth more p e = p.space
-joint_parts left w nothing_or_line n empty depth more p e = kept_parts left w n empty depth closed more p (e refl)
-joint_parts left w space_or_line n empty depth more p e = kept_parts left w n empty depth blank more p p.space
+joint_parts : (layout : Layout) (left : Role) (w : List ℕ) (j : Joint) (n : ℕ) (empty : Bool) (depth : ℕ) (more : List ℕ) → Parts left w → (may_close j ≡ true → PartsBefore w more) → PartsBefore w (gap_text layout (joint_gap j n (broken empty depth)) ++ more)
+joint_parts layout left w line n empty depth more p e = broken_parts layout left w empty depth more p
+joint_parts layout left w nothing n empty depth more p e = e refl
+joint_parts layout left w space n empty depth more p e = p.space
+joint_parts layout left w nothing_or_line n empty depth more p e = kept_parts layout left w n empty depth closed more p (e refl)
+joint_parts layout left w space_or_line n empty depth more p e = kept_parts layout left w n empty depth blank more p p.space
 
 -- ---- behind a token
 
-token_parts : (state : LayoutState) (right : Role) (n : ℕ) (w v more : List ℕ) → Shaped state.last w → Starts right v → PartsBefore w (gap_text (gap_before_token (record { state = state; last = token }) right n) ++ (v ++ more))
-token_parts state right n w [] more h s = absurd s
-token_parts state right n w (x ∷ xs) more h s =
+token_parts : (layout : Layout) (column : ℕ) (state : LayoutState) (right : Role) (n : ℕ) (w v more : List ℕ) → Shaped state.last w → Starts right v → PartsBefore w (gap_text layout (gap_before_token (record { state = state; last = token; column = column }) right n) ++ (v ++ more))
+token_parts layout column state right n w [] more h s = absurd s
+token_parts layout column state right n w (x ∷ xs) more h s =
     let p = parts state.last w h in
     rw (not_beginning state.last w h)
-    (joint_parts state.last w (joint (enclosing state.opened) state.last right) n _ (depth_of state right) (x ∷ (xs ++ more)) p
+    (joint_parts layout state.last w (joint (enclosing state.opened) state.last right) n _ (depth_of state right) (x ∷ (xs ++ more)) p
     (λ m. p.token right x s (by_joint (enclosing state.opened) state.last right m)))
 
-comment_parts : (state : LayoutState) (right : Role) (class : ℕ) (owned : Bool) (n : ℕ) (w more : List ℕ) → Shaped state.last w
-    → PartsBefore w (gap_text (gap_before_comment (record { state = state; last = token }) right class owned n) ++ (47 ∷ more))
-comment_parts state right class owned n w more h = rw (not_beginning state.last w h) (own owned)
+comment_parts : (layout : Layout) (column : ℕ) (state : LayoutState) (right : Role) (class : ℕ) (owned : Bool) (n : ℕ) (w more : List ℕ) → Shaped state.last w
+    → PartsBefore w (gap_text layout (gap_before_comment (record { state = state; last = token; column = column }) right class owned n) ++ (47 ∷ more))
+comment_parts layout column state right class owned n w more h = rw (not_beginning state.last w h) (own owned)
   where
     break : Gap
     break = line_end (between_items state right) token state.last beginning n (comment_depth state right)
@@ -64,13 +65,13 @@ comment_parts state right class owned n w more h = rw (not_beginning state.last 
     p : Parts state.last w
     p = parts state.last w h
 
-    opened : (b : Bool) (c : Bool) → is_before_comment state.last ≡ b → PartsBefore w (gap_text (cond (b && c) (kept_gap n break closed) (kept_gap n break blank)) ++ (47 ∷ more))
-    opened true true e = kept_parts state.last w n _ (comment_depth state right) closed (47 ∷ more) p (p.comment e)
-    opened true false e = kept_parts state.last w n _ (comment_depth state right) blank (47 ∷ more) p p.space
-    opened false c e = kept_parts state.last w n _ (comment_depth state right) blank (47 ∷ more) p p.space
+    opened : (b : Bool) (c : Bool) → is_before_comment state.last ≡ b → PartsBefore w (gap_text layout (cond (b && c) (kept_gap n break closed) (kept_gap n break blank)) ++ (47 ∷ more))
+    opened true true e = kept_parts layout state.last w n _ (comment_depth state right) closed (47 ∷ more) p (p.comment e)
+    opened true false e = kept_parts layout state.last w n _ (comment_depth state right) blank (47 ∷ more) p p.space
+    opened false c e = kept_parts layout state.last w n _ (comment_depth state right) blank (47 ∷ more) p p.space
 
-    own : (b : Bool) → PartsBefore w (gap_text (cond b break (cond (is_before_comment state.last && not (class == LineComment)) (kept_gap n break closed) (kept_gap n break blank))) ++ (47 ∷ more))
-    own true = broken_parts state.last w _ (comment_depth state right) (47 ∷ more) p
+    own : (b : Bool) → PartsBefore w (gap_text layout (cond b break (cond (is_before_comment state.last && not (class == LineComment)) (kept_gap n break closed) (kept_gap n break blank))) ++ (47 ∷ more))
+    own true = broken_parts layout state.last w _ (comment_depth state right) (47 ∷ more) p
     own false = opened (is_before_comment state.last) (not (class == LineComment)) refl
 
 ending_parts : (left : Role) (w : List ℕ) → Shaped left w → PartsBefore w (ending token left)
@@ -81,16 +82,16 @@ ending_parts left w h = go (is left beginning)
     go false = (parts left w h).line_end
 
 -- the same at a spot: before a token
-pub parts_before_token : (spot : Spot) (right : Role) (n : ℕ) (w v more : List ℕ) → spot.last ≡ token → Shaped spot.state.last w → Starts right v → PartsBefore w (gap_text (gap_before_token spot right n) ++ (v ++ more))
-parts_before_token spot right n w v more e h s =
-    subst (λ last. PartsBefore w (gap_text (gap_before_token (record { state = spot.state; last = last }) right n) ++ (v ++ more))) (sym e) (token_parts spot.state right n w v more h s)
+pub parts_before_token : (layout : Layout) (spot : Spot) (right : Role) (n : ℕ) (w v more : List ℕ) → spot.last ≡ token → Shaped spot.state.last w → Starts right v → PartsBefore w (gap_text layout (gap_before_token spot right n) ++ (v ++ more))
+parts_before_token layout spot right n w v more e h s =
+    subst (λ last. PartsBefore w (gap_text layout (gap_before_token (record { state = spot.state; last = last; column = spot.column }) right n) ++ (v ++ more))) (sym e) (token_parts layout spot.column spot.state right n w v more h s)
 
 -- before a comment, where the next token does so
-pub parts_before_comment : (spot : Spot) (right : Role) (class : ℕ) (owned : Bool) (n : ℕ) (w more : List ℕ) → spot.last ≡ token → Shaped spot.state.last w
-    → PartsBefore w (gap_text (gap_before_comment spot right class owned n) ++ (47 ∷ more))
-parts_before_comment spot right class owned n w more e h =
-    subst (λ last. PartsBefore w (gap_text (gap_before_comment (record { state = spot.state; last = last }) right class owned n) ++ (47 ∷ more))) (sym e)
-    (comment_parts spot.state right class owned n w more h)
+pub parts_before_comment : (layout : Layout) (spot : Spot) (right : Role) (class : ℕ) (owned : Bool) (n : ℕ) (w more : List ℕ) → spot.last ≡ token → Shaped spot.state.last w
+    → PartsBefore w (gap_text layout (gap_before_comment spot right class owned n) ++ (47 ∷ more))
+parts_before_comment layout spot right class owned n w more e h =
+    subst (λ last. PartsBefore w (gap_text layout (gap_before_comment (record { state = spot.state; last = last; column = spot.column }) right class owned n) ++ (47 ∷ more))) (sym e)
+    (comment_parts layout spot.column spot.state right class owned n w more h)
 
 -- and at the end of the text
 pub parts_before_ending : (spot : Spot) (w : List ℕ) → spot.last ≡ token → Shaped spot.state.last w → PartsBefore w (ending spot.last spot.state.last)

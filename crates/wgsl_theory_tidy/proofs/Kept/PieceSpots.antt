@@ -1,9 +1,11 @@
 -- The gap before a piece and the spot behind it, where the piece is a comment or a token.
-use Rattle.std.proofs.Common.{◌≡◌, true, false, refl, List, ◌∷◌}
+use Rattle.std.proofs.Common.{◌≡◌, ℕ, Bool, true, false, cond, refl, List, ◌∷◌, ◌++◌}
 use Rattle.wgsl_model_tidy.specs.Pieces.{Piece}
 use Rattle.wgsl_model_tidy.specs.Roles.{Role}
-use Rattle.wgsl_model_tidy.specs.Open.{LayoutState, role_in, behind_token}
-use Rattle.wgsl_model_tidy.specs.LaidOut.{Gap, token, Spot, owned, gap_before_comment, gap_before_token, gap_before, has_lines, is_comment, next_role, depth_behind, in_line_of, leads, comment_last, behind_piece}
+use Rattle.wgsl_model_tidy.specs.Layout.{Layout, column_after}
+use Rattle.wgsl_model_tidy.specs.Open.{Style, LayoutState, role_in}
+use Rattle.wgsl_model_tidy.specs.LaidOut.{Gap, Spot, gap_text, owned, gap_before_comment, gap_before_token, gap_before, is_comment, next_role, depth_behind, leads, comment_last, behind_piece}
+use Rattle.wgsl_theory_tidy.proofs.Laid.{behind_comment_at, behind_token_at}
 
 pub comment_gap_before : (spot : Spot) (right : Role) (p : Piece) (ps : List Piece) → is_comment p.class ≡ true → gap_before spot right p ps ≡ gap_before_comment spot right p.class (owned spot right ps) p.line_ends
 comment_gap_before spot right p ps h = rw h refl
@@ -11,13 +13,27 @@ comment_gap_before spot right p ps h = rw h refl
 pub token_gap_before : (spot : Spot) (right : Role) (p : Piece) (ps : List Piece) → is_comment p.class ≡ false → gap_before spot right p ps ≡ gap_before_token spot right p.line_ends
 token_gap_before spot right p ps h = rw h refl
 
-pub comment_spot : (spot : Spot) (gap : Gap) (right : Role) (p : Piece) (ps : List Piece) → is_comment p.class ≡ true
-    → behind_piece spot gap right p ps ≡ record { state = in_line_of spot.state (depth_behind gap spot.state.line); last = comment_last p.class (leads gap spot.last spot.state.last) }
-comment_spot spot gap right p ps h = rw h refl
+pub comment_spot : (layout : Layout) (spot : Spot) (gap : Gap) (right : Role) (p : Piece) (style : Style) → is_comment p.class ≡ true
+    → behind_piece layout spot gap right p style
+    ≡ behind_comment_at spot.state (depth_behind gap spot.state.line) (comment_last p.class (leads gap spot.last spot.state.last)) (column_after layout spot.column (gap_text layout gap ++ p.text))
+comment_spot layout spot gap right p style h = rw h refl
 
-pub token_spot : (spot : Spot) (gap : Gap) (right : Role) (p : Piece) (ps : List Piece) → is_comment p.class ≡ false
-    → behind_piece spot gap right p ps ≡ record { state = behind_token spot.state (depth_behind gap spot.state.line) p.class right (has_lines ps); last = token }
-token_spot spot gap right p ps h = rw h refl
+pub token_spot : (layout : Layout) (spot : Spot) (gap : Gap) (right : Role) (p : Piece) (style : Style) → is_comment p.class ≡ false
+    → behind_piece layout spot gap right p style ≡ behind_token_at spot.state (depth_behind gap spot.state.line) p.class right (column_after layout spot.column (gap_text layout gap ++ p.text)) style
+token_spot layout spot gap right p style h = rw h refl
+
+pub column_behind : (layout : Layout) (spot : Spot) (gap : Gap) (right : Role) (p : Piece) (style : Style) → (behind_piece layout spot gap right p style).column ≡ column_after layout spot.column (gap_text layout gap ++ p.text)
+column_behind layout spot gap right p style = go (is_comment p.class)
+  where
+    column : ℕ
+    column = column_after layout spot.column (gap_text layout gap ++ p.text)
+
+    depth : ℕ
+    depth = depth_behind gap spot.state.line
+
+    go : (b : Bool) → (cond b (behind_comment_at spot.state depth (comment_last p.class (leads gap spot.last spot.state.last)) column) (behind_token_at spot.state depth p.class right column style)).column ≡ column
+    go true = refl
+    go false = refl
 
 pub token_next : (state : LayoutState) (p : Piece) (ps : List Piece) → is_comment p.class ≡ false → next_role state (p ∷ ps) ≡ role_in state p.class
 token_next state p ps h = rw h refl

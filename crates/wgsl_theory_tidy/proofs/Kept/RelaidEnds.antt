@@ -5,10 +5,11 @@ use Rattle.wgsl_model.specs.Tokens.Classes.{LineComment, BlockComment}
 use Rattle.wgsl_model_tidy.specs.Pieces.{Piece}
 use Rattle.wgsl_model_tidy.specs.Roles.{Role, block_end, is, closes_bracket}
 use Rattle.wgsl_model_tidy.specs.Joints.{Joint, line, nothing, space, nothing_or_line, space_or_line, joint}
-use Rattle.wgsl_model_tidy.specs.Open.{Enclosing, enclosing, depth_of, comment_depth}
+use Rattle.wgsl_model_tidy.specs.Layout.{Layout}
+use Rattle.wgsl_model_tidy.specs.Open.{Style, Enclosing, enclosing, depth_of, comment_depth}
 use Rattle.wgsl_model_tidy.specs.LaidOut.{Gap, broken, Last, token, line_comment, block_comment, leading_comment, open_comment, Spot, joint_gap, behind_comment, behind_leading, token_gap, comment_gap, is_comment, is_line, loose_joint, closes_up, leads, comment_last, next_role, is_followed, gap_before_comment, gap_before_token, gap_before, owned, behind_piece}
 use Rattle.wgsl_theory_tidy.proofs.Kept.Gaps.{gap_ends}
-use Rattle.wgsl_theory_tidy.proofs.Kept.Relaid.{relaid}
+use Rattle.wgsl_theory_tidy.proofs.Kept.Relaid.{style_first, after_first, relaid}
 
 -- a line end is there
 broken_some : (empty : Bool) (depth : ℕ) → gap_ends (broken empty depth) ≡ 0 → ⊥
@@ -81,26 +82,26 @@ comment_not_token class leading = go (class == LineComment) (class == BlockComme
     go false true false e = absurd cc
     go false false d e = absurd cc
 
-pub behind_comment_piece : (spot : Spot) (gap : Gap) (right : Role) (p : Piece) (ps : List Piece) → is_comment p.class ≡ true → (behind_piece spot gap right p ps).last ≡ token → ⊥
-behind_comment_piece spot gap right p ps h = rw h (comment_not_token p.class (leads gap spot.last spot.state.last))
+pub behind_comment_piece : (layout : Layout) (spot : Spot) (gap : Gap) (right : Role) (p : Piece) (style : Style) → is_comment p.class ≡ true → (behind_piece layout spot gap right p style).last ≡ token → ⊥
+behind_comment_piece layout spot gap right p style h = rw h (comment_not_token p.class (leads gap spot.last spot.state.last))
 
-followed_step : (spot : Spot) (p : Piece) (ps : List Piece) → (spot.last ≡ token → ⊥) → is_followed (relaid spot (p ∷ ps)) ≡ true
-    → ((after : Spot) → (after.last ≡ token → ⊥) → is_followed (relaid after ps) ≡ true → is_followed ps ≡ true) → is_followed (p ∷ ps) ≡ true
-followed_step spot p ps h e others = and_from _ _ (no_ends spot right p ps h both.0) (go (is_comment p.class) refl both.1)
+followed_step : (layout : Layout) (spot : Spot) (p : Piece) (ps : List Piece) → (spot.last ≡ token → ⊥) → is_followed (relaid layout spot (p ∷ ps)) ≡ true
+    → ((after : Spot) → (after.last ≡ token → ⊥) → is_followed (relaid layout after ps) ≡ true → is_followed ps ≡ true) → is_followed (p ∷ ps) ≡ true
+followed_step layout spot p ps h e others = and_from _ _ (no_ends spot right p ps h both.0) (go (is_comment p.class) refl both.1)
   where
     right : Role
     right = next_role spot.state (p ∷ ps)
 
     after : Spot
-    after = behind_piece spot (gap_before spot right p ps) right p ps
+    after = after_first layout spot p ps
 
-    both : ((gap_ends (gap_before spot right p ps) == 0) ≡ true) × (cond (is_comment p.class) (is_followed (relaid after ps)) true ≡ true)
+    both : ((gap_ends (gap_before spot right p ps) == 0) ≡ true) × (cond (is_comment p.class) (is_followed (relaid layout after ps)) true ≡ true)
     both = and_parts _ _ e
 
-    go : (b : Bool) → is_comment p.class ≡ b → cond b (is_followed (relaid after ps)) true ≡ true → cond b (is_followed ps) true ≡ true
-    go true c f = others after (behind_comment_piece spot (gap_before spot right p ps) right p ps c) f
+    go : (b : Bool) → is_comment p.class ≡ b → cond b (is_followed (relaid layout after ps)) true ≡ true → cond b (is_followed ps) true ≡ true
+    go true c f = others after (behind_comment_piece layout spot (gap_before spot right p ps) right p (style_first layout spot p ps) c) f
     go false c f = refl
 
-pub followed_again : (spot : Spot) (ps : List Piece) → (spot.last ≡ token → ⊥) → is_followed (relaid spot ps) ≡ true → is_followed ps ≡ true
-followed_again spot [] h e = e
-followed_again spot (p ∷ ps) h e = followed_step spot p ps h e (λ after k f. followed_again after ps k f)
+pub followed_again : (layout : Layout) (spot : Spot) (ps : List Piece) → (spot.last ≡ token → ⊥) → is_followed (relaid layout spot ps) ≡ true → is_followed ps ≡ true
+followed_again layout spot [] h e = e
+followed_again layout spot (p ∷ ps) h e = followed_step layout spot p ps h e (λ after k f. followed_again layout after ps k f)

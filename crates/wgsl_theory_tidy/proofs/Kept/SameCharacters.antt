@@ -1,5 +1,5 @@
 -- A laid-out text has the characters of its source that are not blank space, in the same order.
-use Rattle.std.proofs.Common.{◌≡◌, ℕ, zero, suc, Bool, true, false, cond, refl, sym, ap, ap₂, ◌∙◌, List, [], ◌∷◌, ◌++◌, map, append-nil}
+use Rattle.std.proofs.Common.{◌≡◌, ℕ, Bool, true, false, cond, refl, sym, ap, ap₂, ◌∙◌, List, [], ◌∷◌, ◌++◌, map, append-nil}
 use Rattle.std.specs.Prelude.{codes}
 use Rattle.grammar.specs.Tokens.{Token}
 use Rattle.grammar.specs.Endings.{Ending.finished}
@@ -8,12 +8,14 @@ use Rattle.wgsl_model.specs.Tokens.TokenList.{IsTokenList}
 use Rattle.wgsl_model_tidy.specs.Pieces.{Piece, pieces}
 use Rattle.wgsl_model_tidy.specs.NonBlank.{non_blank}
 use Rattle.wgsl_model_tidy.specs.Roles.{Role, beginning, is}
-use Rattle.wgsl_model_tidy.specs.Open.{start}
-use Rattle.wgsl_model_tidy.specs.LaidOut.{Gap, closed, blank, broken, Last, token, line_comment, block_comment, leading_comment, open_comment, Spot, gap_before, next_role, gap_text, indentation, ending, behind_piece, laid_from, laid_out}
+use Rattle.wgsl_model_tidy.specs.Layout.{Layout}
+use Rattle.wgsl_model_tidy.specs.LaidOut.{Gap, closed, blank, broken, Last, token, line_comment, block_comment, leading_comment, open_comment, Spot, gap_before, next_role, gap_text, indentation, ending, first_spot, laid_from, laid_out}
 use Rattle.wgsl_model_tidy.specs.Kept.{unplaced}
+use Rattle.wgsl_theory_tidy.proofs.Levels.{IsIndent, no_indent, one_space, one_tab, indentation_indent}
 use Rattle.wgsl_theory_tidy.proofs.Kept.NonBlankOf.{non_blank_of, joined, joined_of}
 use Rattle.wgsl_theory_tidy.proofs.Kept.Readings.{token_piece, Reads, reads_end, reads_token}
 use Rattle.wgsl_theory_tidy.proofs.Kept.Read.{read}
+use Rattle.wgsl_theory_tidy.proofs.Kept.Relaid.{after_first}
 use Rattle.wgsl_theory_tidy.proofs.Kept.Trails.{trail, last_trail}
 use Rattle.wgsl_theory_tidy.proofs.Kept.LaidText.{has_characters}
 
@@ -33,15 +35,16 @@ read_same _ _ _ (reads_token trivia w rest k ks ps p i r) =
 
 -- ---- nothing but blank space is written between pieces
 
-indentation_blank : (depth : ℕ) → non_blank (indentation depth) ≡ []
-indentation_blank zero = refl
-indentation_blank (suc depth) = indentation_blank depth
+indent_blank : (xs : List ℕ) → IsIndent xs → non_blank xs ≡ []
+indent_blank _ (no_indent) = refl
+indent_blank _ (one_space xs h) = indent_blank xs h
+indent_blank _ (one_tab xs h) = indent_blank xs h
 
-gap_blank : (gap : Gap) → non_blank (gap_text gap) ≡ []
-gap_blank closed = refl
-gap_blank blank = refl
-gap_blank (broken true depth) = indentation_blank depth
-gap_blank (broken false depth) = indentation_blank depth
+gap_blank : (layout : Layout) (gap : Gap) → non_blank (gap_text layout gap) ≡ []
+gap_blank layout closed = refl
+gap_blank layout blank = refl
+gap_blank layout (broken true depth) = indent_blank (indentation layout depth) (indentation_indent layout depth)
+gap_blank layout (broken false depth) = indent_blank (indentation layout depth) (indentation_indent layout depth)
 
 line_or_nothing : (b : Bool) → non_blank (cond b [] (codes "\n")) ≡ []
 line_or_nothing true = refl
@@ -54,22 +57,17 @@ ending_blank block_comment left = refl
 ending_blank leading_comment left = refl
 ending_blank open_comment left = refl
 
-pub laid_same : (spot : Spot) (ps : List Piece) → non_blank (laid_from spot ps) ≡ non_blank_of ps
-laid_same spot [] = ending_blank spot.last spot.state.last
-laid_same spot (p ∷ ps) =
-    let right = next_role spot.state (p ∷ ps) in
-    let gap = gap_before spot right p ps in
-    let rest = laid_from (behind_piece spot gap right p ps) ps in
-    joined (gap_text gap) (p.text ++ rest)
-    ∙ ap (λ xs. xs ++ non_blank (p.text ++ rest)) (gap_blank gap)
+pub laid_same : (layout : Layout) (spot : Spot) (ps : List Piece) → non_blank (laid_from layout spot ps) ≡ non_blank_of ps
+laid_same layout spot [] = ending_blank spot.last spot.state.last
+laid_same layout spot (p ∷ ps) =
+    let gap = gap_text layout (gap_before spot (next_role spot.state (p ∷ ps)) p ps) in
+    let rest = laid_from layout (after_first layout spot p ps) ps in
+    joined gap (p.text ++ rest)
+    ∙ ap (λ xs. xs ++ non_blank (p.text ++ rest)) (gap_blank layout (gap_before spot (next_role spot.state (p ∷ ps)) p ps))
     ∙ joined p.text rest
-    ∙ ap (λ xs. non_blank p.text ++ xs) (laid_same (behind_piece spot gap right p ps) ps)
+    ∙ ap (λ xs. non_blank p.text ++ xs) (laid_same layout (after_first layout spot p ps) ps)
 
 -- ---- a laid-out text
 
--- where nothing is laid out yet
-abbrev pub first_spot : Spot
-first_spot = record { state = start; last = token }
-
-pub same_characters : (source : List ℕ) (ts : List Token) → IsTokenList source ts finished → non_blank (laid_out (pieces source ts)) ≡ non_blank source
-same_characters source ts h = laid_same first_spot (pieces source ts) ∙ sym (read_same source (map unplaced ts) (pieces source ts) (read source ts h))
+pub same_characters : (layout : Layout) (source : List ℕ) (ts : List Token) → IsTokenList source ts finished → non_blank (laid_out layout (pieces source ts)) ≡ non_blank source
+same_characters layout source ts h = laid_same layout first_spot (pieces source ts) ∙ sym (read_same source (map unplaced ts) (pieces source ts) (read source ts h))

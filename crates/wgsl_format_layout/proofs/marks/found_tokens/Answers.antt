@@ -1,9 +1,10 @@
 use Rattle.std.proofs.Common.{◌≡◌, [], ◌∷◌, ◌++◌, append_assoc, append-nil, drop, length, chars, sym, ap, subst, ◌∙◌, arith}
 use Rattle.wgsl_lexer.specs.TextTokens.{tokens_left, ending_left}
-use Rattle.wgsl_format_layout.specs.declared.marks.FoundToken.{FoundToken}
+use Rattle.wgsl_format_layout.specs.declared.marks.MarkedToken.{MarkedToken}
 use Rattle.wgsl_format_layout.specs.Marks.{AreFound}
-use Rattle.wgsl_format_layout.proofs.TokensCut.{AreLeftFrom, StandsNext, all_left, left_boundary, stands_next}
-use Rattle.wgsl_format_layout.proofs.TokensFound.{found_more, found_last}
+use Rattle.wgsl_format_layout.specs.Left.{AreLeftFrom}
+use Rattle.wgsl_format_layout.proofs.TokensCut.{StandsNext, all_left, left_boundary, stands_next}
+use Rattle.wgsl_format_layout.proofs.TokensFound.{unmarked, found_more, found_last}
 use Rattle.wgsl_format_layout.proofs.marks.found_tokens.Goals as goal
 use Rattle.wgsl_format_layout.proofs.marks.found_tokens.Goals.{In-Some-Some, in_default, in_default-2}
 
@@ -37,7 +38,7 @@ pub tokens-preserved : goal.tokens-preserved
 tokens-preserved c =
     let n = next (goal.at.tokens-preserved c).In-Some-Some in
     let others : tokens_left c.skip.new.self ≡ n.others = c.skip.ensures.left ∙ ap (drop 1) n.whole in
-    let token : FoundToken = record { kind = c.in-Some-Some.kind; span = c.in-Some-Some.span; before = c.trivia_in-before.result } in
+    let token : MarkedToken = unmarked c.in-Some-Some.kind c.in-Some-Some.span c.trivia_in-before.result in
     record {
       left = subst (AreLeftFrom c.args.source.now c.in-Some-Some.span.end) (sym others) n.left;
       found = λ fs last h.

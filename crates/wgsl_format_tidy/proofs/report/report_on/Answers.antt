@@ -13,7 +13,6 @@ returns-in-Ok-tidy c =
     (record {
       accepted = rw source.0 at c.in-Ok-tidy.ensures.accepted;
       laid_out = rw source.0 at c.in-Ok-tidy.ensures.laid_out;
-      characters = rw source.0 at c.in-Ok-tidy.ensures.characters;
       kept = rw source.0 at c.in-Ok-tidy.ensures.kept;
     })
 

@@ -2,7 +2,7 @@
 use Rattle.grammar.specs.Endings.{Ending.finished}
 use Rattle.wgsl_model.specs.Grammar.Symbols.{Symbol.expression, Symbol.global_declaration, Symbol.global_directive, Symbol.unit}
 use Rattle.wgsl_laws.specs.RecognisedAloneRows.{minus_minus_recognised_alone_tokens, reserved_word_recognised_alone_tokens, severity_recognised_alone_tokens, template_recognised_alone_tokens, keyword_recognised_alone_tokens, attribute_recognised_alone_tokens}
-use Rattle.wgsl_theory_grammar.proofs.Faults.SmallAnswers.{small_answers_are_true}
+use Rattle.wgsl_theory_grammar.proofs.Faults.UncheckedAnswers.{small_answers_are_true}
 use Rattle.wgsl_laws.proofs.derived_rows.recognised_alone.Goals as goal
 
 pub returns-clause-minus_minus_recognised_alone : goal.returns-clause-minus_minus_recognised_alone

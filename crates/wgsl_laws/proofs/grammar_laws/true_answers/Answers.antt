@@ -1,6 +1,6 @@
 -- The law is proved in the theory.
 use Rattle.wgsl_theory_grammar.proofs.Faults.Answers.{answers_are_true}
-use Rattle.wgsl_theory_grammar.proofs.Faults.SmallAnswers.{small_answers_are_true}
+use Rattle.wgsl_theory_grammar.proofs.Faults.UncheckedAnswers.{small_answers_are_true}
 use Rattle.wgsl_laws.proofs.grammar_laws.true_answers.Goals as goal
 
 pub returns-clause-whole : goal.returns-clause-whole

@@ -1,0 +1,30 @@
+-- What a user chooses of the layout.
+use Rattle.std.specs.Prelude.{ℕ, Bool, false, ◌+◌, ◌==◌, nat_le, if◌then◌else◌, List, [], ◌∷◌, codes, replicate}
+
+-- how long a line may be, in columns, or 0 where none is too long; and what a level is: a tab, or spaces, and how many columns
+pub record Layout : Type 0 where
+  pub width : ℕ
+  pub tabs : Bool
+  pub indent : ℕ
+
+-- lines of up to 100 columns, and four spaces a level
+abbrev pub standard : Layout
+standard = record { width = 100; tabs = false; indent = 4 }
+
+-- one level
+abbrev pub level : Layout → List ℕ
+level layout = if layout.tabs then codes "\t" else replicate layout.indent 32
+
+-- how many columns a character takes: a tab is as wide as a level
+abbrev pub columns : Layout → ℕ → ℕ
+columns layout c = if c == 9 then layout.indent else 1
+
+-- the column after a text that begins at a column; a line begins at 0
+abbrev pub column_after : Layout → ℕ → List ℕ → ℕ
+column_after layout n [] = n
+column_after layout n (c ∷ cs) = column_after layout (if c == 10 then 0 else n + columns layout c) cs
+
+-- the first line of a text that begins at a column is not too long
+abbrev pub line_fits : Layout → ℕ → List ℕ → Bool
+line_fits layout n [] = nat_le n layout.width
+line_fits layout n (c ∷ cs) = if c == 10 then nat_le n layout.width else line_fits layout (n + columns layout c) cs
