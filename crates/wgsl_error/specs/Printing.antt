@@ -10,9 +10,11 @@ use Rattle.wgsl_span.specs.View.{span_view}
 use Rattle.wgsl_error.specs.declared.Error.{Error}
 use Rattle.wgsl_error.specs.declared.ErrorKind.{ErrorKind}
 use Rattle.wgsl_error.specs.declared.display.WithoutExpected.{WithoutExpected}
+use Rattle.wgsl_error.specs.declared.in_file.ErrorInFile.{ErrorInFile}
 use Rattle.wgsl_error.specs.declared.snippet.ErrorWithSource.{ErrorWithSource}
 use Rattle.wgsl_error.specs.declared.ErrorKind.TheVariants as error
 use Rattle.wgsl_error.specs.View.{kind_number, kind_texts, expected_texts}
+use Rattle.wgsl_error.specs.Places.{message_in_file}
 
 -- the message of a kind, without what was expected
 abbrev pub print_message : ErrorKind → List ℕ
@@ -39,3 +41,7 @@ shown_error shown = shown.error.now
 -- the error with its source: the snippet of its message at its span
 abbrev pub print_error_with_source : ErrorWithSource → List ℕ
 print_error_with_source e = snippet (print_error_kind e.error.error) (chars (cow_str_bytes e.source)) (span_view e.error.span)
+
+-- the error in a named file: its message without what was expected
+abbrev pub print_error_in_file : ErrorInFile → List ℕ
+print_error_in_file e = message_in_file e.name.now (print_message e.error.now.error) (chars e.source.now) (span_view e.error.now.span)

@@ -67,7 +67,10 @@ impl fmt::Display for WithoutExpected<'_> {
 }
 
 /// Writes the message of a kind, without what was expected.
-fn write_message<W: fmt::Write>(kind: &ErrorKind, f: &mut fmt::Formatter<W>) -> fmt::Result
+pub(crate) fn write_message<W: fmt::Write>(
+    kind: &ErrorKind,
+    f: &mut fmt::Formatter<W>,
+) -> fmt::Result
     ensures { DisplaysOnOk W.write_str_gives f.old result (Some (print_message kind.now)) f.new }
 {
     match kind {

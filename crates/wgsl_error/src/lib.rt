@@ -4,9 +4,11 @@
 mod clones;
 mod conversions;
 mod display;
+mod in_file;
 mod snippet;
 
 pub use display::WithoutExpected;
+pub use in_file::ErrorInFile;
 pub use snippet::ErrorWithSource;
 use wgsl_span::Span;
 

@@ -5,9 +5,10 @@ ghost use Rattle.std.specs.Str.{chars};
 ghost use Rattle.std.specs.List.{concat, before_first, after_last};
 ghost use Rattle.std.specs.Fmt.{DisplaysOnOk};
 ghost use Rattle.std.specs.Cow.{cow_str_bytes};
-ghost use Rattle.wgsl_model.specs.Faults.Snippets.{is_line_feed, text_before, text_within, text_from};
+ghost use Rattle.wgsl_model.specs.Faults.Snippets.{is_line_feed, text_before, text_within, text_from, line_number};
 ghost use Rattle.wgsl_span.specs.View.{span_view};
 ghost use Rattle.wgsl_error.specs.View.{kind_number, kind_texts, expected_texts};
+ghost use Rattle.wgsl_error.specs.Places.{column_number, marked_line};
 ghost use Rattle.wgsl_error.specs.Printing.{print_error_with_source};
 
 use crate::Error;
@@ -68,21 +69,41 @@ impl fmt::Display for ErrorWithSource<'_> {
     ghost output = { λ e. Some (print_error_with_source e) };
 
     fn fmt<W: fmt::Write>(&self, f: &mut fmt::Formatter<W>) -> fmt::Result {
-        let (before, spanned, rest) = cut(self.source.as_str(), self.error.span);
-        let line = 1 + line_feed_count(before);
-        let front = after_last_line_feed(before);
-        let back = before_first_line_feed(rest);
-        let spaces = char_count(front);
-        let column = 1 + spaces;
-        let carets = char_count(before_first_line_feed(spanned)).max(1);
+        let (source, span) = (self.source.as_str(), self.error.span);
+        let (line, column) = line_and_column(source, span);
         let message = &self.error.error;
-        writeln!(
-            f,
-            "error: {message}\n --> line {line}, column {column}\n{front}{back}"
-        )?;
-        write_times(" ", spaces, f)?;
-        write_times("^", carets, f)
+        writeln!(f, "error: {message}\n --> line {line}, column {column}")?;
+        write_marked_line(source, span, f)
     }
+}
+
+/// The line and the column at which a span starts, both counted from 1.
+pub(crate) fn line_and_column(source: &str, span: Span) -> (usize, usize)
+    ensures line { result.0 ≡ line_number (chars source.now) (span_view span) }
+    ensures column { result.1 ≡ column_number (chars source.now) (span_view span) }
+{
+    let (before, _, _) = cut(source, span);
+    let front = after_last_line_feed(before);
+    (1 + line_feed_count(before), 1 + char_count(front))
+}
+
+/// Writes the line in which a span starts and a line of carets below the span.
+pub(crate) fn write_marked_line<W: fmt::Write>(
+    source: &str,
+    span: Span,
+    f: &mut fmt::Formatter<W>,
+) -> fmt::Result
+    ensures { let written = marked_line (chars source.now) (span_view span) in
+        DisplaysOnOk W.write_str_gives f.old result (Some written) f.new }
+{
+    let (before, spanned, rest) = cut(source, span);
+    let front = after_last_line_feed(before);
+    let back = before_first_line_feed(rest);
+    let spaces = char_count(front);
+    let carets = char_count(before_first_line_feed(spanned)).max(1);
+    writeln!(f, "{front}{back}")?;
+    write_times(" ", spaces, f)?;
+    write_times("^", carets, f)
 }
 
 /// What stands before a span, what stands in it, and what stands from its start on.

@@ -1,22 +1,28 @@
-//! Reads WGSL on the standard input, and writes it laid out on the standard output.
+//! Formats WGSL files in place, or the standard input to the standard output.
 #![tactic(auto)]
 
 use std::io::ErrorKind;
 use std::process::ExitCode;
-use wgsl_format_tidy::{refuse_memory, start};
+use wgsl_files::HostStore;
+use wgsl_format_files::{refuse_argument, start};
+use wgsl_format_tidy::refuse_memory;
 
 fn main(rt: HostRuntime) -> ExitCode {
+    let alloc = rt.alloc();
     let arguments = match std::env::args(&rt) {
-        Ok(arguments) => arguments.skip(1).count(),
+        Ok(arguments) => arguments.skip(1).collect::<Vec<String>>(alloc),
         Err(error) if error.kind() == ErrorKind::OutOfMemory => {
             return ExitCode::from(refuse_memory(&mut rt.stderr()));
         }
-        // One that is not UTF-8 is an argument all the same.
-        Err(_) => 1,
+        Err(_) => return ExitCode::from(refuse_argument(&mut rt.stderr())),
+    };
+    let Ok(arguments) = arguments else {
+        return ExitCode::from(refuse_memory(&mut rt.stderr()));
     };
     ExitCode::from(start(
-        rt.alloc(),
-        arguments,
+        alloc,
+        arguments.as_slice(),
+        &mut HostStore { rt: &rt },
         &mut rt.stdin(),
         &mut rt.stdout(),
         &mut rt.stderr(),

@@ -1,0 +1,4 @@
+pub mod Rows
+pub mod Readings
+pub mod Said
+pub mod Names

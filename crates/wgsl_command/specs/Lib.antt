@@ -1,0 +1,7 @@
+pub mod Options
+pub mod Arguments
+pub mod Commands
+pub mod View
+pub mod Printing
+pub mod Nearest
+pub mod Spelling

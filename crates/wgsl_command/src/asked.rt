@@ -1,0 +1,122 @@
+//! What is asked for so far.
+
+ghost use Rattle.std.specs.Prelude.{◌≡◌, IfOk};
+ghost use Rattle.wgsl_command.specs.Commands as plain;
+ghost use Rattle.wgsl_command.specs.View.{asked_view, request_view, command_view};
+
+use crate::command::{Command, Mode, Request, Source};
+use crate::options::{Flag, Setting};
+use std::alloc::{AllocError, Global};
+
+/// What the arguments so far ask for.
+#[derive(Drop)]
+pub struct Asked<'a> {
+    pub help: bool,
+    pub version: bool,
+    pub check: bool,
+    pub diff: bool,
+    pub quiet: bool,
+    pub stdin_path: Option<&'a str>,
+    pub sources: Vec<Source<'a>>,
+}
+
+impl<'a> Asked<'a> {
+    /// What no arguments ask for.
+    pub fn nothing(alloc: Global) -> Self
+        ensures { asked_view result ≡ plain.nothing }
+    {
+        Asked {
+            help: false,
+            version: false,
+            check: false,
+            diff: false,
+            quiet: false,
+            stdin_path: None,
+            sources: Vec::new(alloc),
+        }
+    }
+
+    pub fn with_flag(self, flag: Flag) -> Self
+        ensures { asked_view result ≡ plain.with_flag (asked_view self.entry) flag }
+    {
+        match flag {
+            Flag::Check => Asked {
+                check: true,
+                ..self
+            },
+            Flag::Diff => Asked { diff: true, ..self },
+            Flag::Quiet => Asked {
+                quiet: true,
+                ..self
+            },
+            Flag::Help => Asked { help: true, ..self },
+            Flag::Version => Asked {
+                version: true,
+                ..self
+            },
+        }
+    }
+
+    pub fn with_setting(self, setting: Setting, value: &'a str) -> Self
+        ensures { asked_view result
+            ≡ plain.with_setting (asked_view self.entry) setting value.now }
+    {
+        match setting {
+            Setting::StdinPath => Asked {
+                stdin_path: Some(value),
+                ..self
+            },
+        }
+    }
+
+    pub fn with_source(mut self, text: &'a str) -> Result<Self, AllocError>
+        ensures { IfOk result (λ asked.
+            asked_view asked ≡ plain.with_source (asked_view self.entry) text.now) }
+    {
+        self.sources.push(Source::of(text))?;
+        Ok(self)
+    }
+
+    /// The command that is asked for.
+    pub fn command(self) -> Result<Command<'a>, AllocError>
+        ensures { IfOk result (λ command.
+            command_view command ≡ plain.command_asked (asked_view self.entry)) }
+    {
+        if self.help {
+            return Ok(Command::Help);
+        }
+        if self.version {
+            return Ok(Command::Version);
+        }
+        Ok(Command::Format(self.request()?))
+    }
+
+    /// How files are formatted.
+    fn request(self) -> Result<Request<'a>, AllocError>
+        ensures { IfOk result (λ request.
+            request_view request ≡ plain.request_of (asked_view self.entry)) }
+    {
+        let mode = mode_of(self.check, self.diff);
+        let mut sources = self.sources;
+        if sources.is_empty() {
+            sources.push(Source::StandardInput)?;
+        }
+        Ok(Request {
+            mode,
+            quiet: self.quiet,
+            stdin_path: self.stdin_path,
+            sources,
+        })
+    }
+}
+
+/// How files are formatted where these flags are given.
+fn mode_of(check: bool, diff: bool) -> Mode
+    ensures { result ≡ plain.mode_of check diff }
+{
+    match (check, diff) {
+        (_, true) => Mode::Diff,
+        (true, false) => Mode::Check,
+        (false, false) => Mode::Write,
+    }
+}

@@ -1,0 +1,73 @@
+//! What a list of arguments means.
+
+ghost use Rattle.std.specs.Prelude.{◌≡◌, map, string_bytes};
+ghost use Rattle.wgsl_command.specs.Commands.{source_of, command_of};
+ghost use Rattle.wgsl_command.specs.View.{Gives, source_view, command_view};
+
+use crate::error::CommandError;
+use crate::reader::Reader;
+use std::alloc::Global;
+
+/// What the program is to do.
+#[derive(Debug, Drop)]
+pub enum Command<'a> {
+    /// Print how the program is used.
+    Help,
+    /// Print the version.
+    Version,
+    Format(Request<'a>),
+}
+
+/// What is formatted, and how.
+#[derive(Debug, Drop)]
+pub struct Request<'a> {
+    pub mode: Mode,
+    /// Print no summary.
+    pub quiet: bool,
+    /// The name of the standard input in messages.
+    pub stdin_path: Option<&'a str>,
+    pub sources: Vec<Source<'a>>,
+}
+
+/// What becomes of a file whose text is not the formatted one.
+#[derive(Clone, Copy, Debug, PartialEq, Eq)]
+pub enum Mode {
+    /// It is written in place.
+    Write,
+    /// It is named.
+    Check,
+    /// What would change is shown. With `--check` too this holds.
+    Diff,
+}
+
+/// Where a text is read.
+#[derive(Clone, Copy, Debug, PartialEq, Eq)]
+pub enum Source<'a> {
+    StandardInput,
+    /// A file, or the files of a folder.
+    Path(&'a str),
+}
+
+impl<'a> Source<'a> {
+    /// What this argument names: `-` the standard input.
+    pub fn of(text: &'a str) -> Self
+        ensures { source_view result ≡ source_of text.now }
+    {
+        if text == "-" {
+            Source::StandardInput
+        } else {
+            Source::Path(text)
+        }
+    }
+}
+
+/// The command of these arguments, of which the program's name is none.
+pub fn parse<'a>(alloc: Global, arguments: &'a [String]) -> Result<Command<'a>, CommandError<'a>>
+    ensures { Gives command_view result (command_of (map string_bytes arguments.now)) }
+{
+    let mut reader = Reader::new(alloc);
+    for argument in arguments {
+        reader = reader.after(argument.as_str())?;
+    }
+    reader.finish()
+}

@@ -1,0 +1,4 @@
+pub mod Lines
+pub mod Diffs
+pub mod Printing
+pub mod View

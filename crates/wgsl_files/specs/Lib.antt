@@ -1,0 +1,5 @@
+pub mod Files
+pub mod Folders
+pub mod Memory
+pub mod Rewriting
+pub mod Statuses

@@ -1,0 +1,104 @@
+//! The files of the system.
+
+ghost use Rattle.wgsl_files.specs.Files.{unknown};
+
+use crate::folder::{alone, folder_of};
+use crate::store::{Store, StoreError};
+use crate::walk::below;
+use std::alloc::Global;
+use std::fs::{File, Metadata, OpenFile, OpenOptions};
+use std::io;
+use std::io::{ErrorKind, Read, Write};
+use std::os::unix::fs::{MetadataExt, chown};
+use std::rt::Files;
+
+/// The files of the system that this runtime reaches. Contracts say nothing of what it holds.
+///
+/// A folder's links to files are listed, and those to folders are not followed. It is an error that
+/// a name in a folder is not UTF-8.
+#[derive(Drop)]
+pub struct HostStore<'a, R> {
+    pub rt: &'a R,
+}
+
+impl<'a, R: Files + AllocGlobal + Clone + Drop> Store for HostStore<'a, R> {
+    ghost files = { λ _. unknown };
+
+    fn list(&self, alloc: Global, path: &str) -> Result<Vec<String>, StoreError> {
+        match std::fs::metadata(self.rt, path) {
+            Ok(metadata) if metadata.is_dir() => below(self.rt, alloc, folder_of(path)),
+            _ => Ok(alone(alloc, path)?),
+        }
+    }
+
+    fn read(&mut self, alloc: Global, path: &str) -> Result<Vec<u8>, StoreError> {
+        let mut file = File::open(self.rt, path)?;
+        let mut bytes = Vec::new(alloc);
+        file.read_to_end(&mut bytes)?;
+        Ok(bytes)
+    }
+
+    fn replace(&mut self, alloc: Global, path: &str, bytes: &[u8]) -> Result<(), StoreError> {
+        Ok(replace_file(self.rt, alloc, path, bytes)?)
+    }
+}
+
+/// How many names are tried for a new file.
+const NAMES: u32 = 100;
+
+/// Renames a new file with these bytes over the one that a path leads to by its links.
+fn replace_file<R: Files>(rt: &R, alloc: Global, path: &str, bytes: &[u8]) -> io::Result<()> {
+    let target = rt.canonicalize(alloc, path)?;
+    let old = writable(rt, target.as_str())?;
+    let (name, file) = create_beside(rt, alloc, target.as_str())?;
+    let renamed = match fill(rt, file, name.as_str(), &old, bytes) {
+        Ok(()) => std::fs::rename(rt, name.as_str(), target.as_str()),
+        Err(error) => Err(error),
+    };
+    if renamed.is_err() {
+        let _ = std::fs::remove_file(rt, name.as_str());
+    }
+    renamed
+}
+
+/// What is known of a file, which has to be a regular one that may be written.
+fn writable<R: Files>(rt: &R, path: &str) -> io::Result<Metadata> {
+    let metadata = std::fs::metadata(rt, path)?;
+    if !metadata.is_file() {
+        return Err(io::Error::new(ErrorKind::InvalidInput, "not a regular file"));
+    }
+    // A pipe would wait here for a reader, so this comes last.
+    OpenOptions::new().write(true).open(rt, path)?;
+    Ok(metadata)
+}
+
+/// A new file next to the one at a path, with its name.
+fn create_beside<R: Files>(rt: &R, alloc: Global, path: &str) -> io::Result<(String, R::File)> {
+    for number in 0..NAMES {
+        let name = format!(in alloc; "{path}.{number}.new")?;
+        match File::create_new(rt, name.as_str()) {
+            Ok(file) => return Ok((name, file)),
+            Err(error) if error.kind() == ErrorKind::AlreadyExists => {}
+            Err(error) => return Err(error),
+        }
+    }
+    Err(io::Error::from(ErrorKind::AlreadyExists))
+}
+
+/// Gives a new file the owner and the permissions of the old one before the bytes, and flushes it
+/// to the disk.
+fn fill<R: Files>(
+    rt: &R,
+    mut file: R::File,
+    name: &str,
+    old: &Metadata,
+    bytes: &[u8],
+) -> io::Result<()> {
+    let new = file.metadata()?;
+    if new.uid() != old.uid() || new.gid() != old.gid() {
+        chown(rt, name, Some(old.uid()), Some(old.gid()))?;
+    }
+    file.set_permissions(old.permissions())?;
+    file.write_all(bytes)?;
+    file.sync_all()
+}

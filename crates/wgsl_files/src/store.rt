@@ -1,0 +1,68 @@
+//! Files by their paths.
+
+ghost use Rattle.std.specs.Prelude.{◌≡◌, ◌⊎◌, map, string_bytes, IfOk, OnOk, OnErr};
+ghost use Rattle.wgsl_files.specs.declared.store.StoreError.TheVariants as store;
+ghost use Rattle.wgsl_files.specs.Files.{Files, Holds, Same, Replaced};
+ghost use Rattle.wgsl_files.specs.Folders.{IsListing};
+
+use std::alloc::{AllocError, AllocFailed, Global};
+use std::io;
+
+/// Why a file was not read or written.
+#[derive(Clone, Copy, Debug)]
+pub enum StoreError {
+    OutOfMemory,
+    Failed(io::Error),
+}
+
+impl From<AllocError> for StoreError {
+    ghost from_gives = { λ _ error. error ≡ store.OutOfMemory };
+
+    fn from(_error: AllocError) -> Self {
+        StoreError::OutOfMemory
+    }
+}
+
+impl<T: Drop> From<AllocFailed<T>> for StoreError {
+    ghost from_gives = { λ _ error. error ≡ store.OutOfMemory };
+
+    fn from(_error: AllocFailed<T>) -> Self {
+        StoreError::OutOfMemory
+    }
+}
+
+impl From<io::Error> for StoreError {
+    ghost from_gives = { λ error made. (made ≡ store.OutOfMemory) ⊎ (made ≡ store.Failed error) };
+
+    fn from(error: io::Error) -> Self {
+        match error.kind() {
+            io::ErrorKind::OutOfMemory => StoreError::OutOfMemory,
+            _ => StoreError::Failed(error),
+        }
+    }
+}
+
+/// Where files are kept.
+pub trait Store {
+    /// What it holds.
+    ghost files: { Self → Files };
+
+    /// The paths of the files to format for a path that a user names. Of a folder these are the
+    /// paths of all files in it and in its folders whose names end with `.wgsl`, in the order of
+    /// their bytes, but none with a name that begins with `.` below the named one. Of anything else
+    /// it is the path itself. For a folder that cannot be read its path is listed with a `/` at its
+    /// end, where no file is: reading it gives the error.
+    fn list(&self, alloc: Global, path: &str) -> Result<Vec<String>, StoreError>
+        ensures listing { IfOk result (λ paths.
+            IsListing (files self.now) path.now (map string_bytes paths.items)) };
+
+    /// The bytes of the file at a path.
+    fn read(&mut self, alloc: Global, path: &str) -> Result<Vec<u8>, StoreError>
+        ensures bytes { IfOk result (λ bytes. Holds (files self.old) path.now bytes.items) }
+        ensures same { Same (files self.old) (files self.new) };
+
+    /// Puts these bytes at the path of a file in place of what it has. An `Err` changes nothing.
+    fn replace(&mut self, alloc: Global, path: &str, bytes: &[u8]) -> Result<(), StoreError>
+        ensures ok { OnOk result (Replaced (files self.old) (files self.new) path.now bytes.now) }
+        ensures err { OnErr result (Same (files self.old) (files self.new)) };
+}

@@ -1,0 +1,5 @@
+pub mod Written
+pub mod Runs
+pub mod Others
+pub mod Refusals
+pub mod Commands

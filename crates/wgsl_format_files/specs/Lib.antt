@@ -1,0 +1,7 @@
+pub mod Events
+pub mod Files
+pub mod Written
+pub mod Inputs
+pub mod Runs
+pub mod Tidy
+pub mod Start

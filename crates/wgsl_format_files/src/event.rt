@@ -1,0 +1,83 @@
+//! What comes of a text, and what is reported of it.
+
+ghost use Rattle.std.specs.Prelude.{◌≡◌};
+ghost use Rattle.std.specs.Option.{option_copied};
+ghost use Rattle.wgsl_format_files.specs.Events.{status_of, is_changed, is_failed};
+ghost use Rattle.wgsl_format_files.specs.Events.{shown_by, message_of, pair_copied};
+
+use wgsl_files::Status;
+
+/// What comes of the text of a file, or of the standard input.
+#[derive(Debug, Drop)]
+pub enum Event {
+    /// Its text is the formatted one.
+    Unchanged,
+    /// The file has the formatted text now.
+    Formatted,
+    /// The formatted text, which is for the output.
+    Printed(Vec<u8>),
+    /// It would change, and this shows it.
+    WouldChange(Vec<u8>),
+    /// What is wrong with the text, after the name of its file.
+    Refused(String),
+    /// Why it could not be read or written.
+    Failed(String),
+    OutOfMemory,
+}
+
+impl Event {
+    /// The status that it calls for.
+    pub fn status(&self) -> Status
+        ensures { result ≡ status_of self.now }
+    {
+        match self {
+            Event::Unchanged | Event::Formatted | Event::Printed(_) => Status::Success,
+            Event::WouldChange(_) => Status::WouldChange,
+            Event::Refused(_) => Status::Refused,
+            Event::Failed(_) => Status::Failed,
+            Event::OutOfMemory => Status::OutOfMemory,
+        }
+    }
+
+    /// Whether the text changes, or would.
+    pub fn is_changed(&self) -> bool
+        ensures { result ≡ is_changed self.now }
+    {
+        matches!(
+            self,
+            Event::Formatted | Event::Printed(_) | Event::WouldChange(_)
+        )
+    }
+
+    /// Whether it is an error.
+    pub fn is_failed(&self) -> bool
+        ensures { result ≡ is_failed self.now }
+    {
+        matches!(
+            self,
+            Event::Refused(_) | Event::Failed(_) | Event::OutOfMemory
+        )
+    }
+
+    /// What the output is to have of it.
+    pub fn shown(&self) -> &[u8]
+        ensures { result.now ≡ shown_by self.now }
+    {
+        match self {
+            Event::Printed(text) | Event::WouldChange(text) => text.as_slice(),
+            _ => b"",
+        }
+    }
+
+    /// What follows the name of its file in the message, in two parts.
+    pub fn message(&self) -> Option<(&str, &str)>
+        ensures { pair_copied result ≡ message_of self.now }
+    {
+        match self {
+            Event::Refused(message) => Some(("", message.as_str())),
+            Event::Failed(reason) => Some((": error: ", reason.as_str())),
+            Event::OutOfMemory => Some((": error: ", "out of memory")),
+            _ => None,
+        }
+    }
+}

@@ -1,0 +1,54 @@
+//! The formatter of `wgsltidy` for files.
+
+ghost use Rattle.std.specs.Prelude.{chars};
+ghost use Rattle.wgsl_format_tidy.specs.RunOutput.{IsTidied};
+ghost use Rattle.wgsl_format_files.specs.Tidy.{Refuses, IsRefusedFor, IsNotUtf8};
+
+use std::alloc::Global;
+use wgsl_error::{Error, ErrorKind};
+use wgsl_files::{Format, FormatError};
+use wgsl_format_tidy::tidy;
+
+/// A module becomes its formatted text. The message of a refusal is what follows the name of the
+/// file: the place and the error.
+#[derive(Clone, Copy, Debug)]
+pub struct Tidy;
+
+impl Format for Tidy {
+    ghost becomes = { λ _ text formatted. IsTidied text formatted };
+
+    ghost refuses = { λ _ text message. Refuses text message };
+
+    fn format(&self, alloc: Global, text: &[u8]) -> Result<Vec<u8>, FormatError> {
+        let Ok(source) = std::str::from_utf8(text) else {
+            return Err(not_utf8(alloc));
+        };
+        match tidy(alloc, source) {
+            Ok(formatted) => Ok(formatted.into_bytes()),
+            Err(error) => Err(refusal(alloc, source, error)),
+        }
+    }
+}
+
+/// The refusal of a source for an error in it.
+fn refusal(alloc: Global, source: &str, error: Error) -> FormatError
+    ensures { IsRefusedFor error (chars source.now) result }
+{
+    if matches!(error.error, ErrorKind::OutOfMemory) {
+        return FormatError::OutOfMemory;
+    }
+    match error.in_file("", source).to_string(alloc) {
+        Ok(message) => FormatError::Refused(message),
+        Err(_) => FormatError::OutOfMemory,
+    }
+}
+
+/// The refusal of bytes that are no text.
+fn not_utf8(alloc: Global) -> FormatError
+    ensures { IsNotUtf8 result }
+{
+    match String::from_str(alloc, ": error: not UTF-8") {
+        Ok(message) => FormatError::Refused(message),
+        Err(_) => FormatError::OutOfMemory,
+    }
+}

@@ -1,0 +1,19 @@
+//! `wgsltidy` over files: each is formatted in place, or listed, or shown with what would change.
+#![tactic(auto)]
+
+mod changed;
+mod event;
+mod file;
+mod formatter;
+mod input;
+mod inputs;
+mod printing;
+mod program;
+mod run;
+mod usage;
+
+pub use event::Event;
+pub use formatter::Tidy;
+pub use inputs::{Input, inputs_of};
+pub use program::{refuse_argument, start};
+pub use run::{How, format_all};

@@ -1,0 +1,24 @@
+//! What the program says of itself.
+
+/// How the program is used.
+pub const HELP: &str = "\
+Usage: wgsltidy [OPTIONS] [FILE | FOLDER]...
+
+Formats WGSL modules. Each file is formatted in place, and of each folder all files that end
+with .wgsl. With no file, or with -, the standard input is formatted to the standard output.
+
+Options:
+  --check            write no file, and list the files that would change
+  --diff             write no file, and show what would change as a unified diff
+  --quiet            print no summary
+  --stdin-path NAME  the name of the standard input in messages
+  --help             print this text
+  --version          print the version
+  --                 what follows is a file or a folder
+
+Status: 0 success, 1 a file would change, 2 wrong usage, 3 a file has an error or is not UTF-8,
+4 a file could not be read or written, 5 out of memory.
+";
+
+/// The name and the version of the program.
+pub const VERSION: &str = "wgsltidy 0.1.0\n";

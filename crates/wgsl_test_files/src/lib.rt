@@ -1,0 +1,15 @@
+//! Tests of the command line, of files that are rewritten, of diffs, and of runs over files.
+#![tactic(auto)]
+
+#[cfg(test)]
+mod commands;
+#[cfg(test)]
+mod diffs;
+#[cfg(test)]
+mod ended;
+#[cfg(test)]
+mod files;
+#[cfg(test)]
+mod host;
+#[cfg(test)]
+mod runs;
