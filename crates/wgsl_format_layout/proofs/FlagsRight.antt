@@ -1,4 +1,4 @@
--- Of pieces behind which the flags of the open brackets are known, those before them.
+-- Of pieces after which the flags of the open brackets are known, those before them.
 use Rattle.std.proofs.Common.{◌≡◌, ℕ, zero, suc, ◌||◌, Bool, true, false, cond, refl, ap, ◌∙◌, List, [], ◌∷◌, drop}
 use Rattle.wgsl_model_tidy.specs.Pieces.{Piece}
 use Rattle.wgsl_model_tidy.specs.LaidOut.{breaks, opens_one, closes_one, has_break}

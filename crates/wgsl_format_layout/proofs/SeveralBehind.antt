@@ -1,4 +1,4 @@
--- What is in a bracket behind comments.
+-- What is in a bracket after comments.
 use Rattle.std.proofs.Common.{◌≡◌, ℕ, suc, ◌+◌, ◌==◌, ◌&&◌, Bool, true, false, not, cond, refl, List, [], ◌∷◌}
 use Rattle.std.specs.Char.{is_whitespace}
 use Rattle.grammar.specs.Tables.{is_empty}
@@ -26,7 +26,7 @@ put_in_line_several : (c : ℕ) (several : Bool) (ps : List Piece) → has_sever
 put_in_line_several c several [] h = h
 put_in_line_several c several (p ∷ ps) h = either_several several (is_whitespace c && is_empty p.text) (p ∷ ps) (put c (p ∷ ps)) h h
 
--- what is so behind however many line ends is so behind the comments
+-- what is so after however many line ends is so after the comments
 pub several_behind : (several : Bool) (behind : ℕ → List Piece) → ((m : ℕ) → has_several (behind m) ≡ several) → (p : Place) (n : ℕ) (text : List ℕ) → has_several (comments behind p n text) ≡ several
 unfolding comments
 several_behind several behind h outside n [] = h n

@@ -1,4 +1,4 @@
--- A source that is laid out token by token, and behind its last token.
+-- A source that is laid out token by token, and after its last token.
 use Rattle.std.proofs.Common.{◌≡◌, ℕ, suc, ◌<◌, ◌≤◌, ◌-◌, ◌==◌, ◌&&◌, Bool, true, false, List, [], ◌∷◌, drop, take, length, length-drop, get_or, chars, cond, refl, sym, ap, subst, ◌∙◌}
 use mathlib.Core.Path.{fun_ext}
 use Rattle.std.specs.Prelude.{slice_range}
@@ -67,7 +67,7 @@ token_turn before middle after source trivia text n ts token ms right line_ends 
     ∙ wrote behind (λ m. first_does before class right (chars text) m left s.plain does) (λ m. follows_here class (chars text) m left s.plain)
     ∙ put left m.lines m.several
 
--- the comments behind the last token are laid out
+-- the comments after the last token are laid out
 pub last_turn : (before after : Output) (source trivia : List ℕ) (n : ℕ) (ts : List Token) (line_ends : ℕ) → IsUtf8 source → ts ≡ [] → trivia ≡ drop n source → WritesComments before (chars trivia) beginning false line_ends after
     → seen_with before (pieces_from (chars source) n ts) ≡ seen_with after []
 last_turn before after source trivia n ts line_ends u none t wrote =

@@ -43,7 +43,7 @@ found_more source trivia n ts us kind span before fs last u s rest b t h =
     let stands : IsTrivia (between cs n s.first.start) true before = subst (λ xs. IsTrivia xs true before) trivia_is t in
     subst (λ xs. AreFound cs n xs (f ∷ fs) last) (sym s.whole) (sym s.class, sym s.starts, sym s.stops, subst (λ c. is_comment c ≡ false) (sym s.class) s.plain, stands, behind)
 
--- behind the last one
+-- after the last one
 pub found_last : (source trivia : List ℕ) (n : ℕ) (ts : List Token) (last : Trivia) → IsUtf8 source → ts ≡ [] → trivia ≡ drop n source → IsTrivia (chars trivia) false last → AreFound (chars source) n ts [] last
 found_last source trivia n ts last u none t h =
     let cs = chars source in

@@ -14,11 +14,11 @@ use Rattle.wgsl_format_layout.specs.Marks.{IsTrivia}
 use Rattle.wgsl_theory_tidy.proofs.Comments.{piece, nothing_left, and_false}
 use Rattle.wgsl_format_layout.proofs.FlagsRight.{breaks_behind, first_parts}
 
--- a line ends behind a piece of a class, or a block begins or ends with it
+-- a line ends after a piece of a class, or a block begins or ends with it
 abbrev pub class_breaks : ℕ → Bool
 class_breaks class = is_among class (LineComment ∷ SymBraceLeft ∷ SymBraceRight ∷ [])
 
--- up to a rest no line ends but behind the last comment, and there are comments or none
+-- up to a rest no line ends but after the last comment, and there are comments or none
 pub record Scanned (text rest : List ℕ) (has_comment has_end : Bool) : Type 0 where
   pub n : ℕ
   pub ends : has_end ≡ not (n == 0)
@@ -64,15 +64,15 @@ comment_parts kind text n depth has_end ps e =
     ∙ ap (λ b. here || breaks_behind false b depth ps) (opens_no_bracket kind)
     ∙ ap (λ b. (b || class_breaks class) || has_break (suc depth) ps) (sym e)
 
--- behind a comment the pieces neither end nor begin with a closing bracket
+-- after a comment the pieces neither end nor begin with a closing bracket
 comment_ends : (kind : CommentKind) (text : List ℕ) (n : ℕ) (ps : List Piece) (has_comment : Bool) → (not has_comment && ends_bracket (piece (comment_class kind) text n ∷ ps)) ≡ false
 comment_ends kind text n ps has_comment = ap (λ b. not has_comment && b) (closes_no_bracket kind) ∙ and_false (not has_comment)
 
--- a text begins with a comment, and another stands behind it
+-- a text begins with a comment, and another stands after it
 abbrev pub HasComment : List ℕ → CommentKind → List ℕ → List ℕ → Type 0
 HasComment rest kind text after = (b : ℕ → List Piece) (n : ℕ) → comments b outside n rest ≡ piece (comment_class kind) text n ∷ comments b outside 0 after
 
--- no line ends before it or behind it
+-- no line ends before it or after it
 pub scanned_comment : (text rest words after : List ℕ) (kind : CommentKind) (has_comment : Bool) → HasComment rest kind words after → class_breaks (comment_class kind) ≡ false → Scanned text rest has_comment false → Scanned text after true false
 scanned_comment text rest words after kind has_comment is e s = record {
   n = 0;

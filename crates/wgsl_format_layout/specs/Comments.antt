@@ -15,7 +15,7 @@ use Rattle.wgsl_format_layout.specs.declared.comment.LineEnd.{LineEnd}
 abbrev pub EndsSo : List ℕ → LineEnd → Type 0
 EndsSo text end = Seen text (chars end.behind.now) (chars end.rest.now) × AtLineEnd (chars end.rest.now)
 
--- a block comment whose sign stands before the text is closed, and a rest stands behind it
+-- a block comment whose sign stands before the text is closed, and a rest stands after it
 abbrev pub IsClosed : List ℕ → List ℕ → Type 0
 IsClosed text rest = (front : List ℕ) × (text ≡ front ++ rest) × ((b : ℕ → List Piece) (n : ℕ) → comments b (in_block 0) n text ≡ piece BlockComment front n ∷ comments b outside 0 rest)
 

@@ -1,4 +1,4 @@
--- What is known behind a token, as the definitions see it.
+-- What is known after a token, as the definitions see it.
 use Rattle.wgsl_model_tidy.specs.Open as plain
 use Rattle.wgsl_format_layout.specs.View.{role_view}
 use Rattle.wgsl_format_layout.specs.declared.state.LayoutState.{LayoutState}

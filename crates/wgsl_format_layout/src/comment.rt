@@ -91,7 +91,7 @@ fn next_step(text: &str) -> Step<'_>
     Step::Goes(after)
 }
 
-/// The text behind the block comment whose sign stands before a text, unless it is not closed.
+/// The text after the block comment whose sign stands before a text, unless it is not closed.
 fn after_block(text: &str) -> Option<&str>
     ensures value { MatchOption result (IsOpen (chars text.now)) (λ rest.
         IsClosed (chars text.now) (chars rest.now)) }
@@ -127,7 +127,7 @@ fn before<'s>(text: &'s str, rest: &str) -> &'s str
     &text[..text.len() - rest.len()]
 }
 
-/// A line comment, which begins a text, and stands before another behind its sign.
+/// A line comment, which begins a text, and stands before another after its sign.
 fn line_comment<'s>(text: &'s str, body: &'s str) -> Comment<'s>
     requires sign { chars text.now ≡ 47 ∷ (47 ∷ chars body.now) }
     ensures comment { IsComment (chars text.now) result }
@@ -141,7 +141,7 @@ fn line_comment<'s>(text: &'s str, body: &'s str) -> Comment<'s>
     }
 }
 
-/// A block comment, which begins a text, and stands before another behind its sign.
+/// A block comment, which begins a text, and stands before another after its sign.
 fn block_comment<'s>(text: &'s str, body: &'s str) -> Comment<'s>
     requires sign { chars text.now ≡ 47 ∷ (42 ∷ chars body.now) }
     ensures comment { IsComment (chars text.now) result }

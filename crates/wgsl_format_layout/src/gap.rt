@@ -23,7 +23,7 @@ pub(crate) enum Gap {
     Broken { empty: bool, depth: usize },
 }
 
-/// How deep a line is behind a gap, which was so deep before.
+/// How deep a line is after a gap, which was so deep before.
 pub(crate) fn depth_behind(gap: Gap, line: usize) -> usize
     ensures { result ≡ plain.depth_behind (gap_view gap) line }
 {
@@ -84,7 +84,7 @@ pub(crate) fn is_token(last: Last) -> bool
     }
 }
 
-/// Whether nothing stands before such a token, behind a comment too.
+/// Whether nothing stands before such a token, after a comment too.
 fn closes_up(right: Role) -> bool
     ensures { result ≡ plain.closes_up (role_view right) }
 {
@@ -229,7 +229,7 @@ pub(crate) fn line_end(
     }
 }
 
-/// Whether a comment behind a gap leads.
+/// Whether a comment after a gap leads.
 fn leads(gap: Gap, last: Last, left: Role) -> bool
     ensures { result ≡ plain.leads (gap_view gap) (last_view last) (role_view left) }
 {
@@ -243,7 +243,7 @@ fn leads(gap: Gap, last: Last, left: Role) -> bool
     }
 }
 
-/// What the last piece is behind a comment, which stands behind a gap.
+/// What the last piece is after a comment, which stands after a gap.
 pub(crate) fn comment_last(gap: Gap, last: Last, left: Role, kind: CommentKind) -> Last
     ensures { last_view result ≡ plain.comment_last
         (comment_class kind) (plain.leads (gap_view gap) (last_view last) (role_view left)) }

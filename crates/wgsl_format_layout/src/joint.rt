@@ -28,7 +28,7 @@ fn stay_apart(left: Role, right: Role) -> bool
         || (left.is(Role::Ampersand) && right.is(Role::Ampersand))
 }
 
-/// Whether nothing stands behind the left one.
+/// Whether nothing stands after the left one.
 fn tight_behind(left: Role, right: Role) -> bool
     ensures { result ≡ tight_behind (role_view left) (role_view right) }
 {

@@ -70,7 +70,7 @@ pub struct Saved {
     last: Last,
 }
 
-/// Whether a line end stands behind the last piece.
+/// Whether a line end is after the last piece.
 fn ends_line(last: Last, left: Role) -> bool
     ensures { (if result then codes "\n" else []) ≡ model.ending (last_view last) (role_view left) }
 {
@@ -124,7 +124,7 @@ impl Output {
         Ok(comment_gap(kind, self.last, left, owned, line_ends, broken))
     }
 
-    /// The gap before a token that does so, behind so many line ends.
+    /// The gap before a token that has this role, after so many line ends.
     fn gap_before_token(&self, line_ends: usize, right: Role) -> Result<Gap, AllocError>
         ensures { IfOk result (λ gap.
             gap_view gap ≡ model.gap_before_token (spot_of self.now) (role_view right) line_ends) }
@@ -330,7 +330,7 @@ impl Output {
         })
     }
 
-    /// Writes what stands behind the last piece.
+    /// Writes what is after the last piece.
     fn end(self) -> Result<String, AllocError>
         ensures { IfOk result (λ text. chars (string_bytes text) ≡ (seen_with self []).0) }
     {

@@ -50,7 +50,7 @@ pub(crate) enum Role {
     Attribute,
 }
 
-/// `-`, `&` or `*`, behind an operand or not.
+/// `-`, `&` or `*`, after an operand or not.
 fn sign_role(behind_operand: bool, kind: TokenKind) -> Role
     ensures { role_view result ≡ sign_role behind_operand (class_of_kind kind) }
 {
@@ -64,7 +64,7 @@ fn sign_role(behind_operand: bool, kind: TokenKind) -> Role
     }
 }
 
-/// What a kind of token does, behind an operand or not.
+/// What a kind of token does, after an operand or not.
 pub(crate) fn role_of(behind_operand: bool, kind: TokenKind) -> Role
     ensures { role_view result ≡ role_of behind_operand (class_of_kind kind) }
 {
@@ -209,7 +209,7 @@ impl Role {
         matches!(self, Role::Closing | Role::TemplateEnd)
     }
 
-    /// Whether a statement, a declaration, a member or a clause can begin behind it.
+    /// Whether a statement, a declaration, a member or a clause can begin after it.
     pub(crate) fn begins_item(self) -> bool
         ensures { result ≡ begins_item (role_view self) }
     {

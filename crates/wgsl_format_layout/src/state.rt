@@ -1,4 +1,4 @@
-//! What is known behind a token.
+//! What is known after a token.
 
 ghost use Rattle.std.specs.Prelude.{◌≡◌, IfOk};
 ghost use Rattle.wgsl_model_tidy.specs.Open as plain;
@@ -12,7 +12,7 @@ use crate::role::{Role, role_of};
 use std::alloc::{AllocError, Global};
 use wgsl_lex_token::kind::TokenKind;
 
-/// What is known behind a token.
+/// What is known after a token.
 #[derive(Drop)]
 pub(crate) struct LayoutState {
     pub(crate) opened: Opened,
@@ -188,7 +188,7 @@ impl LayoutState {
         Ok(())
     }
 
-    /// Whether the next `{` opens a structure behind such a token.
+    /// Whether the next `{` opens a structure after such a token.
     fn structure_behind(&self, kind: TokenKind, right: Role) -> bool
         ensures { result
             ≡ plain.structure_behind (state_view self.now) (class_of_kind kind) (role_view right) }
@@ -213,7 +213,7 @@ impl LayoutState {
         self.leading
     }
 
-    /// Goes behind a token of this role; a bracket that it opens is of this style.
+    /// Goes after a token of this role; a bracket that it opens is of this style.
     pub(crate) fn take(
         &mut self,
         kind: TokenKind,

@@ -15,7 +15,7 @@ pub data Joint : Type 0 where
 abbrev pub stay_apart : Role → Role → Bool
 stay_apart left right = (is right minus && (is left minus || is left step)) || (is left ampersand && is right ampersand)
 
--- nothing stands behind `(`, `[` and `@`, between `.` and a name, and where an operand comes next
+-- nothing stands after `(`, `[` and `@`, between `.` and a name, and where an operand comes next
 abbrev pub tight_behind : Role → Role → Bool
 tight_behind left right =
     (is left opening || is left at) || ((is left period && is right name) || (wants_operand left && (begins_operand right && not (stay_apart left right))))
@@ -36,7 +36,7 @@ is_continued left right = ends_operand left && ((is right period && not (is left
 abbrev pub closed_up : Role → Role → Bool
 closed_up left right = (is_tight right || tight_behind left right) || (is_applied left right || (is_template left right || is_continued left right))
 
--- elsewhere a line end of the author's stays around an operator between operands, behind `,` and behind an attribute
+-- elsewhere a line end of the author's stays around an operator between operands, after `,` and after an attribute
 abbrev pub continues_line : Role → Role → Bool
 continues_line left right = (is left binary || is right binary) || (is left comma || is left attribute)
 

@@ -16,7 +16,7 @@ use Rattle.wgsl_model_tidy.specs.NonBlank.{non_blank}
 abbrev pub unplaced : Token → Kind
 unplaced t = record { class = t.class; payload = t.payload }
 
--- a piece and its characters, behind however many line ends
+-- a piece and its characters, after however many line ends
 abbrev pub class_and_text : Piece → ℕ × List ℕ
 class_and_text p = (p.class, p.text)
 

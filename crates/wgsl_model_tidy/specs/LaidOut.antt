@@ -17,7 +17,7 @@ pub data Gap : Type 0 where
 pub data Last : Type 0 where
   token line_comment block_comment leading_comment open_comment : Last
 
--- the state behind the last token, what the last piece is, and the column behind it
+-- the state after the last token, what the last piece is, and the column after it
 pub record Spot : Type 0 where
   pub state : LayoutState
   pub last : Last
@@ -48,7 +48,7 @@ abbrev pub is_line : Joint → Bool
 is_line line = true
 is_line joint = false
 
--- what nothing stands before, behind a comment too
+-- what nothing stands before, after a comment too
 abbrev pub closes_up : Role → Bool
 closes_up right = is_tight right || is right template_end
 
@@ -193,7 +193,7 @@ gap_text layout blank = codes " "
 gap_text layout (broken true depth) = codes "\n\n" ++ indentation layout depth
 gap_text layout (broken false depth) = codes "\n" ++ indentation layout depth
 
--- how deep a line is in which a piece stands behind a gap
+-- how deep a line is in which a piece stands after a gap
 abbrev pub depth_behind : Gap → ℕ → ℕ
 depth_behind (broken empty depth) before = depth
 depth_behind gap before = before
@@ -202,14 +202,14 @@ depth_behind gap before = before
 abbrev pub in_line_of : LayoutState → ℕ → LayoutState
 in_line_of state depth = record { opened = state.opened; line = depth; last = state.last; leading = state.leading; structure = state.structure }
 
--- a comment behind this gap leads: it begins a line or the text, or stands behind one that leads
+-- a comment after this gap leads: it begins a line or the text, or stands after one that leads
 abbrev pub leads : Gap → Last → Role → Bool
 leads (broken empty depth) last left = true
 leads gap token left = is left beginning
 leads gap leading_comment left = true
 leads gap last left = false
 
--- which comment stands last behind a comment of a class, that leads or does not
+-- which comment stands last after a comment of a class, that leads or does not
 abbrev pub comment_last : ℕ → Bool → Last
 comment_last class leading = if class == LineComment then line_comment else if class == BlockComment then (if leading then leading_comment else block_comment) else open_comment
 
@@ -227,13 +227,13 @@ behind_first layout spot p ps style =
     let right = next_role spot.state (p ∷ ps) in
     behind_piece layout spot (gap_before spot right p ps) right p style
 
--- what stands behind the last piece: a line end, but not where a comment would go on with it, nor where there is no piece
+-- what stands after the last piece: a line end, but not where a comment would go on with it, nor where there is no piece
 abbrev pub ending : Last → Role → List ℕ
 ending open_comment left = []
 ending token left = if is left beginning then [] else codes "\n"
 ending last left = codes "\n"
 
--- pieces laid out behind a spot
+-- pieces laid out after a spot
 abbrev pub laid_from : Layout → Spot → List Piece → List ℕ
 laid_from layout spot [] = ending spot.last spot.state.last
 laid_from layout spot (p ∷ ps) =

@@ -94,13 +94,13 @@ depth_of state right = if closes right then outer_depth state.opened else depth_
 abbrev pub comment_depth : LayoutState → Role → ℕ
 comment_depth state right = if closes right then inner_depth state.opened else depth_within state right
 
--- ---- behind a token
+-- ---- after a token
 
--- what a token of a class does behind what stands there
+-- what a token of a class does after what stands there
 abbrev pub role_in : LayoutState → ℕ → Role
 role_in state class = role_of (ends_operand state.last) class
 
--- What a token is to what follows it. An attribute ends with its name or with the `)` behind its arguments, a member with the `,` behind it, and a statement or a declaration with its `;`, but not in the header of a `for`.
+-- What a token is to what follows it. An attribute ends with its name or with the `)` after its arguments, a member with the `,` after it, and a statement or a declaration with its `;`, but not in the header of a `for`.
 abbrev pub last_behind : LayoutState → Role → Role
 last_behind state right =
     if not (opens_bracket right) && is state.last at then attribute

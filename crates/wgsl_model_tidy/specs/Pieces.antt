@@ -9,7 +9,7 @@ use Rattle.wgsl_model.specs.Tokens.Characters.{is_line_break}
 use Rattle.wgsl_model.specs.Tokens.Places.{width}
 use Rattle.wgsl_model.specs.Tokens.Trivia.{Place, outside, in_line, in_block, second, out_of_block, first_or_zero}
 
--- the class of a block comment that is not closed, behind which a text ends; it stands behind the classes of tokens
+-- the class of a block comment that is not closed, after which a text ends; it stands after the classes of tokens
 abbrev pub OpenComment : ℕ
 OpenComment = suc BlockComment
 
@@ -39,7 +39,7 @@ abbrev pub put_in_line : ℕ → List Piece → List Piece
 put_in_line c [] = []
 put_in_line c (p ∷ ps) = if is_whitespace c && is_empty p.text then p ∷ ps else put c (p ∷ ps)
 
--- The comments in a text of blank space and comments, which begins at such a place, so many line ends behind the last piece; and behind them what stands behind so many line ends. A line comment ends before a line break; block comments nest.
+-- The comments in a text of blank space and comments, which begins at such a place, so many line ends after the last piece; and after them what stands after so many line ends. A line comment ends before a line break; block comments nest.
 unfoldable pub comments : (ℕ → List Piece) → Place → ℕ → List ℕ → List Piece
 comments behind outside n [] = behind n
 comments behind outside n (c ∷ cs) =
@@ -65,7 +65,7 @@ comments behind (second p) n (c ∷ cs) = put c (comments behind p n cs)
 abbrev pub between : List ℕ → ℕ → ℕ → List ℕ
 between source from to = chars (take (to - from) (drop from (encode_utf8_all source)))
 
--- a token of a source, behind so many line ends
+-- a token of a source, after so many line ends
 abbrev pub piece_of : List ℕ → Token → ℕ → Piece
 piece_of source t n = record { class = t.class; text = between source t.start t.end; line_ends = n }
 

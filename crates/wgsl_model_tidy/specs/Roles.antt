@@ -22,7 +22,7 @@ pub data Role : Type 0 where
   binary : Role
   -- `++` or `--`
   step : Role
-  -- behind it only: nothing; the end of a statement, a declaration or a member; the name of an attribute, or its arguments
+  -- after it only: nothing; the end of a statement, a declaration or a member; the name of an attribute, or its arguments
   beginning item_end attribute : Role
 
 -- its place among the roles
@@ -76,7 +76,7 @@ begins_operand ampersand = true
 begins_operand prefix = true
 begins_operand role = false
 
--- an operand comes next: behind the `<` of a template list, an operator before its operand, and a `--` between operands
+-- an operand comes next: after the `<` of a template list, an operator before its operand, and a `--` between operands
 abbrev pub wants_operand : Role → Bool
 wants_operand template_start = true
 wants_operand minus = true
@@ -119,7 +119,7 @@ closes template_end = true
 closes block_end = true
 closes role = false
 
--- a statement, a declaration, a member or a clause can begin behind it
+-- a statement, a declaration, a member or a clause can begin after it
 abbrev pub begins_item : Role → Bool
 begins_item beginning = true
 begins_item item_end = true
@@ -136,12 +136,12 @@ is_operator class =
     SymPlusEqual ∷ SymMinusEqual ∷ SymTimesEqual ∷ SymDivisionEqual ∷ SymModuloEqual ∷ SymAndEqual ∷ SymOrEqual ∷ SymXorEqual ∷
     SymShiftRightAssign ∷ SymShiftLeftAssign ∷ [])
 
--- `-`, `&` and `*` stand between operands behind an operand, else before one
+-- `-`, `&` and `*` stand between operands after an operand, else before one
 abbrev pub sign_role : Bool → ℕ → Role
 sign_role true class = binary
 sign_role false class = if class == SymMinus then minus else if class == SymAnd then ampersand else prefix
 
--- what a token of a class does, behind an operand or not; `diagnostic` has its arguments behind it, as a name has
+-- what a token of a class does, after an operand or not; `diagnostic` has its arguments after it, as a name has
 abbrev pub role_of : Bool → ℕ → Role
 role_of behind_operand class =
     if is_among class (Ident ∷ ReservedWord ∷ KwTrue ∷ KwFalse ∷ KwDiagnostic ∷ []) then name
