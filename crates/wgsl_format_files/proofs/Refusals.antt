@@ -6,7 +6,7 @@ use Rattle.wgsl_error.specs.View.{fault_view}
 use Rattle.wgsl_files.specs.declared.format.FormatError.{FormatError}
 use Rattle.wgsl_files.specs.declared.format.FormatError.TheVariants as format
 use Rattle.wgsl_files.specs.Rewriting.{IsRefusal}
-use Rattle.wgsl_model_tidy.specs.Syntax.{IsSyntaxFaultOf}
+use Rattle.wgsl_model_tidy.specs.Syntax.{IsFaultAfterMark}
 use Rattle.wgsl_error.specs.declared.ParseError.TheVariants as parse
 use Rattle.wgsl_error.specs.Kinds.{error_at}
 use Rattle.wgsl_format_files.specs.Tidy.{Refuses, Refuses.named, Refuses.undecoded, IsRefusedFor, IsNotUtf8}
@@ -18,7 +18,7 @@ refused_undecoded bytes (format.Refused text) invalid told = subst (Refuses byte
 
 -- a text is refused for the error that is named of it
 pub refused_named : (bytes : List ℕ) (e : Error) (made : FormatError) → is_utf8 bytes ≡ true
-    → (e ≡ error_at parse.OutOfMemory 0 0) ⊎ IsSyntaxFaultOf (chars bytes) (fault_view e) → IsRefusedFor e (chars bytes) made → IsRefusal (Refuses bytes) made
+    → (e ≡ error_at parse.OutOfMemory 0 0) ⊎ IsFaultAfterMark (chars bytes) (fault_view e) → IsRefusedFor e (chars bytes) made → IsRefusal (Refuses bytes) made
 refused_named bytes e format.OutOfMemory valid fault told = told
 refused_named bytes e (format.Refused text) valid (inl memory) (told, other) = absurd (other (ap (λ (x : Error). x.error) memory))
 refused_named bytes e (format.Refused text) valid (inr fault) (told, other) = subst (Refuses bytes) (sym told) (named (fault_view e) valid fault)

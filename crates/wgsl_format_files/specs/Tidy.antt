@@ -3,7 +3,7 @@ use Rattle.std.specs.Prelude.{◌≡◌, ℕ, true, false, List, [], chars, code
 use Rattle.std.specs.Str.{is_utf8}
 use Rattle.grammar.specs.Tokens.{Fault}
 use Rattle.wgsl_model.specs.Faults.Kinds.{message}
-use Rattle.wgsl_model_tidy.specs.Syntax.{IsSyntaxFaultOf}
+use Rattle.wgsl_model_tidy.specs.Syntax.{IsFaultAfterMark}
 use Rattle.wgsl_span.specs.View.{span_view}
 use Rattle.wgsl_error.specs.declared.Error.{Error}
 use Rattle.wgsl_error.specs.declared.ErrorKind.TheVariants as kinds
@@ -18,7 +18,7 @@ not_utf8 = codes ": error: not UTF-8"
 
 -- The bytes of a file are refused, and this is what follows its name in the message: the place and the error that is named of the text, or that it is not UTF-8.
 pub data Refuses (bytes : List ℕ) : List ℕ → Type 0 where
-  named : (x : Fault) → is_utf8 bytes ≡ true → IsSyntaxFaultOf (chars bytes) x → Refuses bytes (message_in_file [] (message x.kind x.texts) (chars bytes) x.span)
+  named : (x : Fault) → is_utf8 bytes ≡ true → IsFaultAfterMark (chars bytes) x → Refuses bytes (message_in_file [] (message x.kind x.texts) (chars bytes) x.span)
   undecoded : is_utf8 bytes ≡ false → Refuses bytes not_utf8
 
 -- a source is refused for an error, unless an allocation failed

@@ -1,13 +1,17 @@
 -- Pieces that are added to a text, with what follows.
-use Rattle.std.proofs.Common.{◌≡◌, ℕ, zero, suc, ◌+◌, ◌==◌, Bool, true, false, nat_le, refl, sym, ap, subst, ◌∙◌, List, [], ◌∷◌, ◌++◌, append_assoc, append-nil, replicate}
-use Rattle.std.specs.Str.{chars}
+use Rattle.std.proofs.Common.{◌≡◌, ℕ, zero, suc, ◌+◌, ◌<◌, ◌==◌, Bool, true, false, nat_le, refl, sym, ap, subst, ◌∙◌, List, [], ◌∷◌, ◌++◌, length, slice_index_or, append_assoc, append-nil, replicate, arith}
+use Rattle.std.proofs.lemmas.Bool.{leb-true, and_parts, eqb-true, false_from_ne_true, true≢false}
+use Rattle.std.proofs.lemmas.Str.{chars-IsAscii}
+use Rattle.std.proofs.lemmas.Str.Ascii.{IsAscii-from_all}
+use Rattle.std.specs.List.{list_all}
+use Rattle.std.specs.Str.{IsAscii, chars}
 use Rattle.std.specs.Prelude.{string_bytes, codes, if◌then◌else◌}
 use Rattle.std.proofs.lemmas.List.{replicate-append-replicate}
 use Rattle.wgsl_model_tidy.specs.Layout.{Layout as Plain, level, columns, column_after, line_fits}
 use Rattle.wgsl_model_tidy.specs.LaidOut.{indentation}
 use Rattle.wgsl_theory_tidy.proofs.Kept.Fitting.{column_append}
 use Rattle.wgsl_format_layout.specs.Layouts.{layout_view}
-use Rattle.wgsl_format_layout.specs.Lines.{fits_by, fits_before, ended_by, Passes, Adds, Continues}
+use Rattle.wgsl_format_layout.specs.Lines.{fits_by, fits_before, ended_by, is_printable, MovesOn, Passes, Adds, Continues}
 use Rattle.wgsl_format_layout.specs.declared.layout.Layout.{Layout}
 use Rattle.wgsl_format_layout.specs.declared.line.Line.{Line}
 use Rattle.wgsl_format_layout.specs.declared.line.Wanted.{Wanted}
@@ -87,6 +91,41 @@ column_more line c column h e = record { layout = refl; column = e ∙ rw h refl
     go Open rest = rw h (ap (λ n. line_fits (layout_view line.layout) n rest) (sym e))
     go Fits rest = refl
     go TooLong rest = refl
+
+-- characters of which each takes one column
+printable : (line : Line) (c column : ℕ) → is_printable c ≡ true → column ≡ line.column + 1 → Passes line (c ∷ []) (record { layout = line.layout; column = column; wanted = line.wanted })
+printable line c column h e =
+    let b = and_parts (nat_le 32 c) (nat_le c 126) h in
+    let other : (k : ℕ) → nat_le 32 k ≡ false → (c == k) ≡ false = λ k l. false_from_ne_true (c == k) (λ q. true≢false (sym b.0 ∙ ap (nat_le 32) (eqb-true c k q) ∙ l)) in
+    column_more line c column (other 10 refl) (e ∙ rw (other 9 refl) refl)
+
+printable_all : (line : Line) (cs : List ℕ) (column : ℕ) → list_all is_printable cs ≡ true → column ≡ line.column + length cs → Passes line cs (record { layout = line.layout; column = column; wanted = line.wanted })
+printable_all line [] column h e = subst (λ n. Passes line [] (record { layout = line.layout; column = n; wanted = line.wanted })) (sym (e ∙ omega arith)) (passes_none line)
+printable_all line (c ∷ cs) column h e =
+    let b = and_parts (is_printable c) (list_all is_printable cs) h in
+    let next : Line = record { layout = line.layout; column = line.column + 1; wanted = line.wanted } in
+    passes_both line next _ (c ∷ []) cs (printable line c (line.column + 1) b.0 refl) (printable_all next cs column b.1 (omega (arith, e)))
+
+printable_ascii : (bs : List ℕ) → list_all is_printable bs ≡ true → IsAscii bs
+printable_ascii bs h = IsAscii-from_all bs (below bs h)
+  where
+    below : (cs : List ℕ) → list_all is_printable cs ≡ true → (k d : ℕ) → k < length cs → slice_index_or cs k d < 128
+    below [] h k d l = absurd (omega (arith, l))
+    below (c ∷ cs) h zero d l = let b = and_parts (is_printable c) (list_all is_printable cs) h in let low = and_parts (nat_le 32 c) (nat_le c 126) b.0 in omega (arith, leb-true c 126 low.1)
+    below (c ∷ cs) h (suc k) d l = below cs (and_parts (is_printable c) (list_all is_printable cs) h).1 k d (omega (arith, l))
+
+-- a line that goes on in no other way
+moved : (line after : Line) (n : ℕ) (cs : List ℕ) → MovesOn line n after → Passes line cs (record { layout = line.layout; column = after.column; wanted = line.wanted }) → Passes line cs after
+moved line after n cs m p =
+    subst (λ (k : Layout). Passes line cs (record { layout = k; column = after.column; wanted = after.wanted })) (sym m.layout)
+    (subst (λ (k : Wanted). Passes line cs (record { layout = line.layout; column = after.column; wanted = k })) (sym m.wanted) p)
+
+pub printable_passed : (line after : Line) (bs : List ℕ) (n : ℕ) → list_all is_printable bs ≡ true → n ≡ length bs → MovesOn line n after → Passes line (chars bs) after
+printable_passed line after bs n h e m =
+    subst (λ xs. Passes line xs after) (sym (chars-IsAscii bs (printable_ascii bs h))) (moved line after n bs m (printable_all line bs after.column h (m.column ∙ ap (λ k. line.column + k) e)))
+
+pub character_passed : (line after : Line) (c n : ℕ) → (c == 10) ≡ false → n ≡ columns (layout_view line.layout) c → MovesOn line n after → Passes line (c ∷ []) after
+character_passed line after c n h e m = moved line after n (c ∷ []) m (column_more line c after.column h (m.column ∙ ap (λ k. line.column + k) e))
 
 -- ---- white space
 

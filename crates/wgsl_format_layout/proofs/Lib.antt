@@ -1,4 +1,5 @@
 pub mod Added
+pub mod BlockLines
 pub mod CommentKinds
 pub mod TokenClasses
 pub mod TokensCut

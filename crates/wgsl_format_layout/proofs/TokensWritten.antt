@@ -2,10 +2,10 @@
 use Rattle.std.proofs.Common.{◌≡◌, ℕ, ◌==◌, ◌&&◌, Bool, true, false, cond, not, refl, sym, ap, ap₂, ◌∙◌, List, [], ◌∷◌, ◌++◌}
 use Rattle.std.proofs.lemmas.Bool.{and_parts, true≢false}
 use Rattle.wgsl_model_tidy.specs.Pieces.{Piece}
-use Rattle.wgsl_model_tidy.specs.Roles.{Role, opening, template_start, attribute, is, opens_bracket, ends_operand}
+use Rattle.wgsl_model_tidy.specs.Roles.{Role, opening, template_start, attribute, is, opens_bracket}
 use Rattle.wgsl_model_tidy.specs.Layout.{Layout as Plain, line_fits}
-use Rattle.wgsl_model_tidy.specs.Open.{Style, together, as_written, item_by_item, Open, arguments, bracket, Enclosing, LayoutState, enclosing, role_in, behind_token}
-use Rattle.wgsl_model_tidy.specs.LaidOut.{Gap, token, Spot, is_comment, opens_one, has_lines, has_several, may_part, style_of, may_break, gap_before_token, gap_text, depth_behind, laid_from}
+use Rattle.wgsl_model_tidy.specs.Open.{Style, together, as_written, item_by_item, Open, arguments, bracket, Enclosing, LayoutState, enclosing, behind_token}
+use Rattle.wgsl_model_tidy.specs.LaidOut.{Gap, token, Spot, is_comment, operand_follows, opens_one, has_lines, may_part, style_of, may_break, gap_before_token, gap_text, depth_behind, laid_from}
 use Rattle.wgsl_theory_tidy.proofs.Comments.{piece}
 use Rattle.wgsl_theory_tidy.proofs.Laid.{behind_token_at, token_written}
 use Rattle.wgsl_theory_tidy.proofs.Kept.BracketRoles.{opens_same}
@@ -16,7 +16,7 @@ use Rattle.wgsl_format_layout.specs.States.{state_view}
 use Rattle.wgsl_format_layout.specs.Layouts.{layout_view}
 use Rattle.wgsl_format_layout.specs.Lines.{Adds}
 use Rattle.wgsl_format_layout.specs.Parted.{parted_open, parted_state, parted}
-use Rattle.wgsl_format_layout.specs.Outputs.{spot_of, layout_of, seen_with, seen_by, can_part, Parts}
+use Rattle.wgsl_format_layout.specs.Outputs.{spot_of, layout_of, seen_with, seen_by, can_part, FitsBefore, Parts}
 use Rattle.wgsl_format_layout.proofs.Added.{shown, shown_on}
 use Rattle.wgsl_format_layout.specs.declared.output.Output.{Output}
 use Rattle.wgsl_format_layout.specs.declared.marks.MarkedToken.{MarkedToken}
@@ -81,7 +81,6 @@ pub record IsWritten (old : Output) (t : MarkedToken) (right : Role) (text : Lis
   pub depth : ℕ
   pub gap : Gap
   pub plain : is_comment (class_of_kind t.kind) ≡ false
-  pub does : right ≡ role_in (state_view old.state) (class_of_kind t.kind)
   pub gap_is : gap ≡ gap_before_token (spot_of old) right n
   pub depth_is : depth ≡ depth_behind gap (state_view old.state).line
   pub adds : Adds old.text (gap_text (layout_of old) gap ++ text) new.text
@@ -93,31 +92,30 @@ spot_at : (old : Output) (t : MarkedToken) (right : Role) (text : List ℕ) (n :
     → spot_of new ≡ behind_token_at (state_view old.state) w.depth (class_of_kind t.kind) right new.text.line.column (at_first t.lines)
 spot_at old t right text n new w = ap₂ (λ (s : LayoutState) l. record { state = s; last = l; column = new.text.line.column }) w.state w.last
 
-opens_right : (old : Output) (t : MarkedToken) (right : Role) (text : List ℕ) (n : ℕ) (new : Output) → IsWritten old t right text n new → can_part old t ≡ true → opens_bracket right ≡ true
-opens_right old t right text n new w h =
-    ap opens_bracket w.does ∙ opens_same (ends_operand (state_view old.state).last) (class_of_kind t.kind) ∙ (can_opens old t h).opens
+opens_right : (old : Output) (t : MarkedToken) (right : Role) (ps : List Piece) → FitsBefore old t right ps → can_part old t ≡ true → opens_bracket right ≡ true
+opens_right old t right ps f h = ap opens_bracket f.does ∙ opens_same (state_view old.state) (class_of_kind t.kind) (operand_follows ps) ∙ (can_opens old t h).opens
 
 -- in one line at first, and then item by item
-parted_spot : (old : Output) (t : MarkedToken) (right : Role) (text : List ℕ) (n : ℕ) (new : Output) (w : IsWritten old t right text n new) → can_part old t ≡ true
+parted_spot : (old : Output) (t : MarkedToken) (right : Role) (text : List ℕ) (n : ℕ) (new : Output) (w : IsWritten old t right text n new) (ps : List Piece) → FitsBefore old t right ps → can_part old t ≡ true
     → parted (spot_of new) ≡ behind_token_at (state_view old.state) w.depth (class_of_kind t.kind) right new.text.line.column item_by_item
-parted_spot old t right text n new w h =
+parted_spot old t right text n new w ps f h =
     let class = class_of_kind t.kind in
     let column = new.text.line.column in
     ap parted (spot_at old t right text n new w ∙ ap (λ b. behind_token_at (state_view old.state) w.depth class right column (at_first b)) (can_opens old t h).in_line)
-    ∙ parted_at (state_view old.state) w.depth class right column (opens_right old t right text n new w h)
+    ∙ parted_at (state_view old.state) w.depth class right column (opens_right old t right ps f h)
 
 -- written item by item it has a line end at once
 pub token_parts : (old : Output) (t : MarkedToken) (right : Role) (text : List ℕ) (n : ℕ) (new : Output) → IsWritten old t right text n new
-    → (ps : List Piece) → t.lines ≡ has_lines ps → t.several ≡ has_several ps → can_part old t ≡ true → Parts new ps
-token_parts old t right text n new w ps l s h =
+    → (ps : List Piece) → FitsBefore old t right ps → can_part old t ≡ true → Parts new ps
+token_parts old t right text n new w ps f h =
     let opens = can_opens old t h in
-    let begins = items_begin (layout_of new) (state_view old.state) w.depth (class_of_kind t.kind) right new.text.line.column ps (opens_right old t right text n new w h) (sym s ∙ opens.more) (sym l ∙ opens.in_line) in
-    (begins.0, ap (λ spot. laid_from (layout_of new) spot ps) (parted_spot old t right text n new w h) ∙ begins.1)
+    let begins = items_begin (layout_of new) (state_view old.state) w.depth (class_of_kind t.kind) right new.text.line.column ps (opens_right old t right ps f h) (sym f.several ∙ opens.more) (sym f.lines ∙ opens.in_line) in
+    (begins.0, ap (λ spot. laid_from (layout_of new) spot ps) (parted_spot old t right text n new w ps f h) ∙ begins.1)
 
 -- what is written, with these pieces after it
 pub token_seen : (old : Output) (t : MarkedToken) (right : Role) (text : List ℕ) (n : ℕ) (new : Output) → IsWritten old t right text n new
-    → (ps : List Piece) → t.lines ≡ has_lines ps → t.several ≡ has_several ps → seen_with old (piece (class_of_kind t.kind) text n ∷ ps) ≡ seen_by new (can_part old t) ps
-token_seen old t right text n new w ps l s =
+    → (ps : List Piece) → FitsBefore old t right ps → seen_with old (piece (class_of_kind t.kind) text n ∷ ps) ≡ seen_by new (can_part old t) ps
+token_seen old t right text n new w ps f =
     ap (shown old.text) laid ∙ shown_on old.text new.text (gap_text layout w.gap ++ text) (after style) w.adds ∙ ap (shown new.text) (styled ∙ marked) ∙ ending t.lines (can_part old t) (λ h. (can_opens old t h).in_line) spot parts
   where
     layout : Plain
@@ -146,19 +144,19 @@ token_seen old t right text n new w ps l s =
 
     laid : laid_from layout (spot_of old) (piece class text n ∷ ps) ≡ (gap_text layout w.gap ++ text) ++ after style
     laid = token_written layout class w.plain (spot_of old) right [] text (gap_text layout w.gap) (gap_text layout w.gap ++ text) n w.depth column w.gap style (behind_token (state_view old.state) w.depth class right style) ps
-        w.does w.gap_is refl refl w.depth_is w.adds.line.column refl refl
+        f.does w.gap_is refl refl w.depth_is w.adds.line.column refl refl
 
     styled : after style ≡ picked after (has_lines ps) (not (has_lines ps) && may_part layout inside class ps) fits
     styled = style_picked after (has_lines ps) (may_part layout inside class ps) fits
 
     marked : picked after (has_lines ps) (not (has_lines ps) && may_part layout inside class ps) fits ≡ picked after t.lines (can_part old t) fits
-    marked = ap₂ (λ b c. picked after b (not b && ((not (layout.width == 0) && opens_one class) && (may_break inside && c))) fits) (sym l) (sym s)
+    marked = ap₂ (λ b c. picked after b (not b && ((not (layout.width == 0) && opens_one class) && (may_break inside && c))) fits) (sym f.lines) (sym f.several)
 
     spot : spot_of new ≡ at (at_first t.lines)
     spot = spot_at old t right text n new w
 
     parts : can_part old t ≡ true → parted (spot_of new) ≡ at item_by_item
-    parts h = parted_spot old t right text n new w h
+    parts h = parted_spot old t right text n new w ps f h
 
     same : layout_of new ≡ layout
     same = ap layout_view w.adds.line.layout

@@ -5,6 +5,7 @@ pub mod Gaps
 pub mod Comments
 pub mod Layouts
 pub mod Lines
+pub mod Blocks
 pub mod Parted
 pub mod Flags
 pub mod Marks

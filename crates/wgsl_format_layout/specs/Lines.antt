@@ -1,5 +1,5 @@
 -- The last line of a text that is written, and whether a line of it that is looked at is too long.
-use Rattle.std.specs.Prelude.{◌≡◌, ℕ, Bool, true, false, List, [], ◌++◌, nat_le, nat_lt, if◌then◌else◌, chars, string_bytes}
+use Rattle.std.specs.Prelude.{◌≡◌, ◌+◌, ℕ, Bool, true, false, List, [], ◌++◌, ◌&&◌, nat_le, nat_lt, if◌then◌else◌, chars, string_bytes}
 use Rattle.wgsl_model_tidy.specs.Layout.{column_after, line_fits}
 use Rattle.wgsl_format_layout.specs.Layouts.{layout_view}
 use Rattle.wgsl_format_layout.specs.declared.layout.Layout.{Layout}
@@ -30,6 +30,16 @@ is_over line = is_over_by line.layout line.wanted line.column
 abbrev pub ended_by : Layout → Wanted → ℕ → Wanted
 ended_by layout Open column = if nat_le column layout.width then Fits else TooLong
 ended_by layout wanted column = wanted
+
+-- a character is a printable one of ASCII
+abbrev pub is_printable : ℕ → Bool
+is_printable c = nat_le 32 c && nat_le c 126
+
+-- a line goes on by so many columns
+pub record MovesOn (old : Line) (columns : ℕ) (new : Line) : Type 0 where
+  pub layout : new.layout ≡ old.layout
+  pub column : new.column ≡ old.column + columns
+  pub wanted : new.wanted ≡ old.wanted
 
 -- a line goes over a text: its column, and what is known whatever follows
 pub record Passes (old : Line) (text : List ℕ) (new : Line) : Type 0 where

@@ -6,6 +6,7 @@ use Rattle.wgsl_model.specs.Tokens.Classes.{LineComment, SymBraceLeft, SymBraceR
 use Rattle.wgsl_model.specs.Tokens.Places.{width}
 use Rattle.wgsl_model.specs.Tokens.Trivia.{outside}
 use Rattle.wgsl_model_tidy.specs.Pieces.{Piece, comments, between, pieces_from}
+use Rattle.wgsl_model_tidy.specs.Roles.{begins_operand, role_of}
 use Rattle.wgsl_model_tidy.specs.LaidOut.{is_comment, closes_one, has_break, has_lines, ends_bracket, has_several}
 use Rattle.wgsl_lex_token.specs.View.{class_of_kind}
 use Rattle.wgsl_format_layout.specs.Flags.{first_flag, flags_before}
@@ -38,6 +39,11 @@ AreFound source from [] [] last = IsTrivia (between source from (width source)) 
 AreFound source from (t ∷ ts) (f ∷ fs) last =
     (class_of_kind f.kind ≡ t.class) × (f.span.start ≡ t.start) × (f.span.end ≡ t.end) × (is_comment t.class ≡ false) × IsTrivia (between source from t.start) true f.before × AreFound source t.end ts fs last
 AreFound source from ts fs last = ⊥
+
+-- an operand begins with the first of these tokens
+abbrev pub operand_first : List MarkedToken → Bool
+operand_first [] = false
+operand_first (f ∷ fs) = begins_operand (role_of false (class_of_kind f.kind))
 
 -- ---- each token with its marks
 

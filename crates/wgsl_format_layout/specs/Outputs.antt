@@ -6,8 +6,8 @@ use Rattle.wgsl_model_tidy.specs.Pieces.{Piece, comments, pieces_from}
 use Rattle.wgsl_model_tidy.specs.Roles.{Role}
 use Rattle.wgsl_model_tidy.specs.Layout as plain
 use Rattle.wgsl_model_tidy.specs.Layout.{line_fits}
-use Rattle.wgsl_model_tidy.specs.Open.{enclosing}
-use Rattle.wgsl_model_tidy.specs.LaidOut.{Spot, has_lines, has_several, opens_one, may_break, laid_from, next_role, owned, in_line_of}
+use Rattle.wgsl_model_tidy.specs.Open.{enclosing, role_in}
+use Rattle.wgsl_model_tidy.specs.LaidOut.{Spot, operand_follows, has_lines, has_several, opens_one, may_break, laid_from, next_role, owned, in_line_of}
 use Rattle.wgsl_theory_tidy.proofs.Comments.{piece}
 use Rattle.wgsl_lex_token.specs.View.{class_of_kind}
 use Rattle.wgsl_format_layout.specs.States.{state_view}
@@ -67,10 +67,15 @@ abbrev pub WritesComments : Output → List ℕ → Role → Bool → ℕ → Ou
 WritesComments old text right has_next n new =
     (behind : ℕ → List Piece) → ((m : ℕ) → next_role (state_view old.state) (behind m) ≡ right) → MayFollow behind has_next → seen_with old (comments behind outside 0 text) ≡ seen_with new (behind n)
 
--- a token with its characters is written after so many line ends, before pieces by which it is marked
-abbrev pub WritesToken : Output → MarkedToken → List ℕ → ℕ → Output → Type 0
-WritesToken old token text n new =
-    (ps : List Piece) → token.lines ≡ has_lines ps → token.several ≡ has_several ps → seen_with old (piece (class_of_kind token.kind) text n ∷ ps) ≡ seen_by new (can_part old token) ps
+-- a token that does so comes next, before these pieces, by which it is marked
+pub record FitsBefore (o : Output) (token : MarkedToken) (right : Role) (ps : List Piece) : Type 0 where
+  pub does : right ≡ role_in (state_view o.state) (class_of_kind token.kind) (operand_follows ps)
+  pub lines : token.lines ≡ has_lines ps
+  pub several : token.several ≡ has_several ps
+
+-- a token that does so is written with its characters after so many line ends, before pieces that fit
+abbrev pub WritesToken : Output → MarkedToken → Role → List ℕ → ℕ → Output → Type 0
+WritesToken old token right text n new = (ps : List Piece) → FitsBefore old token right ps → seen_with old (piece (class_of_kind token.kind) text n ∷ ps) ≡ seen_by new (can_part old token) ps
 
 -- of the state only the depth of the line changed
 abbrev pub StaysBehind : Output → Output → Type 0

@@ -119,7 +119,7 @@ fn after_block(text: &str) -> Option<&str>
 }
 
 /// What stands before the rest of a text.
-fn before<'s>(text: &'s str, rest: &str) -> &'s str
+pub(crate) fn before<'s>(text: &'s str, rest: &str) -> &'s str
     requires { EndsWith (chars text.now) (chars rest.now) }
     ensures { (front : List ℕ) →
         chars text.now ≡ front ++ chars rest.now → chars result.now ≡ front }

@@ -229,6 +229,19 @@ pub(crate) fn line_end(
     }
 }
 
+/// Whether a piece after a gap begins a line.
+pub(crate) fn begins_line(gap: Gap, last: Last, left: Role) -> bool
+    ensures { result ≡ plain.begins_line (gap_view gap) (last_view last) (role_view left) }
+{
+    if let Gap::Broken { .. } = gap {
+        return true;
+    }
+    match last {
+        Last::Token => left.is(Role::Beginning),
+        Last::Leading | Last::Comment(_) => false,
+    }
+}
+
 /// Whether a comment after a gap leads.
 fn leads(gap: Gap, last: Last, left: Role) -> bool
     ensures { result ≡ plain.leads (gap_view gap) (last_view last) (role_view left) }

@@ -24,7 +24,7 @@ pub(crate) enum Joint {
 fn stay_apart(left: Role, right: Role) -> bool
     ensures { result ≡ stay_apart (role_view left) (role_view right) }
 {
-    (right.is(Role::Minus) && (left.is(Role::Minus) || left.is(Role::Step)))
+    (left.is(Role::Minus) && right.is(Role::Minus))
         || (left.is(Role::Ampersand) && right.is(Role::Ampersand))
 }
 

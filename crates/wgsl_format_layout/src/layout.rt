@@ -4,12 +4,13 @@ ghost use Rattle.std.specs.Prelude.{◌≡◌};
 ghost use Rattle.wgsl_model_tidy.specs.Layout as plain;
 ghost use Rattle.wgsl_format_layout.specs.Layouts.{layout_view};
 
-/// How long a line may be, and how far it is indented.
+/// How long a line may be, how far it is indented, and with what it ends.
 #[derive(Clone, Copy, Debug, PartialEq, Eq)]
 pub struct Layout {
     /// A line with more columns is broken at its brackets, as far as it has any. If 0, none is.
     pub width: usize,
     pub indent: Indent,
+    pub newlines: Newlines,
 }
 
 /// What one level of indentation is.
@@ -21,14 +22,24 @@ pub enum Indent {
     Tab(u8),
 }
 
+/// With what lines end.
+#[derive(Clone, Copy, Debug, PartialEq, Eq)]
+pub enum Newlines {
+    /// With CR LF if the first LF of the source is after CR, otherwise with LF.
+    Auto,
+    Lf,
+    CrLf,
+}
+
 impl Layout {
-    /// Lines of up to 100 columns, and four spaces a level.
+    /// Lines of up to 100 columns, four spaces a level, and the line ends of the source.
     pub fn standard() -> Layout
         ensures { layout_view result ≡ plain.standard }
     {
         Layout {
             width: 100,
             indent: Indent::Spaces(4),
+            newlines: Newlines::Auto,
         }
     }
 

@@ -1,6 +1,7 @@
-//! The formatted text of a source: its tokens and comments as they are, with new white space between.
+//! The formatted text of a source: its tokens and comments, with new white space between.
 #![tactic(auto)]
 
+mod block;
 mod comment;
 mod flags;
 mod gap;
@@ -14,5 +15,5 @@ mod role;
 mod state;
 mod text;
 
-pub use layout::{Indent, Layout};
+pub use layout::{Indent, Layout, Newlines};
 pub use output::laid_out;

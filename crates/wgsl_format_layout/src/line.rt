@@ -1,9 +1,10 @@
 //! The column at which a text ends, and whether a line of it is too long.
 
 ghost use Rattle.std.specs.Prelude.{◌≡◌, ◌∷◌, [], chars, IfOk};
+ghost use Rattle.std.specs.List.{list_all};
 ghost use Rattle.wgsl_model_tidy.specs.Layout as plain;
 ghost use Rattle.wgsl_format_layout.specs.Layouts.{layout_view};
-ghost use Rattle.wgsl_format_layout.specs.Lines.{Passes, ended_by, is_over};
+ghost use Rattle.wgsl_format_layout.specs.Lines.{Passes, MovesOn, ended_by, is_over, is_printable};
 
 use crate::layout::Layout;
 use std::alloc::AllocError;
@@ -16,6 +17,13 @@ pub enum Wanted {
     Open,
     Fits,
     TooLong,
+}
+
+/// Whether each character of a text is a printable one of ASCII, which takes one column.
+fn is_printable(text: &str) -> bool
+    ensures { result ≡ list_all is_printable text.now }
+{
+    text.as_bytes().iter().all(|b| b' ' <= *b && *b <= b'~')
 }
 
 /// The last line of a text.
@@ -61,7 +69,14 @@ impl Line {
             self.column = 0;
             return Ok(());
         }
-        match self.column.checked_add(self.layout.columns(c)) {
+        self.move_on(self.layout.columns(c))
+    }
+
+    /// Goes on by so many columns.
+    fn move_on(&mut self, columns: usize) -> Result<(), AllocError>
+        ensures { IfOk result (λ _. MovesOn self.old columns self.new) }
+    {
+        match self.column.checked_add(columns) {
             Some(column) => {
                 self.column = column;
                 Ok(())
@@ -74,6 +89,9 @@ impl Line {
     pub(crate) fn pass(&mut self, text: &str) -> Result<(), AllocError>
         ensures { IfOk result (λ _. Passes self.old (chars text.now) self.new) }
     {
+        if is_printable(text) {
+            return self.move_on(text.len());
+        }
         let mut rest = text;
         'characters: while let Some((c, after)) = split_first(rest) {
             self.pass_one(c)?;

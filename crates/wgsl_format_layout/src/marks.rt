@@ -1,16 +1,16 @@
 //! The tokens of a source, each with what is in a bracket that it opens.
 
-ghost use Rattle.std.specs.Prelude.{◌≡◌, [], ◌∷◌, List, chars, IfOk};
+ghost use Rattle.std.specs.Prelude.{◌≡◌, [], ◌∷◌, chars, IfOk};
 ghost use Rattle.grammar.specs.Grammar.{is_among};
-ghost use Rattle.grammar.specs.Tokens.{Token};
-ghost use Rattle.grammar.specs.Endings.{Ending};
 ghost use Rattle.wgsl_model.specs.Tokens.Classes.{LineComment, SymBraceLeft, SymBraceRight};
 ghost use Rattle.wgsl_model.specs.Tokens.TokenList.{IsTokenList};
+ghost use Rattle.wgsl_lexer.specs.TextTokens.{tokens_left, ending_left};
 ghost use Rattle.wgsl_format_layout.specs.Gaps.{comment_class};
-ghost use Rattle.wgsl_format_layout.specs.Marks.{IsTrivia, AreFound, AreMarked, token_breaks, token_ends, marks};
+ghost use Rattle.wgsl_format_layout.specs.Marks.{IsTrivia, AreFound, AreMarked, operand_first, token_breaks, token_ends, marks};
 
 use crate::comment::{CommentKind, comment_at, line_ends_at};
 use crate::flags::{Flags, closes_one};
+use crate::role::role_of;
 use std::alloc::{AllocError, Global};
 use wgsl_lex_scanner::text::split_first;
 use wgsl_lex_token::kind::TokenKind;
@@ -64,6 +64,16 @@ impl MarkedToken {
     }
 }
 
+/// Whether an operand begins with the first of these tokens.
+pub(crate) fn begins_operand(tokens: &[MarkedToken]) -> bool
+    ensures { result ≡ operand_first tokens.now }
+{
+    match tokens.first() {
+        Some(token) => role_of(false, token.kind).begins_operand(),
+        None => false,
+    }
+}
+
 /// Whether a line ends after a comment.
 fn ends_line(kind: CommentKind) -> bool
     ensures { result ≡ is_among (comment_class kind)
@@ -104,12 +114,12 @@ fn trivia_in(text: &str, has_next: bool) -> Trivia
 }
 
 /// The tokens of a source up to its end or its first invalid token, and what is between them.
-fn found_tokens(alloc: Global, source: &str) -> Result<Found, AllocError>
-    ensures { IfOk result (λ found.
-        (ts : List Token) × (e : Ending) × IsTokenList (chars source.now) ts e ×
-        AreFound (chars source.now) 0 ts found.tokens.items found.last) }
+fn found_tokens(alloc: Global, source: &str, left: TextTokens) -> Result<Found, AllocError>
+    requires { IsTokenList (chars source.now) (tokens_left left) (ending_left left) }
+    ensures { IfOk result (λ found. AreFound
+        (chars source.now) 0 (tokens_left left.entry) found.tokens.items found.last) }
 {
-    let mut left = TextTokens::new(alloc, source)?;
+    let mut left = left;
     let mut tokens = Vec::new(alloc);
     let mut place = 0;
     'tokens: while let (Some(kind), Some(span)) = (left.kind(), left.span()) {
@@ -153,12 +163,16 @@ fn mark(alloc: Global, tokens: &mut [MarkedToken], last: Trivia) -> Result<(), A
 }
 
 /// The tokens of a source up to its end or its first invalid token, each with its marks.
-pub(crate) fn marked_tokens(alloc: Global, source: &str) -> Result<Vec<MarkedToken>, AllocError>
+pub(crate) fn marked_tokens(
+    alloc: Global,
+    source: &str,
+    left: TextTokens,
+) -> Result<Vec<MarkedToken>, AllocError>
+    requires { IsTokenList (chars source.now) (tokens_left left) (ending_left left) }
     ensures { IfOk result (λ tokens.
-        (ts : List Token) × (e : Ending) × IsTokenList (chars source.now) ts e ×
-        AreMarked (chars source.now) ts tokens.items) }
+        AreMarked (chars source.now) (tokens_left left.entry) tokens.items) }
 {
-    let Found { mut tokens, last } = found_tokens(alloc, source)?;
+    let Found { mut tokens, last } = found_tokens(alloc, source, left)?;
     mark(alloc, &mut tokens, last)?;
     Ok(tokens)
 }

@@ -2,26 +2,25 @@
 
 ghost use Rattle.std.specs.Prelude.{◌≡◌, ◌<◌, ◌≤◌, ◌++◌, if◌then◌else◌, ℕ, suc, [], List, length, codes, chars, string_bytes, true, false, IfOk, IsCharBoundary};
 ghost use Rattle.grammar.specs.Tokens.{Token};
-ghost use Rattle.grammar.specs.Endings.{Ending};
 ghost use Rattle.wgsl_model.specs.Tokens.TokenList.{IsTokenList};
 ghost use Rattle.wgsl_model.specs.Tokens.Trivia.{outside};
 ghost use Rattle.wgsl_model_tidy.specs.Pieces as plain;
-ghost use Rattle.wgsl_model_tidy.specs.Open.{role_in};
 ghost use Rattle.wgsl_model_tidy.specs.LaidOut as model;
 ghost use Rattle.wgsl_theory_tidy.proofs.Comments.{piece};
 ghost use Rattle.wgsl_lex_token.specs.View.{class_of_kind};
+ghost use Rattle.wgsl_lexer.specs.TextTokens.{tokens_left, ending_left};
 ghost use Rattle.wgsl_format_layout.specs.View.{role_view};
-ghost use Rattle.wgsl_format_layout.specs.States.{state_view};
 ghost use Rattle.wgsl_format_layout.specs.Gaps.{comment_class, gap_view, last_view};
 ghost use Rattle.wgsl_format_layout.specs.Comments.{MayFollow};
 ghost use Rattle.wgsl_format_layout.specs.Layouts.{layout_view};
 ghost use Rattle.wgsl_format_layout.specs.Lines.{Continues};
-ghost use Rattle.wgsl_format_layout.specs.Outputs.{spot_of, seen_with, can_part, Writes, WritesComments, WritesToken, StaysBehind, Parts, IsAt, left_at, WritesNext, Decides, Saves, looking, GoesBack};
+ghost use Rattle.wgsl_format_layout.specs.Outputs.{spot_of, seen_with, can_part, Writes, WritesComments, FitsBefore, WritesToken, StaysBehind, Parts, IsAt, left_at, WritesNext, Decides, Saves, looking, GoesBack};
 
 use crate::comment::{Comment, CommentKind, comment_at, is_followed, line_ends_at};
 use crate::flags::opens_one;
 use crate::gap::{
-    Gap, Last, comment_gap, comment_last, depth_behind, is_line, is_token, line_end, token_gap,
+    Gap, Last, begins_line, comment_gap, comment_last, depth_behind, is_line, is_token, line_end,
+    token_gap,
 };
 use crate::joint::joint_of;
 use crate::layout::Layout;
@@ -33,6 +32,7 @@ use crate::state::LayoutState;
 use crate::text::Text;
 use std::alloc::{AllocError, Global};
 use wgsl_lex_scanner::text::split_first;
+use wgsl_lexer::TextTokens;
 
 /// A text that is formatted up to a place.
 #[derive(Drop)]
@@ -152,9 +152,11 @@ impl Output {
         ensures text { IfOk result (λ _. Continues self.old.text self.new.text) }
     {
         let gap = self.gap_before_comment(comment.kind, line_ends, right, owned)?;
+        let depth = depth_behind(gap, self.state.line);
+        let begins = begins_line(gap, self.last, self.state.last);
         self.text.put_gap(gap)?;
-        self.text.put(comment.text)?;
-        self.state.line = depth_behind(gap, self.state.line);
+        self.text.put_comment(comment, begins, depth)?;
+        self.state.line = depth;
         self.last = comment_last(gap, self.last, self.state.last, comment.kind);
         Ok(())
     }
@@ -208,13 +210,11 @@ impl Output {
         text: &str,
         line_ends: usize,
     ) -> Result<(), AllocError>
-        requires token { model.is_comment (class_of_kind token.kind) ≡ false }
-        requires right { role_view right
-            ≡ role_in (state_view self.old.state) (class_of_kind token.kind) }
-        ensures laid { IfOk result (λ _. WritesToken self.old token (chars text.now)
-            line_ends self.new) }
+        requires { model.is_comment (class_of_kind token.kind) ≡ false }
+        ensures laid { IfOk result (λ _. WritesToken self.old token (role_view right)
+            (chars text.now) line_ends self.new) }
         ensures parts { IfOk result (λ _. (ps : List plain.Piece) →
-            token.lines ≡ model.has_lines ps → token.several ≡ model.has_several ps →
+            FitsBefore self.old token (role_view right) ps →
             can_part self.old token ≡ true → Parts self.new ps) }
         ensures text { IfOk result (λ _. Continues self.old.text self.new.text) }
     {
@@ -248,7 +248,7 @@ impl Output {
     {
         let token = tokens[at.token];
         let span = token.span;
-        let right = self.state.role_in(token.kind);
+        let right = self.state.role_in(token.kind, &tokens[at.token + 1..]);
         let line_ends = self.write_comments(&source[at.byte..span.start], right, true)?;
         let undecided = self.may_part(token);
         self.write_token(token, right, &source[span.start..span.end], line_ends)?;
@@ -342,14 +342,19 @@ impl Output {
     }
 }
 
-/// The formatted text of a source.
-pub fn laid_out(alloc: Global, source: &str, layout: Layout) -> Result<String, AllocError>
-    ensures { IfOk result (λ text.
-        (ts : List Token) × (e : Ending) × IsTokenList (chars source.now) ts e ×
-        (chars (string_bytes text)
-        ≡ model.laid_out (layout_view layout) (plain.pieces (chars source.now) ts))) }
+/// The formatted text of a source with these tokens.
+pub fn laid_out(
+    alloc: Global,
+    source: &str,
+    tokens: TextTokens,
+    layout: Layout,
+) -> Result<String, AllocError>
+    requires { IsTokenList
+        (chars source.now) (tokens_left tokens) (ending_left tokens) }
+    ensures { IfOk result (λ text. chars (string_bytes text) ≡ model.laid_out
+        (layout_view layout) (plain.pieces (chars source.now) (tokens_left tokens.entry))) }
 {
-    let tokens = marked_tokens(alloc, source)?;
+    let tokens = marked_tokens(alloc, source, tokens)?;
     let mut output = Output::new(alloc, source, layout)?;
     let mut at = Place { token: 0, byte: 0 };
     'tokens: while at.token < tokens.len() {

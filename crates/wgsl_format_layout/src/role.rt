@@ -40,7 +40,7 @@ pub(crate) enum Role {
     Prefix,
     /// An operator between operands, or of an assignment.
     Binary,
-    /// `++` or `--`.
+    /// `++` or `--` of an increment or a decrement.
     Step,
     /// Nothing stands before.
     Beginning,
@@ -64,7 +64,7 @@ fn sign_role(behind_operand: bool, kind: TokenKind) -> Role
     }
 }
 
-/// What a kind of token does, after an operand or not.
+/// What a kind of token does, after an operand or not, `--` as in a decrement.
 pub(crate) fn role_of(behind_operand: bool, kind: TokenKind) -> Role
     ensures { role_view result ≡ role_of behind_operand (class_of_kind kind) }
 {
@@ -167,7 +167,7 @@ impl Role {
     {
         matches!(
             self,
-            Role::TemplateStart | Role::Minus | Role::Ampersand | Role::Prefix | Role::Step
+            Role::TemplateStart | Role::Minus | Role::Ampersand | Role::Prefix
         )
     }
 

@@ -1,12 +1,15 @@
 //! What is known after a token.
 
-ghost use Rattle.std.specs.Prelude.{◌≡◌, IfOk};
+ghost use Rattle.std.specs.Prelude.{◌≡◌, ◌&&◌, ◌==◌, IfOk};
+ghost use Rattle.wgsl_model.specs.Tokens.Classes.{SymMinusMinus};
 ghost use Rattle.wgsl_model_tidy.specs.Open as plain;
 ghost use Rattle.wgsl_lex_token.specs.View.{class_of_kind};
 ghost use Rattle.wgsl_format_layout.specs.View.{role_view};
 ghost use Rattle.wgsl_format_layout.specs.States.{state_view};
 ghost use Rattle.wgsl_format_layout.specs.Kinds.{open_view, style_view};
+ghost use Rattle.wgsl_format_layout.specs.Marks.{operand_first};
 
+use crate::marks::{MarkedToken, begins_operand};
 use crate::opened::{Open, Opened, Style, deeper};
 use crate::role::{Role, role_of};
 use std::alloc::{AllocError, Global};
@@ -24,6 +27,13 @@ pub(crate) struct LayoutState {
     leading: bool,
     /// Whether the next `{` opens a structure.
     structure: bool,
+}
+
+/// Whether a kind of token is a `--` before an operand, with these tokens after it.
+fn is_subtraction(kind: TokenKind, others: &[MarkedToken]) -> bool
+    ensures { result ≡ (class_of_kind kind == SymMinusMinus && operand_first others.now) }
+{
+    kind as u8 == TokenKind::SymMinusMinus as u8 && begins_operand(others)
 }
 
 impl LayoutState {
@@ -115,10 +125,14 @@ impl LayoutState {
         }
     }
 
-    /// What a kind of token does here.
-    pub(crate) fn role_in(&self, kind: TokenKind) -> Role
-        ensures { role_view result ≡ plain.role_in (state_view self.now) (class_of_kind kind) }
+    /// What a kind of token does here, with these tokens after it.
+    pub(crate) fn role_in(&self, kind: TokenKind, others: &[MarkedToken]) -> Role
+        ensures { role_view result ≡ plain.role_in (state_view self.now) (class_of_kind kind)
+            (operand_first others.now) }
     {
+        if is_subtraction(kind, others) {
+            return Role::Binary;
+        }
         role_of(self.last.ends_operand(), kind)
     }
 

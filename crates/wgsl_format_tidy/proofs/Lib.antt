@@ -1,2 +1,4 @@
 pub mod Laid
+pub mod Refused
 pub mod RunOutput
+pub mod Sources

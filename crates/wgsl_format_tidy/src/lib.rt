@@ -3,6 +3,7 @@
 #![tactic(auto)]
 
 mod report;
+mod source;
 mod tidied;
 
 ghost use Rattle.std.specs.Prelude.{◌≡◌, ◌<◌};
@@ -17,7 +18,7 @@ use report::report_of;
 use std::alloc::Global;
 use std::io::{Read, Write};
 pub use tidied::{tidy, tidy_with};
-pub use wgsl_format_layout::{Indent, Layout};
+pub use wgsl_format_layout::{Indent, Layout, Newlines};
 pub use wgsl_format_streams::refuse_memory;
 use wgsl_format_streams::{deliver, read_all, tell};
 

@@ -1,38 +1,58 @@
 //! What a formatted text keeps of its source.
 
-ghost use Rattle.std.specs.Prelude.{◌≡◌, ℕ, List};
+ghost use Rattle.std.specs.Prelude.{◌≡◌, ℕ, true, false, List};
 ghost use Rattle.grammar.specs.Tokens.{Token};
+ghost use Rattle.grammar.specs.Grammar.{IsSentence};
 ghost use Rattle.grammar.specs.Endings.{Ending.finished};
+ghost use Rattle.wgsl_model.specs.Grammar.Symbols.{Symbol.unit};
+ghost use Rattle.wgsl_model.specs.Grammar.Written.{written};
 ghost use Rattle.wgsl_model.specs.Tokens.TokenList.{IsTokenList};
 ghost use Rattle.wgsl_model_tidy.specs.Pieces.{pieces};
 ghost use Rattle.wgsl_model_tidy.specs.Layout.{Layout};
 ghost use Rattle.wgsl_model_tidy.specs.LaidOut.{laid_out};
+ghost use Rattle.wgsl_model_tidy.specs.Formatted.{unmarked, ends_crlf, formatted};
 ghost use Rattle.wgsl_model_tidy.specs.NonBlank.{non_blank};
 ghost use Rattle.wgsl_model_tidy.specs.Lines.{BreaksLinesByLF, HasNoTrailingWhiteSpace};
 ghost use Rattle.wgsl_model_tidy.specs.Lines.{HasNoTwoEmptyLines, BeginsWithNoLineBreak};
-ghost use Rattle.wgsl_model_tidy.specs.Lines.{EndsWithOneLineEnd};
+ghost use Rattle.wgsl_model_tidy.specs.Brackets.{AlignsClosingBrackets};
+ghost use Rattle.wgsl_model_tidy.specs.Lines.{EndsWithOneLineEnd, EndsLinesWithCRLF, HasNoCRLF};
 ghost use Rattle.wgsl_model_tidy.specs.Kept.{Keeps};
 
-/// A text without an invalid token, formatted by any layout, has the same tokens and comments,
-/// derives the same unit if it is a module, and is formatted already by that layout.
+/// A text without an invalid token, formatted by any layout, has the same byte order mark or none,
+/// and the same tokens and comments, but for CR before LF in block comments and spaces and tabs
+/// before `*` at the front of their lines. It derives the same unit if it is a module, and is
+/// formatted already by that layout.
 pub fn laid_out_keeps()
     ensures { (layout : Layout) (source : List ℕ) (ts : List Token)
-        (read : IsTokenList source ts finished) →
-        Keeps layout source (laid_out layout (pieces source ts)) }
+        (read : IsTokenList (unmarked source) ts finished) →
+        Keeps layout source (formatted layout source ts) }
 {}
 
 /// A text without an invalid token, formatted by any layout, has the same characters in the same
 /// order, but for blank space.
 pub fn formatted_characters()
     ensures { (layout : Layout) (source : List ℕ) (ts : List Token)
-        (read : IsTokenList source ts finished) →
-        non_blank (laid_out layout (pieces source ts)) ≡ non_blank source }
+        (read : IsTokenList (unmarked source) ts finished) →
+        non_blank (formatted layout source ts) ≡ non_blank source }
+{}
+
+/// In a text formatted by any layout either every LF is after CR, in block comments too, or none
+/// is.
+pub fn formatted_line_ends()
+    ensures crlf { (layout : Layout) (source : List ℕ) (ts : List Token)
+        (read : IsTokenList (unmarked source) ts finished)
+        (chosen : ends_crlf layout.newlines (unmarked source) ≡ true) →
+        EndsLinesWithCRLF (formatted layout source ts) }
+    ensures lf { (layout : Layout) (source : List ℕ) (ts : List Token)
+        (read : IsTokenList (unmarked source) ts finished)
+        (chosen : ends_crlf layout.newlines (unmarked source) ≡ false) →
+        HasNoCRLF (formatted layout source ts) }
 {}
 
 /// Outside block comments, the lines of a text formatted by any layout end with LF alone and with
 /// no white space before it, and no two empty ones follow one another. The text does not begin with
 /// a line break. Unless it is empty or ends in a block comment that is not closed, it ends with one
-/// line end.
+/// line end. All this is said of the text after a byte order mark, before LF becomes CR LF.
 pub fn formatted_lines()
     ensures line_breaks { (layout : Layout) (source : List ℕ) (ts : List Token)
         (read : IsTokenList source ts finished) →
@@ -49,4 +69,13 @@ pub fn formatted_lines()
     ensures one_line_end { (layout : Layout) (source : List ℕ) (ts : List Token)
         (read : IsTokenList source ts finished) →
         EndsWithOneLineEnd (laid_out layout (pieces source ts)) }
+{}
+
+/// In a module formatted by any layout, a closing bracket `)` or `]` that begins a line has the same
+/// blank space before it as the line of its opening bracket, if neither line begins inside a block
+/// comment. Names and attributes are not checked: a module by its syntax is enough.
+pub fn formatted_brackets()
+    ensures { (layout : Layout) (source : List ℕ) (ts : List Token)
+        (read : IsTokenList source ts finished) (derived : IsSentence written unit ts) →
+        AlignsClosingBrackets (laid_out layout (pieces source ts)) }
 {}

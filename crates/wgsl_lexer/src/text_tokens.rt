@@ -88,6 +88,26 @@ impl<'s> TextTokens<'s> {
         })
     }
 
+    /// The same tokens once more.
+    pub fn clone(&self, alloc: Global) -> Result<TextTokens<'s>, AllocError>
+        ensures left { IfOk result (λ copy. tokens_left copy ≡ tokens_left self.now) }
+        ensures ending { IfOk result (λ copy. ending_left copy ≡ ending_left self.now) }
+    {
+        let mut ends = Vec::with_capacity(alloc, self.ends.len() + self.room)?;
+        ends.extend_from_slice(&self.ends)?;
+        let templates = self.templates.clone(alloc)?;
+        Ok(TextTokens {
+            alloc,
+            total: self.total,
+            next: self.next,
+            rest: self.rest,
+            behind_word: self.behind_word,
+            ends,
+            room: self.room,
+            templates,
+        })
+    }
+
     /// Which token stands next, if one does.
     pub fn kind(&self) -> Option<TokenKind>
         ensures { MatchOption result

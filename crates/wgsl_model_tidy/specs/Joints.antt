@@ -11,9 +11,9 @@ pub data Joint : Type 0 where
   -- the same, or the line end that the author put there
   nothing_or_line space_or_line : Joint
 
--- `- -`, `& &` and `-- -` stay apart, since there are `--` and `&&`, and for the eye
+-- `- -` and `& &` stay apart, since `--` and `&&` are tokens
 abbrev pub stay_apart : Role → Role → Bool
-stay_apart left right = (is right minus && (is left minus || is left step)) || (is left ampersand && is right ampersand)
+stay_apart left right = (is left minus && is right minus) || (is left ampersand && is right ampersand)
 
 -- nothing stands after `(`, `[` and `@`, between `.` and a name, and where an operand comes next
 abbrev pub tight_behind : Role → Role → Bool

@@ -1,9 +1,10 @@
--- The laid-out text of pieces: each piece as it stands, and before it nothing, a space, or a line end, an empty line at most, and the blank space of the line's depth.
+-- The laid-out text of pieces: each piece as `Shown` has it, and before it nothing, a space, or a line end, an empty line at most, and the blank space of the line's depth.
 use Rattle.std.specs.Prelude.{ℕ, zero, suc, Bool, true, false, not, ◌&&◌, ◌||◌, ◌==◌, nat_lt, if◌then◌else◌, List, [], ◌∷◌, ◌++◌, codes}
 use Rattle.grammar.specs.Grammar.{is_among}
 use Rattle.wgsl_model.specs.Tokens.Classes.{LineComment, BlockComment, SymBraceLeft, SymBraceRight}
 use Rattle.wgsl_model_tidy.specs.Pieces.{Piece, OpenComment}
-use Rattle.wgsl_model_tidy.specs.Roles.{Role, beginning, opening, template_start, template_end, block_end, is, is_tight, opens, opens_bracket, closes_bracket, closes, role_of}
+use Rattle.wgsl_model_tidy.specs.Shown.{shown}
+use Rattle.wgsl_model_tidy.specs.Roles.{Role, beginning, opening, template_start, template_end, block_end, is, is_tight, opens, opens_bracket, closes_bracket, closes, role_of, begins_operand}
 use Rattle.wgsl_model_tidy.specs.Joints.{Joint, line, nothing, space, nothing_or_line, space_or_line, joint}
 use Rattle.wgsl_model_tidy.specs.Layout.{Layout, level, column_after, line_fits}
 use Rattle.wgsl_model_tidy.specs.Open.{Style, together, as_written, item_by_item, LayoutState, Enclosing, one_line, start, enclosing, between_items, depth_of, comment_depth, role_in, behind_token}
@@ -99,10 +100,15 @@ line_end items last left right n depth = broken (nat_lt 1 n && (items && not (is
 abbrev pub is_comment : ℕ → Bool
 is_comment class = class == LineComment || (class == BlockComment || class == OpenComment)
 
+-- an operand begins with the first token of these pieces
+abbrev pub operand_follows : List Piece → Bool
+operand_follows [] = false
+operand_follows (p ∷ ps) = if is_comment p.class then operand_follows ps else begins_operand (role_of false p.class)
+
 -- what the first token of these pieces does, or nothing
 abbrev pub next_role : LayoutState → List Piece → Role
 next_role state [] = beginning
-next_role state (p ∷ ps) = if is_comment p.class then next_role state ps else role_in state p.class
+next_role state (p ∷ ps) = if is_comment p.class then next_role state ps else role_in state p.class (operand_follows ps)
 
 -- a token comes after the comments at the front of these pieces, with no line end before any of them or before it
 abbrev pub is_followed : List Piece → Bool
@@ -198,6 +204,16 @@ abbrev pub depth_behind : Gap → ℕ → ℕ
 depth_behind (broken empty depth) before = depth
 depth_behind gap before = before
 
+-- a piece after this gap begins a line
+abbrev pub begins_line : Gap → Last → Role → Bool
+begins_line (broken empty depth) last left = true
+begins_line gap token left = is left beginning
+begins_line gap last left = false
+
+-- the characters of a piece after this gap; lines that have a front of their own have the blank space of this line and a space
+abbrev pub piece_text : Layout → Spot → Gap → Piece → List ℕ
+piece_text layout spot gap p = shown (indentation layout (depth_behind gap spot.state.line) ++ codes " ") (begins_line gap spot.last spot.state.last) p
+
 -- the state in a line of another depth
 abbrev pub in_line_of : LayoutState → ℕ → LayoutState
 in_line_of state depth = record { opened = state.opened; line = depth; last = state.last; leading = state.leading; structure = state.structure }
@@ -217,7 +233,7 @@ comment_last class leading = if class == LineComment then line_comment else if c
 abbrev pub behind_piece : Layout → Spot → Gap → Role → Piece → Style → Spot
 behind_piece layout spot gap right p style =
     let depth = depth_behind gap spot.state.line in
-    let column = column_after layout spot.column (gap_text layout gap ++ p.text) in
+    let column = column_after layout spot.column (gap_text layout gap ++ piece_text layout spot gap p) in
     if is_comment p.class then record { state = in_line_of spot.state depth; last = comment_last p.class (leads gap spot.last spot.state.last); column = column }
     else record { state = behind_token spot.state depth p.class right style; last = token; column = column }
 
@@ -239,7 +255,8 @@ laid_from layout spot [] = ending spot.last spot.state.last
 laid_from layout spot (p ∷ ps) =
     let after = behind_first layout spot p ps in
     let style = style_of layout (enclosing spot.state.opened) p.class (after together).column ps (laid_from layout (after together) ps) in
-    gap_text layout (gap_before spot (next_role spot.state (p ∷ ps)) p ps) ++ (p.text ++ laid_from layout (after style) ps)
+    let gap = gap_before spot (next_role spot.state (p ∷ ps)) p ps in
+    gap_text layout gap ++ (piece_text layout spot gap p ++ laid_from layout (after style) ps)
 
 -- nothing is laid out yet
 abbrev pub first_spot : Spot

@@ -1,15 +1,20 @@
 -- What a user chooses of the layout.
 use Rattle.std.specs.Prelude.{ℕ, Bool, false, ◌+◌, ◌==◌, nat_le, if◌then◌else◌, List, [], ◌∷◌, codes, replicate}
 
--- how long a line may be, in columns, or 0 where none is too long; and what a level is: a tab, or spaces, and how many columns
+-- with what lines end: CR LF if the first line end of the source is CR LF, else LF; always LF; always CR LF
+pub data Newlines : Type 0 where
+  auto lf crlf : Newlines
+
+-- how long a line may be, in columns, or 0 where none is too long; what a level is: a tab, or spaces, and how many columns; and with what lines end
 pub record Layout : Type 0 where
   pub width : ℕ
   pub tabs : Bool
   pub indent : ℕ
+  pub newlines : Newlines
 
--- lines of up to 100 columns, and four spaces a level
+-- lines of up to 100 columns, four spaces a level, and the line ends of the source
 abbrev pub standard : Layout
-standard = record { width = 100; tabs = false; indent = 4 }
+standard = record { width = 100; tabs = false; indent = 4; newlines = auto }
 
 -- one level
 abbrev pub level : Layout → List ℕ

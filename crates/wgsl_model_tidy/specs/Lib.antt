@@ -4,9 +4,12 @@ pub mod Roles
 pub mod Joints
 pub mod Open
 pub mod Layout
+pub mod Shown
 pub mod LaidOut
+pub mod Formatted
 pub mod NonBlank
 pub mod Lines
+pub mod Brackets
 pub mod Kept
 pub mod Syntax
 pub mod Tidied

@@ -60,3 +60,11 @@ pub data EndsWithOneLineEnd (text : List ℕ) : Type 0 where
   no_text : text ≡ [] → EndsWithOneLineEnd text
   in_open_comment : in_block_comment (place_of text []) ≡ true → EndsWithOneLineEnd text
   with_line_end : (front : List ℕ) (c : ℕ) → text ≡ front ++ (c ∷ (10 ∷ [])) → is_whitespace c ≡ false → EndsWithOneLineEnd text
+
+-- Every LF of the text is after CR.
+abbrev pub EndsLinesWithCRLF : List ℕ → Type 0
+EndsLinesWithCRLF text = (front rest : List ℕ) → text ≡ front ++ (10 ∷ rest) → (before : List ℕ) × (front ≡ before ++ (13 ∷ []))
+
+-- No LF of the text is after CR.
+abbrev pub HasNoCRLF : List ℕ → Type 0
+HasNoCRLF text = (front rest : List ℕ) → text ≡ front ++ (13 ∷ (10 ∷ rest)) → ⊥

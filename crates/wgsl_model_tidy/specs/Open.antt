@@ -1,7 +1,7 @@
 -- What is open at a place, how deep a line there stands, and what a token does to it.
 use Rattle.std.specs.Prelude.{ℕ, suc, Bool, true, false, ◌&&◌, ◌||◌, not, ◌==◌, if◌then◌else◌, List, [], ◌∷◌, drop}
-use Rattle.wgsl_model.specs.Tokens.Classes.{KwStruct}
-use Rattle.wgsl_model_tidy.specs.Roles.{Role, else_word, opening, closing, template_start, block_start, block_end, comma, semicolon, at, item_end, attribute, beginning, is, opens_bracket, closes, ends_operand, begins_item, role_of}
+use Rattle.wgsl_model.specs.Tokens.Classes.{SymMinusMinus, KwStruct}
+use Rattle.wgsl_model_tidy.specs.Roles.{Role, else_word, opening, closing, template_start, block_start, block_end, comma, semicolon, at, binary, item_end, attribute, beginning, is, opens_bracket, closes, ends_operand, begins_item, role_of}
 
 -- how a bracket is written: in one line; in lines of its own, those inside as the author has them; or in lines of its own, with each item in a line
 pub data Style : Type 0 where
@@ -96,9 +96,9 @@ comment_depth state right = if closes right then inner_depth state.opened else d
 
 -- ---- after a token
 
--- what a token of a class does after what stands there
-abbrev pub role_in : LayoutState → ℕ → Role
-role_in state class = role_of (ends_operand state.last) class
+-- what a token of a class does after what stands there, before an operand or not: `--` stands between operands where one comes after it
+abbrev pub role_in : LayoutState → ℕ → Bool → Role
+role_in state class before_operand = if class == SymMinusMinus && before_operand then binary else role_of (ends_operand state.last) class
 
 -- What a token is to what follows it. An attribute ends with its name or with the `)` after its arguments, a member with the `,` after it, and a statement or a declaration with its `;`, but not in the header of a `for`.
 abbrev pub last_behind : LayoutState → Role → Role

@@ -20,7 +20,7 @@ pub data Role : Type 0 where
   minus ampersand prefix : Role
   -- an operator between operands, or of an assignment
   binary : Role
-  -- `++` or `--`
+  -- `++` or `--` of an increment or a decrement
   step : Role
   -- after it only: nothing; the end of a statement, a declaration or a member; the name of an attribute, or its arguments
   beginning item_end attribute : Role
@@ -76,13 +76,12 @@ begins_operand ampersand = true
 begins_operand prefix = true
 begins_operand role = false
 
--- an operand comes next: after the `<` of a template list, an operator before its operand, and a `--` between operands
+-- an operand comes next: after the `<` of a template list and an operator before its operand
 abbrev pub wants_operand : Role → Bool
 wants_operand template_start = true
 wants_operand minus = true
 wants_operand ampersand = true
 wants_operand prefix = true
-wants_operand step = true
 wants_operand role = false
 
 -- nothing stands before it: `,` `;` `:` `)` `]`
@@ -141,7 +140,7 @@ abbrev pub sign_role : Bool → ℕ → Role
 sign_role true class = binary
 sign_role false class = if class == SymMinus then minus else if class == SymAnd then ampersand else prefix
 
--- what a token of a class does, after an operand or not; `diagnostic` has its arguments after it, as a name has
+-- what a token of a class does, after an operand or not, `--` as in a decrement; `diagnostic` has its arguments after it, as a name has
 abbrev pub role_of : Bool → ℕ → Role
 role_of behind_operand class =
     if is_among class (Ident ∷ ReservedWord ∷ KwTrue ∷ KwFalse ∷ KwDiagnostic ∷ []) then name

@@ -120,6 +120,7 @@ pub use Rattle.wgsl_model_tidy.specs.Joints as TokenJoints
 pub use Rattle.wgsl_model_tidy.specs.Open as OpenBrackets
 pub use Rattle.wgsl_model_tidy.specs.Layout
 pub use Rattle.wgsl_model_tidy.specs.LaidOut
+pub use Rattle.wgsl_model_tidy.specs.Formatted
 pub use Rattle.wgsl_model_tidy.specs.NonBlank
 pub use Rattle.wgsl_model_tidy.specs.Lines
 pub use Rattle.wgsl_model_tidy.specs.Kept as KeptPieces

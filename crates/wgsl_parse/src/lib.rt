@@ -87,7 +87,7 @@ pub mod parser {
 
 /// Laying modules out for people: comments and the author's line breaks stay.
 pub mod tidy {
-    pub use wgsl_format_tidy::{Indent, Layout, tidy, tidy_with};
+    pub use wgsl_format_tidy::{Indent, Layout, Newlines, tidy, tidy_with};
 }
 
 /// What holds of all texts and trees, as contracts of functions that do nothing.
@@ -96,7 +96,10 @@ pub mod laws {
     pub use wgsl_laws::grammar_laws::{
         checked_is_full, no_less_derived, one_fault, one_name, one_tree, syntax_fault,
     };
-    pub use wgsl_laws::laid_out::{formatted_characters, formatted_lines, laid_out_keeps};
+    pub use wgsl_laws::laid_out::{
+        formatted_brackets, formatted_characters, formatted_line_ends, formatted_lines,
+        laid_out_keeps,
+    };
     pub use wgsl_laws::paths::{join_laws, path_text, starts_with_laws};
     pub use wgsl_laws::printed::{
         canonical_parse, print_twice, printed_parse, printed_tokens, unit_or_fault,

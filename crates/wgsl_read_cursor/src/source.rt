@@ -30,6 +30,7 @@ impl<'s> TokenSource<'s> {
     ghost use Rattle.grammar.specs.Endings.{Ending};
     ghost use Rattle.wgsl_model.specs.Tokens.TokenList.{IsTokenList};
     ghost use Rattle.wgsl_lexer.specs.Placed.{tokens_view};
+    ghost use Rattle.wgsl_lexer.specs.TextTokens.{tokens_left, ending_left};
     ghost use Rattle.wgsl_read_cursor.specs.Origins.{IsSourceOf};
 
     /// The tokens of a text.
@@ -38,10 +39,19 @@ impl<'s> TokenSource<'s> {
             IsTokenList (chars text.now) ts ending × IsSourceOf source ts ending) }
     {
         let tokens = TextTokens::new(alloc, text)?;
-        Ok(TokenSource {
+        Ok(TokenSource::of_tokens(alloc, text, tokens))
+    }
+
+    /// The tokens of a text that are found already.
+    pub fn of_tokens(alloc: Global, text: &'s str, tokens: TextTokens<'s>) -> TokenSource<'s>
+        requires { IsTokenList
+            (chars text.now) (tokens_left tokens) (ending_left tokens) }
+        ensures { IsSourceOf result (tokens_left tokens.entry) (ending_left tokens.entry) }
+    {
+        TokenSource {
             tokens: Cursor::of_text(alloc, tokens),
             origin: Origin::Text(text),
-        })
+        }
     }
 
     /// The tokens of an iterator. Where memory was refused for what follows them a `(` stands behind, so that an

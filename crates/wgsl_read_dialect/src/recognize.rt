@@ -5,7 +5,9 @@ ghost use Rattle.grammar.specs.Tokens.{Token};
 ghost use Rattle.grammar.specs.Endings.{Ending};
 ghost use Rattle.wgsl_model.specs.Faults.Checked.{wants_memory};
 ghost use Rattle.wgsl_model_tidy.specs.Syntax.{IsModuleInSyntax, IsSyntaxFaultOf};
+ghost use Rattle.wgsl_model.specs.Tokens.TokenList.{IsTokenList};
 ghost use Rattle.wgsl_error.specs.View.{fault_view};
+ghost use Rattle.wgsl_lexer.specs.TextTokens.{tokens_left, ending_left};
 ghost use Rattle.wgsl_read_cursor.specs.Answers.{IsOutOfMemory};
 ghost use Rattle.wgsl_read_cursor.specs.Origins.{IsSourceOf};
 ghost use Rattle.wgsl_read_cursor.specs.Places.{StandsWithin};
@@ -17,6 +19,7 @@ use crate::dialect::Dialect;
 use crate::rules::{Symbol, right_side};
 use std::alloc::Global;
 use wgsl_error::Error;
+use wgsl_lexer::TextTokens;
 use wgsl_read_cursor::{Expected, TokenSource};
 
 /// Whether the tokens of a source are a module of a dialect.
@@ -50,15 +53,18 @@ pub fn recognize_str(alloc: Global, source: &str) -> Result<(), Error>
     )
 }
 
-/// Whether a text is a module by its tokens, as `parse_str` reads them but without its checks:
+/// Whether a text with these tokens is a module, as `parse_str` reads them but without its checks:
 /// a reserved word is a name, and attributes, `var` templates and severities may say anything.
 /// Otherwise the error is the first token that can't be where it is; else the text that is no
 /// token; else that the text ends too early. No tree is made.
-pub fn check_syntax(alloc: Global, source: &str) -> Result<(), Error>
+pub fn check_syntax(alloc: Global, source: &str, tokens: TextTokens) -> Result<(), Error>
+    requires { IsTokenList
+        (chars source.now) (tokens_left tokens) (ending_left tokens) }
     ensures accepted { IfOk result (λ _. IsModuleInSyntax (chars source.now)) }
     ensures refused { IfErr result (λ e.
         IsOutOfMemory e ⊎ IsSyntaxFaultOf (chars source.now) (fault_view e)) }
     ensures placed { IfErr result (λ e. StandsWithin e.span (length source.now)) }
 {
-    recognize_unit(alloc, Dialect::Parsed, TokenSource::of_text(alloc, source)?)
+    let tokens = TokenSource::of_tokens(alloc, source, tokens);
+    recognize_unit(alloc, Dialect::Parsed, tokens)
 }

@@ -5,15 +5,15 @@ ghost use Rattle.wgsl_parse.specs.Program.{IsUnit, IsFaultOf};
 ghost use Rattle.wgsl_parse.specs.Units.{TranslationUnit};
 ghost use Rattle.wgsl_parse.specs.PrintedUnits.{print_unit};
 ghost use Rattle.wgsl_parse.specs.KeptPieces.{Keeps};
-ghost use Rattle.wgsl_parse.specs.Layout.{standard};
-ghost use Rattle.wgsl_parse.specs.Syntax.{IsSyntaxFaultOf};
+ghost use Rattle.wgsl_parse.specs.Layout.{standard, crlf};
+ghost use Rattle.wgsl_parse.specs.Syntax.{IsFaultAfterMark};
 ghost use Rattle.wgsl_parse.specs.Answers.{IsOutOfMemory};
 ghost use Rattle.wgsl_parse.specs.ErrorView.{fault_view};
 
 use std::alloc::Global;
 use wgsl_parse::error::Error;
 use wgsl_parse::parse_str;
-use wgsl_parse::tidy::{Indent, Layout, tidy, tidy_with};
+use wgsl_parse::tidy::{Indent, Layout, Newlines, tidy, tidy_with};
 
 /// The canonical text of a module.
 pub fn formatted(alloc: Global, source: &str) -> Result<String, Error>
@@ -31,16 +31,21 @@ pub fn laid_out(alloc: Global, source: &str) -> Result<String, Error>
     ensures kept { IfOk result (λ text.
         Keeps standard (chars source.now) (chars (string_bytes text))) }
     ensures refused { IfErr result (λ e.
-        IsOutOfMemory e ⊎ IsSyntaxFaultOf (chars source.now) (fault_view e)) }
+        IsOutOfMemory e ⊎ IsFaultAfterMark (chars source.now) (fault_view e)) }
 {
     tidy(alloc, source)
 }
 
-/// The same with lines of up to so many columns, and a tab of eight columns for each level.
+/// The same with lines of up to so many columns, a tab of eight columns for each level, and CR LF.
 pub fn laid_out_with_tabs(alloc: Global, source: &str, width: usize) -> Result<String, Error>
-    ensures kept { IfOk result (λ text. Keeps (record { width = width; tabs = true; indent = 8 })
+    ensures kept { IfOk result (λ text.
+        Keeps (record { width = width; tabs = true; indent = 8; newlines = crlf })
         (chars source.now) (chars (string_bytes text))) }
 {
-    let indent = Indent::Tab(8);
-    tidy_with(alloc, source, Layout { width, indent })
+    let layout = Layout {
+        width,
+        indent: Indent::Tab(8),
+        newlines: Newlines::CrLf,
+    };
+    tidy_with(alloc, source, layout)
 }

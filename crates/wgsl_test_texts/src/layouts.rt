@@ -1,14 +1,17 @@
-//! Formatted texts with a width and an indentation.
+//! Formatted texts with a width, an indentation and line ends.
 
 use crate::facts::Facts;
 use crate::faults::see_fault;
 use std::alloc::AllocError;
-use wgsl_format_tidy::{Indent, Layout, tidy_with};
+use wgsl_format_tidy::{Indent, Layout, Newlines, tidy_with};
 
 /// What a text is formatted as with a layout, and that this is formatted already.
 pub fn see_layout(text: &str, words: &str, facts: &mut Facts<'_>) -> Result<(), AllocError> {
     let Some(layout) = layout_of(words) else {
-        return facts.expect(false, "a layout is a width and an indentation");
+        return facts.expect(
+            false,
+            "a layout is a width, an indentation and perhaps line ends",
+        );
     };
     match tidy_with(facts.alloc, text, layout) {
         Ok(formatted) => {
@@ -23,10 +26,16 @@ pub fn see_layout(text: &str, words: &str, facts: &mut Facts<'_>) -> Result<(), 
     }
 }
 
-/// The layout of words such as `80 tabs 8` and `100 spaces 4`.
+/// The layout of words such as `80 tabs 8` and `100 spaces 4 crlf`.
 fn layout_of(words: &str) -> Option<Layout> {
     let (width, indent) = words.split_once(' ')?;
     let (word, count) = indent.split_once(' ')?;
+    let (count, newlines) = match count.split_once(' ') {
+        None => (count, Newlines::Auto),
+        Some((count, "lf")) => (count, Newlines::Lf),
+        Some((count, "crlf")) => (count, Newlines::CrLf),
+        Some(_) => return None,
+    };
     let count = count.parse().ok()?;
     let indent = match word {
         "tabs" => Indent::Tab(count),
@@ -36,5 +45,6 @@ fn layout_of(words: &str) -> Option<Layout> {
     Some(Layout {
         width: width.parse().ok()?,
         indent,
+        newlines,
     })
 }

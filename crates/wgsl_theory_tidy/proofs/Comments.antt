@@ -181,7 +181,7 @@ closes_sign : (b : ℕ → List Piece) (n depth : ℕ) (rest : List ℕ) → com
 unfolding comments
 closes_sign b n depth rest = refl
 
-other_sign : (b : ℕ → List Piece) (n depth c : ℕ) (cs : List ℕ) → (c == 47 && first_or_zero cs == 42) ≡ false → (c == 42 && first_or_zero cs == 47) ≡ false → comments b (in_block depth) n (c ∷ cs) ≡ put c (comments b (in_block depth) n cs)
+pub other_sign : (b : ℕ → List Piece) (n depth c : ℕ) (cs : List ℕ) → (c == 47 && first_or_zero cs == 42) ≡ false → (c == 42 && first_or_zero cs == 47) ≡ false → comments b (in_block depth) n (c ∷ cs) ≡ put c (comments b (in_block depth) n cs)
 unfolding comments
 other_sign b n depth c cs h k = rw (h, k) refl
 

@@ -11,9 +11,11 @@ pub mod TokenRoles
 pub mod Neighbours
 pub mod Parted
 pub mod NeatTexts
+mod Bodies
 pub mod ClosedComments
 mod TextFronts
 mod NonBlankOf
+pub mod ShownTexts
 pub mod Trails
 pub mod Gaps
 pub mod Fitting
@@ -37,5 +39,25 @@ pub mod NeatWords
 pub mod LaidText
 pub mod SameShape
 pub mod SameCharacters
+pub mod CrlfTrivia
+pub mod CrlfTokens
+pub mod CrlfPieces
+pub mod CrlfReads
+pub mod CrlfShown
+mod CrlfSame
+mod Marks
+mod LaidLineEnds
+mod LineEnds
+pub mod FormattedKept
+mod NestedTokens
+mod OpenedRoles
+mod AlignedTexts
+mod AlignedComments
+mod BracketWords
+mod AlignedWords
+mod AlignedGaps
+mod AlignedPieces
+mod BracketPairs
+pub mod ClosingBrackets
 pub mod Lines
 pub mod Kept

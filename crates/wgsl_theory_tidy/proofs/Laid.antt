@@ -4,8 +4,9 @@ use Rattle.wgsl_model_tidy.specs.Pieces.{Piece}
 use Rattle.wgsl_model_tidy.specs.Roles.{Role}
 use Rattle.wgsl_model_tidy.specs.Layout.{Layout, column_after}
 use Rattle.wgsl_model_tidy.specs.Open.{Style, together, LayoutState, enclosing, role_in, behind_token}
-use Rattle.wgsl_model_tidy.specs.LaidOut.{Gap, Last, token, Spot, next_role, owned, gap_before_comment, gap_before_token, gap_text, depth_behind, in_line_of, is_comment, leads, comment_last, style_of, laid_from}
+use Rattle.wgsl_model_tidy.specs.LaidOut.{Gap, Last, token, Spot, next_role, owned, gap_before_comment, gap_before_token, gap_text, depth_behind, piece_text, in_line_of, is_comment, leads, comment_last, style_of, laid_from, operand_follows}
 use Rattle.wgsl_theory_tidy.proofs.Comments.{piece}
+use Rattle.wgsl_theory_tidy.proofs.Kept.ShownTexts.{token_text}
 
 -- ---- spots
 
@@ -24,48 +25,49 @@ style_at layout state depth class right column ps = style_of layout (enclosing s
 -- ---- a comment
 
 -- a gap and a comment are written, and others are laid out behind them
-abbrev behind_gap : Layout → Spot → Gap → ℕ → List ℕ → List Piece → List ℕ
-behind_gap layout spot gap class text ps =
+abbrev behind_gap : Layout → Spot → Gap → Piece → List Piece → List ℕ
+behind_gap layout spot gap p ps =
     gap_text layout gap
-    ++ (text ++ laid_from layout (behind_comment_at spot.state (depth_behind gap spot.state.line) (comment_last class (leads gap spot.last spot.state.last)) (column_after layout spot.column (gap_text layout gap ++ text))) ps)
+    ++ (piece_text layout spot gap p ++ laid_from layout (behind_comment_at spot.state (depth_behind gap spot.state.line) (comment_last p.class (leads gap spot.last spot.state.last)) (column_after layout spot.column (gap_text layout gap ++ piece_text layout spot gap p))) ps)
 
 comment_laid_here : (layout : Layout) (class : ℕ) → is_comment class ≡ true → (spot : Spot) (text : List ℕ) (n : ℕ) (ps : List Piece)
     → laid_from layout spot (piece class text n ∷ ps)
-    ≡ behind_gap layout spot (gap_before_comment spot (next_role spot.state ps) class (owned spot (next_role spot.state ps) ps) n) class text ps
+    ≡ behind_gap layout spot (gap_before_comment spot (next_role spot.state ps) class (owned spot (next_role spot.state ps) ps) n) (piece class text n) ps
 comment_laid_here layout class h spot text n ps = rw h refl
 
 -- behind what is written already
 behind_written : (written gap text left : List ℕ) → written ++ (gap ++ (text ++ left)) ≡ ((written ++ gap) ++ text) ++ left
 behind_written written gap text left = sym (append_assoc written gap (text ++ left)) ∙ sym (append_assoc (written ++ gap) text left)
 
-pub comment_laid : (layout : Layout) (class : ℕ) → is_comment class ≡ true → (spot : Spot) (right : Role) (own : Bool) (written text : List ℕ) (n : ℕ) (ps : List Piece)
-    → next_role spot.state ps ≡ right → owned spot right ps ≡ own
-    → written ++ laid_from layout spot (piece class text n ∷ ps)
-    ≡ ((written ++ gap_text layout (gap_before_comment spot right class own n)) ++ text)
-    ++ laid_from layout
-    (behind_comment_at spot.state (depth_behind (gap_before_comment spot right class own n) spot.state.line) (comment_last class (leads (gap_before_comment spot right class own n) spot.last spot.state.last))
-    (column_after layout spot.column (gap_text layout (gap_before_comment spot right class own n) ++ text)))
-    ps
-comment_laid layout class h spot right own written text n ps e i =
+-- the comment and what is laid out behind it, behind what is written already and the gap
+abbrev with_comment : Layout → Spot → List ℕ → Gap → ℕ → List ℕ → List Piece → List ℕ
+with_comment layout spot written gap class text ps =
+    ((written ++ gap_text layout gap) ++ text)
+    ++ laid_from layout (behind_comment_at spot.state (depth_behind gap spot.state.line) (comment_last class (leads gap spot.last spot.state.last)) (column_after layout spot.column (gap_text layout gap ++ text))) ps
+
+comment_laid : (layout : Layout) (class : ℕ) → is_comment class ≡ true → (spot : Spot) (right : Role) (own : Bool) (written text : List ℕ) (n : ℕ) (ps : List Piece) (gap : Gap)
+    → next_role spot.state ps ≡ right → owned spot right ps ≡ own → gap ≡ gap_before_comment spot right class own n
+    → written ++ laid_from layout spot (piece class text n ∷ ps) ≡ with_comment layout spot written gap class (piece_text layout spot gap (piece class text n)) ps
+comment_laid layout class h spot right own written text n ps gap e i g =
     ap (λ cs. written ++ cs) (comment_laid_here layout class h spot text n ps
-    ∙ ap (λ r. behind_gap layout spot (gap_before_comment spot r class (owned spot r ps) n) class text ps) e
-    ∙ ap (λ o. behind_gap layout spot (gap_before_comment spot right class o n) class text ps) i)
-    ∙ behind_written written (gap_text layout (gap_before_comment spot right class own n)) text _
+    ∙ ap (λ r. behind_gap layout spot (gap_before_comment spot r class (owned spot r ps) n) (piece class text n) ps) e
+    ∙ ap (λ o. behind_gap layout spot (gap_before_comment spot right class o n) (piece class text n) ps) i
+    ∙ ap (λ g. behind_gap layout spot g (piece class text n) ps) (sym g))
+    ∙ behind_written written (gap_text layout gap) (piece_text layout spot gap (piece class text n)) _
 
 -- the same, where what was written, the gap and the column are known by equations
-pub comment_written : (layout : Layout) (class : ℕ) → is_comment class ≡ true → (spot : Spot) (right : Role) (own : Bool) (written text first second : List ℕ) (n depth column : ℕ) (gap : Gap) (last : Last) (ps : List Piece)
-    → next_role spot.state ps ≡ right → owned spot right ps ≡ own → gap ≡ gap_before_comment spot right class own n → first ≡ written ++ gap_text layout gap → second ≡ first ++ text → depth ≡ depth_behind gap spot.state.line
-    → last ≡ comment_last class (leads gap spot.last spot.state.last) → column ≡ column_after layout spot.column (gap_text layout gap ++ text)
+pub comment_written : (layout : Layout) (class : ℕ) → is_comment class ≡ true → (spot : Spot) (right : Role) (own : Bool) (written text shown first second : List ℕ) (n depth column : ℕ) (gap : Gap) (last : Last) (ps : List Piece)
+    → next_role spot.state ps ≡ right → owned spot right ps ≡ own → gap ≡ gap_before_comment spot right class own n → shown ≡ piece_text layout spot gap (piece class text n) → first ≡ written ++ gap_text layout gap → second ≡ first ++ shown
+    → depth ≡ depth_behind gap spot.state.line → last ≡ comment_last class (leads gap spot.last spot.state.last) → column ≡ column_after layout spot.column (gap_text layout gap ++ shown)
     → written ++ laid_from layout spot (piece class text n ∷ ps) ≡ second ++ laid_from layout (record { state = in_line_of spot.state depth; last = last; column = column }) ps
-comment_written layout class h spot right own written text first second n depth column gap last ps e i g f s d l c =
-    comment_laid layout class h spot right own written text n ps e i
-    ∙ ap (λ g. ((written ++ gap_text layout g) ++ text)
-    ++ laid_from layout (behind_comment_at spot.state (depth_behind g spot.state.line) (comment_last class (leads g spot.last spot.state.last)) (column_after layout spot.column (gap_text layout g ++ text))) ps) (sym g)
-    ∙ ap (λ m. ((written ++ gap_text layout gap) ++ text)
-    ++ laid_from layout (behind_comment_at spot.state m (comment_last class (leads gap spot.last spot.state.last)) (column_after layout spot.column (gap_text layout gap ++ text))) ps) (sym d)
-    ∙ ap (λ k. ((written ++ gap_text layout gap) ++ text) ++ laid_from layout (behind_comment_at spot.state depth k (column_after layout spot.column (gap_text layout gap ++ text))) ps) (sym l)
-    ∙ ap (λ m. ((written ++ gap_text layout gap) ++ text) ++ laid_from layout (behind_comment_at spot.state depth last m) ps) (sym c)
-    ∙ ap (λ cs. (cs ++ text) ++ laid_from layout (behind_comment_at spot.state depth last column) ps) (sym f)
+comment_written layout class h spot right own written text shown first second n depth column gap last ps e i g w f s d l c =
+    comment_laid layout class h spot right own written text n ps gap e i g
+    ∙ ap (λ t. with_comment layout spot written gap class t ps) (sym w)
+    ∙ ap (λ m. ((written ++ gap_text layout gap) ++ shown)
+    ++ laid_from layout (behind_comment_at spot.state m (comment_last class (leads gap spot.last spot.state.last)) (column_after layout spot.column (gap_text layout gap ++ shown))) ps) (sym d)
+    ∙ ap (λ k. ((written ++ gap_text layout gap) ++ shown) ++ laid_from layout (behind_comment_at spot.state depth k (column_after layout spot.column (gap_text layout gap ++ shown))) ps) (sym l)
+    ∙ ap (λ m. ((written ++ gap_text layout gap) ++ shown) ++ laid_from layout (behind_comment_at spot.state depth last m) ps) (sym c)
+    ∙ ap (λ cs. (cs ++ shown) ++ laid_from layout (behind_comment_at spot.state depth last column) ps) (sym f)
     ∙ ap (λ cs. cs ++ laid_from layout (behind_comment_at spot.state depth last column) ps) (sym s)
 
 -- ---- a token
@@ -80,10 +82,17 @@ with_word layout spot class right gap text ps =
     gap_text layout gap ++ (text ++ behind_word layout spot (depth_behind gap spot.state.line) class right (column_after layout spot.column (gap_text layout gap ++ text)) ps)
 
 token_laid_here : (layout : Layout) (class : ℕ) → is_comment class ≡ false → (spot : Spot) (text : List ℕ) (n : ℕ) (ps : List Piece)
-    → laid_from layout spot (piece class text n ∷ ps) ≡ with_word layout spot class (role_in spot.state class) (gap_before_token spot (role_in spot.state class) n) text ps
-token_laid_here layout class h spot text n ps = rw h refl
+    → laid_from layout spot (piece class text n ∷ ps) ≡ with_word layout spot class (role_in spot.state class (operand_follows ps)) (gap_before_token spot (role_in spot.state class (operand_follows ps)) n) text ps
+token_laid_here layout class h spot text n ps =
+    shown_word ∙ ap (λ t. with_word layout spot class (role_in spot.state class (operand_follows ps)) gap t ps) (token_text layout spot gap class text n h)
+  where
+    gap : Gap
+    gap = gap_before_token spot (role_in spot.state class (operand_follows ps)) n
 
-pub token_laid : (layout : Layout) (class : ℕ) → is_comment class ≡ false → (spot : Spot) (right : Role) (written text : List ℕ) (n : ℕ) (ps : List Piece) → right ≡ role_in spot.state class
+    shown_word : laid_from layout spot (piece class text n ∷ ps) ≡ with_word layout spot class (role_in spot.state class (operand_follows ps)) gap (piece_text layout spot gap (piece class text n)) ps
+    shown_word = rw h refl
+
+pub token_laid : (layout : Layout) (class : ℕ) → is_comment class ≡ false → (spot : Spot) (right : Role) (written text : List ℕ) (n : ℕ) (ps : List Piece) → right ≡ role_in spot.state class (operand_follows ps)
     → written ++ laid_from layout spot (piece class text n ∷ ps)
     ≡ ((written ++ gap_text layout (gap_before_token spot right n)) ++ text)
     ++ behind_word layout spot (depth_behind (gap_before_token spot right n) spot.state.line) class right (column_after layout spot.column (gap_text layout (gap_before_token spot right n) ++ text)) ps
@@ -93,7 +102,7 @@ token_laid layout class h spot right written text n ps e =
 
 -- the same, where what was written, the gap, the column and the style are known by equations
 pub token_written : (layout : Layout) (class : ℕ) → is_comment class ≡ false → (spot : Spot) (right : Role) (written text first second : List ℕ) (n depth column : ℕ) (gap : Gap) (style : Style) (after : LayoutState) (ps : List Piece)
-    → right ≡ role_in spot.state class → gap ≡ gap_before_token spot right n → first ≡ written ++ gap_text layout gap → second ≡ first ++ text → depth ≡ depth_behind gap spot.state.line
+    → right ≡ role_in spot.state class (operand_follows ps) → gap ≡ gap_before_token spot right n → first ≡ written ++ gap_text layout gap → second ≡ first ++ text → depth ≡ depth_behind gap spot.state.line
     → column ≡ column_after layout spot.column (gap_text layout gap ++ text)
     → style ≡ style_of layout (enclosing spot.state.opened) class column ps (laid_from layout (record { state = behind_token spot.state depth class right together; last = token; column = column }) ps)
     → after ≡ behind_token spot.state depth class right style

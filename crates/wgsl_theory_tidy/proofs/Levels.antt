@@ -9,7 +9,7 @@ pub data IsIndent : List ℕ → Type 0 where
   one_space : (xs : List ℕ) → IsIndent xs → IsIndent (32 ∷ xs)
   one_tab : (xs : List ℕ) → IsIndent xs → IsIndent (9 ∷ xs)
 
-both_indents : (xs ys : List ℕ) → IsIndent xs → IsIndent ys → IsIndent (xs ++ ys)
+pub both_indents : (xs ys : List ℕ) → IsIndent xs → IsIndent ys → IsIndent (xs ++ ys)
 both_indents _ ys (no_indent) k = k
 both_indents _ ys (one_space xs h) k = one_space (xs ++ ys) (both_indents xs ys h k)
 both_indents _ ys (one_tab xs h) k = one_tab (xs ++ ys) (both_indents xs ys h k)

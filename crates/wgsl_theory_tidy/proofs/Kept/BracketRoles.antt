@@ -1,11 +1,11 @@
 -- Which tokens open and close brackets, wherever they are, and what they do to what is open.
-use Rattle.std.proofs.Common.{◌≡◌, ℕ, zero, suc, ◌||◌, ◌==◌, Bool, true, false, cond, refl, sym, subst, ◌∙◌, [], ◌∷◌, drop}
-use Rattle.std.proofs.lemmas.Bool.{true≢false, eqb-true}
+use Rattle.std.proofs.Common.{◌≡◌, ℕ, zero, suc, ◌&&◌, ◌||◌, ◌==◌, Bool, true, false, cond, refl, sym, subst, ◌∙◌, [], ◌∷◌, drop}
+use Rattle.std.proofs.lemmas.Bool.{and_parts, true≢false, eqb-true}
 use Rattle.grammar.specs.Grammar.{is_among}
 use Rattle.wgsl_model.specs.Tokens.Classes.{LineComment, BlockComment, AbstractFloat, AbstractInt, F16, F32, I32, Ident, KwDiagnostic, KwElse, KwFalse, KwTrue, ReservedWord, SymAnd, SymAttr, SymBang, SymBraceLeft, SymBraceRight, SymBracketLeft, SymBracketRight, SymColon, SymComma, SymMinus, SymMinusMinus, SymParenLeft, SymParenRight, SymPeriod, SymPlusPlus, SymSemicolon, SymStar, SymTilde, TemplateArgsEnd, TemplateArgsStart, U32}
 use Rattle.wgsl_model_tidy.specs.Pieces.{OpenComment}
-use Rattle.wgsl_model_tidy.specs.Roles.{Role, is_operator, name, unsuffixed, number, word, else_word, comma, semicolon, colon, period, at, step, binary, minus, ampersand, prefix, opening, closing, template_start, template_end, block_start, block_end, beginning, attribute, is, opens_bracket, closes_bracket, sign_role, role_of}
-use Rattle.wgsl_model_tidy.specs.Open.{Opened, Style, together, arguments, bracket, LayoutState, one_line, enclosed_by, enclosing, opened_behind, last_behind}
+use Rattle.wgsl_model_tidy.specs.Roles.{Role, is_operator, name, unsuffixed, number, word, else_word, comma, semicolon, colon, period, at, step, binary, minus, ampersand, prefix, opening, closing, template_start, template_end, block_start, block_end, beginning, attribute, is, ends_operand, opens_bracket, closes_bracket, sign_role, role_of}
+use Rattle.wgsl_model_tidy.specs.Open.{Opened, Style, together, arguments, bracket, LayoutState, one_line, enclosed_by, enclosing, role_in, opened_behind, last_behind}
 use Rattle.wgsl_model_tidy.specs.LaidOut.{is_comment, opens_one, closes_one}
 
 -- ---- what holds of a role by its class
@@ -66,11 +66,22 @@ role_same P m a p q b c =
     (same_if P (c == SymAttr) at _ _
     (same_or P (is_among c (SymMinus ∷ SymAnd ∷ SymStar ∷ [])) (sign_role b c) (sign_role false c) _ (sign_same P m a p q b c))))))))))))))))
 
-pub opens_same : (b : Bool) (c : ℕ) → opens_bracket (role_of b c) ≡ opens_one c
-opens_same b c = same_of opens_bracket _ _ (role_same opens_bracket refl refl refl refl b c)
+-- nor whether one comes after a `--`
+same_in : (P : Role → Bool) → P binary ≡ false → P minus ≡ false → P ampersand ≡ false → P prefix ≡ false → P step ≡ false → (state : LayoutState) (c : ℕ) (b : Bool) → Alike P (role_in state c b) (role_of false c)
+same_in P h m a p s state c b = go (c == SymMinusMinus && b) refl
+  where
+    before : Bool
+    before = ends_operand state.last
 
-pub closes_same : (b : Bool) (c : ℕ) → closes_bracket (role_of b c) ≡ closes_one c
-closes_same b c = same_of closes_bracket _ _ (role_same closes_bracket refl refl refl refl b c)
+    go : (d : Bool) → (c == SymMinusMinus && b) ≡ d → Alike P (cond d binary (role_of before c)) (role_of false c)
+    go true e = subst (λ k. Alike P binary (role_of false k)) (sym (eqb-true c SymMinusMinus (and_parts (c == SymMinusMinus) b e).0)) (alike binary step (h ∙ sym s))
+    go false e = role_same P h m a p before c
+
+pub opens_same : (state : LayoutState) (c : ℕ) (b : Bool) → opens_bracket (role_in state c b) ≡ opens_one c
+opens_same state c b = same_of opens_bracket _ _ (same_in opens_bracket refl refl refl refl refl state c b)
+
+pub closes_same : (state : LayoutState) (c : ℕ) (b : Bool) → closes_bracket (role_in state c b) ≡ closes_one c
+closes_same state c b = same_of closes_bracket _ _ (same_in closes_bracket refl refl refl refl refl state c b)
 
 -- only the two braces are braces
 abbrev pub is_brace : Role → Bool
@@ -99,8 +110,8 @@ role_brace b c e f =
     (none_if P (is_among c (SymPlusPlus ∷ SymMinusMinus ∷ [])) step _ (lacks step refl)
     (none_if P (is_operator c) binary _ (lacks binary refl) (lacks word refl)))))))))))))))))))
 
-pub no_brace : (b : Bool) (c : ℕ) → (c == SymBraceLeft) ≡ false → (c == SymBraceRight) ≡ false → is_brace (role_of b c) ≡ false
-no_brace b c e f = none_of is_brace _ (role_brace b c e f)
+pub no_brace : (state : LayoutState) (c : ℕ) (b : Bool) → (c == SymBraceLeft) ≡ false → (c == SymBraceRight) ≡ false → is_brace (role_in state c b) ≡ false
+no_brace state c b e f = none_of is_brace _ (none_if is_brace (c == SymMinusMinus && b) binary _ (lacks binary refl) (role_brace (ends_operand state.last) c e f))
 
 -- a comment is no bracket
 at_class : (P : ℕ → Bool) (c k : ℕ) → (c == k) ≡ true → P k ≡ false → P c ≡ false

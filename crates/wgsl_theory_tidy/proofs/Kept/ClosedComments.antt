@@ -1,21 +1,18 @@
 -- Comments that end, and one that is not closed, by their class and their characters.
-use Rattle.std.proofs.Common.{◌≡◌, ℕ, List, [], ◌∷◌, ◌++◌}
+use Rattle.std.proofs.Common.{◌≡◌, ℕ, true, false, List, [], ◌∷◌}
 use Rattle.wgsl_model.specs.Tokens.Classes.{LineComment, BlockComment}
-use Rattle.wgsl_model.specs.Tokens.Trivia.{outside, in_block, after_trivia}
-use Rattle.wgsl_model_tidy.specs.Pieces.{Piece, OpenComment, comments}
-use Rattle.wgsl_theory_tidy.proofs.Comments.{piece, trimmed, OnLine}
-use Rattle.wgsl_theory_tidy.proofs.Kept.NeatTexts.{Before, solid, Neat}
+use Rattle.wgsl_model_tidy.specs.Pieces.{Piece, OpenComment}
+use Rattle.wgsl_theory_tidy.proofs.Comments.{trimmed, OnLine}
+use Rattle.wgsl_theory_tidy.proofs.Kept.Bodies.{IsBody}
 
 -- a comment that ends: a line comment with no blank space at its end, and a block comment that its last sign closes
 pub data Closed : ℕ → List ℕ → Type 0 where
   closed_line : (xs : List ℕ) → OnLine xs → trimmed xs ≡ xs → Closed LineComment (47 ∷ (47 ∷ xs))
-  closed_block : (xs : List ℕ) → ((rest : List ℕ) (b : ℕ → List Piece) (n : ℕ) → comments b (in_block 0) n (xs ++ rest) ≡ piece BlockComment xs n ∷ comments b outside 0 rest)
-      → ((rest : List ℕ) → after_trivia (in_block 0) (xs ++ rest) ≡ after_trivia outside rest)
-      → ((b : Before) (rest : List ℕ) → Neat outside solid rest → Neat (in_block 0) b (xs ++ rest)) → Closed BlockComment (47 ∷ (42 ∷ xs))
+  closed_block : (xs : List ℕ) → IsBody true 0 xs → Closed BlockComment (47 ∷ (42 ∷ xs))
 
 -- a block comment that is not closed, behind which the text ends
 pub data Unclosed : ℕ → List ℕ → Type 0 where
-  unclosed : (xs : List ℕ) → ((b : ℕ → List Piece) (n : ℕ) → comments b (in_block 0) n xs ≡ piece OpenComment xs n ∷ b 0) → after_trivia (in_block 0) xs ≡ [] → ((b : Before) → Neat (in_block 0) b xs) → Unclosed OpenComment (47 ∷ (42 ∷ xs))
+  unclosed : (xs : List ℕ) → IsBody false 0 xs → Unclosed OpenComment (47 ∷ (42 ∷ xs))
 
 -- all of these pieces are comments that end
 abbrev pub AllClosed : List Piece → Type 0

@@ -8,7 +8,7 @@ use Rattle.wgsl_model_tidy.specs.LaidOut.{Gap, closed, blank, broken, gap_text, 
 use Rattle.wgsl_theory_tidy.proofs.Levels.{IsIndent, no_indent, one_space, one_tab, indentation_indent}
 use Rattle.wgsl_theory_tidy.proofs.Comments.{piece, no_comment, trimmed, OnLine, AtLineEnd, line_comment, whole_line, whole_block}
 use Rattle.wgsl_theory_tidy.proofs.Kept.ClosedComments.{Closed, closed_line, closed_block, Unclosed, unclosed}
-use Rattle.wgsl_theory_tidy.proofs.Kept.TextFronts.{over_line, at_line_end}
+use Rattle.wgsl_theory_tidy.proofs.Kept.TextFronts.{over_line, at_line_end, ends_piece, ends_rest, open_piece, open_none_left}
 
 -- ---- gaps
 
@@ -76,30 +76,30 @@ block_passed text rest h = h
 pub closed_counted : (class : ℕ) (text : List ℕ) → Closed class text → (b : ℕ → List Piece) (n : ℕ) (r : List ℕ) → (class ≡ LineComment → AtLineEnd r) → comments b outside n (text ++ r) ≡ piece class text n ∷ comments b outside 0 r
 closed_counted class text (closed_line xs h t) b n r e =
     whole_line b n (xs ++ r) (trimmed xs) r (line_comment b n xs r h (e refl)) ∙ ap (λ ys. piece LineComment (47 ∷ (47 ∷ ys)) n ∷ comments b outside 0 r) t
-closed_counted class text (closed_block xs h k i) b n r e = whole_block b n BlockComment (xs ++ r) xs (comments b outside 0 r) (h r b n)
+closed_counted class text (closed_block xs i) b n r e = whole_block b n BlockComment (xs ++ r) xs (comments b outside 0 r) (ends_piece 0 xs i r b n)
 
 pub closed_passed : (class : ℕ) (text : List ℕ) → Closed class text → (r : List ℕ) → (class ≡ LineComment → AtLineEnd r) → after_trivia outside (text ++ r) ≡ after_trivia outside r
 closed_passed class text (closed_line xs h t) r e = line_passed xs r h (e refl)
-closed_passed class text (closed_block xs h k i) r e = block_passed (xs ++ r) (after_trivia outside r) (k r)
+closed_passed class text (closed_block xs i) r e = block_passed (xs ++ r) (after_trivia outside r) (ends_rest 0 xs i r)
 
 -- one that is not closed is the last piece
 pub unclosed_counted : (class : ℕ) (text : List ℕ) → Unclosed class text → (b : ℕ → List Piece) (n : ℕ) → comments b outside n text ≡ piece class text n ∷ b 0
-unclosed_counted class text (unclosed xs h k i) b n = whole_block b n OpenComment xs xs (b 0) (h b n)
+unclosed_counted class text (unclosed xs i) b n = whole_block b n OpenComment xs xs (b 0) (open_piece 0 xs i b n)
 
 pub unclosed_passed : (class : ℕ) (text : List ℕ) → Unclosed class text → after_trivia outside text ≡ []
-unclosed_passed class text (unclosed xs h k i) = block_passed xs [] k
+unclosed_passed class text (unclosed xs i) = block_passed xs [] (open_none_left 0 xs i)
 
 -- they are comments, and begin with `/`
 pub closed_is_comment : (class : ℕ) (text : List ℕ) → Closed class text → is_comment class ≡ true
 closed_is_comment class text (closed_line xs h t) = refl
-closed_is_comment class text (closed_block xs h k i) = refl
+closed_is_comment class text (closed_block xs i) = refl
 
 pub unclosed_is_comment : (class : ℕ) (text : List ℕ) → Unclosed class text → is_comment class ≡ true
-unclosed_is_comment class text (unclosed xs h k i) = refl
+unclosed_is_comment class text (unclosed xs i) = refl
 
 pub closed_begins : (class : ℕ) (text : List ℕ) → Closed class text → (more : List ℕ) × (text ≡ 47 ∷ more)
 closed_begins class text (closed_line xs h t) = (47 ∷ xs, refl)
-closed_begins class text (closed_block xs h k i) = (42 ∷ xs, refl)
+closed_begins class text (closed_block xs i) = (42 ∷ xs, refl)
 
 pub unclosed_begins : (class : ℕ) (text : List ℕ) → Unclosed class text → (more : List ℕ) × (text ≡ 47 ∷ more)
-unclosed_begins class text (unclosed xs h k i) = (42 ∷ xs, refl)
+unclosed_begins class text (unclosed xs i) = (42 ∷ xs, refl)

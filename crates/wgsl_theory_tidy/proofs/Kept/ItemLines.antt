@@ -2,11 +2,11 @@
 use Rattle.std.proofs.Common.{◌≡◌, ℕ, ◌&&◌, ◌==◌, Bool, true, false, cond, not, refl, sym, ap, ◌∙◌, List, [], ◌∷◌, ◌++◌}
 use Rattle.std.proofs.lemmas.Bool.{and_parts, and_from, or_left, not-true, true≢false}
 use Rattle.wgsl_model_tidy.specs.Pieces.{Piece}
-use Rattle.wgsl_model_tidy.specs.Roles.{Role, opening, closing, template_start, template_end, block_end, ends_operand, opens_bracket, closes_bracket, closes}
+use Rattle.wgsl_model_tidy.specs.Roles.{Role, opening, closing, template_start, template_end, block_end, opens_bracket, closes_bracket, closes}
 use Rattle.wgsl_model_tidy.specs.Joints.{line, joint}
 use Rattle.wgsl_model_tidy.specs.Layout.{Layout}
 use Rattle.wgsl_model_tidy.specs.Open.{item_by_item, LayoutState, Enclosing, item_lines, enclosing, between_items, depth_of, comment_depth, role_in}
-use Rattle.wgsl_model_tidy.specs.LaidOut.{Gap, closed, broken, Last, token, Spot, joint_gap, token_gap, comment_gap, line_end, is_token, is_line, owned, is_followed, gap_before, gap_text, breaks, closes_one, has_break, has_lines, ends_bracket, has_several, is_comment, next_role, laid_from}
+use Rattle.wgsl_model_tidy.specs.LaidOut.{Gap, closed, broken, Last, token, Spot, joint_gap, token_gap, comment_gap, line_end, is_token, is_line, owned, is_followed, gap_before, gap_text, piece_text, breaks, closes_one, has_break, has_lines, ends_bracket, has_several, is_comment, next_role, laid_from, operand_follows}
 use Rattle.wgsl_theory_tidy.proofs.Laid.{behind_token_at}
 use Rattle.wgsl_theory_tidy.proofs.Kept.Gaps.{gap_ends}
 use Rattle.wgsl_theory_tidy.proofs.Kept.Relaid.{after_first, behind_ends, relaid}
@@ -36,10 +36,10 @@ record Follows (state : LayoutState) (ps : List Piece) : Type 0 where
 
 follows_token : (state : LayoutState) (p : Piece) (ps : List Piece) → is_comment p.class ≡ false → IsSmooth p → closes_one p.class ≡ false → Follows state (p ∷ ps)
 follows_token state p ps h s c =
-    let before = ends_operand state.last in
+    let operand = operand_follows ps in
     record {
       followed = rw (s.ends, h) refl;
-      closes_no = ap closes (token_next state p ps h) ∙ closes_none (role_in state p.class) (closes_same before p.class ∙ c) (no_brace before p.class s.no_left s.no_right);
+      closes_no = ap closes (token_next state p ps h) ∙ closes_none (role_in state p.class operand) (closes_same state p.class operand ∙ c) (no_brace state p.class operand s.no_left s.no_right);
     }
 
 follows_comment : (state : LayoutState) (p : Piece) (ps : List Piece) → is_comment p.class ≡ true → IsSmooth p → Follows state ps → Follows state (p ∷ ps)
@@ -158,7 +158,9 @@ parted state depth class right column h = record { lines = opens_enclosing state
 
 parted_begins : (layout : Layout) (spot : Spot) (ps : List Piece) → IsParted spot → has_several ps ≡ true → has_lines ps ≡ false → (more : List ℕ) × (laid_from layout spot ps ≡ 10 ∷ more)
 parted_begins layout spot [] i e calm = absurd (true≢false (sym e))
-parted_begins layout spot (p ∷ ps) i e calm = gap_begins layout (gap_before spot (next_role spot.state (p ∷ ps)) p ps) (p.text ++ laid_from layout (after_first layout spot p ps) ps) (first_gap spot p ps i e calm)
+parted_begins layout spot (p ∷ ps) i e calm =
+    let gap = gap_before spot (next_role spot.state (p ∷ ps)) p ps in
+    gap_begins layout gap (piece_text layout spot gap p ++ laid_from layout (after_first layout spot p ps) ps) (first_gap spot p ps i e calm)
 
 pub items_begin : (layout : Layout) (state : LayoutState) (depth class : ℕ) (right : Role) (column : ℕ) (ps : List Piece) → opens_bracket right ≡ true → has_several ps ≡ true → has_lines ps ≡ false
     → (more : List ℕ) × (laid_from layout (behind_token_at state depth class right column item_by_item) ps ≡ 10 ∷ more)

@@ -9,12 +9,12 @@ use Rattle.wgsl_theory_templates.proofs.Lexed.RoleClasses.{is_mark_role}
 use Rattle.wgsl_theory_templates.proofs.Lexed.LexedAlong.{BeginsWith, along_role, Along}
 use Rattle.wgsl_theory_printed.proofs.Spelling.Along.{behind_one}
 use Rattle.wgsl_model_tidy.specs.Pieces.{Piece, comments}
-use Rattle.wgsl_model_tidy.specs.Roles.{ends_operand, beginning}
+use Rattle.wgsl_model_tidy.specs.Roles.{Role, beginning}
 use Rattle.wgsl_model_tidy.specs.Layout.{Layout}
 use Rattle.wgsl_model_tidy.specs.Open.{role_in, last_behind}
-use Rattle.wgsl_model_tidy.specs.LaidOut.{token, Spot, gap_before_comment, laid_from, gap_text}
+use Rattle.wgsl_model_tidy.specs.LaidOut.{token, Spot, operand_follows, gap_before_comment, laid_from, gap_text}
 use Rattle.wgsl_theory_tidy.proofs.Kept.Touching.{Shaped}
-use Rattle.wgsl_theory_tidy.proofs.Kept.TokenRoles.{starts_so}
+use Rattle.wgsl_theory_tidy.proofs.Kept.TokenRoles.{Starts, token_starts, starts_so}
 use Rattle.wgsl_theory_tidy.proofs.Kept.Parted.{PartsBefore, parts_before_token, parts_before_comment, parts_before_ending, token_again, start_again}
 use Rattle.wgsl_theory_tidy.proofs.Kept.Readings.{IsToken, is_word, is_start, is_end, is_slash, is_slash_equal, token_piece, Reads, reads_end, reads_token}
 use Rattle.wgsl_theory_tidy.proofs.Kept.LaidTokens.{no_comment, token_here, same_before, same_token}
@@ -28,7 +28,7 @@ use Rattle.wgsl_theory_tidy.proofs.Kept.LaidTrails.{TrailFront, token_front, com
 
 -- a token has characters
 pub has_characters : (k : Kind) (w rest : List ℕ) → IsToken k w rest → w ++ rest ≡ [] → ⊥
-has_characters k [] rest i e = absurd (starts_so false k [] rest i)
+has_characters k [] rest i e = absurd (token_starts false k [] rest i)
 has_characters k (x ∷ xs) rest i e = absurd cc
 
 -- the comments before a token, and how they are laid out with it
@@ -45,27 +45,27 @@ before layout trivia w rest k ps spot p i =
 
 -- ---- what is laid out behind a token makes no more of it
 
-trail_parts : (layout : Layout) (spot : Spot) (w : List ℕ) → spot.last ≡ token → Shaped spot.state.last w → (cs : List Piece) (k : Kind) (v rest : List ℕ) (m : ℕ) (trivia more : List ℕ) → IsToken k v rest → TrailFront layout spot cs k m trivia
+trail_parts : (layout : Layout) (spot : Spot) (w : List ℕ) → spot.last ≡ token → Shaped spot.state.last w → (cs : List Piece) (right : Role) (v : List ℕ) (m : ℕ) (trivia more : List ℕ) → Starts right v → TrailFront layout spot cs right m trivia
     → PartsBefore w (trivia ++ (v ++ more))
-trail_parts layout spot w t h cs k v rest m trivia more i (token_front e q) =
-    subst (λ xs. PartsBefore w (xs ++ (v ++ more))) (sym q) (parts_before_token layout spot (role_in spot.state k.class) m w v more t h (starts_so (ends_operand spot.state.last) k v rest i))
-trail_parts layout spot w t h cs k v rest m trivia more i (comment_front class own n others q) =
-    let gap = gap_text layout (gap_before_comment spot (role_in spot.state k.class) class own n) in
+trail_parts layout spot w t h cs right v m trivia more s (token_front e q) =
+    subst (λ xs. PartsBefore w (xs ++ (v ++ more))) (sym q) (parts_before_token layout spot right m w v more t h s)
+trail_parts layout spot w t h cs right v m trivia more s (comment_front class own n others q) =
+    let gap = gap_text layout (gap_before_comment spot right class own n) in
     subst (PartsBefore w) (sym (ap (λ xs. xs ++ (v ++ more)) q ∙ append_assoc gap (47 ∷ others) (v ++ more)))
-    (parts_before_comment layout spot (role_in spot.state k.class) class own n w (others ++ (v ++ more)) t h)
+    (parts_before_comment layout spot right class own n w (others ++ (v ++ more)) t h)
 
 last_parts : (layout : Layout) (spot : Spot) (w : List ℕ) → spot.last ≡ token → Shaped spot.state.last w → (cs : List Piece) → LastFront layout spot cs → PartsBefore w (laid_from layout spot cs)
 last_parts layout spot w t h cs (end_front e q) = subst (PartsBefore w) (sym q) (parts_before_ending spot w t h)
 last_parts layout spot w t h cs (last_front class own n more q) = subst (PartsBefore w) (sym q) (parts_before_comment layout spot beginning class own n w more t h)
 
-behind_parts : (layout : Layout) (text : List ℕ) (ks : List Kind) (ps : List Piece) → Reads text ks ps → (spot : Spot) (w : List ℕ) → spot.last ≡ token → Shaped spot.state.last w → PartsBefore w (laid_from layout spot ps)
+pub behind_parts : (layout : Layout) (text : List ℕ) (ks : List Kind) (ps : List Piece) → Reads text ks ps → (spot : Spot) (w : List ℕ) → spot.last ≡ token → Shaped spot.state.last w → PartsBefore w (laid_from layout spot ps)
 behind_parts layout _ _ _ (reads_end text e) spot w t h =
     let l = last_trail text e 0 in
     subst (λ ps. PartsBefore w (laid_from layout spot ps)) (sym (l.3 (λ n. []) ∙ append-nil l.0)) (last_parts layout spot w t h l.0 (last_laid layout spot l.0 l.2).front)
 behind_parts layout _ _ _ (reads_token trivia v rest k ks ps p i r) spot w t h =
     let b = before layout trivia v rest k ps spot p i in
     subst (PartsBefore w) (sym (ap (laid_from layout spot) b.pieces ∙ b.laid.whole))
-    (trail_parts layout spot w t h b.trail_of k v rest b.line_ends b.laid.trivia (laid_from layout b.laid.behind ps) i b.laid.front)
+    (trail_parts layout spot w t h b.trail_of _ v b.line_ends b.laid.trivia (laid_from layout b.laid.behind ps) (starts_so spot.state k (operand_follows ps) v rest i) b.laid.front)
 
 -- ---- the comments before a token, the token, and what is laid out behind it
 
@@ -85,10 +85,11 @@ laid layout trivia w rest k ks ps spot p i r =
     let b = before layout trivia w rest k ps spot p i in
     let t = b.laid in
     let text = laid_from layout t.behind ps in
-    let parts : (v : List ℕ) → Shaped (last_behind spot.state (role_in spot.state k.class)) v → PartsBefore v (laid_from layout t.behind ps) =
+    let operand = operand_follows ps in
+    let parts : (v : List ℕ) → Shaped (last_behind spot.state (role_in spot.state k.class operand)) v → PartsBefore v (laid_from layout t.behind ps) =
     λ v h. behind_parts layout rest ks ps r t.behind v t.is_token (subst (λ left. Shaped left v) (sym t.is_last) h) in
     let whole = ap (laid_from layout spot) b.pieces ∙ t.whole in
-    let is : IsToken k w text = token_again spot.state k w rest text i (parts w) in
+    let is : IsToken k w text = token_again spot.state k operand w rest text i (parts w) in
     record {
       trivia = t.trivia;
       behind = t.behind;
@@ -96,9 +97,9 @@ laid layout trivia w rest k ks ps spot p i r =
       passed = t.passed;
       again = t.again ∙ ap (relaid layout spot) (sym b.pieces);
       is_token = is;
-      less = λ e. start_again spot.state (laid_from layout t.behind ps) (subst (λ class. Shaped (last_behind spot.state (role_in spot.state class)) (60 ∷ []) → PartsBefore (60 ∷ []) (laid_from layout t.behind ps)) e (parts (60 ∷ [])));
+      less = λ e. start_again spot.state (laid_from layout t.behind ps) (subst (λ class. Shaped (last_behind spot.state (role_in spot.state class operand)) (60 ∷ []) → PartsBefore (60 ∷ []) (laid_from layout t.behind ps)) e (parts (60 ∷ [])));
       neat = λ h. subst (NeatAt spot.last spot.state.last) (sym whole)
-          (t.neat (w ++ text) (token_neat spot.state k w text is (subst (λ left. NeatAt token left text) t.is_last (subst (λ last. NeatAt last t.behind.state.last text) t.is_token h))));
+          (t.neat (w ++ text) (token_neat spot.state k operand w text is (subst (λ left. NeatAt token left text) t.is_last (subst (λ last. NeatAt last t.behind.state.last text) t.is_token h))));
     }
 
 -- ---- the laid-out text is read along the kinds

@@ -7,12 +7,13 @@ use Rattle.wgsl_model_tidy.specs.Pieces.{Piece, comments}
 use Rattle.wgsl_model_tidy.specs.Roles.{Role, beginning, is}
 use Rattle.wgsl_model_tidy.specs.Layout.{Layout, column_after}
 use Rattle.wgsl_model_tidy.specs.Open.{LayoutState, enclosing, between_items, depth_of, comment_depth, role_in, last_behind}
-use Rattle.wgsl_model_tidy.specs.LaidOut.{broken, Last, token, line_comment, block_comment, leading_comment, open_comment, Spot, is_comment, next_role, owned, line_end, gap_before_comment, gap_before_token, gap_text, token_gap, comment_gap, depth_behind, leads, comment_last, laid_from, ending}
+use Rattle.wgsl_model_tidy.specs.LaidOut.{Gap, broken, Last, token, line_comment, block_comment, leading_comment, open_comment, Spot, is_comment, next_role, owned, line_end, gap_before_comment, gap_before_token, gap_text, token_gap, comment_gap, depth_behind, piece_text, leads, comment_last, laid_from, ending, operand_follows}
 use Rattle.wgsl_theory_tidy.proofs.Comments.{piece, AtLineEnd, nothing_left}
 use Rattle.wgsl_theory_tidy.proofs.Laid.{behind_comment_at, behind_token_at, style_at}
 use Rattle.wgsl_theory_tidy.proofs.Kept.Readings.{token_piece}
 use Rattle.wgsl_theory_tidy.proofs.Kept.ClosedComments.{Closed, Unclosed, unclosed, AllClosed, AllClosedButLast, no_more, one_more, last_open}
 use Rattle.wgsl_theory_tidy.proofs.Kept.Gaps.{gap_ends, gap_passed, gap_counted, closed_counted, closed_passed, unclosed_counted, unclosed_passed, closed_is_comment, unclosed_is_comment, closed_begins, unclosed_begins}
+use Rattle.wgsl_theory_tidy.proofs.Kept.ShownTexts.{token_text, closed_text, unclosed_text}
 use Rattle.wgsl_theory_tidy.proofs.Kept.Relaid.{relaid}
 use Rattle.wgsl_theory_tidy.proofs.Kept.NeatTexts.{NeatWord}
 use Rattle.wgsl_theory_tidy.proofs.Kept.NeatPieces.{NeatAt, token_gap_neat, comment_gap_neat, closed_neat, unclosed_neat, ending_neat}
@@ -22,31 +23,55 @@ use Rattle.wgsl_theory_tidy.proofs.Kept.NeatPieces.{NeatAt, token_gap_neat, comm
 -- the spot behind a token, and behind a comment; the first token from there on does so
 abbrev spot_behind_token : Layout → Spot → ℕ → List ℕ → ℕ → List Piece → Spot
 spot_behind_token layout spot class w n ps =
-    let right = role_in spot.state class in
+    let right = role_in spot.state class (operand_follows ps) in
     let gap = gap_before_token spot right n in
     let depth = depth_behind gap spot.state.line in
     let column = column_after layout spot.column (gap_text layout gap ++ w) in
     behind_token_at spot.state depth class right column (style_at layout spot.state depth class right column ps)
 
+-- a comment as it is written there
+abbrev comment_text : Layout → Spot → Role → ℕ → Bool → List ℕ → ℕ → List ℕ
+comment_text layout spot right class own text n = piece_text layout spot (gap_before_comment spot right class own n) (piece class text n)
+
 abbrev spot_behind_comment : Layout → Spot → Role → ℕ → Bool → List ℕ → ℕ → Spot
 spot_behind_comment layout spot right class own text n =
     let gap = gap_before_comment spot right class own n in
-    behind_comment_at spot.state (depth_behind gap spot.state.line) (comment_last class (leads gap spot.last spot.state.last)) (column_after layout spot.column (gap_text layout gap ++ text))
+    behind_comment_at spot.state (depth_behind gap spot.state.line) (comment_last class (leads gap spot.last spot.state.last)) (column_after layout spot.column (gap_text layout gap ++ comment_text layout spot right class own text n))
 
 token_laid : (layout : Layout) (spot : Spot) (class : ℕ) (w : List ℕ) (n : ℕ) (ps : List Piece) → is_comment class ≡ false
-    → laid_from layout spot (piece class w n ∷ ps) ≡ gap_text layout (gap_before_token spot (role_in spot.state class) n) ++ (w ++ laid_from layout (spot_behind_token layout spot class w n ps) ps)
-token_laid layout spot class w n ps h = rw h refl
+    → laid_from layout spot (piece class w n ∷ ps) ≡ gap_text layout (gap_before_token spot (role_in spot.state class (operand_follows ps)) n) ++ (w ++ laid_from layout (spot_behind_token layout spot class w n ps) ps)
+token_laid layout spot class w n ps h = shown ∙ ap with (token_text layout spot gap class w n h)
+  where
+    gap : Gap
+    gap = gap_before_token spot (role_in spot.state class (operand_follows ps)) n
+
+    with : List ℕ → List ℕ
+    with text = gap_text layout gap ++ (text ++ laid_from layout (spot_behind_token layout spot class text n ps) ps)
+
+    shown : laid_from layout spot (piece class w n ∷ ps) ≡ with (piece_text layout spot gap (piece class w n))
+    shown = rw h refl
 
 token_relaid : (layout : Layout) (spot : Spot) (class : ℕ) (w : List ℕ) (n : ℕ) (ps : List Piece) → is_comment class ≡ false
-    → relaid layout spot (piece class w n ∷ ps) ≡ piece class w (gap_ends (gap_before_token spot (role_in spot.state class) n)) ∷ relaid layout (spot_behind_token layout spot class w n ps) ps
-token_relaid layout spot class w n ps h = rw h refl
+    → relaid layout spot (piece class w n ∷ ps) ≡ piece class w (gap_ends (gap_before_token spot (role_in spot.state class (operand_follows ps)) n)) ∷ relaid layout (spot_behind_token layout spot class w n ps) ps
+token_relaid layout spot class w n ps h = shown ∙ ap with (token_text layout spot gap class w n h)
+  where
+    gap : Gap
+    gap = gap_before_token spot (role_in spot.state class (operand_follows ps)) n
+
+    with : List ℕ → List Piece
+    with text = piece class text (gap_ends gap) ∷ relaid layout (spot_behind_token layout spot class text n ps) ps
+
+    shown : relaid layout spot (piece class w n ∷ ps) ≡ with (piece_text layout spot gap (piece class w n))
+    shown = rw h refl
 
 comment_laid : (layout : Layout) (spot : Spot) (right : Role) (class : ℕ) (text : List ℕ) (n : ℕ) (ps : List Piece) → is_comment class ≡ true → next_role spot.state ps ≡ right
-    → laid_from layout spot (piece class text n ∷ ps) ≡ gap_text layout (gap_before_comment spot right class (owned spot right ps) n) ++ (text ++ laid_from layout (spot_behind_comment layout spot right class (owned spot right ps) text n) ps)
+    → laid_from layout spot (piece class text n ∷ ps)
+    ≡ gap_text layout (gap_before_comment spot right class (owned spot right ps) n) ++ (comment_text layout spot right class (owned spot right ps) text n ++ laid_from layout (spot_behind_comment layout spot right class (owned spot right ps) text n) ps)
 comment_laid layout spot right class text n ps h e = rw (h, e) refl
 
 comment_relaid : (layout : Layout) (spot : Spot) (right : Role) (class : ℕ) (text : List ℕ) (n : ℕ) (ps : List Piece) → is_comment class ≡ true → next_role spot.state ps ≡ right
-    → relaid layout spot (piece class text n ∷ ps) ≡ piece class text (gap_ends (gap_before_comment spot right class (owned spot right ps) n)) ∷ relaid layout (spot_behind_comment layout spot right class (owned spot right ps) text n) ps
+    → relaid layout spot (piece class text n ∷ ps)
+    ≡ piece class (comment_text layout spot right class (owned spot right ps) text n) (gap_ends (gap_before_comment spot right class (owned spot right ps) n)) ∷ relaid layout (spot_behind_comment layout spot right class (owned spot right ps) text n) ps
 comment_relaid layout spot right class text n ps h e = rw (h, e) refl
 
 -- ---- behind a line comment the line ends
@@ -76,31 +101,31 @@ trail_next : (s : LayoutState) (cs ps : List Piece) → AllClosed cs → next_ro
 trail_next s [] ps h = refl
 trail_next s (c ∷ cs) ps h = rw (closed_is_comment c.class c.text h.0) (trail_next s cs ps h.1)
 
-token_next : (s : LayoutState) (class : ℕ) (w : List ℕ) (n : ℕ) (ps : List Piece) → is_comment class ≡ false → next_role s (piece class w n ∷ ps) ≡ role_in s class
+token_next : (s : LayoutState) (class : ℕ) (w : List ℕ) (n : ℕ) (ps : List Piece) → is_comment class ≡ false → next_role s (piece class w n ∷ ps) ≡ role_in s class (operand_follows ps)
 token_next s class w n ps h = rw h refl
 
--- what stands before a token begins with the gap before the token, or with that before a comment and with the comment
-pub data TrailFront (layout : Layout) (spot : Spot) (cs : List Piece) (k : Kind) (m : ℕ) (trivia : List ℕ) : Type 0 where
-  token_front : cs ≡ [] → trivia ≡ gap_text layout (gap_before_token spot (role_in spot.state k.class) m) → TrailFront layout spot cs k m trivia
-  comment_front : (class : ℕ) (own : Bool) (n : ℕ) (more : List ℕ) → trivia ≡ gap_text layout (gap_before_comment spot (role_in spot.state k.class) class own n) ++ (47 ∷ more) → TrailFront layout spot cs k m trivia
+-- what stands before a token that does so begins with the gap before the token, or with that before a comment and with the comment
+pub data TrailFront (layout : Layout) (spot : Spot) (cs : List Piece) (right : Role) (m : ℕ) (trivia : List ℕ) : Type 0 where
+  token_front : cs ≡ [] → trivia ≡ gap_text layout (gap_before_token spot right m) → TrailFront layout spot cs right m trivia
+  comment_front : (class : ℕ) (own : Bool) (n : ℕ) (more : List ℕ) → trivia ≡ gap_text layout (gap_before_comment spot right class own n) ++ (47 ∷ more) → TrailFront layout spot cs right m trivia
 
 -- Comments and a token laid out behind a spot, and others behind them: what stands before the token, and the spot behind it. That is passed over before whatever follows, and read again it gives the comments.
 pub record LaidTrail (layout : Layout) (spot : Spot) (cs : List Piece) (k : Kind) (w : List ℕ) (m : ℕ) (ps : List Piece) : Type 0 where
   pub trivia : List ℕ
   pub behind : Spot
   pub is_token : behind.last ≡ token
-  pub is_last : behind.state.last ≡ last_behind spot.state (role_in spot.state k.class)
+  pub is_last : behind.state.last ≡ last_behind spot.state (role_in spot.state k.class (operand_follows ps))
   pub whole : laid_from layout spot (cs ++ (token_piece k w m ∷ ps)) ≡ trivia ++ (w ++ laid_from layout behind ps)
   pub passed : (r : List ℕ) → after_trivia outside (trivia ++ r) ≡ after_trivia outside r
   pub again : comments (λ n. token_piece k w n ∷ relaid layout behind ps) outside 0 trivia ≡ relaid layout spot (cs ++ (token_piece k w m ∷ ps))
-  pub front : TrailFront layout spot cs k m trivia
+  pub front : TrailFront layout spot cs (role_in spot.state k.class (operand_follows ps)) m trivia
   pub at_line_end : spot.last ≡ line_comment → (r : List ℕ) → AtLineEnd (trivia ++ r)
   pub neat : (r : List ℕ) → NeatWord r → NeatAt spot.last spot.state.last (trivia ++ r)
 
 -- no comment stands there
 laid_token : (layout : Layout) (spot : Spot) (k : Kind) (w : List ℕ) (m : ℕ) (ps : List Piece) → is_comment k.class ≡ false → LaidTrail layout spot [] k w m ps
 laid_token layout spot k w m ps h =
-    let right = role_in spot.state k.class in
+    let right = role_in spot.state k.class (operand_follows ps) in
     let gap = gap_before_token spot right m in
     let behind = spot_behind_token layout spot k.class w m ps in
     let b : ℕ → List Piece = λ n. token_piece k w n ∷ relaid layout behind ps in
@@ -123,29 +148,31 @@ joined gap text trivia rest = ap (λ xs. gap ++ xs) (sym (append_assoc text triv
 
 -- one comment more
 laid_comment : (layout : Layout) (spot : Spot) (class : ℕ) (text : List ℕ) (n : ℕ) (cs : List Piece) (k : Kind) (w : List ℕ) (m : ℕ) (ps : List Piece)
-    → Closed class text → next_role spot.state (cs ++ (token_piece k w m ∷ ps)) ≡ role_in spot.state k.class
-    → LaidTrail layout (spot_behind_comment layout spot (role_in spot.state k.class) class (owned spot (role_in spot.state k.class) (cs ++ (token_piece k w m ∷ ps))) text n) cs k w m ps → LaidTrail layout spot (piece class text n ∷ cs) k w m ps
+    → Closed class text → next_role spot.state (cs ++ (token_piece k w m ∷ ps)) ≡ role_in spot.state k.class (operand_follows ps)
+    → LaidTrail layout (spot_behind_comment layout spot (role_in spot.state k.class (operand_follows ps)) class (owned spot (role_in spot.state k.class (operand_follows ps)) (cs ++ (token_piece k w m ∷ ps))) text n) cs k w m ps → LaidTrail layout spot (piece class text n ∷ cs) k w m ps
 laid_comment layout spot class text n cs k w m ps c e t =
-    let right = role_in spot.state k.class in
+    let right = role_in spot.state k.class (operand_follows ps) in
     let all = cs ++ (token_piece k w m ∷ ps) in
     let gap = gap_before_comment spot right class (owned spot right all) n in
+    let shown = comment_text layout spot right class (owned spot right all) text n in
     let b : ℕ → List Piece = λ i. token_piece k w i ∷ relaid layout t.behind ps in
-    let is = closed_is_comment class text c in
-    let begins = closed_begins class text c in
+    let d : Closed class shown = closed_text layout spot gap class text n c in
+    let is = closed_is_comment class shown d in
+    let begins = closed_begins class shown d in
     let ends : (r : List ℕ) → class ≡ LineComment → AtLineEnd (t.trivia ++ r) = λ r f. t.at_line_end (last_is_line class (leads gap spot.last spot.state.last) f) r in
     record {
-      trivia = gap_text layout gap ++ (text ++ t.trivia);
+      trivia = gap_text layout gap ++ (shown ++ t.trivia);
       behind = t.behind;
       is_token = t.is_token;
       is_last = t.is_last;
-      whole = comment_laid layout spot right class text n all is e ∙ ap (λ xs. gap_text layout gap ++ (text ++ xs)) t.whole ∙ joined (gap_text layout gap) text t.trivia (w ++ laid_from layout t.behind ps);
-      passed = λ r. ap (after_trivia outside) (sym (joined (gap_text layout gap) text t.trivia r)) ∙ gap_passed layout gap (text ++ (t.trivia ++ r)) ∙ closed_passed class text c (t.trivia ++ r) (ends r) ∙ t.passed r;
-      again = gap_counted layout b gap (text ++ t.trivia) ∙ closed_counted class text c b (gap_ends gap) t.trivia (λ f. subst AtLineEnd (append-nil t.trivia) (ends [] f))
-          ∙ ap (λ xs. piece class text (gap_ends gap) ∷ xs) t.again ∙ sym (comment_relaid layout spot right class text n all is e);
+      whole = comment_laid layout spot right class text n all is e ∙ ap (λ xs. gap_text layout gap ++ (shown ++ xs)) t.whole ∙ joined (gap_text layout gap) shown t.trivia (w ++ laid_from layout t.behind ps);
+      passed = λ r. ap (after_trivia outside) (sym (joined (gap_text layout gap) shown t.trivia r)) ∙ gap_passed layout gap (shown ++ (t.trivia ++ r)) ∙ closed_passed class shown d (t.trivia ++ r) (ends r) ∙ t.passed r;
+      again = gap_counted layout b gap (shown ++ t.trivia) ∙ closed_counted class shown d b (gap_ends gap) t.trivia (λ f. subst AtLineEnd (append-nil t.trivia) (ends [] f))
+          ∙ ap (λ xs. piece class shown (gap_ends gap) ∷ xs) t.again ∙ sym (comment_relaid layout spot right class text n all is e);
       front = comment_front class (owned spot right all) n (begins.0 ++ t.trivia) (ap (λ xs. gap_text layout gap ++ (xs ++ t.trivia)) begins.1);
-      at_line_end = λ f r. subst AtLineEnd (joined (gap_text layout gap) text t.trivia r) (comment_gap_ends layout spot right class (owned spot right all) n f (text ++ (t.trivia ++ r)));
-      neat = λ r h. subst (NeatAt spot.last spot.state.last) (joined (gap_text layout gap) text t.trivia r)
-          (comment_gap_neat layout spot right class (owned spot right all) n (text ++ (t.trivia ++ r)) (closed_neat class text c (leads gap spot.last spot.state.last) spot.state.last (t.trivia ++ r) (t.neat r h)));
+      at_line_end = λ f r. subst AtLineEnd (joined (gap_text layout gap) shown t.trivia r) (comment_gap_ends layout spot right class (owned spot right all) n f (shown ++ (t.trivia ++ r)));
+      neat = λ r h. subst (NeatAt spot.last spot.state.last) (joined (gap_text layout gap) shown t.trivia r)
+          (comment_gap_neat layout spot right class (owned spot right all) n (shown ++ (t.trivia ++ r)) (closed_neat class shown d (leads gap spot.last spot.state.last) spot.state.last (t.trivia ++ r) (t.neat r h)));
     }
 
 pub laid_trail : (layout : Layout) (spot : Spot) (cs : List Piece) (k : Kind) (w : List ℕ) (m : ℕ) (ps : List Piece) → AllClosed cs → is_comment k.class ≡ false → LaidTrail layout spot cs k w m ps
@@ -153,7 +180,7 @@ laid_trail layout spot [] k w m ps h e = laid_token layout spot k w m ps e
 laid_trail layout spot (c ∷ cs) k w m ps h e =
     laid_comment layout spot c.class c.text c.line_ends cs k w m ps h.0
     (trail_next spot.state cs (token_piece k w m ∷ ps) h.1 ∙ token_next spot.state k.class w m ps e)
-    (laid_trail layout (spot_behind_comment layout spot (role_in spot.state k.class) c.class (owned spot (role_in spot.state k.class) (cs ++ (token_piece k w m ∷ ps))) c.text c.line_ends) cs k w m ps h.1 e)
+    (laid_trail layout (spot_behind_comment layout spot (role_in spot.state k.class (operand_follows ps)) c.class (owned spot (role_in spot.state k.class (operand_follows ps)) (cs ++ (token_piece k w m ∷ ps))) c.text c.line_ends) cs k w m ps h.1 e)
 
 -- ---- comments behind the last token
 
@@ -215,39 +242,43 @@ last_comment : (layout : Layout) (spot : Spot) (class : ℕ) (text : List ℕ) (
     → LastLaid layout (spot_behind_comment layout spot beginning class (owned spot beginning cs) text n) cs → LastLaid layout spot (piece class text n ∷ cs)
 last_comment layout spot class text n cs c e t =
     let gap = gap_before_comment spot beginning class (owned spot beginning cs) n in
+    let shown = comment_text layout spot beginning class (owned spot beginning cs) text n in
     let b : ℕ → List Piece = λ m. [] in
-    let is = closed_is_comment class text c in
-    let begins = closed_begins class text c in
+    let d : Closed class shown = closed_text layout spot gap class text n c in
+    let is = closed_is_comment class shown d in
+    let begins = closed_begins class shown d in
     let left = laid_from layout (spot_behind_comment layout spot beginning class (owned spot beginning cs) text n) cs in
-    let whole : laid_from layout spot (piece class text n ∷ cs) ≡ gap_text layout gap ++ (text ++ left) = comment_laid layout spot beginning class text n cs is e in
+    let whole : laid_from layout spot (piece class text n ∷ cs) ≡ gap_text layout gap ++ (shown ++ left) = comment_laid layout spot beginning class text n cs is e in
     let ends : class ≡ LineComment → AtLineEnd left = λ f. t.at_line_end (last_is_line class (leads gap spot.last spot.state.last) f) in
     record {
-      passed = ap (after_trivia outside) whole ∙ gap_passed layout gap (text ++ left) ∙ closed_passed class text c left ends ∙ t.passed;
-      again = ap (comments b outside 0) whole ∙ gap_counted layout b gap (text ++ left) ∙ closed_counted class text c b (gap_ends gap) left ends
-          ∙ ap (λ xs. piece class text (gap_ends gap) ∷ xs) t.again ∙ sym (comment_relaid layout spot beginning class text n cs is e);
+      passed = ap (after_trivia outside) whole ∙ gap_passed layout gap (shown ++ left) ∙ closed_passed class shown d left ends ∙ t.passed;
+      again = ap (comments b outside 0) whole ∙ gap_counted layout b gap (shown ++ left) ∙ closed_counted class shown d b (gap_ends gap) left ends
+          ∙ ap (λ xs. piece class shown (gap_ends gap) ∷ xs) t.again ∙ sym (comment_relaid layout spot beginning class text n cs is e);
       front = last_front class (owned spot beginning cs) n (begins.0 ++ left) (whole ∙ ap (λ xs. gap_text layout gap ++ (xs ++ left)) begins.1);
-      at_line_end = λ f. subst AtLineEnd (sym whole) (comment_gap_ends layout spot beginning class (owned spot beginning cs) n f (text ++ left));
-      neat = subst (NeatAt spot.last spot.state.last) (sym whole) (comment_gap_neat layout spot beginning class (owned spot beginning cs) n (text ++ left) (closed_neat class text c (leads gap spot.last spot.state.last) spot.state.last left t.neat));
+      at_line_end = λ f. subst AtLineEnd (sym whole) (comment_gap_ends layout spot beginning class (owned spot beginning cs) n f (shown ++ left));
+      neat = subst (NeatAt spot.last spot.state.last) (sym whole) (comment_gap_neat layout spot beginning class (owned spot beginning cs) n (shown ++ left) (closed_neat class shown d (leads gap spot.last spot.state.last) spot.state.last left t.neat));
     }
 
 -- nothing is written behind a comment that is not closed
 unclosed_end : (class : ℕ) (text : List ℕ) → Unclosed class text → (leading : Bool) (left : Role) → ending (comment_last class leading) left ≡ []
-unclosed_end class text (unclosed xs h k i) leading left = refl
+unclosed_end class text (unclosed xs i) leading left = refl
 
 open_comment_last : (layout : Layout) (spot : Spot) (class : ℕ) (text : List ℕ) (n : ℕ) → Unclosed class text → LastLaid layout spot (piece class text n ∷ [])
 open_comment_last layout spot class text n u =
     let gap = gap_before_comment spot beginning class (owned spot beginning []) n in
+    let shown = comment_text layout spot beginning class (owned spot beginning []) text n in
     let b : ℕ → List Piece = λ m. [] in
-    let is = unclosed_is_comment class text u in
-    let begins = unclosed_begins class text u in
-    let whole : laid_from layout spot (piece class text n ∷ []) ≡ gap_text layout gap ++ text =
-    comment_laid layout spot beginning class text n [] is refl ∙ ap (λ xs. gap_text layout gap ++ (text ++ xs)) (unclosed_end class text u (leads gap spot.last spot.state.last) spot.state.last) ∙ ap (λ xs. gap_text layout gap ++ xs) (append-nil text) in
+    let v : Unclosed class shown = unclosed_text layout spot gap class text n u in
+    let is = unclosed_is_comment class shown v in
+    let begins = unclosed_begins class shown v in
+    let whole : laid_from layout spot (piece class text n ∷ []) ≡ gap_text layout gap ++ shown =
+    comment_laid layout spot beginning class text n [] is refl ∙ ap (λ xs. gap_text layout gap ++ (shown ++ xs)) (unclosed_end class shown v (leads gap spot.last spot.state.last) spot.state.last) ∙ ap (λ xs. gap_text layout gap ++ xs) (append-nil shown) in
     record {
-      passed = ap (after_trivia outside) whole ∙ gap_passed layout gap text ∙ unclosed_passed class text u;
-      again = ap (comments b outside 0) whole ∙ gap_counted layout b gap text ∙ unclosed_counted class text u b (gap_ends gap) ∙ sym (comment_relaid layout spot beginning class text n [] is refl);
+      passed = ap (after_trivia outside) whole ∙ gap_passed layout gap shown ∙ unclosed_passed class shown v;
+      again = ap (comments b outside 0) whole ∙ gap_counted layout b gap shown ∙ unclosed_counted class shown v b (gap_ends gap) ∙ sym (comment_relaid layout spot beginning class text n [] is refl);
       front = last_front class (owned spot beginning []) n begins.0 (whole ∙ ap (λ xs. gap_text layout gap ++ xs) begins.1);
-      at_line_end = λ f. subst AtLineEnd (sym whole) (comment_gap_ends layout spot beginning class (owned spot beginning []) n f text);
-      neat = subst (NeatAt spot.last spot.state.last) (sym whole) (comment_gap_neat layout spot beginning class (owned spot beginning []) n text (unclosed_neat class text u));
+      at_line_end = λ f. subst AtLineEnd (sym whole) (comment_gap_ends layout spot beginning class (owned spot beginning []) n f shown);
+      neat = subst (NeatAt spot.last spot.state.last) (sym whole) (comment_gap_neat layout spot beginning class (owned spot beginning []) n shown (unclosed_neat class shown v));
     }
 
 pub last_laid : (layout : Layout) (spot : Spot) (cs : List Piece) → AllClosedButLast cs → LastLaid layout spot cs

@@ -6,6 +6,7 @@ use Rattle.wgsl_model_tidy.specs.Layout.{Layout}
 use Rattle.wgsl_model_tidy.specs.Open.{Enclosing, enclosing, depth_of, comment_depth}
 use Rattle.wgsl_model_tidy.specs.LaidOut.{Gap, closed, broken, Last, token, line_comment, block_comment, leading_comment, open_comment, Spot, token_gap, comment_gap, comment_last, gap_before_comment, gap_before_token, gap_text, ending}
 use Rattle.wgsl_theory_tidy.proofs.Kept.NeatTexts.{start, solid, Neat, NeatWord, neat_word, broken_neat, gap_neat, line_neat}
+use Rattle.wgsl_theory_tidy.proofs.Kept.TextFronts.{ends_neat, open_neat}
 use Rattle.wgsl_theory_tidy.proofs.Kept.ClosedComments.{Closed, closed_line, closed_block, Unclosed, unclosed}
 
 -- the text is neat that follows such a piece; nothing follows a comment that is not closed
@@ -62,11 +63,11 @@ comment_gap_neat layout spot right class own n r h =
 
 pub closed_neat : (class : ℕ) (text : List ℕ) → Closed class text → (leads : Bool) (left : Role) (r : List ℕ) → NeatAt (comment_last class leads) left r → NeatWord (text ++ r)
 closed_neat class text (closed_line xs h t) leads left r n = (refl, (refl, line_neat xs solid r h t (λ e. refl) n))
-closed_neat class text (closed_block xs h k i) true left r n = (refl, (refl, i solid r n))
-closed_neat class text (closed_block xs h k i) false left r n = (refl, (refl, i solid r n))
+closed_neat class text (closed_block xs i) true left r n = (refl, (refl, ends_neat 0 xs i solid r n))
+closed_neat class text (closed_block xs i) false left r n = (refl, (refl, ends_neat 0 xs i solid r n))
 
 pub unclosed_neat : (class : ℕ) (text : List ℕ) → Unclosed class text → NeatWord text
-unclosed_neat class text (unclosed xs h k i) = (refl, (refl, i solid))
+unclosed_neat class text (unclosed xs i) = (refl, (refl, open_neat 0 xs i solid))
 
 pub ending_neat : (last : Last) (left : Role) → NeatAt last left (ending last left)
 ending_neat token left = go (is left beginning)

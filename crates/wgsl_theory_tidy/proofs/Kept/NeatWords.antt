@@ -11,7 +11,7 @@ use Rattle.wgsl_theory_printed.proofs.Spelling.Spellings.{IsSpelling}
 use Rattle.wgsl_theory_printed.proofs.Spelling.Split.{Each}
 use Rattle.wgsl_theory_printed.proofs.Spelling.WordCharacters.{spelled_word}
 use Rattle.wgsl_model_tidy.specs.Lines.{next_place}
-use Rattle.wgsl_model_tidy.specs.Roles.{template_end, beginning, at, attribute, is, ends_operand}
+use Rattle.wgsl_model_tidy.specs.Roles.{template_end, beginning, at, attribute, is}
 use Rattle.wgsl_model_tidy.specs.Open.{LayoutState, role_in, last_behind}
 use Rattle.wgsl_model_tidy.specs.LaidOut.{token}
 use Rattle.wgsl_theory_tidy.proofs.Kept.Touching.{Shaped}
@@ -48,7 +48,7 @@ spelled_neat k (c ∷ cs) r s n =
     word_character c (cs ++ r) t.0 (word_characters cs r t.1 n)
 
 -- a `/` with which no comment begins
-slash_goes : (r : List ℕ) → after_trivia outside (47 ∷ r) ≡ 47 ∷ r → next_place outside 47 r ≡ outside
+pub slash_goes : (r : List ℕ) → after_trivia outside (47 ∷ r) ≡ 47 ∷ r → next_place outside 47 r ≡ outside
 unfolding after_trivia
 slash_goes r = go (first_or_zero r == 47) (first_or_zero r == 42)
   where
@@ -73,12 +73,12 @@ end_role state = go (is state.last at)
     go true = refl
     go false = refl
 
-has_begun : (state : LayoutState) (k : Kind) (w r : List ℕ) → IsToken k w r → is (last_behind state (role_in state k.class)) beginning ≡ false
-has_begun state k w r t = go (shaped (ends_operand state.last) k w r t)
+has_begun : (state : LayoutState) (k : Kind) (before_operand : Bool) (w r : List ℕ) → IsToken k w r → is (last_behind state (role_in state k.class before_operand)) beginning ≡ false
+has_begun state k before_operand w r t = go (shaped state k before_operand w r t)
   where
-    go : Shaped (role_in state k.class) w ⊎ (k ≡ plain TemplateArgsEnd) → is (last_behind state (role_in state k.class)) beginning ≡ false
-    go (inl h) = not_beginning (last_behind state (role_in state k.class)) w (shaped_behind state (role_in state k.class) w h)
-    go (inr e) = subst (λ (j : Kind). is (last_behind state (role_in state j.class)) beginning ≡ false) (sym e) (end_role state)
+    go : Shaped (role_in state k.class before_operand) w ⊎ (k ≡ plain TemplateArgsEnd) → is (last_behind state (role_in state k.class before_operand)) beginning ≡ false
+    go (inl h) = not_beginning (last_behind state (role_in state k.class before_operand)) w (shaped_behind state (role_in state k.class before_operand) w h)
+    go (inr e) = subst (λ (j : Kind). is (last_behind state (role_in state j.class before_operand)) beginning ≡ false) (sym e) (end_role state)
 
-pub token_neat : (state : LayoutState) (k : Kind) (w r : List ℕ) → IsToken k w r → NeatAt token (last_behind state (role_in state k.class)) r → NeatWord (w ++ r)
-token_neat state k w r t n = word_neat k w r t (subst (λ b. Neat outside (cond b start solid) r) (has_begun state k w r t) n)
+pub token_neat : (state : LayoutState) (k : Kind) (before_operand : Bool) (w r : List ℕ) → IsToken k w r → NeatAt token (last_behind state (role_in state k.class before_operand)) r → NeatWord (w ++ r)
+token_neat state k before_operand w r t n = word_neat k w r t (subst (λ b. Neat outside (cond b start solid) r) (has_begun state k before_operand w r t) n)

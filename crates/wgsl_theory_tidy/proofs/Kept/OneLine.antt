@@ -3,11 +3,11 @@ use Rattle.std.proofs.Common.{◌≡◌, ℕ, zero, suc, ◌&&◌, ◌||◌, ◌
 use Rattle.std.proofs.lemmas.Bool.{true≢false}
 use Rattle.wgsl_model.specs.Tokens.Classes.{LineComment, BlockComment}
 use Rattle.wgsl_model_tidy.specs.Pieces.{Piece}
-use Rattle.wgsl_model_tidy.specs.Roles.{Role, opening, template_start, block_start, block_end, beginning, is, opens_bracket, closes_bracket, closes, ends_operand, role_of}
+use Rattle.wgsl_model_tidy.specs.Roles.{Role, opening, template_start, block_start, block_end, beginning, is, opens_bracket, closes_bracket, closes, role_of}
 use Rattle.wgsl_model_tidy.specs.Joints.{Joint, line, nothing, space, nothing_or_line, space_or_line, closed_up, joint_in_line, joint}
 use Rattle.wgsl_model_tidy.specs.Layout.{Layout, column_after, line_fits}
 use Rattle.wgsl_model_tidy.specs.Open.{Style, together, as_written, item_by_item, Enclosing, one_line, enclosing, between_items, depth_of, role_in, opened_behind}
-use Rattle.wgsl_model_tidy.specs.LaidOut.{Gap, closed, blank, Last, token, line_comment, block_comment, leading_comment, open_comment, Spot, joint_gap, is_token, is_line, behind_comment, behind_leading, loose_joint, closes_up, token_gap, comment_gap, line_end, is_followed, owned, gap_before_comment, gap_before_token, gap_before, breaks, opens_one, closes_one, has_break, has_lines, is_comment, next_role, depth_behind, leads, comment_last, may_break, has_several, may_part, style_of, gap_text, behind_piece, behind_first, laid_from}
+use Rattle.wgsl_model_tidy.specs.LaidOut.{Gap, closed, blank, Last, token, line_comment, block_comment, leading_comment, open_comment, Spot, joint_gap, is_token, is_line, behind_comment, behind_leading, loose_joint, closes_up, token_gap, comment_gap, line_end, is_followed, owned, gap_before_comment, gap_before_token, gap_before, breaks, opens_one, closes_one, has_break, has_lines, is_comment, next_role, depth_behind, piece_text, leads, comment_last, may_break, has_several, may_part, style_of, gap_text, behind_piece, behind_first, laid_from, operand_follows}
 use Rattle.wgsl_theory_tidy.proofs.Laid.{behind_comment_at}
 use Rattle.wgsl_theory_tidy.proofs.Kept.Gaps.{gap_ends}
 use Rattle.wgsl_theory_tidy.proofs.Kept.Relaid.{style_first, after_first, behind_ends, relaid}
@@ -119,7 +119,7 @@ smooth_gap n spot p ps i s = go (is_comment p.class) refl
         ∙ ap (λ o. gap_ends (gap_before_comment spot right p.class o 0)) (none_owned spot right ps (flat_enclosing n spot.state.opened i.flat))
         ∙ flat_comment p.class spot.last spot.state.last _ i.goes
     go false h =
-        let plain : is_brace right ≡ false = ap is_brace (token_next spot.state p ps h) ∙ no_brace (ends_operand spot.state.last) p.class s.no_left s.no_right in
+        let plain : is_brace right ≡ false = ap is_brace (token_next spot.state p ps h) ∙ no_brace spot.state p.class (operand_follows ps) s.no_left s.no_right in
         ap gap_ends (token_gap_before spot right p ps h) ∙ ap (λ k. gap_ends (gap_before_token spot right k)) s.ends ∙ smooth_token n spot right i plain
 
 -- ---- so they are behind a piece
@@ -155,7 +155,7 @@ flat_piece layout n spot p ps i s e = go (is_comment p.class) refl
     style = style_first layout spot p ps
 
     column : ℕ
-    column = column_after layout spot.column (gap_text layout gap ++ p.text)
+    column = column_after layout spot.column (gap_text layout gap ++ piece_text layout spot gap p)
 
     together_in : opens_one p.class ≡ true → style ≡ together
     together_in o =
@@ -170,11 +170,11 @@ flat_piece layout n spot p ps i s e = go (is_comment p.class) refl
         subst (λ k. IsFlat k (behind_piece layout spot gap right p style)) (sym (comment_open n p.class h)) (subst (IsFlat (suc n)) (sym (comment_spot layout spot gap right p style h)) here)
     go false h =
         let depth = depth_behind gap spot.state.line in
-        let before = ends_operand spot.state.last in
-        let does : right ≡ role_in spot.state p.class = token_next spot.state p ps h in
+        let operand = operand_follows ps in
+        let does : right ≡ role_in spot.state p.class operand = token_next spot.state p ps h in
         let opened : AreFlat (open_behind (closes_one p.class) (opens_one p.class) n) (opened_behind spot.state depth right style) =
         flat_behind n spot.state depth right style (closes_one p.class) (opens_one p.class)
-        (ap closes_bracket does ∙ closes_same before p.class) (ap opens_bracket does ∙ opens_same before p.class) (ap is_brace does ∙ no_brace before p.class s.no_left s.no_right)
+        (ap closes_bracket does ∙ closes_same spot.state p.class operand) (ap opens_bracket does ∙ opens_same spot.state p.class operand) (ap is_brace does ∙ no_brace spot.state p.class operand s.no_left s.no_right)
         together_in i.flat in
         subst (IsFlat (open_behind (closes_one p.class) (opens_one p.class) n)) (sym (token_spot layout spot gap right p style h)) (record { flat = opened; goes = refl })
 

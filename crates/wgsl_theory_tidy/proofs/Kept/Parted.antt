@@ -12,7 +12,7 @@ use Rattle.wgsl_theory_templates.proofs.Reaching.Reach.{role}
 use Rattle.wgsl_theory_templates.proofs.Lexed.RoleClasses.{is_mark_role}
 use Rattle.wgsl_theory_printed.proofs.Spelling.Spellings.{IsSpelling, EndsBefore, spelling_at, spelling_stands}
 use Rattle.wgsl_theory_printed.proofs.Spelling.Signs.{looked_up, spelled_symbol}
-use Rattle.wgsl_model_tidy.specs.Roles.{Role, template_start, beginning, is, ends_operand}
+use Rattle.wgsl_model_tidy.specs.Roles.{Role, template_start, beginning, is}
 use Rattle.wgsl_model_tidy.specs.Joints.{Joint, line, nothing, space, nothing_or_line, space_or_line, joint}
 use Rattle.wgsl_model_tidy.specs.Layout.{Layout}
 use Rattle.wgsl_model_tidy.specs.Open.{LayoutState, enclosing, between_items, depth_of, comment_depth, role_in, last_behind}
@@ -133,11 +133,11 @@ end_again k w rest more e (is_start others) = is_start more
 end_again k w rest more e (is_end others) = is_end more
 
 -- a token of a text is one before other characters, where none of those that may stand behind it makes more of it
-pub token_again : (state : LayoutState) (k : Kind) (w rest more : List ℕ) → IsToken k w rest → (Shaped (last_behind state (role_in state k.class)) w → PartsBefore w more) → IsToken k w more
-token_again state k w rest more t f = go (shaped (ends_operand state.last) k w rest t)
+pub token_again : (state : LayoutState) (k : Kind) (before_operand : Bool) (w rest more : List ℕ) → IsToken k w rest → (Shaped (last_behind state (role_in state k.class before_operand)) w → PartsBefore w more) → IsToken k w more
+token_again state k before_operand w rest more t f = go (shaped state k before_operand w rest t)
   where
-    go : Shaped (role_in state k.class) w ⊎ (k ≡ plain TemplateArgsEnd) → IsToken k w more
-    go (inl h) = parted_again k w rest more t (f (shaped_behind state (role_in state k.class) w h))
+    go : Shaped (role_in state k.class before_operand) w ⊎ (k ≡ plain TemplateArgsEnd) → IsToken k w more
+    go (inl h) = parted_again k w rest more t (f (shaped_behind state (role_in state k.class before_operand) w h))
     go (inr e) = end_again k w rest more e t
 
 less_spelling : IsSpelling (plain SymLessThan) (60 ∷ [])

@@ -6,9 +6,10 @@ use Rattle.wgsl_model_tidy.specs.Roles.{Role, beginning, closes}
 use Rattle.wgsl_model_tidy.specs.Joints.{joint}
 use Rattle.wgsl_model_tidy.specs.Layout.{Layout}
 use Rattle.wgsl_model_tidy.specs.Open.{Enclosing, enclosing, between_items, depth_of, comment_depth}
-use Rattle.wgsl_model_tidy.specs.LaidOut.{Gap, Spot, is_behind_opening, is_comment, next_role, is_token, is_line, is_followed, owned, gap_before_comment, gap_before_token, gap_before, token_gap, behind_piece, laid_from, laid_out, first_spot, gap_text}
+use Rattle.wgsl_model_tidy.specs.LaidOut.{Gap, Spot, is_behind_opening, is_comment, next_role, is_token, is_line, is_followed, owned, gap_before_comment, gap_before_token, gap_before, token_gap, behind_piece, laid_from, laid_out, first_spot, gap_text, piece_text}
 use Rattle.wgsl_theory_tidy.proofs.Kept.Gaps.{gap_ends}
-use Rattle.wgsl_theory_tidy.proofs.Kept.Relaid.{style_first, after_first, behind_ends, relaid, relaid_next}
+use Rattle.wgsl_theory_tidy.proofs.Kept.Relaid.{style_first, after_first, read_again, first_again, relaid, relaid_next}
+use Rattle.wgsl_theory_tidy.proofs.Kept.ShownTexts.{text_again}
 use Rattle.wgsl_theory_tidy.proofs.Kept.RelaidEnds.{behind_comment_piece, followed_again}
 use Rattle.wgsl_theory_tidy.proofs.Kept.Settled.{settled_state, settled, settled_enclosing, settled_encloses, settled_between, settled_depth, settled_comment_depth, settled_next}
 use Rattle.wgsl_theory_tidy.proofs.Kept.SettledJoints.{settled_joint, line_before}
@@ -37,9 +38,9 @@ settled_token_gap spot right n = rw (settled_encloses spot.state.opened, settled
 settled_comment_gap : (spot : Spot) (right : Role) (class : ℕ) (own : Bool) (n : ℕ) → gap_before_comment (settled spot) right class own n ≡ gap_before_comment spot right class own n
 settled_comment_gap spot right class own n = rw (settled_between spot.state right, settled_comment_depth spot.state right) refl
 
-gap_again : (spot : Spot) (right : Role) (p : Piece) (ps qs : List Piece) → (is_comment p.class ≡ true → is_followed qs ≡ true → is_followed ps ≡ true)
-    → gap_before (settled spot) right (behind_ends p (gap_ends (gap_before spot right p ps))) qs ≡ gap_before spot right p ps
-gap_again spot right p ps qs h = go (is_comment p.class) refl
+gap_again : (layout : Layout) (spot : Spot) (right : Role) (p : Piece) (ps qs : List Piece) → (is_comment p.class ≡ true → is_followed qs ≡ true → is_followed ps ≡ true)
+    → gap_before (settled spot) right (read_again layout spot (gap_before spot right p ps) p) qs ≡ gap_before spot right p ps
+gap_again layout spot right p ps qs h = go (is_comment p.class) refl
   where
     gap : Bool → List Piece → ℕ → Gap
     gap b others n = cond b (gap_before_comment spot right p.class (owned spot right others) n) (gap_before_token spot right n)
@@ -61,9 +62,10 @@ gap_again spot right p ps qs h = go (is_comment p.class) refl
 -- the first piece is formatted again before the others
 again : (layout : Layout) (spot : Spot) (p : Piece) (ps : List Piece) → SameOthers layout ps → laid_from layout (settled spot) (relaid layout spot (p ∷ ps)) ≡ laid_from layout spot (p ∷ ps)
 again layout spot p ps others =
-    ap (λ g. gap_text layout g ++ (p.text ++ laid_from layout (after_first layout (settled spot) p' rest) rest)) (ap (λ r. gap_before (settled spot) r p' rest) next ∙ gap_same)
-    ∙ ap (λ s. gap_text layout gap ++ (p.text ++ laid_from layout s rest)) (after_again layout spot p ps (gap_ends gap) same others)
-    ∙ ap (λ xs. gap_text layout gap ++ (p.text ++ xs)) (others after)
+    ap (λ g. gap_text layout g ++ (piece_text layout (settled spot) g p' ++ laid_from layout (after_first layout (settled spot) p' rest) rest)) (ap (λ r. gap_before (settled spot) r p' rest) next ∙ gap_same)
+    ∙ ap (λ text. gap_text layout gap ++ (text ++ laid_from layout (after_first layout (settled spot) p' rest) rest)) (text_again layout spot gap p)
+    ∙ ap (λ s. gap_text layout gap ++ (piece_text layout spot gap p ++ laid_from layout s rest)) (after_again layout spot p ps same others)
+    ∙ ap (λ xs. gap_text layout gap ++ (piece_text layout spot gap p ++ xs)) (others after)
   where
     right : Role
     right = next_role spot.state (p ∷ ps)
@@ -78,15 +80,15 @@ again layout spot p ps others =
     rest = relaid layout after ps
 
     p' : Piece
-    p' = behind_ends p (gap_ends gap)
+    p' = first_again layout spot p ps
 
     next : next_role (settled_state spot.state) (p' ∷ rest) ≡ right
     next = settled_next spot.state (p' ∷ rest) ∙ relaid_next layout spot.state spot (p ∷ ps)
 
     gap_same : gap_before (settled spot) right p' rest ≡ gap
-    gap_same = gap_again spot right p ps rest (λ c. followed_again layout after ps (behind_comment_piece layout spot gap right p (style_first layout spot p ps) c))
+    gap_same = gap_again layout spot right p ps rest (λ c. followed_again layout after ps (behind_comment_piece layout spot gap right p (style_first layout spot p ps) c))
 
-    same : SameGap layout spot p ps (gap_ends gap)
+    same : SameGap layout spot p ps
     same style =
         ap (λ r. behind_piece layout (settled spot) (gap_before (settled spot) r p' rest) r p' style) next
         ∙ ap (λ g. behind_piece layout (settled spot) g right p' style) gap_same

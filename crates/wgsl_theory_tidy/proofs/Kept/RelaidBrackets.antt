@@ -5,9 +5,10 @@ use Rattle.wgsl_model_tidy.specs.Pieces.{Piece}
 use Rattle.wgsl_model_tidy.specs.Roles.{Role, opens_bracket}
 use Rattle.wgsl_model_tidy.specs.Layout.{Layout, column_after, line_fits}
 use Rattle.wgsl_model_tidy.specs.Open.{Style, together, as_written, item_by_item, Opened, LayoutState, enclosing, last_behind, leading_behind, structure_behind}
-use Rattle.wgsl_model_tidy.specs.LaidOut.{Gap, token, Spot, opens_one, closes_one, has_lines, may_break, ends_bracket, has_several, may_part, style_of, is_comment, next_role, gap_before, depth_behind, gap_text, behind_piece, behind_first, laid_from}
-use Rattle.wgsl_theory_tidy.proofs.Laid.{behind_token_at}
-use Rattle.wgsl_theory_tidy.proofs.Kept.Relaid.{style_first, after_first, behind_ends, relaid}
+use Rattle.wgsl_model_tidy.specs.LaidOut.{Gap, token, Spot, opens_one, closes_one, has_lines, may_break, ends_bracket, has_several, may_part, style_of, is_comment, next_role, gap_before, depth_behind, gap_text, piece_text, leads, comment_last, behind_piece, behind_first, laid_from}
+use Rattle.wgsl_theory_tidy.proofs.Laid.{behind_comment_at, behind_token_at}
+use Rattle.wgsl_theory_tidy.proofs.Kept.Relaid.{style_first, after_first, read_again, first_again, relaid}
+use Rattle.wgsl_theory_tidy.proofs.Kept.ShownTexts.{text_again}
 use Rattle.wgsl_theory_tidy.proofs.Kept.PieceSpots.{comment_spot, token_spot}
 use Rattle.wgsl_theory_tidy.proofs.Kept.BracketRoles.{opens_last, opens_enclosing, opens_none, flat_opens}
 use Rattle.wgsl_theory_tidy.proofs.Kept.OneLine.{one_line_again}
@@ -83,13 +84,23 @@ style_free layout spot gap right p style other h = go (is_comment p.class) refl
     go true c = comment_spot layout spot gap right p style c ∙ sym (comment_spot layout spot gap right p other c)
     go false c = token_spot layout spot gap right p style c ∙ other_style spot.state (depth_behind gap spot.state.line) p.class right _ style other (h c) ∙ sym (token_spot layout spot gap right p other c)
 
-piece_again : (layout : Layout) (spot : Spot) (gap : Gap) (right : Role) (p : Piece) (n : ℕ) (style : Style) → behind_piece layout (settled spot) gap right (behind_ends p n) (settle style) ≡ settled (behind_piece layout spot gap right p style)
-piece_again layout spot gap right p n style = go (is_comment p.class) refl
+piece_again : (layout : Layout) (spot : Spot) (gap : Gap) (right : Role) (p : Piece) (style : Style) → behind_piece layout (settled spot) gap right (read_again layout spot gap p) (settle style) ≡ settled (behind_piece layout spot gap right p style)
+piece_again layout spot gap right p style = go (is_comment p.class) refl
   where
-    go : (b : Bool) → is_comment p.class ≡ b → behind_piece layout (settled spot) gap right (behind_ends p n) (settle style) ≡ settled (behind_piece layout spot gap right p style)
-    go true c = comment_spot layout (settled spot) gap right (behind_ends p n) (settle style) c ∙ sym (ap settled (comment_spot layout spot gap right p style c))
+    column : List ℕ → ℕ
+    column text = column_after layout spot.column (gap_text layout gap ++ text)
+
+    same : piece_text layout (settled spot) gap (read_again layout spot gap p) ≡ piece_text layout spot gap p
+    same = text_again layout spot gap p
+
+    go : (b : Bool) → is_comment p.class ≡ b → behind_piece layout (settled spot) gap right (read_again layout spot gap p) (settle style) ≡ settled (behind_piece layout spot gap right p style)
+    go true c =
+        comment_spot layout (settled spot) gap right (read_again layout spot gap p) (settle style) c
+        ∙ ap (λ text. behind_comment_at (settled spot).state (depth_behind gap spot.state.line) (comment_last p.class (leads gap spot.last spot.state.last)) (column text)) same
+        ∙ sym (ap settled (comment_spot layout spot gap right p style c))
     go false c =
-        token_spot layout (settled spot) gap right (behind_ends p n) (settle style) c
+        token_spot layout (settled spot) gap right (read_again layout spot gap p) (settle style) c
+        ∙ ap (λ text. behind_token_at (settled spot).state (depth_behind gap spot.state.line) p.class right (column text) (settle style)) same
         ∙ settled_token spot.state (depth_behind gap spot.state.line) p.class right _ style
         ∙ sym (ap settled (token_spot layout spot gap right p style c))
 
@@ -99,20 +110,21 @@ piece_again layout spot gap right p n style = go (is_comment p.class) refl
 abbrev others_again : Layout → Spot → Piece → List Piece → List Piece
 others_again layout spot p ps = relaid layout (after_first layout spot p ps) ps
 
--- the gap before the first piece is the same, after so many line ends
-abbrev pub SameGap : Layout → Spot → Piece → List Piece → ℕ → Type 0
-SameGap layout spot p ps n =
+-- the gap before the first piece is the same
+abbrev pub SameGap : Layout → Spot → Piece → List Piece → Type 0
+SameGap layout spot p ps =
     let right = next_role spot.state (p ∷ ps) in
-    (style : Style) → behind_first layout (settled spot) (behind_ends p n) (others_again layout spot p ps) style ≡ behind_piece layout (settled spot) (gap_before spot right p ps) right (behind_ends p n) style
+    let again = first_again layout spot p ps in
+    (style : Style) → behind_first layout (settled spot) again (others_again layout spot p ps) style ≡ behind_piece layout (settled spot) (gap_before spot right p ps) right again style
 
 -- the others stay as they are if they are formatted again
 abbrev pub SameOthers : Layout → List Piece → Type 0
 SameOthers layout ps = (spot : Spot) → laid_from layout (settled spot) (relaid layout spot ps) ≡ laid_from layout spot ps
 
-style_again : (layout : Layout) (spot : Spot) (p : Piece) (ps : List Piece) (n : ℕ) → SameGap layout spot p ps n → SameOthers layout ps → is_comment p.class ≡ false → opens_bracket (next_role spot.state (p ∷ ps)) ≡ true
-    → style_first layout (settled spot) (behind_ends p n) (others_again layout spot p ps) ≡ settle (style_first layout spot p ps)
-style_again layout spot p ps n same others c o =
-    ap styled (same together ∙ piece_again layout spot gap right p n together) ∙ go (style_first layout spot p ps) (written_by (has_lines ps) long) refl
+style_again : (layout : Layout) (spot : Spot) (p : Piece) (ps : List Piece) → SameGap layout spot p ps → SameOthers layout ps → is_comment p.class ≡ false → opens_bracket (next_role spot.state (p ∷ ps)) ≡ true
+    → style_first layout (settled spot) (first_again layout spot p ps) (others_again layout spot p ps) ≡ settle (style_first layout spot p ps)
+style_again layout spot p ps same others c o =
+    ap styled (same together ∙ piece_again layout spot gap right p together) ∙ go (style_first layout spot p ps) (written_by (has_lines ps) long) refl
   where
     right : Role
     right = next_role spot.state (p ∷ ps)
@@ -138,7 +150,7 @@ style_again layout spot p ps n same others c o =
     long_for : Style → Bool
     long_for style = may_part layout (enclosing (settled_opened spot.state.opened)) p.class (rest style) && not (line_fits layout flat.column (laid_from layout (settled flat) (rest style)))
 
-    lines_for : (style : Style) (b : Bool) → has_lines (relaid layout (behind_token_at spot.state depth p.class right (column_after layout spot.column (gap_text layout gap ++ p.text)) style) ps) ≡ b → has_lines (rest style) ≡ b
+    lines_for : (style : Style) (b : Bool) → has_lines (relaid layout (behind_token_at spot.state depth p.class right (column_after layout spot.column (gap_text layout gap ++ piece_text layout spot gap p)) style) ps) ≡ b → has_lines (rest style) ≡ b
     lines_for style b e = ap (λ (s : Spot). has_lines (relaid layout s ps)) (token_spot layout spot gap right p style c) ∙ e
 
     long_again : long_for together ≡ long
@@ -158,9 +170,9 @@ style_again layout spot p ps n same others c o =
         (ap (λ s. has_lines (rest s)) q ∙ lines_for together false (together_again layout spot.state depth p.class right _ ps o e))
         (ap long_for q ∙ long_again ∙ l)
 
-pub after_again : (layout : Layout) (spot : Spot) (p : Piece) (ps : List Piece) (n : ℕ) → SameGap layout spot p ps n → SameOthers layout ps
-    → after_first layout (settled spot) (behind_ends p n) (others_again layout spot p ps) ≡ settled (after_first layout spot p ps)
-after_again layout spot p ps n same others = same style ∙ go (is_comment p.class) (opens_bracket right) refl refl ∙ piece_again layout spot gap right p n (style_first layout spot p ps)
+pub after_again : (layout : Layout) (spot : Spot) (p : Piece) (ps : List Piece) → SameGap layout spot p ps → SameOthers layout ps
+    → after_first layout (settled spot) (first_again layout spot p ps) (others_again layout spot p ps) ≡ settled (after_first layout spot p ps)
+after_again layout spot p ps same others = same style ∙ go (is_comment p.class) (opens_bracket right) refl refl ∙ piece_again layout spot gap right p (style_first layout spot p ps)
   where
     right : Role
     right = next_role spot.state (p ∷ ps)
@@ -169,12 +181,12 @@ after_again layout spot p ps n same others = same style ∙ go (is_comment p.cla
     gap = gap_before spot right p ps
 
     style : Style
-    style = style_first layout (settled spot) (behind_ends p n) (others_again layout spot p ps)
+    style = style_first layout (settled spot) (first_again layout spot p ps) (others_again layout spot p ps)
 
     behind : Style → Spot
-    behind s = behind_piece layout (settled spot) gap right (behind_ends p n) s
+    behind s = behind_piece layout (settled spot) gap right (first_again layout spot p ps) s
 
     go : (b o : Bool) → is_comment p.class ≡ b → opens_bracket right ≡ o → behind style ≡ behind (settle (style_first layout spot p ps))
-    go true o c e = style_free layout (settled spot) gap right (behind_ends p n) style (settle (style_first layout spot p ps)) (λ d. absurd (true≢false (sym c ∙ d)))
-    go false true c e = ap behind (style_again layout spot p ps n same others c e)
-    go false false c e = style_free layout (settled spot) gap right (behind_ends p n) style (settle (style_first layout spot p ps)) (λ d. e)
+    go true o c e = style_free layout (settled spot) gap right (first_again layout spot p ps) style (settle (style_first layout spot p ps)) (λ d. absurd (true≢false (sym c ∙ d)))
+    go false true c e = ap behind (style_again layout spot p ps same others c e)
+    go false false c e = style_free layout (settled spot) gap right (first_again layout spot p ps) style (settle (style_first layout spot p ps)) (λ d. e)

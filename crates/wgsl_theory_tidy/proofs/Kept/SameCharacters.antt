@@ -9,10 +9,11 @@ use Rattle.wgsl_model_tidy.specs.Pieces.{Piece, pieces}
 use Rattle.wgsl_model_tidy.specs.NonBlank.{non_blank}
 use Rattle.wgsl_model_tidy.specs.Roles.{Role, beginning, is}
 use Rattle.wgsl_model_tidy.specs.Layout.{Layout}
-use Rattle.wgsl_model_tidy.specs.LaidOut.{Gap, closed, blank, broken, Last, token, line_comment, block_comment, leading_comment, open_comment, Spot, gap_before, next_role, gap_text, indentation, ending, first_spot, laid_from, laid_out}
+use Rattle.wgsl_model_tidy.specs.LaidOut.{Gap, closed, blank, broken, Last, token, line_comment, block_comment, leading_comment, open_comment, Spot, gap_before, next_role, gap_text, piece_text, indentation, ending, first_spot, laid_from, laid_out}
 use Rattle.wgsl_model_tidy.specs.Kept.{unplaced}
 use Rattle.wgsl_theory_tidy.proofs.Levels.{IsIndent, no_indent, one_space, one_tab, indentation_indent}
 use Rattle.wgsl_theory_tidy.proofs.Kept.NonBlankOf.{non_blank_of, joined, joined_of}
+use Rattle.wgsl_theory_tidy.proofs.Kept.ShownTexts.{text_non_blank}
 use Rattle.wgsl_theory_tidy.proofs.Kept.Readings.{token_piece, Reads, reads_end, reads_token}
 use Rattle.wgsl_theory_tidy.proofs.Kept.Read.{read}
 use Rattle.wgsl_theory_tidy.proofs.Kept.Relaid.{after_first}
@@ -60,12 +61,13 @@ ending_blank open_comment left = refl
 pub laid_same : (layout : Layout) (spot : Spot) (ps : List Piece) → non_blank (laid_from layout spot ps) ≡ non_blank_of ps
 laid_same layout spot [] = ending_blank spot.last spot.state.last
 laid_same layout spot (p ∷ ps) =
-    let gap = gap_text layout (gap_before spot (next_role spot.state (p ∷ ps)) p ps) in
+    let gap = gap_before spot (next_role spot.state (p ∷ ps)) p ps in
+    let text = piece_text layout spot gap p in
     let rest = laid_from layout (after_first layout spot p ps) ps in
-    joined gap (p.text ++ rest)
-    ∙ ap (λ xs. xs ++ non_blank (p.text ++ rest)) (gap_blank layout (gap_before spot (next_role spot.state (p ∷ ps)) p ps))
-    ∙ joined p.text rest
-    ∙ ap (λ xs. non_blank p.text ++ xs) (laid_same layout (after_first layout spot p ps) ps)
+    joined (gap_text layout gap) (text ++ rest)
+    ∙ ap (λ xs. xs ++ non_blank (text ++ rest)) (gap_blank layout gap)
+    ∙ joined text rest
+    ∙ ap₂ (λ xs ys. xs ++ ys) (text_non_blank layout spot gap p) (laid_same layout (after_first layout spot p ps) ps)
 
 -- ---- a laid-out text
 

@@ -1,5 +1,5 @@
 -- The kinds of the tokens of a source have the shape that lets another text have tokens of these kinds.
-use Rattle.std.proofs.Common.{◌≡◌, ℕ, zero, suc, List, [], ◌∷◌, ◌++◌, map, take, refl, sym, ap, subst, ◌∙◌}
+use Rattle.std.proofs.Common.{◌≡◌, ℕ, zero, suc, List, [], ◌∷◌, take, refl, sym, ap, subst, ◌∙◌}
 use Rattle.std.proofs.lemmas.List.{map-append}
 use Rattle.grammar.specs.Tokens.{Token, first_tokens}
 use Rattle.grammar.specs.Endings.{Ending.finished}

@@ -3,7 +3,7 @@ use Rattle.std.proofs.Common.{◌≡◌, ℕ, Bool, true, false, cond, refl, sym
 use Rattle.wgsl_model_tidy.specs.Pieces.{Piece}
 use Rattle.wgsl_model_tidy.specs.Roles.{Role, opening, closing, template_start, template_end, block_start, block_end, attribute, is}
 use Rattle.wgsl_model_tidy.specs.Open.{Style, together, as_written, item_by_item, Open, block, members, arguments, bracket, Opened, LayoutState, in_brackets, Enclosing, no_bracket, one_line, own_lines, item_lines, enclosed_by, enclosing, in_members, in_arguments, inner_depth, outer_depth, between_items, depth_of, comment_depth, last_behind, leading_behind, structure_behind, opened_behind, role_in}
-use Rattle.wgsl_model_tidy.specs.LaidOut.{Spot, token, is_comment, next_role, may_break}
+use Rattle.wgsl_model_tidy.specs.LaidOut.{Spot, token, is_comment, operand_follows, next_role, may_break}
 use Rattle.wgsl_theory_tidy.proofs.Laid.{behind_token_at}
 
 abbrev pub settle : Style → Style
@@ -99,7 +99,7 @@ settled_comment_depth state right = rw (settled_brackets state.opened, settled_i
 -- what the first token does depends on the last token alone
 pub settled_next : (state : LayoutState) (ps : List Piece) → next_role (settled_state state) ps ≡ next_role state ps
 settled_next state [] = refl
-settled_next state (p ∷ ps) = ap (λ r. cond (is_comment p.class) r (role_in state p.class)) (settled_next state ps)
+settled_next state (p ∷ ps) = ap (λ r. cond (is_comment p.class) r (role_in state p.class (operand_follows ps))) (settled_next state ps)
 
 -- ---- after a token
 

@@ -1,14 +1,15 @@
 -- What a text begins with: a comment, with what stands behind it, or none.
-use Rattle.std.proofs.Common.{◌≡◌, ℕ, zero, suc, ◌≤◌, ◌==◌, ◌&&◌, Bool, true, false, cond, refl, sym, ap, subst, ◌∙◌, List, [], ◌∷◌, ◌++◌, length, length-append, arith}
+use Rattle.std.proofs.Common.{◌≡◌, ℕ, zero, suc, ◌≤◌, ◌==◌, ◌&&◌, Bool, true, false, cond, refl, sym, ap, ◌∙◌, List, [], ◌∷◌, ◌++◌, length, length-append, arith}
 use Rattle.std.specs.Char.{is_whitespace}
-use Rattle.std.proofs.lemmas.Bool.{and_parts, eqb-true}
+use Rattle.std.proofs.lemmas.Bool.{and_parts, eqb-true, true≢false}
 use Rattle.grammar.specs.Tables.{is_empty}
-use Rattle.wgsl_model.specs.Tokens.Characters.{is_blank, is_line_break}
+use Rattle.wgsl_model.specs.Tokens.Characters.{is_line_break}
 use Rattle.wgsl_model.specs.Tokens.Classes.{BlockComment}
 use Rattle.wgsl_model.specs.Tokens.Trivia.{Place, outside, in_line, in_block, second, out_of_block, first_or_zero, after_trivia}
 use Rattle.wgsl_theory_grammar.proofs.Tokens.Cuts.{trivia-ends, ends_length}
-use Rattle.wgsl_model_tidy.specs.Pieces.{Piece, OpenComment, comments}
-use Rattle.wgsl_theory_tidy.proofs.Comments.{piece, trimmed, OnLine, AtLineEnd, and_false}
+use Rattle.wgsl_model_tidy.specs.Pieces.{Piece, OpenComment, comments, put}
+use Rattle.wgsl_theory_tidy.proofs.Comments.{piece, trimmed, OnLine, AtLineEnd, other_sign, and_false}
+use Rattle.wgsl_theory_tidy.proofs.Kept.Bodies.{IsBody, body_end, text_end, body_opens, body_closes, body_other}
 use Rattle.wgsl_theory_tidy.proofs.Kept.NeatTexts.{Before, solid, then, Neat, break_is_blank}
 
 -- ---- tests
@@ -105,22 +106,103 @@ line_left (c ∷ cs) r h e = sym (over_break c (cs ++ r) h) ∙ e
 
 -- ---- a block comment's text, up to its end
 
--- a text ends the comment, so many others deep
-pub record EndsBlock (depth : ℕ) (xs : List ℕ) : Type 0 where
-  pub piece_is : (rest : List ℕ) (b : ℕ → List Piece) (n : ℕ) → comments b (in_block depth) n (xs ++ rest) ≡ piece BlockComment xs n ∷ comments b outside 0 rest
-  pub rest_is : (rest : List ℕ) → after_trivia (in_block depth) (xs ++ rest) ≡ after_trivia outside rest
-  pub neat : (b : Before) (rest : List ℕ) → Neat outside solid rest → Neat (in_block depth) b (xs ++ rest)
-
--- or it does not, whatever follows
-pub record StaysOpen (depth : ℕ) (xs : List ℕ) : Type 0 where
-  pub piece_is : (b : ℕ → List Piece) (n : ℕ) → comments b (in_block depth) n xs ≡ piece OpenComment xs n ∷ b 0
-  pub none_left : after_trivia (in_block depth) xs ≡ []
-  pub goes_on : (x : ℕ) (r : List ℕ) → after_trivia (in_block depth) (xs ++ (x ∷ r)) ≡ x ∷ r → ⊥
-  pub neat : (b : Before) → Neat (in_block depth) b xs
-
 data BlockOf (depth : ℕ) (text : List ℕ) : Type 0 where
-  ends : (x : ℕ) (xs rest : List ℕ) → text ≡ x ∷ (xs ++ rest) → EndsBlock depth (x ∷ xs) → BlockOf depth text
-  stays : StaysOpen depth text → BlockOf depth text
+  ends : (xs rest : List ℕ) → text ≡ xs ++ rest → IsBody true depth xs → BlockOf depth text
+  stays : IsBody false depth text → BlockOf depth text
+
+-- the sign of another block comment
+opening : (depth c d : ℕ) (cs : List ℕ) → (c == 47 && d == 42) ≡ true → BlockOf (suc depth) cs → BlockOf depth (c ∷ (d ∷ cs))
+opening depth c d cs h (ends xs rest w i) = let same = both_are c d 47 42 h in rw (same.0, same.1) (ends (47 ∷ (42 ∷ xs)) rest (ap (λ ys. 47 ∷ (42 ∷ ys)) w) (body_opens depth xs i))
+opening depth c d cs h (stays i) = let same = both_are c d 47 42 h in rw (same.0, same.1) (stays (body_opens depth cs i))
+
+-- the sign of an end: of this comment, or of one in it
+closing : (depth c d : ℕ) (cs : List ℕ) → (c == 42 && d == 47) ≡ true → ((e : ℕ) → BlockOf e cs) → BlockOf depth (c ∷ (d ∷ cs))
+closing zero c d cs h others = let same = both_are c d 42 47 h in rw (same.0, same.1) (ends (42 ∷ (47 ∷ [])) cs refl (body_end refl))
+closing (suc depth) c d cs h others = let same = both_are c d 42 47 h in rw (same.0, same.1) (go (others depth))
+  where
+    go : BlockOf depth cs → BlockOf (suc depth) (42 ∷ (47 ∷ cs))
+    go (ends xs rest w i) = ends (42 ∷ (47 ∷ xs)) rest (ap (λ ys. 42 ∷ (47 ∷ ys)) w) (body_closes depth xs i)
+    go (stays i) = stays (body_closes depth cs i)
+
+-- what comes first in a comment that ends does not depend on what follows it
+body_first : (depth : ℕ) (xs rest : List ℕ) → IsBody true depth xs → first_or_zero (xs ++ rest) ≡ first_or_zero xs
+body_first _ _ rest (body_end e) = refl
+body_first _ _ rest (text_end depth e) = absurd (true≢false e)
+body_first _ _ rest (body_opens depth xs i) = refl
+body_first _ _ rest (body_closes depth xs i) = refl
+body_first _ _ rest (body_other depth c xs h k i) = refl
+
+-- another character
+other : (depth c : ℕ) (cs : List ℕ) → (c == 47 && first_or_zero cs == 42) ≡ false → (c == 42 && first_or_zero cs == 47) ≡ false → BlockOf depth cs → BlockOf depth (c ∷ cs)
+other depth c cs h k (ends xs rest w i) =
+    let first : first_or_zero xs ≡ first_or_zero cs = sym (ap first_or_zero w ∙ body_first depth xs rest i) in
+    ends (c ∷ xs) rest (ap (λ ys. c ∷ ys) w) (body_other depth c xs (ap (λ d. c == 47 && d == 42) first ∙ h) (ap (λ d. c == 42 && d == 47) first ∙ k) i)
+other depth c cs h k (stays i) = stays (body_other depth c cs h k i)
+
+block_of : (depth : ℕ) (text : List ℕ) → BlockOf depth text
+block_of depth [] = stays (text_end depth refl)
+block_of depth (c ∷ []) = stays (body_other depth c [] (and_false (c == 47)) (and_false (c == 42)) (text_end depth refl))
+block_of depth (c ∷ (d ∷ cs)) =
+    by_test (c == 47 && d == 42) (λ h. opening depth c d cs h (block_of (suc depth) cs)) (λ h.
+    by_test (c == 42 && d == 47) (λ k. closing depth c d cs k (λ e. block_of e cs)) (λ k. other depth c (d ∷ cs) h k (block_of depth (d ∷ cs))))
+
+-- ---- one that ends: its piece, what follows it, and that it is neat
+
+no_opening : (depth c : ℕ) (xs rest : List ℕ) → IsBody true depth xs → (c == 47 && first_or_zero xs == 42) ≡ false → (c == 47 && first_or_zero (xs ++ rest) == 42) ≡ false
+no_opening depth c xs rest i h = ap (λ d. c == 47 && d == 42) (body_first depth xs rest i) ∙ h
+
+no_closing : (depth c : ℕ) (xs rest : List ℕ) → IsBody true depth xs → (c == 42 && first_or_zero xs == 47) ≡ false → (c == 42 && first_or_zero (xs ++ rest) == 47) ≡ false
+no_closing depth c xs rest i k = ap (λ d. c == 42 && d == 47) (body_first depth xs rest i) ∙ k
+
+pub ends_piece : (depth : ℕ) (xs : List ℕ) → IsBody true depth xs → (rest : List ℕ) (b : ℕ → List Piece) (n : ℕ) → comments b (in_block depth) n (xs ++ rest) ≡ piece BlockComment xs n ∷ comments b outside 0 rest
+unfolding comments
+ends_piece _ _ (body_end e) rest b n = refl
+ends_piece _ _ (text_end depth e) rest b n = absurd (true≢false e)
+ends_piece _ _ (body_opens depth xs i) rest b n = ap (λ ps. put 47 (put 42 ps)) (ends_piece (suc depth) xs i rest b n)
+ends_piece _ _ (body_closes depth xs i) rest b n = ap (λ ps. put 42 (put 47 ps)) (ends_piece depth xs i rest b n)
+ends_piece _ _ (body_other depth c xs h k i) rest b n =
+    other_sign b n depth c (xs ++ rest) (no_opening depth c xs rest i h) (no_closing depth c xs rest i k) ∙ ap (put c) (ends_piece depth xs i rest b n)
+
+-- over a character that is no sign
+other_over : (depth c : ℕ) (rest : List ℕ) → (c == 47 && first_or_zero rest == 42) ≡ false → (c == 42 && first_or_zero rest == 47) ≡ false → after_trivia (in_block depth) (c ∷ rest) ≡ after_trivia (in_block depth) rest
+unfolding after_trivia
+other_over depth c rest h k = rw (h, k) refl
+
+other_neat : (depth c : ℕ) (b : Before) (rest : List ℕ) → (c == 47 && first_or_zero rest == 42) ≡ false → (c == 42 && first_or_zero rest == 47) ≡ false → Neat (in_block depth) (then b c) rest → Neat (in_block depth) b (c ∷ rest)
+other_neat depth c b rest h k n = (tt, rw (h, k) n)
+
+pub ends_rest : (depth : ℕ) (xs : List ℕ) → IsBody true depth xs → (rest : List ℕ) → after_trivia (in_block depth) (xs ++ rest) ≡ after_trivia outside rest
+unfolding after_trivia
+ends_rest _ _ (body_end e) rest = refl
+ends_rest _ _ (text_end depth e) rest = absurd (true≢false e)
+ends_rest _ _ (body_opens depth xs i) rest = ends_rest (suc depth) xs i rest
+ends_rest _ _ (body_closes depth xs i) rest = ends_rest depth xs i rest
+ends_rest _ _ (body_other depth c xs h k i) rest = other_over depth c (xs ++ rest) (no_opening depth c xs rest i h) (no_closing depth c xs rest i k) ∙ ends_rest depth xs i rest
+
+pub ends_neat : (depth : ℕ) (xs : List ℕ) → IsBody true depth xs → (b : Before) (rest : List ℕ) → Neat outside solid rest → Neat (in_block depth) b (xs ++ rest)
+ends_neat _ _ (body_end e) b rest n = (tt, (refl, n))
+ends_neat _ _ (text_end depth e) b rest n = absurd (true≢false e)
+ends_neat _ _ (body_opens depth xs i) b rest n = (tt, (refl, ends_neat (suc depth) xs i solid rest n))
+ends_neat _ _ (body_closes depth xs i) b rest n = (tt, (refl, ends_neat depth xs i solid rest n))
+ends_neat _ _ (body_other depth c xs h k i) b rest n = other_neat depth c b (xs ++ rest) (no_opening depth c xs rest i h) (no_closing depth c xs rest i k) (ends_neat depth xs i (then b c) rest n)
+
+-- ---- one that is not closed: its piece, that nothing follows it, and that it is neat
+
+pub open_piece : (depth : ℕ) (xs : List ℕ) → IsBody false depth xs → (b : ℕ → List Piece) (n : ℕ) → comments b (in_block depth) n xs ≡ piece OpenComment xs n ∷ b 0
+unfolding comments
+open_piece _ _ (body_end e) b n = absurd (true≢false (sym e))
+open_piece _ _ (text_end depth e) b n = refl
+open_piece _ _ (body_opens depth xs i) b n = ap (λ ps. put 47 (put 42 ps)) (open_piece (suc depth) xs i b n)
+open_piece _ _ (body_closes depth xs i) b n = ap (λ ps. put 42 (put 47 ps)) (open_piece depth xs i b n)
+open_piece _ _ (body_other depth c xs h k i) b n = other_sign b n depth c xs h k ∙ ap (put c) (open_piece depth xs i b n)
+
+pub open_none_left : (depth : ℕ) (xs : List ℕ) → IsBody false depth xs → after_trivia (in_block depth) xs ≡ []
+unfolding after_trivia
+open_none_left _ _ (body_end e) = absurd (true≢false (sym e))
+open_none_left _ _ (text_end depth e) = refl
+open_none_left _ _ (body_opens depth xs i) = open_none_left (suc depth) xs i
+open_none_left _ _ (body_closes depth xs i) = open_none_left depth xs i
+open_none_left _ _ (body_other depth c xs h k i) = other_over depth c xs h k ∙ open_none_left depth xs i
 
 in_block_shorter : (depth x : ℕ) (r : List ℕ) → after_trivia (in_block depth) (x ∷ r) ≡ x ∷ r → ⊥
 unfolding after_trivia
@@ -131,12 +213,6 @@ in_block_shorter depth x r e =
     (no_rest (second (in_block (suc depth))) x r)
     (λ f. neither (x == 42 && first_or_zero r == 47) past_closing past (x ∷ r) f (no_rest (second (out_of_block depth)) x r) (no_rest (in_block depth) x r))
 
--- no text is left
-stays_nothing : (depth : ℕ) → StaysOpen depth []
-unfolding comments after_trivia
-stays_nothing depth = record { piece_is = λ b n. refl; none_left = refl; goes_on = λ x r e. in_block_shorter depth x r e; neat = λ b. refl }
-
--- one character is left
 one_shorter : (depth c x : ℕ) (r : List ℕ) → after_trivia (in_block depth) (c ∷ (x ∷ r)) ≡ x ∷ r → ⊥
 unfolding after_trivia
 one_shorter depth c x r e =
@@ -146,113 +222,22 @@ one_shorter depth c x r e =
     (no_rest (in_block (suc depth)) x r)
     (λ f. neither (c == 42 && x == 47) past_closing past (x ∷ r) f (no_rest (out_of_block depth) x r) (in_block_shorter depth x r))
 
-stays_one : (depth c : ℕ) → StaysOpen depth (c ∷ [])
-unfolding comments after_trivia
-stays_one depth c = record {
-  piece_is = λ b n. rw (and_false (c == 47), and_false (c == 42)) refl;
-  none_left = rw (and_false (c == 47), and_false (c == 42)) refl;
-  goes_on = λ x r e. one_shorter depth c x r e;
-  neat = λ b. (tt, rw (and_false (c == 47), and_false (c == 42)) refl);
-}
-
--- over the sign of another block comment, and of the end of one in this one
-opened_over : (depth c d : ℕ) (rest : List ℕ) → (c == 47 && d == 42) ≡ true → after_trivia (in_block (suc depth)) rest ≡ after_trivia (in_block depth) (c ∷ (d ∷ rest))
+-- before another text it goes on
+pub open_goes_on : (depth : ℕ) (xs : List ℕ) → IsBody false depth xs → (x : ℕ) (r : List ℕ) → after_trivia (in_block depth) (xs ++ (x ∷ r)) ≡ x ∷ r → ⊥
 unfolding after_trivia
-opened_over depth c d rest h = rw h refl
+open_goes_on _ _ (body_end e) x r f = absurd (true≢false (sym e))
+open_goes_on _ _ (text_end depth e) x r f = in_block_shorter depth x r f
+open_goes_on _ _ (body_opens depth xs i) x r f = open_goes_on (suc depth) xs i x r f
+open_goes_on _ _ (body_closes depth xs i) x r f = open_goes_on depth xs i x r f
+open_goes_on _ _ (body_other depth c [] h k i) x r f = one_shorter depth c x r f
+open_goes_on _ _ (body_other depth c (d ∷ xs) h k i) x r f = open_goes_on depth (d ∷ xs) i x r (sym (other_over depth c (d ∷ (xs ++ (x ∷ r))) h k) ∙ f)
 
-closed_over : (depth c d : ℕ) (rest : List ℕ) → (c == 47 && d == 42) ≡ false → (c == 42 && d == 47) ≡ true → after_trivia (out_of_block depth) rest ≡ after_trivia (in_block depth) (c ∷ (d ∷ rest))
-unfolding after_trivia
-closed_over depth c d rest h k = rw (h, k) refl
-
--- over another character
-other_over : (depth c d : ℕ) (rest : List ℕ) → (c == 47 && d == 42) ≡ false → (c == 42 && d == 47) ≡ false → after_trivia (in_block depth) (d ∷ rest) ≡ after_trivia (in_block depth) (c ∷ (d ∷ rest))
-unfolding after_trivia
-other_over depth c d rest h k = rw (h, k) refl
-
--- a sign of two characters in a neat text
-opening_neat : (depth c d : ℕ) (b : Before) (rest : List ℕ) → (c == 47 && d == 42) ≡ true → ((a : Before) → Neat (in_block (suc depth)) a rest) → Neat (in_block depth) b (c ∷ (d ∷ rest))
-opening_neat depth c d b rest h n = let same = both_are c d 47 42 h in rw (same.0, same.1) (tt, (refl, n solid))
-
-closing_neat : (depth c d : ℕ) (b : Before) (rest : List ℕ) → (c == 42 && d == 47) ≡ true → Neat (out_of_block depth) solid rest → Neat (in_block depth) b (c ∷ (d ∷ rest))
-closing_neat depth c d b rest h n = let same = both_are c d 42 47 h in rw (same.0, same.1) (tt, (refl, n))
-
--- another character
-other_neat : (depth c d : ℕ) (b : Before) (rest : List ℕ) → (c == 47 && d == 42) ≡ false → (c == 42 && d == 47) ≡ false → ((a : Before) → Neat (in_block depth) a (d ∷ rest)) → Neat (in_block depth) b (c ∷ (d ∷ rest))
-other_neat depth c d b rest h k n = (tt, rw (h, k) (n (then b c)))
-
--- the sign of another block comment
-opening_ends : (depth c d : ℕ) (xs : List ℕ) → (c == 47 && d == 42) ≡ true → EndsBlock (suc depth) xs → EndsBlock depth (c ∷ (d ∷ xs))
-unfolding comments after_trivia
-opening_ends depth c d xs h e = record { piece_is = λ rest b n. rw (h, e.piece_is rest b n) refl; rest_is = λ rest. rw h (e.rest_is rest); neat = λ b rest n. opening_neat depth c d b (xs ++ rest) h (λ a. e.neat a rest n) }
-
-opening_stays : (depth c d : ℕ) (xs : List ℕ) → (c == 47 && d == 42) ≡ true → StaysOpen (suc depth) xs → StaysOpen depth (c ∷ (d ∷ xs))
-unfolding comments after_trivia
-opening_stays depth c d xs h e = record {
-  piece_is = λ b n. rw (h, e.piece_is b n) refl;
-  none_left = rw h e.none_left;
-  goes_on = λ x r f. e.goes_on x r (opened_over depth c d (xs ++ (x ∷ r)) h ∙ f);
-  neat = λ b. opening_neat depth c d b xs h e.neat;
-}
-
-opening : (depth c d : ℕ) (cs : List ℕ) → (c == 47 && d == 42) ≡ true → BlockOf (suc depth) cs → BlockOf depth (c ∷ (d ∷ cs))
-opening depth c d cs h (ends x xs rest w e) = ends c (d ∷ (x ∷ xs)) rest (ap (λ ys. c ∷ (d ∷ ys)) w) (opening_ends depth c d (x ∷ xs) h e)
-opening depth c d cs h (stays s) = stays (opening_stays depth c d cs h s)
-
--- the sign of an end: of a comment in this one, or of this one
-closing_ends : (depth c d : ℕ) (xs : List ℕ) → (c == 47 && d == 42) ≡ false → (c == 42 && d == 47) ≡ true → EndsBlock depth xs → EndsBlock (suc depth) (c ∷ (d ∷ xs))
-unfolding comments after_trivia
-closing_ends depth c d xs h k e = record { piece_is = λ rest b n. rw (h, k, e.piece_is rest b n) refl; rest_is = λ rest. rw (h, k) (e.rest_is rest); neat = λ b rest n. closing_neat (suc depth) c d b (xs ++ rest) k (e.neat solid rest n) }
-
-closing_stays : (depth c d : ℕ) (xs : List ℕ) → (c == 47 && d == 42) ≡ false → (c == 42 && d == 47) ≡ true → StaysOpen depth xs → StaysOpen (suc depth) (c ∷ (d ∷ xs))
-unfolding comments after_trivia
-closing_stays depth c d xs h k e = record {
-  piece_is = λ b n. rw (h, k, e.piece_is b n) refl;
-  none_left = rw (h, k) e.none_left;
-  goes_on = λ x r f. e.goes_on x r (closed_over (suc depth) c d (xs ++ (x ∷ r)) h k ∙ f);
-  neat = λ b. closing_neat (suc depth) c d b xs k (e.neat solid);
-}
-
-last_ends : (c d : ℕ) → (c == 47 && d == 42) ≡ false → (c == 42 && d == 47) ≡ true → EndsBlock 0 (c ∷ (d ∷ []))
-unfolding comments after_trivia
-last_ends c d h k = record { piece_is = λ rest b n. rw (h, k) refl; rest_is = λ rest. rw (h, k) refl; neat = λ b rest n. closing_neat 0 c d b rest k n }
-
-closing : (depth c d : ℕ) (cs : List ℕ) → (c == 47 && d == 42) ≡ false → (c == 42 && d == 47) ≡ true → ((e : ℕ) → BlockOf e cs) → BlockOf depth (c ∷ (d ∷ cs))
-closing zero c d cs h k others = ends c (d ∷ []) cs refl (last_ends c d h k)
-closing (suc depth) c d cs h k others = go (others depth)
-  where
-    go : BlockOf depth cs → BlockOf (suc depth) (c ∷ (d ∷ cs))
-    go (ends x xs rest w e) = ends c (d ∷ (x ∷ xs)) rest (ap (λ ys. c ∷ (d ∷ ys)) w) (closing_ends depth c d (x ∷ xs) h k e)
-    go (stays s) = stays (closing_stays depth c d cs h k s)
-
--- another character
-head_is : (d x : ℕ) (cs ys : List ℕ) → d ∷ cs ≡ x ∷ ys → d ≡ x
-head_is d x cs ys e = cc
-
-other_ends : (depth c x : ℕ) (xs : List ℕ) → (c == 47 && x == 42) ≡ false → (c == 42 && x == 47) ≡ false → EndsBlock depth (x ∷ xs) → EndsBlock depth (c ∷ (x ∷ xs))
-unfolding comments after_trivia
-other_ends depth c x xs h k e = record { piece_is = λ rest b n. rw (h, k, e.piece_is rest b n) refl; rest_is = λ rest. sym (other_over depth c x (xs ++ rest) h k) ∙ e.rest_is rest; neat = λ b rest n. other_neat depth c x b (xs ++ rest) h k (λ a. e.neat a rest n) }
-
-other_stays : (depth c d : ℕ) (xs : List ℕ) → (c == 47 && d == 42) ≡ false → (c == 42 && d == 47) ≡ false → StaysOpen depth (d ∷ xs) → StaysOpen depth (c ∷ (d ∷ xs))
-unfolding comments after_trivia
-other_stays depth c d xs h k e = record {
-  piece_is = λ b n. rw (h, k, e.piece_is b n) refl;
-  none_left = sym (other_over depth c d xs h k) ∙ e.none_left;
-  goes_on = λ x r f. e.goes_on x r (other_over depth c d (xs ++ (x ∷ r)) h k ∙ f);
-  neat = λ b. other_neat depth c d b xs h k e.neat;
-}
-
-other : (depth c d : ℕ) (cs : List ℕ) → (c == 47 && d == 42) ≡ false → (c == 42 && d == 47) ≡ false → BlockOf depth (d ∷ cs) → BlockOf depth (c ∷ (d ∷ cs))
-other depth c d cs h k (ends x xs rest w e) =
-    let same : d ≡ x = head_is d x cs (xs ++ rest) w in
-    ends c (x ∷ xs) rest (ap (λ ys. c ∷ ys) w) (other_ends depth c x xs (subst (λ y. (c == 47 && y == 42) ≡ false) same h) (subst (λ y. (c == 42 && y == 47) ≡ false) same k) e)
-other depth c d cs h k (stays s) = stays (other_stays depth c d cs h k s)
-
-block_of : (depth : ℕ) (text : List ℕ) → BlockOf depth text
-block_of depth [] = stays (stays_nothing depth)
-block_of depth (c ∷ []) = stays (stays_one depth c)
-block_of depth (c ∷ (d ∷ cs)) =
-    by_test (c == 47 && d == 42) (λ h. opening depth c d cs h (block_of (suc depth) cs)) (λ h.
-    by_test (c == 42 && d == 47) (λ k. closing depth c d cs h k (λ e. block_of e cs)) (λ k. other depth c d cs h k (block_of depth (d ∷ cs))))
+pub open_neat : (depth : ℕ) (xs : List ℕ) → IsBody false depth xs → (b : Before) → Neat (in_block depth) b xs
+open_neat _ _ (body_end e) b = absurd (true≢false (sym e))
+open_neat _ _ (text_end depth e) b = refl
+open_neat _ _ (body_opens depth xs i) b = (tt, (refl, open_neat (suc depth) xs i solid))
+open_neat _ _ (body_closes depth xs i) b = (tt, (refl, open_neat depth xs i solid))
+open_neat _ _ (body_other depth c xs h k i) b = other_neat depth c b xs h k (open_neat depth xs i (then b c))
 
 -- ---- what a text begins with: nothing, a character that begins no comment, or a comment
 
@@ -260,8 +245,8 @@ pub data Front : List ℕ → Type 0 where
   no_text : Front []
   no_sign : (c : ℕ) (cs : List ℕ) → (c == 47 && first_or_zero cs == 47) ≡ false → (c == 47 && first_or_zero cs == 42) ≡ false → Front (c ∷ cs)
   line_sign : (xs rest : List ℕ) → OnLine xs → AtLineEnd rest → Front (47 ∷ (47 ∷ (xs ++ rest)))
-  block_sign : (xs rest : List ℕ) → EndsBlock 0 xs → Front (47 ∷ (42 ∷ (xs ++ rest)))
-  open_sign : (xs : List ℕ) → StaysOpen 0 xs → Front (47 ∷ (42 ∷ xs))
+  block_sign : (xs rest : List ℕ) → IsBody true 0 xs → Front (47 ∷ (42 ∷ (xs ++ rest)))
+  open_sign : (xs : List ℕ) → IsBody false 0 xs → Front (47 ∷ (42 ∷ xs))
 
 line_front : (c d : ℕ) (cs : List ℕ) → (c == 47 && d == 47) ≡ true → LineOf cs → Front (c ∷ (d ∷ cs))
 line_front c d cs h l =
@@ -269,8 +254,8 @@ line_front c d cs h l =
     rw (same.0, same.1, l.whole) (line_sign l.front l.rest l.on_line l.at_end)
 
 block_front : (c d : ℕ) (cs : List ℕ) → (c == 47 && d == 42) ≡ true → BlockOf 0 cs → Front (c ∷ (d ∷ cs))
-block_front c d cs h (ends x xs rest w e) = let same = both_are c d 47 42 h in rw (same.0, same.1, w) (block_sign (x ∷ xs) rest e)
-block_front c d cs h (stays s) = let same = both_are c d 47 42 h in rw (same.0, same.1) (open_sign cs s)
+block_front c d cs h (ends xs rest w i) = let same = both_are c d 47 42 h in rw (same.0, same.1, w) (block_sign xs rest i)
+block_front c d cs h (stays i) = let same = both_are c d 47 42 h in rw (same.0, same.1) (open_sign cs i)
 
 pub front_of : (text : List ℕ) → Front text
 front_of [] = no_text

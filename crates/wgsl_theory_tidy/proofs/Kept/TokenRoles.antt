@@ -8,7 +8,7 @@ use Rattle.std.proofs.lemmas.Slice.Eq.{bytes_eq-Decides}
 use Rattle.unicode_ident.specs.Ident.{is_xid_start}
 use Rattle.grammar.specs.Tokens.{Payload.number as number_payload}
 use Rattle.grammar.specs.Tables.{is_empty}
-use Rattle.wgsl_model.specs.Tokens.Classes.{Ident, ReservedWord, SymUnderscore, AbstractInt, I32, U32, AbstractFloat, F32, F16, TemplateArgsEnd, symbols, keywords}
+use Rattle.wgsl_model.specs.Tokens.Classes.{Ident, ReservedWord, SymUnderscore, AbstractInt, I32, U32, AbstractFloat, F32, F16, SymMinusMinus, TemplateArgsEnd, symbols, keywords}
 use Rattle.wgsl_model.specs.Tokens.Kind.{Kind, plain, named}
 use Rattle.wgsl_model.specs.Tokens.Numbers.{number_of, number_below, float_of, number_value, without_last, whole_number, i_suffix, u_suffix, f_suffix, h_suffix, abstract_float, float}
 use Rattle.wgsl_model.specs.Tokens.Pattern.{empty, spells}
@@ -19,7 +19,8 @@ use Rattle.wgsl_theory_printed.proofs.Spelling.Spellings.{EndsAt}
 use Rattle.wgsl_theory_printed.proofs.Spelling.Signs.{begins_name, begins_number, one_of_three}
 use Rattle.wgsl_theory_printed.proofs.Spelling.Ends.{number_no_name, number_no_symbol}
 use Rattle.wgsl_theory_printed.proofs.Fits.PointBehind.{no_point_behind}
-use Rattle.wgsl_model_tidy.specs.Roles.{Role, name, unsuffixed, number, word, else_word, opening, closing, block_start, block_end, comma, semicolon, colon, period, at, minus, ampersand, prefix, binary, step, role_of}
+use Rattle.wgsl_model_tidy.specs.Roles.{Role, name, unsuffixed, number, word, else_word, opening, closing, block_start, block_end, comma, semicolon, colon, period, at, minus, ampersand, prefix, binary, step, ends_operand, role_of}
+use Rattle.wgsl_model_tidy.specs.Open.{LayoutState, role_in}
 use Rattle.wgsl_theory_tidy.proofs.Kept.Alone.{paren_left_alone, paren_right_alone, bracket_left_alone, bracket_right_alone}
 use Rattle.wgsl_theory_tidy.proofs.Kept.Readings.{IsToken, is_word, is_slash, is_slash_equal, is_start, is_end}
 use Rattle.wgsl_theory_grammar.proofs.Tokens.Symbols.{each_passes, found_passes}
@@ -203,18 +204,43 @@ valued_fits behind k (x ∷ xs) h = by (begins_name x) (is_ascii_digit x || (x =
         subst (λ (role : Role). Fits role (x ∷ xs)) (sym (number_role (x ∷ xs) k v behind)) (number_fits x xs k v first)
     by false false e f v = of_symbol (look_up symbols (x ∷ xs)) refl v
 
+token_shaped : (behind : Bool) (k : Kind) (w rest : List ℕ) → IsToken k w rest → Shaped (role_of behind k.class) w ⊎ (k ≡ plain TemplateArgsEnd)
+token_shaped behind k w rest (is_word kind v more m s r) = inl (valued_fits behind k w s.valued).0
+token_shaped behind k w rest (is_slash more r) = inl (is_other binary 47 [] refl)
+token_shaped behind k w rest (is_slash_equal more r) = inl (is_other binary 47 (61 ∷ []) refl)
+token_shaped behind k w rest (is_start more) = inl is_less
+token_shaped behind k w rest (is_end more) = inr refl
+
+pub token_starts : (behind : Bool) (k : Kind) (w rest : List ℕ) → IsToken k w rest → Starts (role_of behind k.class) w
+token_starts behind k w rest (is_word kind v more m s r) = (valued_fits behind k w s.valued).1
+token_starts behind k w rest (is_slash more r) = refl
+token_starts behind k w rest (is_slash_equal more r) = refl
+token_starts behind k w rest (is_start more) = refl
+token_starts behind k w rest (is_end more) = refl
+
+-- an operator between operands may be any characters
+binary_fits : (role : Role) (w : List ℕ) → Starts role w → Fits binary w
+binary_fits role [] s = absurd s
+binary_fits role (x ∷ xs) s = (is_other binary x xs refl, refl)
+
 -- what a token does says what its characters are, but for the end of a template list
-pub shaped : (behind : Bool) (k : Kind) (w rest : List ℕ) → IsToken k w rest → Shaped (role_of behind k.class) w ⊎ (k ≡ plain TemplateArgsEnd)
-shaped behind k w rest (is_word kind v more m s r) = inl (valued_fits behind k w s.valued).0
-shaped behind k w rest (is_slash more r) = inl (is_other binary 47 [] refl)
-shaped behind k w rest (is_slash_equal more r) = inl (is_other binary 47 (61 ∷ []) refl)
-shaped behind k w rest (is_start more) = inl is_less
-shaped behind k w rest (is_end more) = inr refl
+pub shaped : (state : LayoutState) (k : Kind) (before_operand : Bool) (w rest : List ℕ) → IsToken k w rest → Shaped (role_in state k.class before_operand) w ⊎ (k ≡ plain TemplateArgsEnd)
+shaped state k before_operand w rest t = go (k.class == SymMinusMinus && before_operand)
+  where
+    behind : Bool
+    behind = ends_operand state.last
+
+    go : (b : Bool) → Shaped (cond b binary (role_of behind k.class)) w ⊎ (k ≡ plain TemplateArgsEnd)
+    go true = inl (binary_fits (role_of behind k.class) w (token_starts behind k w rest t)).0
+    go false = token_shaped behind k w rest t
 
 -- and with which one it begins
-pub starts_so : (behind : Bool) (k : Kind) (w rest : List ℕ) → IsToken k w rest → Starts (role_of behind k.class) w
-starts_so behind k w rest (is_word kind v more m s r) = (valued_fits behind k w s.valued).1
-starts_so behind k w rest (is_slash more r) = refl
-starts_so behind k w rest (is_slash_equal more r) = refl
-starts_so behind k w rest (is_start more) = refl
-starts_so behind k w rest (is_end more) = refl
+pub starts_so : (state : LayoutState) (k : Kind) (before_operand : Bool) (w rest : List ℕ) → IsToken k w rest → Starts (role_in state k.class before_operand) w
+starts_so state k before_operand w rest t = go (k.class == SymMinusMinus && before_operand)
+  where
+    behind : Bool
+    behind = ends_operand state.last
+
+    go : (b : Bool) → Starts (cond b binary (role_of behind k.class)) w
+    go true = (binary_fits (role_of behind k.class) w (token_starts behind k w rest t)).1
+    go false = token_starts behind k w rest t

@@ -23,7 +23,7 @@ use Rattle.wgsl_theory_tidy.proofs.Kept.Signs.{less_text, greater_text, slash_te
 -- ---- behind blank space and comments
 
 -- so the first character is not blank
-bare_solid : (c : ℕ) (cs : List ℕ) → IsBare (c ∷ cs) → is_blank c ≡ false
+pub bare_solid : (c : ℕ) (cs : List ℕ) → IsBare (c ∷ cs) → is_blank c ≡ false
 bare_solid c cs h = false_from_ne_true (is_blank c) (λ b.
     (let same : after_trivia outside cs ≡ c ∷ cs = sym (over_blank c cs b) ∙ h in
     absurd (omega (arith, ends_length cs (c ∷ cs) (subst (λ rest. (before : List ℕ) × (cs ≡ before ++ rest)) same (trivia-ends outside cs))))))
@@ -38,7 +38,7 @@ record Spelled (text : List ℕ) (k : Kind) (from after : List ℕ) : Type 0 whe
   valued : kind_of_spelling word ≡ Some k
   spelled : spells spelling word ≡ true
 
-valued_from : (o : Option Kind) (text rest from after : List ℕ) (k : Kind) → valued text rest o ≡ token k from after → (from ≡ text) × (rest ≡ after)
+pub valued_from : (o : Option Kind) (text rest from after : List ℕ) (k : Kind) → valued text rest o ≡ token k from after → (from ≡ text) × (rest ≡ after)
 valued_from None text rest from after k e = absurd (cc)
 valued_from (Some m) text rest from after k e = (cc, cc)
 

@@ -242,7 +242,6 @@ behind_sign template_start right w h = absurd (true≢false (sym h))
 behind_sign minus right w h = absurd (true≢false (sym h))
 behind_sign ampersand right w h = absurd (true≢false (sym h))
 behind_sign prefix right w h = absurd (true≢false (sym h))
-behind_sign step right w h = absurd (true≢false (sym h))
 behind_sign left right w h = absurd (true≢false (sym w))
 
 by_follows : (x : ℕ) (xs : List ℕ) (right : Role) (d : ℕ) → starts right d ≡ true → Follows right → (JoinsNothing d → EndsAt (x ∷ xs) d) → EndsAt (x ∷ xs) d

@@ -7,8 +7,9 @@ use Rattle.wgsl_model_tidy.specs.Pieces.{Piece, OpenComment, comments, line_ends
 use Rattle.wgsl_theory_tidy.proofs.Comments.{piece, no_comment, trimmed, OnLine, AtLineEnd, line_comment, whole_line, whole_block, nothing_left}
 use Rattle.wgsl_model_tidy.specs.NonBlank.{non_blank}
 use Rattle.wgsl_theory_tidy.proofs.Kept.NonBlankOf.{non_blank_of, joined, over_blank_one, trimmed_same}
+use Rattle.wgsl_theory_tidy.proofs.Kept.Bodies.{IsBody}
 use Rattle.wgsl_theory_tidy.proofs.Kept.ClosedComments.{Closed, closed_line, closed_block, Unclosed, unclosed, AllClosed, AllClosedButLast, no_more, one_more, last_open}
-use Rattle.wgsl_theory_tidy.proofs.Kept.TextFronts.{by_test, neither, second_shorter, no_front, trimmed_on_line, trimmed_again, over_line, line_left, EndsBlock, StaysOpen, Front, no_text, no_sign, line_sign, block_sign, open_sign, front_of}
+use Rattle.wgsl_theory_tidy.proofs.Kept.TextFronts.{by_test, neither, second_shorter, no_front, trimmed_on_line, trimmed_again, over_line, line_left, ends_piece, ends_rest, open_piece, open_goes_on, Front, no_text, no_sign, line_sign, block_sign, open_sign, front_of}
 use Rattle.wgsl_theory_grammar.proofs.Tokens.Bare.{over_blank}
 
 -- ---- the comments of a text that is passed over up to a rest
@@ -62,12 +63,12 @@ line_over : (xs rest r : List ℕ) → OnLine xs → AtLineEnd rest → after_tr
 line_over xs rest r h k e =
     line_left rest r k (sym (over_line xs (rest ++ r) h) ∙ ap (after_trivia in_line) (sym (append_assoc xs rest r)) ∙ sym (over_line_sign ((xs ++ rest) ++ r)) ∙ e)
 
-block_over : (xs rest r : List ℕ) → EndsBlock 0 xs → after_trivia outside (47 ∷ (42 ∷ ((xs ++ rest) ++ r))) ≡ r → after_trivia outside (rest ++ r) ≡ r
-block_over xs rest r h e = sym (h.rest_is (rest ++ r)) ∙ ap (after_trivia (in_block 0)) (sym (append_assoc xs rest r)) ∙ sym (over_block_sign ((xs ++ rest) ++ r)) ∙ e
+block_over : (xs rest r : List ℕ) → IsBody true 0 xs → after_trivia outside (47 ∷ (42 ∷ ((xs ++ rest) ++ r))) ≡ r → after_trivia outside (rest ++ r) ≡ r
+block_over xs rest r h e = sym (ends_rest 0 xs h (rest ++ r)) ∙ ap (after_trivia (in_block 0)) (sym (append_assoc xs rest r)) ∙ sym (over_block_sign ((xs ++ rest) ++ r)) ∙ e
 
-open_over : (xs r : List ℕ) → StaysOpen 0 xs → after_trivia outside (47 ∷ (42 ∷ (xs ++ r))) ≡ r → r ≡ []
+open_over : (xs r : List ℕ) → IsBody false 0 xs → after_trivia outside (47 ∷ (42 ∷ (xs ++ r))) ≡ r → r ≡ []
 open_over xs [] h e = refl
-open_over xs (x ∷ r) h e = absurd (h.goes_on x r (sym (over_block_sign (xs ++ (x ∷ r))) ∙ e))
+open_over xs (x ∷ r) h e = absurd (open_goes_on 0 xs h x r (sym (over_block_sign (xs ++ (x ∷ r))) ∙ e))
 
 -- one comment more
 more : (n : ℕ) (t rest r : List ℕ) (class : ℕ) (text : List ℕ) → Closed class text → ((b : ℕ → List Piece) → comments b outside n t ≡ piece class text n ∷ comments b outside 0 rest) → non_blank t ≡ non_blank text ++ non_blank rest → Found 0 rest r → Found n t r
@@ -99,13 +100,13 @@ found_front k others t r (line_sign xs rest h j) l e n =
     (signed 47 xs (trimmed xs) rest refl (trimmed_same xs))
     (others rest r (shorter_rest k xs rest l) (line_over xs rest r h j e) 0)
 found_front k others t r (block_sign xs rest h) l e n =
-    more n _ rest r BlockComment (47 ∷ (42 ∷ xs)) (closed_block xs h.piece_is h.rest_is h.neat)
-    (λ b. whole_block b n BlockComment (xs ++ rest) xs (comments b outside 0 rest) (h.piece_is rest b n))
+    more n _ rest r BlockComment (47 ∷ (42 ∷ xs)) (closed_block xs h)
+    (λ b. whole_block b n BlockComment (xs ++ rest) xs (comments b outside 0 rest) (ends_piece 0 xs h rest b n))
     (signed 42 xs xs rest refl refl)
     (others rest r (shorter_rest k xs rest l) (block_over xs rest r h e) 0)
 found_front k others t r (open_sign xs h) l e n =
     let p = piece OpenComment (47 ∷ (42 ∷ xs)) n in
-    (p ∷ [], 0, then_open p (unclosed xs h.piece_is h.none_left h.neat) (open_over xs r h e), λ b. whole_block b n OpenComment xs xs (b 0) (h.piece_is b n), sym (append-nil (non_blank p.text)))
+    (p ∷ [], 0, then_open p (unclosed xs h) (open_over xs r h e), λ b. whole_block b n OpenComment xs xs (b 0) (open_piece 0 xs h b n), sym (append-nil (non_blank p.text)))
 
 found_within : (k : ℕ) (t r : List ℕ) → length t ≤ k → after_trivia outside (t ++ r) ≡ r → (n : ℕ) → Found n t r
 found_within zero [] r l e n = ([], n, no_comments, λ b. nothing_left b n, refl)

@@ -14,9 +14,9 @@ next c = stands_next c.args.source.now c.tokens.place (tokens_left c.tokens.left
 
 pub tokens-init : goal.tokens-init
 tokens-init c =
-    let ts = tokens_left c.in_ok-left.left in
+    let ts = tokens_left c.args.left in
     record {
-      left = all_left c.args.source.now ts (ending_left c.in_ok-left.left) c.in_ok-left.ensures;
+      left = all_left c.args.source.now ts (ending_left c.args.left) c.requires;
       found = λ fs last h. subst (λ xs. AreFound (chars c.args.source.now) 0 ts (xs ++ fs) last) (sym c.new-tokens.ensures.items) h;
     }
 
@@ -42,7 +42,7 @@ tokens-preserved c =
     record {
       left = subst (AreLeftFrom c.args.source.now c.in-Some-Some.span.end) (sym others) n.left;
       found = λ fs last h.
-          subst (λ xs. AreFound (chars c.args.source.now) 0 (tokens_left c.in_ok-left.left) xs last) (sym (ap (λ xs. xs ++ fs) c.in_ok-push.ensures.items ∙ append_assoc c.tokens.tokens.items (token ∷ []) fs))
+          subst (λ xs. AreFound (chars c.args.source.now) 0 (tokens_left c.args.left) xs last) (sym (ap (λ xs. xs ++ fs) c.in_ok-push.ensures.items ∙ append_assoc c.tokens.tokens.items (token ∷ []) fs))
           (c.tokens.invariant.found (token ∷ fs) last
           (found_more c.args.source.now c.range.result.now c.tokens.place (tokens_left c.tokens.left) (tokens_left c.skip.new.self) c.in-Some-Some.kind c.in-Some-Some.span c.trivia_in-before.result fs last
           c.utf8.source n c.skip.ensures.left c.range.ensures.value c.trivia_in-before.ensures h));
@@ -53,12 +53,8 @@ range_from-requires c = λ _. left_boundary c.args.source.now c.tokens.place (to
 
 pub returns : goal.returns
 returns c =
-    let ts = tokens_left c.in_ok-left.left in
+    let ts = tokens_left c.args.left in
     let last = c.trivia_in-last.result in
-    let none : tokens_left c.tokens.left ≡ [] = elim c.match-kind.branch [ in_default w ↦ w.in_default.ensures' | in_default-2 w ↦ rw w.in_default.is-0 at c.kind.ensures ] in (
-      ts,
-      ending_left c.in_ok-left.left,
-      c.in_ok-left.ensures,
-      subst (λ xs. AreFound (chars c.args.source.now) 0 ts xs last) (append-nil c.tokens.tokens.items)
-          (c.tokens.invariant.found [] last (found_last c.args.source.now c.range_from.result.now c.tokens.place (tokens_left c.tokens.left) last c.utf8.source none c.range_from.ensures.value c.trivia_in-last.ensures)),
-    )
+    let none : tokens_left c.tokens.left ≡ [] = elim c.match-kind.branch [ in_default w ↦ w.in_default.ensures' | in_default-2 w ↦ rw w.in_default.is-0 at c.kind.ensures ] in
+    subst (λ xs. AreFound (chars c.args.source.now) 0 ts xs last) (append-nil c.tokens.tokens.items)
+    (c.tokens.invariant.found [] last (found_last c.args.source.now c.range_from.result.now c.tokens.place (tokens_left c.tokens.left) last c.utf8.source none c.range_from.ensures.value c.trivia_in-last.ensures))

@@ -1,6 +1,7 @@
 use Rattle.std.proofs.Common.{◌≡◌, [], ◌++◌, append-nil, chars, drop, length, take, ap, sym, subst, ◌∙◌, arith}
 use Rattle.std.proofs.Math.Seq.{take-length}
 use Rattle.std.proofs.lemmas.List.{drop_all}
+use Rattle.wgsl_lexer.specs.TextTokens.{tokens_left}
 use Rattle.wgsl_format_layout.specs.Marks.{AreMarked, marks}
 use Rattle.wgsl_format_layout.proofs.TokensMarked.{all_marked}
 use Rattle.wgsl_format_layout.proofs.marks.marked_tokens.Goals as goal
@@ -9,7 +10,7 @@ pub returns : goal.returns
 returns c =
     let source = chars c.args.source.now in
     let found = c.in_ok-tokens.field-0 in
-    let h = c.in_ok-tokens.ensures in
+    let ts = tokens_left c.args.left in
     let items = found.tokens.items in
     let marked = c.mark.new.tokens in
     let size : length marked ≡ length items = c.mark.auto.tokens ∙ ap length c.deref_mut.ensures.value in
@@ -17,4 +18,4 @@ returns c =
     let whole : take found.tokens.len (marked ++ drop (length marked) items) ≡ marks items found.last =
     ap (λ k. take k (marked ++ drop (length marked) items)) (found.tokens.ok.0 ∙ sym size) ∙ ap (λ xs. take (length marked) (marked ++ xs)) rest ∙ ap (take (length marked)) (append-nil marked) ∙ take-length marked
     ∙ c.in_ok-mark.ensures ∙ ap (λ xs. marks xs found.last) c.deref_mut.ensures.value in
-    (h.0, h.1, h.2, subst (AreMarked source h.0) (sym whole) (all_marked source 0 h.0 items found.last h.3))
+    subst (AreMarked source ts) (sym whole) (all_marked source 0 ts items found.last c.in_ok-tokens.ensures)

@@ -12,7 +12,7 @@ returns-in-Ok-tidy c =
     tidied _ (is_utf8-from_IsUtf8 _ source.1) (is_utf8-from_IsUtf8 _ (IsUtf8-had _ c.in-Ok-tidy.laid.ok))
     (record {
       accepted = rw source.0 at c.in-Ok-tidy.ensures.accepted;
-      laid_out = rw source.0 at c.in-Ok-tidy.ensures.laid_out;
+      formatted = rw source.0 at c.in-Ok-tidy.ensures.formatted;
       kept = rw source.0 at c.in-Ok-tidy.ensures.kept;
     })
 

@@ -16,7 +16,7 @@ returns-in-Ok-tidy-clause-ok c =
       valid = is_utf8-from_IsUtf8 _ (IsUtf8-had _ text.ok);
       tidy = record {
         accepted = rw source.0 at c.in-Ok-tidy.ensures.accepted;
-        laid_out = rw source.0 at c.in-Ok-tidy.ensures.laid_out;
+        formatted = rw source.0 at c.in-Ok-tidy.ensures.formatted;
         kept = rw source.0 at c.in-Ok-tidy.ensures.kept;
       };
     } in

@@ -37,8 +37,7 @@ written : (c : After-take) → state_view c.take.new.self ≡ behind_token (stat
 written c taken = record {
   depth = c.depth_behind-self.result;
   gap = gap_view c.in_ok-gap.gap;
-  plain = c.requires.token;
-  does = c.requires.right;
+  plain = c.requires;
   gap_is = c.in_ok-gap.ensures;
   depth_is = c.depth_behind-self.ensures;
   adds = added c;
