@@ -1,19 +1,22 @@
 -- What holds of each option in their list holds of each option.
 use Rattle.std.proofs.Common.{◌≡◌, ℕ, ◌+◌, ◌<◌, ◌≤◌, List, get_or, lit<, Option, Some, None, refl, below_more, arith}
 use Rattle.wgsl_command.specs.declared.options.Flag.TheVariants.{Check, Diff, Quiet, Help, Version}
-use Rattle.wgsl_command.specs.declared.options.Setting.TheVariants.{StdinPath}
+use Rattle.wgsl_command.specs.declared.options.Setting.TheVariants.{StdinPath, Width, Indent, Newlines}
 use Rattle.wgsl_command.specs.declared.options.OptionName.{OptionName}
 use Rattle.wgsl_command.specs.declared.options.OptionName.TheVariants as option
 use Rattle.wgsl_command.specs.Options.{options, option_text}
 use Rattle.wgsl_command.specs.Nearest.{edits, IsNearest}
 
-pub each_option : (P : OptionName → Type 0) → ((k : ℕ) → k < 6 → P (get_or options k (option.Flag Check))) → (name : OptionName) → P name
+pub each_option : (P : OptionName → Type 0) → ((k : ℕ) → k < 9 → P (get_or options k (option.Flag Check))) → (name : OptionName) → P name
 each_option P listed (option.Flag Check) = listed 0 (lit< tt)
 each_option P listed (option.Flag Diff) = listed 1 (lit< tt)
 each_option P listed (option.Flag Quiet) = listed 2 (lit< tt)
 each_option P listed (option.Flag Help) = listed 3 (lit< tt)
 each_option P listed (option.Flag Version) = listed 4 (lit< tt)
 each_option P listed (option.Setting StdinPath) = listed 5 (lit< tt)
+each_option P listed (option.Setting Width) = listed 6 (lit< tt)
+each_option P listed (option.Setting Indent) = listed 7 (lit< tt)
+each_option P listed (option.Setting Newlines) = listed 8 (lit< tt)
 
 -- the option at a place in the list
 abbrev pub option_at : ℕ → OptionName
@@ -45,7 +48,7 @@ best_is word found least i best near = record {
 }
 
 -- after all options
-pub best_nearest : (word : List ℕ) (found : Option OptionName) (least : ℕ) → IsBest word found least 6 → IsNearest word found
+pub best_nearest : (word : List ℕ) (found : Option OptionName) (least : ℕ) → IsBest word found least 9 → IsNearest word found
 best_nearest word None least best = λ name.
     let far = each_option (λ it. least ≤ edits word (option_text it)) best.below name in
     omega (arith, best.reached)

@@ -1,18 +1,26 @@
 -- Worked command lines, computed.
 use Rattle.std.proofs.Common.{◌≡◌, refl, ℕ, Bool, true, false, List, [], ◌∷◌, Option, Some, None, Result, Ok, Err, codes}
+use Rattle.wgsl_choices.specs.declared.Choices.{Choices}
+use Rattle.wgsl_choices.specs.declared.IndentStyle.TheVariants.{Spaces, Tab}
+use Rattle.wgsl_choices.specs.declared.Newlines.TheVariants.{Auto, Lf, CrLf}
+use Rattle.wgsl_choices.specs.Choices.{nothing}
 use Rattle.wgsl_command.specs.declared.options.Flag.TheVariants.{Check}
-use Rattle.wgsl_command.specs.declared.options.Setting.TheVariants.{StdinPath}
+use Rattle.wgsl_command.specs.declared.options.Setting.TheVariants.{StdinPath, Width, Indent, Newlines}
 use Rattle.wgsl_command.specs.declared.command.Mode.{Mode}
 use Rattle.wgsl_command.specs.declared.command.Mode.TheVariants as mode
-use Rattle.wgsl_command.specs.Commands.{Command, help, version, format, Source, standard_input, path, UsageError, unknown_option, missing_value, unexpected_value, command_of}
+use Rattle.wgsl_command.specs.Commands.{Command, help, version, format, Source, standard_input, path, UsageError, unknown_option, missing_value, unexpected_value, invalid_value, command_of}
 
 -- files are formatted in this way, with no name of the standard input
 abbrev formats : Mode → Bool → List Source → Result Command UsageError
-formats mode quiet sources = Ok (format (record { mode = mode; quiet = quiet; stdin_path = None; sources = sources }))
+formats mode quiet sources = Ok (format (record { mode = mode; quiet = quiet; stdin_path = None; choices = nothing; sources = sources }))
 
 -- the standard input is formatted, which has this name
 abbrev formats_as : Option (List ℕ) → Result Command UsageError
-formats_as name = Ok (format (record { mode = mode.Write; quiet = false; stdin_path = name; sources = standard_input ∷ [] }))
+formats_as name = Ok (format (record { mode = mode.Write; quiet = false; stdin_path = name; choices = nothing; sources = standard_input ∷ [] }))
+
+-- the standard input is formatted with these choices
+abbrev formats_with : Choices → Result Command UsageError
+formats_with choices = Ok (format (record { mode = mode.Write; quiet = false; stdin_path = None; choices = choices; sources = standard_input ∷ [] }))
 
 pub no_argument : command_of [] ≡ formats mode.Write false (standard_input ∷ [])
 no_argument = refl
@@ -70,3 +78,57 @@ a_list_and_a_diff = refl
 
 pub a_diff_without_a_summary : command_of (codes "--quiet" ∷ codes "--diff" ∷ []) ≡ formats mode.Diff true (standard_input ∷ [])
 a_diff_without_a_summary = refl
+
+pub a_width : command_of (codes "--width" ∷ codes "80" ∷ []) ≡ formats_with (record nothing { width = Some 80 })
+a_width = refl
+
+pub no_limit : command_of (codes "--width=0" ∷ []) ≡ formats_with (record nothing { width = Some 0 })
+no_limit = refl
+
+pub a_width_with_zeros : command_of (codes "--width=0080" ∷ []) ≡ formats_with (record nothing { width = Some 80 })
+a_width_with_zeros = refl
+
+pub a_width_too_large : command_of (codes "--width" ∷ codes "10000" ∷ []) ≡ Err (invalid_value Width (codes "10000"))
+a_width_too_large = refl
+
+pub a_width_with_a_sign : command_of (codes "--width=+80" ∷ []) ≡ Err (invalid_value Width (codes "+80"))
+a_width_with_a_sign = refl
+
+pub an_empty_width : command_of (codes "--width=" ∷ []) ≡ Err (invalid_value Width [])
+an_empty_width = refl
+
+pub no_width : command_of (codes "--width" ∷ []) ≡ Err (missing_value Width)
+no_width = refl
+
+pub spaces : command_of (codes "--indent" ∷ codes "2" ∷ []) ≡ formats_with (record nothing { style = Some Spaces; size = Some 2 })
+spaces = refl
+
+pub a_tab : command_of (codes "--indent=tab" ∷ []) ≡ formats_with (record nothing { style = Some Tab })
+a_tab = refl
+
+pub a_tab_after_spaces : command_of (codes "--indent=2" ∷ codes "--indent=tab" ∷ []) ≡ formats_with (record nothing { style = Some Tab })
+a_tab_after_spaces = refl
+
+pub no_spaces : command_of (codes "--indent=0" ∷ []) ≡ Err (invalid_value Indent (codes "0"))
+no_spaces = refl
+
+pub too_many_spaces : command_of (codes "--indent=17" ∷ []) ≡ Err (invalid_value Indent (codes "17"))
+too_many_spaces = refl
+
+pub newlines_as_they_are : command_of (codes "--newlines" ∷ codes "auto" ∷ []) ≡ formats_with (record nothing { newlines = Some Auto })
+newlines_as_they_are = refl
+
+pub newlines_of_unix : command_of (codes "--newlines=lf" ∷ []) ≡ formats_with (record nothing { newlines = Some Lf })
+newlines_of_unix = refl
+
+pub newlines_of_windows : command_of (codes "--newlines=crlf" ∷ []) ≡ formats_with (record nothing { newlines = Some CrLf })
+newlines_of_windows = refl
+
+pub newlines_in_capitals : command_of (codes "--newlines=LF" ∷ []) ≡ Err (invalid_value Newlines (codes "LF"))
+newlines_in_capitals = refl
+
+pub the_first_value_is_read_too : command_of (codes "--width=a" ∷ codes "--width=80" ∷ []) ≡ Err (invalid_value Width (codes "a"))
+the_first_value_is_read_too = refl
+
+pub choices_together : command_of (codes "--width=80" ∷ codes "--indent=2" ∷ codes "--width=120" ∷ []) ≡ formats_with (record nothing { width = Some 120; style = Some Spaces; size = Some 2 })
+choices_together = refl

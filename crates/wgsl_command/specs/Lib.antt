@@ -1,5 +1,6 @@
 pub mod Options
 pub mod Arguments
+pub mod Chosen
 pub mod Commands
 pub mod View
 pub mod Printing

@@ -1,10 +1,17 @@
 -- The arguments that ask for a request.
-use Rattle.std.specs.Prelude.{◌≢◌, ℕ, Bool, true, false, List, [], ◌∷◌, ◌++◌, map, Option, Some, None, codes}
+use Rattle.std.specs.Prelude.{◌≡◌, ◌≢◌, ◌≤◌, ℕ, Bool, true, false, List, [], ◌∷◌, ◌++◌, map, Option, Some, None, codes}
+use Rattle.std.specs.Fmt.{decimal}
 use Rattle.std.specs.List.{AllByRecursion}
+use Rattle.std.specs.Option.{IfSome, option_map}
+use Rattle.wgsl_choices.specs.declared.Choices.{Choices}
+use Rattle.wgsl_choices.specs.declared.IndentStyle.{IndentStyle}
+use Rattle.wgsl_choices.specs.declared.IndentStyle.TheVariants.{Spaces, Tab}
+use Rattle.wgsl_choices.specs.declared.Newlines.{Newlines}
+use Rattle.wgsl_choices.specs.declared.Newlines.TheVariants.{Auto, Lf, CrLf}
 use Rattle.wgsl_command.specs.declared.options.Flag.{Flag}
 use Rattle.wgsl_command.specs.declared.options.Flag.TheVariants as flag
 use Rattle.wgsl_command.specs.declared.options.Setting.{Setting}
-use Rattle.wgsl_command.specs.declared.options.Setting.TheVariants.{StdinPath}
+use Rattle.wgsl_command.specs.declared.options.Setting.TheVariants as setting
 use Rattle.wgsl_command.specs.declared.command.Mode.{Mode}
 use Rattle.wgsl_command.specs.declared.command.Mode.TheVariants.{Write, Check, Diff}
 use Rattle.wgsl_command.specs.Options.{flag_text, setting_text}
@@ -26,6 +33,24 @@ abbrev pub setting_words : Setting → Option (List ℕ) → List (List ℕ)
 setting_words name None = []
 setting_words name (Some value) = setting_text name ∷ value ∷ []
 
+-- the value of an indentation: `tab`, or how many spaces
+abbrev pub indent_value : Option IndentStyle → Option ℕ → Option (List ℕ)
+indent_value (Some Tab) size = Some (codes "tab")
+indent_value (Some Spaces) size = option_map decimal size
+indent_value None size = None
+
+-- the value of the ends of lines
+abbrev pub newlines_value : Newlines → List ℕ
+newlines_value Auto = codes "auto"
+newlines_value Lf = codes "lf"
+newlines_value CrLf = codes "crlf"
+
+-- the arguments that ask for choices
+abbrev pub choices_words : Choices → List (List ℕ)
+choices_words choices =
+    setting_words setting.Width (option_map decimal choices.width) ++ (setting_words setting.Indent (indent_value choices.style choices.size)
+    ++ setting_words setting.Newlines (option_map newlines_value choices.newlines))
+
 -- the argument of a source
 abbrev pub source_word : Source → List ℕ
 source_word standard_input = codes "-"
@@ -34,14 +59,28 @@ source_word (path text) = text
 -- the options, `--`, and the sources
 abbrev pub arguments_of : Request → List (List ℕ)
 arguments_of request =
-    mode_words request.mode ++ (flag_words flag.Quiet request.quiet ++ (setting_words StdinPath request.stdin_path
-    ++ codes "--" ∷ map source_word request.sources))
+    mode_words request.mode ++ (flag_words flag.Quiet request.quiet ++ (setting_words setting.StdinPath request.stdin_path
+    ++ (choices_words request.choices ++ codes "--" ∷ map source_word request.sources)))
 
 -- a file that is named `-` is said as `./-`
 abbrev pub IsSayable : Source → Type 0
 IsSayable source = source ≢ path (codes "-")
 
--- what can be asked for: there is a source, and each can be said
+-- an indentation is left open, is a tab, or is so many spaces
+abbrev pub IsIndent : Option IndentStyle → Option ℕ → Type 0
+IsIndent None size = size ≡ None
+IsIndent (Some Tab) size = size ≡ None
+IsIndent (Some Spaces) None = ⊥
+IsIndent (Some Spaces) (Some size) = (1 ≤ size) × (size ≤ 16)
+
+-- the choices that have options: each but the width of a tab
+pub record AreChoices (choices : Choices) : Type 0 where
+  pub width : IfSome choices.width (λ it. it ≤ 9999)
+  pub indent : IsIndent choices.style choices.size
+  pub tab_width : choices.tab_width ≡ None
+
+-- what can be asked for: these choices, of sources that can each be said, and there is one
 pub record IsRequest (request : Request) : Type 0 where
   pub some : request.sources ≢ []
   pub each : AllByRecursion IsSayable request.sources
+  pub choices : AreChoices request.choices

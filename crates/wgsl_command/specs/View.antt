@@ -38,6 +38,7 @@ asked_view asked = record {
   diff = asked.diff;
   quiet = asked.quiet;
   stdin_path = option_copied asked.stdin_path;
+  choices = asked.choices;
   sources = map source_view asked.sources.items;
 }
 
@@ -49,6 +50,7 @@ request_view request = record {
   mode = request.mode;
   quiet = request.quiet;
   stdin_path = option_copied request.stdin_path;
+  choices = request.choices;
   sources = map source_view request.sources.items;
 }
 
@@ -61,6 +63,12 @@ abbrev pub usage_view : UsageError → plain.UsageError
 usage_view (usage.UnknownOption text) = plain.unknown_option text.now
 usage_view (usage.MissingValue setting) = plain.missing_value setting
 usage_view (usage.UnexpectedValue flag) = plain.unexpected_value flag
+usage_view (usage.InvalidValue setting value) = plain.invalid_value setting value.now
+
+-- what a call returned is what is meant
+abbrev pub Means : {A B : Type 0} → (A → B) → Result A UsageError → Result B plain.UsageError → Type 0
+Means view (Ok x) meant = meant ≡ Ok (view x)
+Means view (Err e) meant = meant ≡ Err (usage_view e)
 
 -- this error is the one that is named, unless an allocation failed
 abbrev pub Fails : {B : Type 0} → CommandError → Result B plain.UsageError → Type 0

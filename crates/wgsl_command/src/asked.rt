@@ -2,11 +2,14 @@
 
 ghost use Rattle.std.specs.Prelude.{◌≡◌, IfOk};
 ghost use Rattle.wgsl_command.specs.Commands as plain;
-ghost use Rattle.wgsl_command.specs.View.{asked_view, request_view, command_view};
+ghost use Rattle.wgsl_command.specs.View.{Means, asked_view, request_view, command_view};
 
+use crate::chosen::{with_indent, with_newlines, with_width};
 use crate::command::{Command, Mode, Request, Source};
+use crate::error::UsageError;
 use crate::options::{Flag, Setting};
 use std::alloc::{AllocError, Global};
+use wgsl_choices::Choices;
 
 /// What the arguments so far ask for.
 #[derive(Drop)]
@@ -17,6 +20,7 @@ pub struct Asked<'a> {
     pub diff: bool,
     pub quiet: bool,
     pub stdin_path: Option<&'a str>,
+    pub choices: Choices,
     pub sources: Vec<Source<'a>>,
 }
 
@@ -32,6 +36,7 @@ impl<'a> Asked<'a> {
             diff: false,
             quiet: false,
             stdin_path: None,
+            choices: Choices::none(),
             sources: Vec::new(alloc),
         }
     }
@@ -57,15 +62,24 @@ impl<'a> Asked<'a> {
         }
     }
 
-    pub fn with_setting(self, setting: Setting, value: &'a str) -> Self
-        ensures { asked_view result
-            ≡ plain.with_setting (asked_view self.entry) setting value.now }
+    pub fn with_setting(self, setting: Setting, value: &'a str) -> Result<Self, UsageError<'a>>
+        ensures { Means asked_view result
+            (plain.with_setting (asked_view self.entry) setting value.now) }
     {
-        match setting {
-            Setting::StdinPath => Asked {
-                stdin_path: Some(value),
-                ..self
-            },
+        let choices = match setting {
+            Setting::StdinPath => {
+                return Ok(Asked {
+                    stdin_path: Some(value),
+                    ..self
+                });
+            }
+            Setting::Width => with_width(self.choices, value),
+            Setting::Indent => with_indent(self.choices, value),
+            Setting::Newlines => with_newlines(self.choices, value),
+        };
+        match choices {
+            Some(choices) => Ok(Asked { choices, ..self }),
+            None => Err(UsageError::InvalidValue(setting, value)),
         }
     }
 
@@ -105,6 +119,7 @@ impl<'a> Asked<'a> {
             mode,
             quiet: self.quiet,
             stdin_path: self.stdin_path,
+            choices: self.choices,
             sources,
         })
     }

@@ -7,6 +7,7 @@ ghost use Rattle.wgsl_command.specs.View.{Gives, source_view, command_view};
 use crate::error::CommandError;
 use crate::reader::Reader;
 use std::alloc::Global;
+use wgsl_choices::Choices;
 
 /// What the program is to do.
 #[derive(Debug, Drop)]
@@ -26,6 +27,8 @@ pub struct Request<'a> {
     pub quiet: bool,
     /// The name of the standard input in messages.
     pub stdin_path: Option<&'a str>,
+    /// What is chosen of the layout.
+    pub choices: Choices,
     pub sources: Vec<Source<'a>>,
 }
 

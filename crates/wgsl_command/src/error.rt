@@ -17,6 +17,8 @@ pub enum UsageError<'a> {
     MissingValue(Setting),
     /// The flag has a value, which it does not take.
     UnexpectedValue(Flag),
+    /// The setting does not take this value.
+    InvalidValue(Setting, &'a str),
 }
 
 impl fmt::Display for UsageError<'_> {
@@ -27,6 +29,10 @@ impl fmt::Display for UsageError<'_> {
             UsageError::UnknownOption(text) => write!(f, "unknown option `{text}`"),
             UsageError::MissingValue(setting) => write!(f, "option `{setting}` needs a value"),
             UsageError::UnexpectedValue(flag) => write!(f, "option `{flag}` takes no value"),
+            UsageError::InvalidValue(setting, value) => {
+                let values = setting.values();
+                write!(f, "option `{setting}` takes {values}, not `{value}`")
+            }
         }
     }
 }

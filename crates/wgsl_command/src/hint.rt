@@ -8,13 +8,16 @@ use std::alloc::{AllocError, Global};
 use strsim::levenshtein;
 
 /// All options.
-const OPTIONS: [OptionName; 6] = [
+const OPTIONS: [OptionName; 9] = [
     OptionName::Flag(Flag::Check),
     OptionName::Flag(Flag::Diff),
     OptionName::Flag(Flag::Quiet),
     OptionName::Flag(Flag::Help),
     OptionName::Flag(Flag::Version),
     OptionName::Setting(Setting::StdinPath),
+    OptionName::Setting(Setting::Width),
+    OptionName::Setting(Setting::Indent),
+    OptionName::Setting(Setting::Newlines),
 ];
 
 /// How many edits may lie between a word and the option that it was meant to be.

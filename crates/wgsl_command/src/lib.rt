@@ -3,6 +3,7 @@
 
 mod argument;
 mod asked;
+mod chosen;
 mod command;
 mod error;
 mod hint;

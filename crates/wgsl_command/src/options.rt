@@ -1,7 +1,8 @@
 //! The options, each with its word.
 
 ghost use Rattle.std.specs.Prelude.{◌≡◌, Some};
-ghost use Rattle.wgsl_command.specs.Options.{flag_text, setting_text, option_text, option_of};
+ghost use Rattle.wgsl_command.specs.Options.{flag_text, setting_text, values_text};
+ghost use Rattle.wgsl_command.specs.Options.{option_text, option_of};
 
 use std::fmt;
 
@@ -19,6 +20,9 @@ pub enum Flag {
 #[derive(Clone, Copy, Debug, PartialEq, Eq)]
 pub enum Setting {
     StdinPath,
+    Width,
+    Indent,
+    Newlines,
 }
 
 /// An option.
@@ -40,6 +44,9 @@ impl OptionName {
             "--help" => Some(OptionName::Flag(Flag::Help)),
             "--version" => Some(OptionName::Flag(Flag::Version)),
             "--stdin-path" => Some(OptionName::Setting(Setting::StdinPath)),
+            "--width" => Some(OptionName::Setting(Setting::Width)),
+            "--indent" => Some(OptionName::Setting(Setting::Indent)),
+            "--newlines" => Some(OptionName::Setting(Setting::Newlines)),
             _ => None,
         }
     }
@@ -77,6 +84,21 @@ impl Setting {
     {
         match self {
             Setting::StdinPath => "--stdin-path",
+            Setting::Width => "--width",
+            Setting::Indent => "--indent",
+            Setting::Newlines => "--newlines",
+        }
+    }
+
+    /// The values that it takes.
+    pub fn values(self) -> &'static str
+        ensures { result.now ≡ values_text self }
+    {
+        match self {
+            Setting::StdinPath => "a name",
+            Setting::Width => "a number from 0 to 9999",
+            Setting::Indent => "a number from 1 to 16 or `tab`",
+            Setting::Newlines => "`auto`, `lf` or `crlf`",
         }
     }
 }

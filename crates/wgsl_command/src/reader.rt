@@ -54,7 +54,7 @@ impl<'a> Reader<'a> {
         match next {
             Next::Anything => after_any(asked, text, Argument::of(text)),
             Next::Value(setting) => Ok(Reader::at(
-                asked.with_setting(setting, text),
+                asked.with_setting(setting, text)?,
                 Next::Anything,
             )),
             Next::Sources => Ok(Reader::at(asked.with_source(text)?, Next::Sources)),
@@ -89,7 +89,7 @@ fn after_any<'a>(
         Argument::Flag(flag) => Ok(Reader::at(asked.with_flag(flag), Next::Anything)),
         Argument::Setting(setting) => Ok(Reader::at(asked, Next::Value(setting))),
         Argument::SettingTo(setting, value) => Ok(Reader::at(
-            asked.with_setting(setting, value),
+            asked.with_setting(setting, value)?,
             Next::Anything,
         )),
         Argument::FlagTo(flag) => Err(UsageError::UnexpectedValue(flag).into()),

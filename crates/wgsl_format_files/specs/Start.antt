@@ -1,7 +1,7 @@
 -- What the program does with its arguments.
 use Rattle.std.specs.Prelude.{◌≡◌, ◌⊎◌, ℕ, Bool, true, false, List, [], ◌∷◌, ◌++◌, Option, Some, None, Result, Ok, Err, codes, ◌&&◌}
 use Rattle.std.specs.Option.{unwrap_or}
-use Rattle.wgsl_command.specs.Commands.{Command, Request, Source, UsageError, standard_input, path, help, version, format, unknown_option, missing_value, unexpected_value}
+use Rattle.wgsl_command.specs.Commands.{Command, Request, Source, UsageError, standard_input, path, help, version, format, unknown_option, missing_value, unexpected_value, invalid_value}
 use Rattle.wgsl_command.specs.Nearest.{IsNearest}
 use Rattle.wgsl_command.specs.Options.{option_text}
 use Rattle.wgsl_command.specs.Printing.{print_usage_error}
@@ -63,6 +63,7 @@ abbrev pub IsHint : UsageError → Option OptionName → Type 0
 IsHint (unknown_option text) hint = IsNearest text hint
 IsHint (missing_value setting) hint = hint ≡ None
 IsHint (unexpected_value flag) hint = hint ≡ None
+IsHint (invalid_value setting value) hint = hint ≡ None
 
 -- what is told of arguments that are no command
 abbrev pub usage_text : UsageError → Option OptionName → List ℕ

@@ -167,7 +167,9 @@ fn hint_of(alloc: Global, error: UsageError<'_>) -> Result<Option<OptionName>, A
 {
     match error {
         UsageError::UnknownOption(text) => nearest(alloc, text),
-        UsageError::MissingValue(_) | UsageError::UnexpectedValue(_) => Ok(None),
+        UsageError::MissingValue(_)
+        | UsageError::UnexpectedValue(_)
+        | UsageError::InvalidValue(_, _) => Ok(None),
     }
 }
 

@@ -2,6 +2,7 @@
 
 use std::alloc::{AllocError, Global};
 use std::test::Fail;
+use wgsl_choices::{Choices, IndentStyle, Newlines};
 use wgsl_command::{
     Command, CommandError, Flag, Mode, OptionName, Setting, Source, UsageError, nearest, parse,
 };
@@ -27,6 +28,7 @@ fn reads_options_and_files(rt: HostRuntime) -> Result<(), Fail> {
     assert!(rt; request.mode == Mode::Check);
     assert!(rt; !request.quiet);
     assert!(rt; request.stdin_path == Some("a.wgsl"));
+    assert!(rt; request.choices == Choices::none());
     assert_eq!(rt; request.sources.len(), 3);
     assert!(rt; request.sources[0] == Source::Path("b.wgsl"));
     assert!(rt; request.sources[1] == Source::StandardInput);
@@ -55,6 +57,81 @@ fn shows_what_is_also_to_be_checked(rt: HostRuntime) -> Result<(), Fail> {
 }
 
 #[test]
+fn reads_choices(rt: HostRuntime) -> Result<(), Fail> {
+    let none = Choices::none();
+    let spaces = Some(IndentStyle::Spaces);
+    let tab = Some(IndentStyle::Tab);
+    for (text, choices) in [
+        (
+            "--width 0",
+            Choices {
+                width: Some(0),
+                ..none
+            },
+        ),
+        (
+            "--width=9999",
+            Choices {
+                width: Some(9999),
+                ..none
+            },
+        ),
+        (
+            "--width=80 --width 0120",
+            Choices {
+                width: Some(120),
+                ..none
+            },
+        ),
+        (
+            "--indent 1",
+            Choices {
+                style: spaces,
+                size: Some(1),
+                ..none
+            },
+        ),
+        (
+            "--indent=tab --indent=16",
+            Choices {
+                style: spaces,
+                size: Some(16),
+                ..none
+            },
+        ),
+        ("--indent=2 --indent tab", Choices { style: tab, ..none }),
+        (
+            "--newlines auto",
+            Choices {
+                newlines: Some(Newlines::Auto),
+                ..none
+            },
+        ),
+        (
+            "--newlines=lf",
+            Choices {
+                newlines: Some(Newlines::Lf),
+                ..none
+            },
+        ),
+        (
+            "--newlines=crlf",
+            Choices {
+                newlines: Some(Newlines::CrLf),
+                ..none
+            },
+        ),
+    ] {
+        let arguments = words(rt.alloc(), text)?;
+        let Ok(Command::Format(request)) = parse(rt.alloc(), &arguments) else {
+            return Err(Fail::from(text));
+        };
+        assert!(rt; request.choices == choices, "of {text}");
+    }
+    Ok(())
+}
+
+#[test]
 fn names_what_is_wrong(rt: HostRuntime) -> Result<(), Fail> {
     for (text, error, message) in [
         (
@@ -66,6 +143,36 @@ fn names_what_is_wrong(rt: HostRuntime) -> Result<(), Fail> {
             "a --stdin-path",
             UsageError::MissingValue(Setting::StdinPath),
             "option `--stdin-path` needs a value",
+        ),
+        (
+            "--width 10000",
+            UsageError::InvalidValue(Setting::Width, "10000"),
+            "option `--width` takes a number from 0 to 9999, not `10000`",
+        ),
+        (
+            "--width=-1 a",
+            UsageError::InvalidValue(Setting::Width, "-1"),
+            "option `--width` takes a number from 0 to 9999, not `-1`",
+        ),
+        (
+            "--indent=0",
+            UsageError::InvalidValue(Setting::Indent, "0"),
+            "option `--indent` takes a number from 1 to 16 or `tab`, not `0`",
+        ),
+        (
+            "--indent=tabs --width=80",
+            UsageError::InvalidValue(Setting::Indent, "tabs"),
+            "option `--indent` takes a number from 1 to 16 or `tab`, not `tabs`",
+        ),
+        (
+            "--newlines cr --newlines lf",
+            UsageError::InvalidValue(Setting::Newlines, "cr"),
+            "option `--newlines` takes `auto`, `lf` or `crlf`, not `cr`",
+        ),
+        (
+            "--newlines",
+            UsageError::MissingValue(Setting::Newlines),
+            "option `--newlines` needs a value",
         ),
         (
             "--quiet=1",
@@ -95,7 +202,10 @@ fn tells_what_was_meant(rt: HostRuntime) -> Result<(), Fail> {
             Some(OptionName::Setting(Setting::StdinPath)),
         ),
         ("-x", None),
-        ("--width", None),
+        ("--widht", Some(OptionName::Setting(Setting::Width))),
+        ("--indents", Some(OptionName::Setting(Setting::Indent))),
+        ("--newline", Some(OptionName::Setting(Setting::Newlines))),
+        ("--depth", None),
     ] {
         assert!(rt; nearest(rt.alloc(), word)? == meant, "of {word}");
     }

@@ -1,10 +1,12 @@
-//! Tests of the command line, of files that are rewritten, of diffs, and of runs over files.
+//! Tests of the command line, of `.editorconfig` files, of files that are rewritten, of diffs, and of runs over files.
 #![tactic(auto)]
 
 #[cfg(test)]
 mod commands;
 #[cfg(test)]
 mod diffs;
+#[cfg(test)]
+mod editorconfigs;
 #[cfg(test)]
 mod ended;
 #[cfg(test)]

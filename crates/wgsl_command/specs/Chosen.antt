@@ -1,0 +1,31 @@
+-- What settings choose of the layout.
+use Rattle.std.specs.Prelude.{ℕ, List, Option, Some, None, codes, if◌then◌else◌}
+use Rattle.std.specs.Option.{option_map}
+use Rattle.std.specs.Str.{bytes_eq}
+use Rattle.wgsl_choices.specs.declared.Choices.{Choices}
+use Rattle.wgsl_choices.specs.declared.IndentStyle.TheVariants.{Spaces, Tab}
+use Rattle.wgsl_choices.specs.declared.Newlines.{Newlines}
+use Rattle.wgsl_choices.specs.declared.Newlines.TheVariants.{Auto, Lf, CrLf}
+use Rattle.wgsl_choices.specs.Numbers.{width_of, size_of}
+
+-- what ends a line
+abbrev pub newlines_of : List ℕ → Option Newlines
+newlines_of value =
+    if bytes_eq value (codes "auto") then Some Auto
+    else if bytes_eq value (codes "lf") then Some Lf
+    else if bytes_eq value (codes "crlf") then Some CrLf
+    else None
+
+-- choices with the width that a value gives, if it gives one
+abbrev pub with_width : Choices → List ℕ → Option Choices
+with_width choices value = option_map (λ it. record choices { width = Some it }) (width_of value)
+
+-- choices with the indentation that a value gives: a tab, or so many spaces
+abbrev pub with_indent : Choices → List ℕ → Option Choices
+with_indent choices value =
+    if bytes_eq value (codes "tab") then Some (record choices { style = Some Tab; size = None })
+    else option_map (λ it. record choices { style = Some Spaces; size = Some it }) (size_of value)
+
+-- choices with the ends of lines that a value gives
+abbrev pub with_newlines : Choices → List ℕ → Option Choices
+with_newlines choices value = option_map (λ it. record choices { newlines = Some it }) (newlines_of value)
