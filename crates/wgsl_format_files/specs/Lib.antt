@@ -4,4 +4,5 @@ pub mod Written
 pub mod Inputs
 pub mod Runs
 pub mod Tidy
+pub mod Layouts
 pub mod Start

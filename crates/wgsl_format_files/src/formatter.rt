@@ -1,21 +1,25 @@
 //! The formatter of `wgsltidy` for files.
 
 ghost use Rattle.std.specs.Prelude.{chars};
-ghost use Rattle.wgsl_format_tidy.specs.RunOutput.{IsTidied};
+ghost use Rattle.wgsl_format_tidy.specs.RunOutput.{IsTidiedBy};
+ghost use Rattle.wgsl_format_layout.specs.Layouts.{layout_view};
 ghost use Rattle.wgsl_format_files.specs.Tidy.{Refuses, IsRefusedFor, IsNotUtf8};
 
 use std::alloc::Global;
 use wgsl_error::{Error, ErrorKind};
 use wgsl_files::{Format, FormatError};
-use wgsl_format_tidy::tidy;
+use wgsl_format_tidy::{Layout, tidy_with};
 
-/// A module becomes its formatted text. The message of a refusal is what follows the name of the
-/// file: the place and the error.
+/// A module becomes its formatted text by a layout. The message of a refusal is what follows the
+/// name of the file: the place and the error.
 #[derive(Clone, Copy, Debug)]
-pub struct Tidy;
+pub struct Tidy {
+    pub layout: Layout,
+}
 
 impl Format for Tidy {
-    ghost becomes = { λ _ text formatted. IsTidied text formatted };
+    ghost becomes = { λ tidy text formatted.
+        IsTidiedBy (layout_view tidy.layout) text formatted };
 
     ghost refuses = { λ _ text message. Refuses text message };
 
@@ -23,7 +27,7 @@ impl Format for Tidy {
         let Ok(source) = std::str::from_utf8(text) else {
             return Err(not_utf8(alloc));
         };
-        match tidy(alloc, source) {
+        match tidy_with(alloc, source, self.layout) {
             Ok(formatted) => Ok(formatted.into_bytes()),
             Err(error) => Err(refusal(alloc, source, error)),
         }

@@ -7,6 +7,7 @@ mod file;
 mod formatter;
 mod input;
 mod inputs;
+mod layout;
 mod printing;
 mod program;
 mod run;

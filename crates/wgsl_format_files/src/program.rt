@@ -5,8 +5,9 @@ ghost use Rattle.wgsl_command.specs.declared.options.OptionName.{OptionName};
 ghost use Rattle.wgsl_files.specs.Statuses.{code_of};
 ghost use Rattle.wgsl_command.specs.Commands.{command_of};
 ghost use Rattle.wgsl_command.specs.View.{request_view, usage_view};
-ghost use Rattle.wgsl_format_tidy.specs.RunOutput.{IsTidied};
+ghost use Rattle.wgsl_format_tidy.specs.RunOutput.{IsTidiedBy};
 ghost use Rattle.wgsl_format_files.specs.Inputs.{input_view};
+ghost use Rattle.wgsl_format_files.specs.Layouts.{layout_of};
 ghost use Rattle.wgsl_format_files.specs.Runs.{Runs, state};
 ghost use Rattle.wgsl_format_files.specs.Tidy.{Refuses};
 ghost use Rattle.wgsl_format_files.specs.Start.{world, is_filter, name_of};
@@ -15,6 +16,7 @@ ghost use Rattle.wgsl_format_files.specs.Start.{IsStart, IsHint, IsRequestRun, S
 
 use crate::formatter::Tidy;
 use crate::inputs::{Input, inputs_of};
+use crate::layout::{is_nothing, layout_of};
 use crate::printing::put;
 use crate::run::{How, format_all};
 use crate::usage::{HELP, VERSION};
@@ -98,19 +100,23 @@ fn format_inputs<S: Store, R: Read, W: Write, E: Write>(
     output: &mut W,
     errors: &mut E,
 ) -> u8
-    ensures { Runs IsTidied Refuses request.now.mode request.now.quiet
+    ensures { Runs (IsTidiedBy (layout_of request.now.choices)) Refuses
+        request.now.mode request.now.quiet
         (name_of (request_view request.now)) (map input_view inputs.now)
         (state (S.files store.old) (R.remaining input.old))
         (state (S.files store.new) (R.remaining input.new))
         (W.contents output.old) (W.contents output.new)
         (E.contents errors.old) (E.contents errors.new) result }
 {
+    let tidy = Tidy {
+        layout: layout_of(request.choices),
+    };
     let how = How {
         mode: request.mode,
         quiet: request.quiet,
         stdin_name: name_of(request),
     };
-    format_all(alloc, store, &Tidy, how, inputs, input, output, errors).code()
+    format_all(alloc, store, &tidy, how, inputs, input, output, errors).code()
 }
 
 /// The name of the standard input in messages.
@@ -131,7 +137,7 @@ fn is_filter(request: &Request<'_>) -> bool
         return false;
     }
     match request.sources.as_slice() {
-        [Source::StandardInput] => true,
+        [Source::StandardInput] => is_nothing(request.choices),
         _ => false,
     }
 }

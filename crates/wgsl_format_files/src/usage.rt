@@ -12,6 +12,9 @@ Options:
   --diff             write no file, and show what would change as a unified diff
   --quiet            print no summary
   --stdin-path NAME  the name of the standard input in messages
+  --width N          break lines of more than N columns (100), with 0 none
+  --indent N|tab     indent by N spaces a level (4), or by a tab
+  --newlines KIND    end lines with lf, crlf, or as the first one of the text (auto)
   --help             print this text
   --version          print the version
   --                 what follows is a file or a folder

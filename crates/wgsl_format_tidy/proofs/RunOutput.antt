@@ -12,6 +12,6 @@ tidies_within bytes _ (not_utf8 invalid) = omega arith
 
 -- of what bytes ask for, only the laid-out text has status 0
 pub due_tidied : (bytes : List ℕ) (due : ProcessOutput) → Tidies bytes due → due.status ≡ 0 → IsTidied bytes due.output
-due_tidied bytes _ (tidied text valid encoded tidy) zero = record { valid = encoded; tidy = tidy }
+due_tidied bytes _ (tidied text valid encoded tidy) zero = record { valid = encoded; accepted = tidy.accepted; formatted = tidy.formatted; kept = tidy.kept }
 due_tidied bytes _ (refused fault valid named) zero = absurd (omega (arith, zero))
 due_tidied bytes _ (not_utf8 invalid) zero = absurd (omega (arith, zero))

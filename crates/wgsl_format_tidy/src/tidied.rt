@@ -24,8 +24,8 @@ use wgsl_read_dialect::check_syntax;
 /// start stays, and every line ends with CR LF if the first line of the source does, otherwise with
 /// LF, in block comments too. If a block comment begins a line and each of its later lines begins
 /// with `*`, these lines begin one column after its first. Names are not checked, so a text with
-/// reserved words or with attributes, address spaces or severities that `parse_str` does not know is
-/// formatted too. Otherwise the error is the first token that can't be where it is; else the text
+/// reserved words or with attributes, address spaces or severities that `parse_str` does not know
+/// is formatted too. Otherwise the error is the first token that can't be where it is; else the text
 /// that is no token; else that the text ends too early.
 pub fn tidy(alloc: Global, source: &str) -> Result<String, Error>
     ensures accepted { IfOk result (λ _. IsModuleInSyntax (unmarked (chars source.now))) }

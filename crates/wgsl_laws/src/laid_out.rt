@@ -71,9 +71,9 @@ pub fn formatted_lines()
         EndsWithOneLineEnd (laid_out layout (pieces source ts)) }
 {}
 
-/// In a module formatted by any layout, a closing bracket `)` or `]` that begins a line has the same
-/// blank space before it as the line of its opening bracket, if neither line begins inside a block
-/// comment. Names and attributes are not checked: a module by its syntax is enough.
+/// In a module formatted by any layout, a closing bracket `)` or `]` that begins a line has the
+/// same blank space before it as the line of its opening bracket, if neither line begins inside a
+/// block comment. Names and attributes are not checked: a module by its syntax is enough.
 pub fn formatted_brackets()
     ensures { (layout : Layout) (source : List ℕ) (ts : List Token)
         (read : IsTokenList source ts finished) (derived : IsSentence written unit ts) →

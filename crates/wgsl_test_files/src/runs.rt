@@ -126,6 +126,64 @@ fn formats_the_standard_input(rt: HostRuntime) -> Result<(), Fail> {
     Ok(())
 }
 
+/// A call that is broken where a line may have 20 columns.
+const CALL: &str = "fn f() {\n    call(first, second);\n}\n";
+
+#[test]
+fn formats_by_a_width(rt: HostRuntime) -> Result<(), Fail> {
+    let alloc = rt.alloc();
+    let mut store = store(alloc)?;
+    let broken = "fn f() {\n    call(\n        first,\n        second\n    );\n}\n";
+    let narrow = run_of(alloc, &mut store, "--width 20", CALL)?;
+    assert!(rt; is_run(&narrow, 0, broken, ""));
+    let wide = run_of(alloc, &mut store, "--width=0 -", CALL)?;
+    assert!(rt; is_run(&wide, 0, CALL, ""));
+    let refused = run_of(alloc, &mut store, "--width 20", "fn f() { = }")?;
+    let error = "<stdin>:1:10: error: unexpected token `=`\nfn f() { = }\n         ^\n";
+    assert!(rt; is_run(&refused, 3, "", error));
+    Ok(())
+}
+
+#[test]
+fn formats_by_an_indentation(rt: HostRuntime) -> Result<(), Fail> {
+    let alloc = rt.alloc();
+    let mut store = store(alloc)?;
+    let tabs = run_of(alloc, &mut store, "--indent tab b/b.wgsl", "")?;
+    assert!(rt; is_run(&tabs, 0, "", ""));
+    assert!(rt; has(&store, "b/b.wgsl", "fn f() {\n\tx = 1;\n}\n"));
+    let spaces = run_of(alloc, &mut store, "--indent=2 b/b.wgsl", "")?;
+    assert!(rt; is_run(&spaces, 0, "", ""));
+    assert!(rt; has(&store, "b/b.wgsl", "fn f() {\n  x = 1;\n}\n"));
+
+    // A tab has four columns.
+    let fits = run_of(alloc, &mut store, "--indent tab --width 24 -", CALL)?;
+    assert!(rt; is_run(&fits, 0, "fn f() {\n\tcall(first, second);\n}\n", ""));
+    let broken = "fn f() {\n\tcall(\n\t\tfirst,\n\t\tsecond\n\t);\n}\n";
+    let narrow = run_of(alloc, &mut store, "--indent tab --width 23 -", CALL)?;
+    assert!(rt; is_run(&narrow, 0, broken, ""));
+    Ok(())
+}
+
+#[test]
+fn formats_with_line_ends(rt: HostRuntime) -> Result<(), Fail> {
+    let alloc = rt.alloc();
+    let mut store = store(alloc)?;
+    let files = run_of(
+        alloc,
+        &mut store,
+        "--newlines crlf --quiet a.wgsl b/b.wgsl",
+        "",
+    )?;
+    assert!(rt; is_run(&files, 0, "", ""));
+    assert!(rt; has(&store, "a.wgsl", "fn f() {}\r\n"));
+    assert!(rt; has(&store, "b/b.wgsl", "fn f() {\r\n    x = 1;\r\n}\r\n"));
+    let kept = run_of(alloc, &mut store, "--newlines auto", "fn f(){}\r\n")?;
+    assert!(rt; is_run(&kept, 0, "fn f() {}\r\n", ""));
+    let lf = run_of(alloc, &mut store, "--newlines lf", "fn f(){}\r\n")?;
+    assert!(rt; is_run(&lf, 0, "fn f() {}\n", ""));
+    Ok(())
+}
+
 #[test]
 fn tells_what_is_wrong_with_arguments(rt: HostRuntime) -> Result<(), Fail> {
     let alloc = rt.alloc();

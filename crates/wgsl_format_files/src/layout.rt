@@ -1,0 +1,65 @@
+//! The layout that a user chooses.
+
+ghost use Rattle.std.specs.Prelude.{◌≡◌};
+ghost use Rattle.std.specs.Option.{unwrap_or};
+ghost use Rattle.wgsl_model_tidy.specs.Layout.{standard};
+ghost use Rattle.wgsl_format_layout.specs.Layouts.{layout_view, newlines_view};
+ghost use Rattle.wgsl_format_layout.specs.Layouts as view;
+ghost use Rattle.wgsl_format_files.specs.Layouts.{is_nothing, has_tabs, columns_chosen};
+ghost use Rattle.wgsl_format_files.specs.Layouts.{newlines_of, layout_of};
+
+use wgsl_choices::{Choices, IndentStyle};
+use wgsl_format_tidy::{Indent, Layout, Newlines};
+
+/// How many columns a line has at most where that is left open.
+const WIDTH: usize = 100;
+
+/// How many columns a level has where that is left open.
+const COLUMNS: u8 = 4;
+
+/// Whether nothing is chosen.
+pub fn is_nothing(choices: Choices) -> bool
+    ensures { result ≡ is_nothing choices }
+{
+    choices.width.is_none()
+        && choices.style.is_none()
+        && choices.size.is_none()
+        && choices.tab_width.is_none()
+        && choices.newlines.is_none()
+}
+
+/// The layout of what is chosen, and what is standard where a part is left open.
+pub fn layout_of(choices: Choices) -> Layout
+    ensures { layout_view result ≡ layout_of choices }
+{
+    Layout {
+        width: choices.width.unwrap_or(WIDTH),
+        indent: indent_of(choices),
+        newlines: newlines_of(choices.newlines),
+    }
+}
+
+/// What one level of indentation is.
+fn indent_of(choices: Choices) -> Indent
+    ensures tabs { view.has_tabs result ≡ has_tabs choices.style }
+    ensures columns { view.level_columns result
+        ≡ unwrap_or (columns_chosen (has_tabs choices.style) choices) standard.indent }
+{
+    match choices.style {
+        Some(IndentStyle::Tab) => {
+            Indent::Tab(choices.tab_width.or(choices.size).unwrap_or(COLUMNS))
+        }
+        Some(IndentStyle::Spaces) | None => Indent::Spaces(choices.size.unwrap_or(COLUMNS)),
+    }
+}
+
+/// With what lines end.
+fn newlines_of(newlines: Option<wgsl_choices::Newlines>) -> Newlines
+    ensures { newlines_view result ≡ newlines_of newlines }
+{
+    match newlines {
+        Some(wgsl_choices::Newlines::Auto) | None => Newlines::Auto,
+        Some(wgsl_choices::Newlines::Lf) => Newlines::Lf,
+        Some(wgsl_choices::Newlines::CrLf) => Newlines::CrLf,
+    }
+}
