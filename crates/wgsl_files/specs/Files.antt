@@ -14,6 +14,14 @@ unknown = record { known = false; at = λ _. None }
 abbrev pub Holds : Files → List ℕ → List ℕ → Type 0
 Holds files path bytes = files.known ≡ true → files.at path ≡ Some bytes
 
+-- there is no file at the path
+abbrev pub HasNone : Files → List ℕ → Type 0
+HasNone files path = files.known ≡ true → files.at path ≡ None
+
+-- this path leads to the same file as another: where it is known what a store holds, it is that path
+abbrev pub IsAbsolute : Files → List ℕ → List ℕ → Type 0
+IsAbsolute files path found = files.known ≡ true → found ≡ path
+
 -- nothing has changed
 pub record Same (old new : Files) : Type 0 where
   pub known : new.known ≡ old.known

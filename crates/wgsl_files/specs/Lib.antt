@@ -1,5 +1,6 @@
 pub mod Files
 pub mod Folders
 pub mod Memory
+pub mod Reading
 pub mod Rewriting
 pub mod Statuses

@@ -11,7 +11,7 @@ use Rattle.wgsl_files.specs.declared.file.Mode.{Mode}
 use Rattle.wgsl_files.specs.declared.file.Mode.TheVariants.{InPlace, Check}
 use Rattle.wgsl_files.specs.declared.file.Rewritten.{Rewritten}
 use Rattle.wgsl_files.specs.declared.file.Rewritten.TheVariants as rewritten
-use Rattle.wgsl_files.specs.Files.{Files, Holds, Same, Replaced}
+use Rattle.wgsl_files.specs.Files.{Files, Holds, HasNone, Same, Replaced}
 
 -- a text is refused with this message, unless an allocation failed
 abbrev pub IsRefusal : (List ℕ → Type 0) → FormatError → Type 0
@@ -53,10 +53,10 @@ IsRewritten becomes mode old new path (rewritten.Changed before after) =
 abbrev pub IsRefused : (List ℕ → List ℕ → Type 0) → Files → List ℕ → List ℕ → Type 0
 IsRefused refuses files path message = (text : List ℕ) × Holds files path text × refuses text message
 
--- why the file at the path was not rewritten: of a file that could not be read or written nothing is said
+-- why the file at the path was not rewritten: there is none, or its text is refused, or an allocation failed
 abbrev pub IsFileError : (List ℕ → List ℕ → Type 0) → Files → List ℕ → FileError → Type 0
 IsFileError refuses files path error.OutOfMemory = Unit {0}
-IsFileError refuses files path (error.Failed e) = Unit {0}
+IsFileError refuses files path (error.Failed e) = HasNone files path
 IsFileError refuses files path (error.Refused message) = IsRefused refuses files path (string_bytes message)
 
 -- no file but those at these paths has changed

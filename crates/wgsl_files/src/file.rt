@@ -27,7 +27,8 @@ pub enum Rewritten {
     Changed(Vec<u8>, Vec<u8>),
 }
 
-/// Formats a file. It is only written if that changes it, and an `Err` changes nothing.
+/// Formats a file. It is only written if that changes it, and an `Err` changes nothing. It fails
+/// only where there is no file.
 pub fn rewrite<S: Store, F: Format>(
     alloc: Global,
     store: &mut S,

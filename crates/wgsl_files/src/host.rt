@@ -5,7 +5,7 @@ ghost use Rattle.wgsl_files.specs.Files.{unknown};
 use crate::folder::{alone, folder_of};
 use crate::store::{Store, StoreError};
 use crate::walk::below;
-use std::alloc::Global;
+use std::alloc::{AllocError, Global};
 use std::fs::{File, Metadata, OpenFile, OpenOptions};
 use std::io;
 use std::io::{ErrorKind, Read, Write};
@@ -31,7 +31,17 @@ impl<'a, R: Files + AllocGlobal + Clone + Drop> Store for HostStore<'a, R> {
         }
     }
 
-    fn read(&mut self, alloc: Global, path: &str) -> Result<Vec<u8>, StoreError> {
+    /// The links of its folders are followed.
+    fn absolute(&self, alloc: Global, path: &str) -> Result<String, AllocError> {
+        let (folder, name) = parts_of(path);
+        match self.rt.canonicalize(alloc, folder) {
+            Ok(folder) => format!(in alloc; "{}/{name}", folder_of(folder.as_str())),
+            Err(error) if error.kind() == ErrorKind::OutOfMemory => Err(AllocError),
+            Err(_) => String::from_str(alloc, path),
+        }
+    }
+
+    fn read(&self, alloc: Global, path: &str) -> Result<Vec<u8>, StoreError> {
         let mut file = File::open(self.rt, path)?;
         let mut bytes = Vec::new(alloc);
         file.read_to_end(&mut bytes)?;
@@ -40,6 +50,15 @@ impl<'a, R: Files + AllocGlobal + Clone + Drop> Store for HostStore<'a, R> {
 
     fn replace(&mut self, alloc: Global, path: &str, bytes: &[u8]) -> Result<(), StoreError> {
         Ok(replace_file(self.rt, alloc, path, bytes)?)
+    }
+}
+
+/// The folder of a path, and the name in it.
+fn parts_of(path: &str) -> (&str, &str) {
+    match path.rsplit_once('/') {
+        Some(("", name)) => ("/", name),
+        Some(parts) => parts,
+        None => (".", path),
     }
 }
 

@@ -4,9 +4,10 @@ ghost use Rattle.std.specs.Prelude.{◌≡◌, map, string_bytes, IfOk, IfErr, O
 ghost use Rattle.std.specs.BTreeMap.{keys, IsOrdered};
 ghost use Rattle.std.specs.String.{string_cmp};
 ghost use Rattle.std.specs.List.{filter, list_any};
-ghost use Rattle.wgsl_files.specs.Files.{Holds, Same, Replaced};
+ghost use Rattle.wgsl_files.specs.Files.{Same, Replaced};
 ghost use Rattle.wgsl_files.specs.Folders.{IsListing, is_below, is_wgsl_below};
-ghost use Rattle.wgsl_files.specs.Memory.{files_of, IsMissing};
+ghost use Rattle.wgsl_files.specs.Memory.{files_of};
+ghost use Rattle.wgsl_files.specs.Reading.{IsMissing};
 
 use crate::folder::{alone, folder_of, is_below, is_wgsl_below};
 use crate::store::{Store, StoreError};
@@ -38,14 +39,12 @@ impl Store for MemoryStore {
         }
     }
 
-    fn read(&mut self, alloc: Global, path: &str) -> Result<Vec<u8>, StoreError>
-        ensures bytes { IfOk result (λ bytes.
-            Holds (files_of self.old.files) path.now bytes.items) }
-        ensures same { Same (files_of self.old.files) (files_of self.new.files) }
+    /// Paths begin where the files are kept.
+    fn absolute(&self, alloc: Global, path: &str) -> Result<String, AllocError> {
+        String::from_str(alloc, path)
+    }
 
-        // It fails where there is no file.
-        ensures missing { IfErr result (λ e. IsMissing (files_of self.old.files) path.now e) }
-    {
+    fn read(&self, alloc: Global, path: &str) -> Result<Vec<u8>, StoreError> {
         match self.files.get(path) {
             Some(bytes) => Ok(Vec::from_slice(alloc, bytes.as_slice())?),
             None => Err(StoreError::Failed(io::Error::from(io::ErrorKind::NotFound))),
@@ -55,6 +54,7 @@ impl Store for MemoryStore {
     fn replace(&mut self, alloc: Global, path: &str, bytes: &[u8]) -> Result<(), StoreError>
         ensures ok { OnOk result (Replaced (files_of self.old.files) (files_of self.new.files)
             path.now bytes.now) }
+        ensures missing { IfErr result (λ e. IsMissing (files_of self.old.files) path.now e) }
         ensures err { OnErr result (Same (files_of self.old.files) (files_of self.new.files)) }
 
         // It fails only if an allocation fails.

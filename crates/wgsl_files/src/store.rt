@@ -1,9 +1,10 @@
 //! Files by their paths.
 
-ghost use Rattle.std.specs.Prelude.{◌≡◌, ◌⊎◌, map, string_bytes, IfOk, OnOk, OnErr};
+ghost use Rattle.std.specs.Prelude.{◌≡◌, ◌⊎◌, map, string_bytes, IfOk, IfErr, OnOk, OnErr};
 ghost use Rattle.wgsl_files.specs.declared.store.StoreError.TheVariants as store;
-ghost use Rattle.wgsl_files.specs.Files.{Files, Holds, Same, Replaced};
+ghost use Rattle.wgsl_files.specs.Files.{Files, Holds, IsAbsolute, Same, Replaced};
 ghost use Rattle.wgsl_files.specs.Folders.{IsListing};
+ghost use Rattle.wgsl_files.specs.Reading.{IsMissing};
 
 use std::alloc::{AllocError, AllocFailed, Global};
 use std::io;
@@ -56,13 +57,21 @@ pub trait Store {
         ensures listing { IfOk result (λ paths.
             IsListing (files self.now) path.now (map string_bytes paths.items)) };
 
-    /// The bytes of the file at a path.
-    fn read(&mut self, alloc: Global, path: &str) -> Result<Vec<u8>, StoreError>
-        ensures bytes { IfOk result (λ bytes. Holds (files self.old) path.now bytes.items) }
-        ensures same { Same (files self.old) (files self.new) };
+    /// A path from the root of the file system to the same file, or the path itself where none is
+    /// found.
+    fn absolute(&self, alloc: Global, path: &str) -> Result<String, AllocError>
+        ensures { IfOk result (λ found.
+            IsAbsolute (files self.now) path.now (string_bytes found)) };
 
-    /// Puts these bytes at the path of a file in place of what it has. An `Err` changes nothing.
+    /// The bytes of the file at a path. It fails where there is no file.
+    fn read(&self, alloc: Global, path: &str) -> Result<Vec<u8>, StoreError>
+        ensures bytes { IfOk result (λ bytes. Holds (files self.now) path.now bytes.items) }
+        ensures missing { IfErr result (λ e. IsMissing (files self.now) path.now e) };
+
+    /// Puts these bytes at the path of a file in place of what it has. It fails only where there is
+    /// no file. An `Err` changes nothing.
     fn replace(&mut self, alloc: Global, path: &str, bytes: &[u8]) -> Result<(), StoreError>
         ensures ok { OnOk result (Replaced (files self.old) (files self.new) path.now bytes.now) }
+        ensures missing { IfErr result (λ e. IsMissing (files self.old) path.now e) }
         ensures err { OnErr result (Same (files self.old) (files self.new)) };
 }

@@ -10,10 +10,10 @@ use Rattle.wgsl_command.specs.declared.options.OptionName.{OptionName}
 use Rattle.wgsl_files.specs.Files.{Files}
 use Rattle.wgsl_model.specs.Program.{ProcessOutput}
 use Rattle.wgsl_model_tidy.specs.Tidied.{Tidies}
-use Rattle.wgsl_format_streams.specs.Run as filter
-use Rattle.wgsl_format_tidy.specs.RunOutput.{IsTidied, IsTidiedBy}
+use Rattle.wgsl_format.specs.Run as filter
+use Rattle.wgsl_format.specs.RunOutput.{IsTidied}
 use Rattle.wgsl_format_files.specs.Inputs.{AreInputsOf}
-use Rattle.wgsl_format_files.specs.Layouts.{layout_of}
+use Rattle.wgsl_format_files.specs.Configs.{BecomesBy}
 use Rattle.wgsl_format_files.specs.Runs.{state, Runs}
 use Rattle.wgsl_format_files.specs.Tidy.{Refuses}
 use Rattle.wgsl_format_files.specs.Start.{World, world, Says, Tells, IsHint, usage_text, memory_text, is_filter, name_of, IsRunOf, IsRequestRun, IsStart}
@@ -59,7 +59,7 @@ module _ (request : Request) (is : Bool) (files files_next : Files) (left left_n
 
   -- and where files are
   pub files_request : (inputs : List Source) → is ≡ false → AreInputsOf files request.sources inputs
-      → Runs (IsTidiedBy (layout_of request.choices)) Refuses request.mode request.quiet (name_of request) inputs (state files left) (state files_next left_next) output output_next errors errors_next status
+      → Runs (BecomesBy request.choices request.stdin_path) Refuses request.mode request.quiet (name_of request) inputs (state files left) (state files_next left_next) output output_next errors errors_next status
       → IsRequestRun request (world files left output errors) (world files_next left_next output_next errors_next) status
   files_request inputs so named runs =
       inl (subst (λ b. IsRunOf b request (world files left output errors) (world files_next left_next output_next errors_next) status) (sym so ∙ asked) (record { inputs = inputs; named = named; runs = runs }))

@@ -1,3 +1,4 @@
+pub mod Configs
 pub mod Written
 pub mod Runs
 pub mod Others

@@ -44,7 +44,7 @@ module _ (becomes refuses : List ℕ → List ℕ → Type 0) (mode : Mode) wher
   file_others old new name (event.Printed text) none = absurd none
   file_others old new name (event.WouldChange shown) changes = written_others mode old new name changes.after changes.changed.written
   file_others old new name (event.Refused message) refused = same_changes (name ∷ []) old new refused.1
-  file_others old new name (event.Failed reason) same = same_changes (name ∷ []) old new same
+  file_others old new name (event.Failed reason) failed = same_changes (name ∷ []) old new failed.1
   file_others old new name event.OutOfMemory same = same_changes (name ∷ []) old new same
 
   -- nor that file, where files are not written
@@ -54,22 +54,22 @@ module _ (becomes refuses : List ℕ → List ℕ → Type 0) (mode : Mode) wher
   file_nothing old new name (event.Printed text) other none = absurd none
   file_nothing old new name (event.WouldChange shown) other changes = written_nothing mode old new name changes.after other changes.changed.written
   file_nothing old new name (event.Refused message) other refused = refused.1
-  file_nothing old new name (event.Failed reason) other same = same
+  file_nothing old new name (event.Failed reason) other failed = failed.1
   file_nothing old new name event.OutOfMemory other same = same
 
-  module _ (stdin_name : List ℕ) where
-    -- a run changes no file but those that it is given
-    pub only_named : (inputs : List Source) (old new : State) (came : List Came) → ComesOfAll becomes refuses mode stdin_name old new inputs came → ChangesOnly (paths_of inputs) old.files new.files
-    only_named [] old new came (none, same) = subst (λ (s : State). ChangesOnly [] old.files s.files) (sym same) (same_changes [] old.files old.files (same_self old.files))
-    only_named (standard_input ∷ inputs) old new came (between, first, rest, are, one, others) =
-        subst (λ files. ChangesOnly (paths_of inputs) files new.files) one.1 (only_named inputs between new rest others)
-    only_named (path name ∷ inputs) old new came (between, first, rest, are, one, others) =
-        then_others name (paths_of inputs) old.files between.files new.files (file_others old.files between.files name first one.0) (only_named inputs between new rest others)
+module _ (becomes : Files → Source → List ℕ → List ℕ → Type 0) (refuses : List ℕ → List ℕ → Type 0) (mode : Mode) (stdin_name : List ℕ) where
+  -- a run changes no file but those that it is given
+  pub only_named : (inputs : List Source) (old new : State) (came : List Came) → ComesOfAll becomes refuses mode stdin_name old new inputs came → ChangesOnly (paths_of inputs) old.files new.files
+  only_named [] old new came (none, same) = subst (λ (s : State). ChangesOnly [] old.files s.files) (sym same) (same_changes [] old.files old.files (same_self old.files))
+  only_named (standard_input ∷ inputs) old new came (between, first, rest, are, one, others) =
+      subst (λ files. ChangesOnly (paths_of inputs) files new.files) one.1 (only_named inputs between new rest others)
+  only_named (path name ∷ inputs) old new came (between, first, rest, are, one, others) =
+      then_others name (paths_of inputs) old.files between.files new.files (file_others (becomes old.files (path name)) refuses mode old.files between.files name first one.0) (only_named inputs between new rest others)
 
-    -- and none where files are not written
-    pub none_written : (inputs : List Source) (old new : State) (came : List Came) → mode ≢ Write → ComesOfAll becomes refuses mode stdin_name old new inputs came → Same old.files new.files
-    none_written [] old new came other (none, same) = subst (λ (s : State). Same old.files s.files) (sym same) (same_self old.files)
-    none_written (standard_input ∷ inputs) old new came other (between, first, rest, are, one, others) =
-        subst (λ files. Same files new.files) one.1 (none_written inputs between new rest other others)
-    none_written (path name ∷ inputs) old new came other (between, first, rest, are, one, others) =
-        same_same old.files between.files new.files (file_nothing old.files between.files name first other one.0) (none_written inputs between new rest other others)
+  -- and none where files are not written
+  pub none_written : (inputs : List Source) (old new : State) (came : List Came) → mode ≢ Write → ComesOfAll becomes refuses mode stdin_name old new inputs came → Same old.files new.files
+  none_written [] old new came other (none, same) = subst (λ (s : State). Same old.files s.files) (sym same) (same_self old.files)
+  none_written (standard_input ∷ inputs) old new came other (between, first, rest, are, one, others) =
+      subst (λ files. Same files new.files) one.1 (none_written inputs between new rest other others)
+  none_written (path name ∷ inputs) old new came other (between, first, rest, are, one, others) =
+      same_same old.files between.files new.files (file_nothing (becomes old.files (path name)) refuses mode old.files between.files name first other one.0) (none_written inputs between new rest other others)

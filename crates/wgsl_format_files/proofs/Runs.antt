@@ -4,6 +4,7 @@ use Rattle.std.proofs.lemmas.Grind.{flat_map-append}
 use Rattle.std.proofs.lemmas.List.{append-nil, length-append, map-append, take_more}
 use Rattle.wgsl_command.specs.Commands.{Source}
 use Rattle.wgsl_command.specs.declared.command.Mode.{Mode}
+use Rattle.wgsl_files.specs.Files.{Files}
 use Rattle.wgsl_files.specs.Statuses.{code_of}
 use Rattle.wgsl_format_files.specs.declared.event.Event.{Event}
 use Rattle.wgsl_format_files.specs.declared.run.Tally.{Tally}
@@ -52,7 +53,7 @@ all_more f whole more came one a b c wrote written =
     let text : flat_map f came ++ f one ≡ flat_map f (came ++ one ∷ []) = ap (λ bs. flat_map f came ++ bs) (sym (append-nil (f one))) ∙ sym (flat_map-append f came (one ∷ [])) in
     subst (λ bs. Wrote more bs a c) text (wrote_more whole more (flat_map f came) (f one) a b c wrote written)
 
-module _ (becomes refuses : List ℕ → List ℕ → Type 0) (mode : Mode) (quiet : Bool) (stdin_name : List ℕ) where
+module _ (becomes : Files → Source → List ℕ → List ℕ → Type 0) (refuses : List ℕ → List ℕ → Type 0) (mode : Mode) (quiet : Bool) (stdin_name : List ℕ) where
   -- what came of some inputs, and then of one more
   comes_more : (inputs : List Source) (source : Source) (a b c : State) (came : List Came) (event : Event)
       → ComesOfAll becomes refuses mode stdin_name a b inputs came → ComesOf becomes refuses mode stdin_name b c source event

@@ -2,9 +2,9 @@
 use Rattle.std.specs.Prelude.{◌≡◌, ◌≢◌, ℕ, List, Option, string_bytes}
 use Rattle.wgsl_command.specs.declared.command.Mode.{Mode}
 use Rattle.wgsl_command.specs.declared.command.Mode.TheVariants.{Write}
-use Rattle.wgsl_files.specs.Files.{Files, Same}
+use Rattle.wgsl_files.specs.Files.{Files, HasNone, Same}
 use Rattle.wgsl_files.specs.Rewriting.{IsKept, IsChanged, IsRefused}
-use Rattle.wgsl_format_streams.specs.Ends.{IsInput}
+use Rattle.wgsl_format.specs.Ends.{IsInput}
 use Rattle.wgsl_format_files.specs.declared.event.Event.{Event}
 use Rattle.wgsl_format_files.specs.declared.event.Event.TheVariants as event
 use Rattle.wgsl_format_files.specs.Events.{IsShown, store_mode_of}
@@ -17,14 +17,15 @@ pub record Changes (becomes : List ℕ → List ℕ → Type 0) (mode : Mode) (T
   pub told : Tells before after
 
 -- What comes of the file at a path: it is kept; or it is written, and only where files are written; or it would change, and
--- what is shown tells of that, and nothing changes; or it is an error, and nothing changes.
+-- what is shown tells of that, and nothing changes; or it is an error, and nothing changes: its text is refused, or there is no
+-- file at the path, or an allocation failed.
 abbrev pub ComesOfFile : (List ℕ → List ℕ → Type 0) → (List ℕ → List ℕ → Type 0) → Mode → Files → Files → List ℕ → Event → Type 0
 ComesOfFile becomes refuses mode old new path event.Unchanged = IsKept becomes old new path
 ComesOfFile becomes refuses mode old new path event.Formatted = Changes becomes mode (λ _ _. mode ≡ Write) old new path
 ComesOfFile becomes refuses mode old new path (event.Printed text) = ⊥
 ComesOfFile becomes refuses mode old new path (event.WouldChange shown) = Changes becomes mode (λ before after. IsShown mode path before after shown.items) old new path
 ComesOfFile becomes refuses mode old new path (event.Refused message) = IsRefused refuses old path (string_bytes message) × Same old new
-ComesOfFile becomes refuses mode old new path (event.Failed reason) = Same old new
+ComesOfFile becomes refuses mode old new path (event.Failed reason) = HasNone old path × Same old new
 ComesOfFile becomes refuses mode old new path event.OutOfMemory = Same old new
 
 -- what comes of a text of the standard input: where files are written, what it becomes is printed

@@ -1,3 +1,4 @@
+pub mod Configs
 pub mod Events
 pub mod Files
 pub mod Written

@@ -21,10 +21,12 @@ pub record State : Type 0 where
 abbrev pub state : Files → Option (List ℕ) → State
 state files left = record { files = files; left = left }
 
--- what comes of one input: of the standard input, which changes no file; of a file, for which nothing is read of the standard input
-abbrev pub ComesOf : (List ℕ → List ℕ → Type 0) → (List ℕ → List ℕ → Type 0) → Mode → List ℕ → State → State → Source → Event → Type 0
-ComesOf becomes refuses mode stdin_name old new standard_input event = ComesOfInput becomes refuses mode old.left stdin_name event × (new.files ≡ old.files)
-ComesOf becomes refuses mode stdin_name old new (path name) event = ComesOfFile becomes refuses mode old.files new.files name event × (new.left ≡ old.left)
+-- what comes of one input, whose text becomes another by the files that there are: of the standard input, which changes no file; of a file, for which nothing is read of the standard input
+abbrev pub ComesOf : (Files → Source → List ℕ → List ℕ → Type 0) → (List ℕ → List ℕ → Type 0) → Mode → List ℕ → State → State → Source → Event → Type 0
+ComesOf becomes refuses mode stdin_name old new standard_input event =
+    ComesOfInput (becomes old.files standard_input) refuses mode old.left stdin_name event × (new.files ≡ old.files)
+ComesOf becomes refuses mode stdin_name old new (path name) event =
+    ComesOfFile (becomes old.files (path name)) refuses mode old.files new.files name event × (new.left ≡ old.left)
 
 -- what came of an input, with its name
 pub record Came : Type 0 where
@@ -37,7 +39,7 @@ WroteMore true more text old new = Wrote more text old new
 WroteMore false more text old new = (more ≡ false) × (new ≡ old)
 
 -- what came of each input, in order, one after another
-abbrev pub ComesOfAll : (List ℕ → List ℕ → Type 0) → (List ℕ → List ℕ → Type 0) → Mode → List ℕ → State → State → List Source → List Came → Type 0
+abbrev pub ComesOfAll : (Files → Source → List ℕ → List ℕ → Type 0) → (List ℕ → List ℕ → Type 0) → Mode → List ℕ → State → State → List Source → List Came → Type 0
 ComesOfAll becomes refuses mode stdin_name old new [] came = (came ≡ []) × (new ≡ old)
 ComesOfAll becomes refuses mode stdin_name old new (source ∷ sources) came =
     (between : State) × (event : Event) × (rest : List Came) × (came ≡ record { name = name_in stdin_name source; event = event } ∷ rest)
@@ -86,7 +88,7 @@ pub record IsStatus (whole : Bool) (called status : ℕ) : Type 0 where
   pub not_written : whole ≡ false → 4 ≤ status
 
 -- a run over inputs from one state to another, with what the output and the errors hold before and after it, and its status
-pub record Runs (becomes refuses : List ℕ → List ℕ → Type 0) (mode : Mode) (quiet : Bool) (stdin_name : List ℕ) (inputs : List Source) (old new : State)
+pub record Runs (becomes : Files → Source → List ℕ → List ℕ → Type 0) (refuses : List ℕ → List ℕ → Type 0) (mode : Mode) (quiet : Bool) (stdin_name : List ℕ) (inputs : List Source) (old new : State)
     (output written errors told : Option (List ℕ)) (status : ℕ) : Type 0 where
   pub came : List Came
   pub each : ComesOfAll becomes refuses mode stdin_name old new inputs came

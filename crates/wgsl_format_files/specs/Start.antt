@@ -10,10 +10,11 @@ use Rattle.wgsl_command.specs.declared.command.Mode.TheVariants.{Write, Check, D
 use Rattle.wgsl_command.specs.declared.options.OptionName.{OptionName}
 use Rattle.wgsl_files.specs.Files.{Files}
 use Rattle.wgsl_model_tidy.specs.Tidied.{Tidies}
-use Rattle.wgsl_format_streams.specs.Run as filter
-use Rattle.wgsl_format_tidy.specs.RunOutput.{IsTidied, IsTidiedBy}
+use Rattle.wgsl_format.specs.Run as filter
+use Rattle.wgsl_format.specs.RunOutput.{IsTidied}
 use Rattle.wgsl_format_files.specs.Inputs.{AreInputsOf}
-use Rattle.wgsl_format_files.specs.Layouts.{is_nothing, layout_of}
+use Rattle.wgsl_format_files.specs.Configs.{BecomesBy}
+use Rattle.wgsl_format_files.specs.Layouts.{is_nothing}
 use Rattle.wgsl_format_files.specs.Runs.{state, Runs}
 use Rattle.wgsl_format_files.specs.Tidy.{Refuses}
 use Rattle.wgsl_format_files.specs.Written.{Wrote}
@@ -101,11 +102,11 @@ pub record IsFilterRun (old new : World) (status : ℕ) : Type 0 where
   pub runs : filter.Runs Tidies IsTidied old.left new.left (λ contents. contents) old.output new.output old.errors new.errors status
   pub files : new.files ≡ old.files
 
--- the files for the sources are formatted by the layout that is chosen, in order
+-- the files for the sources are formatted in order, each by the layout that is chosen for it
 pub record IsFilesRun (request : Request) (old new : World) (status : ℕ) : Type 0 where
   pub inputs : List Source
   pub named : AreInputsOf old.files request.sources inputs
-  pub runs : Runs (IsTidiedBy (layout_of request.choices)) Refuses request.mode request.quiet (name_of request) inputs (state old.files old.left) (state new.files new.left)
+  pub runs : Runs (BecomesBy request.choices request.stdin_path) Refuses request.mode request.quiet (name_of request) inputs (state old.files old.left) (state new.files new.left)
       old.output new.output old.errors new.errors status
 
 -- the standard input is formatted as a filter, or the files for the sources are formatted

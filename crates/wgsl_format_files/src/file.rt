@@ -11,7 +11,8 @@ use std::io;
 use wgsl_command::Mode;
 use wgsl_files::{FileError, Format, Rewritten, Store, rewrite};
 
-/// What comes of the file at a path. It is only written if files are written and it changes.
+/// What comes of the file at a path. It is only written if files are written and it changes, and it
+/// fails only where there is no file.
 pub fn format_file<S: Store, F: Format>(
     alloc: Global,
     store: &mut S,

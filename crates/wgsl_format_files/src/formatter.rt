@@ -1,14 +1,17 @@
 //! The formatter of `wgsltidy` for files.
 
 ghost use Rattle.std.specs.Prelude.{chars};
-ghost use Rattle.wgsl_format_tidy.specs.RunOutput.{IsTidiedBy};
+ghost use Rattle.wgsl_format.specs.RunOutput.{IsTidiedBy};
 ghost use Rattle.wgsl_format_layout.specs.Layouts.{layout_view};
 ghost use Rattle.wgsl_format_files.specs.Tidy.{Refuses, IsRefusedFor, IsNotUtf8};
 
 use std::alloc::Global;
 use wgsl_error::{Error, ErrorKind};
 use wgsl_files::{Format, FormatError};
-use wgsl_format_tidy::{Layout, tidy_with};
+use wgsl_format::{Layout, tidy_within};
+
+/// How many levels deep a module may nest: a level takes at most 1,300 bytes of a stack of 8 MB.
+pub(crate) const DEPTH: usize = 1_000;
 
 /// A module becomes its formatted text by a layout. The message of a refusal is what follows the
 /// name of the file: the place and the error.
@@ -27,7 +30,7 @@ impl Format for Tidy {
         let Ok(source) = std::str::from_utf8(text) else {
             return Err(not_utf8(alloc));
         };
-        match tidy_with(alloc, source, self.layout) {
+        match tidy_within(alloc, source, self.layout, DEPTH) {
             Ok(formatted) => Ok(formatted.into_bytes()),
             Err(error) => Err(refusal(alloc, source, error)),
         }

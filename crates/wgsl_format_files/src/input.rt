@@ -9,7 +9,7 @@ use std::alloc::Global;
 use std::io::Read;
 use wgsl_command::Mode;
 use wgsl_files::{Format, FormatError};
-use wgsl_format_streams::{ReadError, read_all};
+use wgsl_format::{ReadError, read_all};
 
 /// What comes of all that a reader gives, as that of a file of this name. Where files are written
 /// the formatted text is for the output.

@@ -9,7 +9,7 @@ ghost use Rattle.wgsl_format_files.specs.Layouts.{is_nothing, has_tabs, columns_
 ghost use Rattle.wgsl_format_files.specs.Layouts.{newlines_of, layout_of};
 
 use wgsl_choices::{Choices, IndentStyle};
-use wgsl_format_tidy::{Indent, Layout, Newlines};
+use wgsl_format::{Indent, Layout, Newlines};
 
 /// How many columns a line has at most where that is left open.
 const WIDTH: usize = 100;

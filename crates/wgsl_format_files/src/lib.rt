@@ -2,6 +2,7 @@
 #![tactic(auto)]
 
 mod changed;
+mod config;
 mod event;
 mod file;
 mod formatter;
@@ -16,5 +17,5 @@ mod usage;
 pub use event::Event;
 pub use formatter::Tidy;
 pub use inputs::{Input, inputs_of};
-pub use program::{refuse_argument, start};
+pub use program::{refuse_argument, refuse_memory, start};
 pub use run::{How, format_all};

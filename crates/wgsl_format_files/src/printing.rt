@@ -6,7 +6,7 @@ ghost use Rattle.wgsl_format_files.specs.Written.{Wrote};
 
 use crate::event::Event;
 use std::io::Write;
-use wgsl_format_streams::send;
+use wgsl_format::send;
 
 /// Writes what comes of the file of this name: what is shown of it to the output, the message to
 /// the errors. Returns whether all of it was written.

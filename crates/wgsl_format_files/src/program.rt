@@ -1,22 +1,22 @@
 //! The program: what its arguments ask for.
 
 ghost use Rattle.std.specs.Prelude.{◌≡◌, ◌⊎◌, Option, map, string_bytes, IfOk};
+ghost use Rattle.std.specs.Option.{option_copied};
 ghost use Rattle.wgsl_command.specs.declared.options.OptionName.{OptionName};
 ghost use Rattle.wgsl_files.specs.Statuses.{code_of};
 ghost use Rattle.wgsl_command.specs.Commands.{command_of};
 ghost use Rattle.wgsl_command.specs.View.{request_view, usage_view};
-ghost use Rattle.wgsl_format_tidy.specs.RunOutput.{IsTidiedBy};
 ghost use Rattle.wgsl_format_files.specs.Inputs.{input_view};
-ghost use Rattle.wgsl_format_files.specs.Layouts.{layout_of};
+ghost use Rattle.wgsl_format_files.specs.Configs.{BecomesBy};
 ghost use Rattle.wgsl_format_files.specs.Runs.{Runs, state};
 ghost use Rattle.wgsl_format_files.specs.Tidy.{Refuses};
 ghost use Rattle.wgsl_format_files.specs.Start.{world, is_filter, name_of};
 ghost use Rattle.wgsl_format_files.specs.Start.{usage_text, memory_text, argument_text};
 ghost use Rattle.wgsl_format_files.specs.Start.{IsStart, IsHint, IsRequestRun, Says};
 
-use crate::formatter::Tidy;
+use crate::formatter::DEPTH;
 use crate::inputs::{Input, inputs_of};
-use crate::layout::{is_nothing, layout_of};
+use crate::layout::is_nothing;
 use crate::printing::put;
 use crate::run::{How, format_all};
 use crate::usage::{HELP, VERSION};
@@ -26,7 +26,7 @@ use wgsl_command::{
     Command, CommandError, Mode, OptionName, Request, Source, UsageError, nearest, parse,
 };
 use wgsl_files::{Status, Store};
-use wgsl_format_tidy::run;
+use wgsl_format::{Tidier, run};
 
 /// Runs `wgsltidy` with these arguments, of which its name is none, over these files and streams.
 /// Returns its status.
@@ -45,7 +45,7 @@ pub fn start<S: Store, R: Read, W: Write, E: Write>(
         (W.contents output.new) (E.contents errors.new)) result }
 {
     if arguments.is_empty() {
-        return run(alloc, input, output, errors);
+        return run(alloc, &Tidier { depth: DEPTH }, input, output, errors);
     }
     match parse(alloc, arguments) {
         Ok(Command::Help) => say(output, HELP, Status::Success),
@@ -74,7 +74,7 @@ fn format_request<S: Store, R: Read, W: Write, E: Write>(
         (W.contents output.new) (E.contents errors.new)) result }
 {
     if is_filter(request) {
-        return run(alloc, input, output, errors);
+        return run(alloc, &Tidier { depth: DEPTH }, input, output, errors);
     }
     match inputs_of(alloc, store, request.sources.as_slice()) {
         Ok(inputs) => format_inputs(
@@ -100,7 +100,7 @@ fn format_inputs<S: Store, R: Read, W: Write, E: Write>(
     output: &mut W,
     errors: &mut E,
 ) -> u8
-    ensures { Runs (IsTidiedBy (layout_of request.now.choices)) Refuses
+    ensures { Runs (BecomesBy request.now.choices (option_copied request.now.stdin_path)) Refuses
         request.now.mode request.now.quiet
         (name_of (request_view request.now)) (map input_view inputs.now)
         (state (S.files store.old) (R.remaining input.old))
@@ -108,15 +108,14 @@ fn format_inputs<S: Store, R: Read, W: Write, E: Write>(
         (W.contents output.old) (W.contents output.new)
         (E.contents errors.old) (E.contents errors.new) result }
 {
-    let tidy = Tidy {
-        layout: layout_of(request.choices),
-    };
     let how = How {
         mode: request.mode,
         quiet: request.quiet,
+        stdin_path: request.stdin_path,
         stdin_name: name_of(request),
+        choices: request.choices,
     };
-    format_all(alloc, store, &tidy, how, inputs, input, output, errors).code()
+    format_all(alloc, store, how, inputs, input, output, errors).code()
 }
 
 /// The name of the standard input in messages.
@@ -180,7 +179,7 @@ fn hint_of(alloc: Global, error: UsageError<'_>) -> Result<Option<OptionName>, A
 }
 
 /// Reports that an allocation failed.
-fn refuse_memory<E: Write>(errors: &mut E) -> u8
+pub fn refuse_memory<E: Write>(errors: &mut E) -> u8
     ensures { Says memory_text 5 (E.contents errors.old) (E.contents errors.new) result }
 {
     say(

@@ -5,21 +5,28 @@ ghost use Rattle.wgsl_command.specs.declared.command.Mode.TheVariants.{Write};
 ghost use Rattle.wgsl_files.specs.Files.{Same};
 ghost use Rattle.wgsl_files.specs.Rewriting.{ChangesOnly};
 ghost use Rattle.wgsl_files.specs.Statuses.{code_of};
+ghost use Rattle.std.specs.Option.{option_copied};
+ghost use Rattle.wgsl_format_files.specs.Configs.{AreChosenAt, BecomesBy, place_of};
+ghost use Rattle.wgsl_format_files.specs.Tidy.{Refuses};
 ghost use Rattle.wgsl_format_files.specs.Events.{shown_by, told_of};
 ghost use Rattle.wgsl_format_files.specs.Events.{status_of, is_changed, is_failed, one_if};
 ghost use Rattle.wgsl_format_files.specs.Inputs.{input_view, paths_of};
 ghost use Rattle.wgsl_format_files.specs.Runs.{ComesOf, Runs, state, WroteMore, IsStatus};
 ghost use Rattle.wgsl_format_files.specs.Runs.{summary, has_summary, counts_of, changed_words};
 
+use crate::config::choices_for;
 use crate::event::Event;
 use crate::file::format_file;
+use crate::formatter::Tidy;
 use crate::input::format_input;
 use crate::inputs::Input;
+use crate::layout::layout_of;
 use crate::printing::{put, tell_event};
 use std::alloc::{AllocError, Global};
 use std::io::{Read, Write};
+use wgsl_choices::Choices;
 use wgsl_command::Mode;
-use wgsl_files::{Format, Status, Store};
+use wgsl_files::{Status, Store};
 
 /// How files are formatted.
 #[derive(Clone, Copy, Debug)]
@@ -27,8 +34,12 @@ pub struct How<'n> {
     pub mode: Mode,
     /// No summary is written.
     pub quiet: bool,
+    /// The path that the standard input is from, if it is given.
+    pub stdin_path: Option<&'n str>,
     /// The name of the standard input in messages.
     pub stdin_name: &'n str,
+    /// What is chosen of the layout, whatever `.editorconfig` files say.
+    pub choices: Choices,
 }
 
 /// What a run has come to so far.
@@ -61,23 +72,47 @@ impl Tally {
     }
 }
 
-/// What comes of one input.
-fn event_of<S: Store, F: Format, R: Read>(
+/// What is chosen for an input.
+fn chosen_for<S: Store>(
+    alloc: Global,
+    store: &S,
+    how: How<'_>,
+    source: &Input,
+) -> Result<Choices, AllocError>
+    ensures { IfOk result (AreChosenAt (S.files store.now) how.entry.choices
+        (place_of (option_copied how.entry.stdin_path) (input_view source.now))) }
+{
+    match source {
+        Input::File(path) => choices_for(alloc, store, how.choices, path.as_str()),
+        Input::StandardInput => match how.stdin_path {
+            Some(path) => choices_for(alloc, store, how.choices, path),
+            None => Ok(how.choices),
+        },
+    }
+}
+
+/// What comes of one input, which is formatted by the layout that is chosen for it.
+fn event_of<S: Store, R: Read>(
     alloc: Global,
     store: &mut S,
-    format: &F,
     how: How<'_>,
     source: &Input,
     input: &mut R,
 ) -> Event
-    ensures { ComesOf (F.becomes format.now) (F.refuses format.now)
+    ensures { ComesOf (BecomesBy how.entry.choices (option_copied how.entry.stdin_path)) Refuses
         how.entry.mode how.entry.stdin_name.now
         (state (S.files store.old) (R.remaining input.old))
         (state (S.files store.new) (R.remaining input.new)) (input_view source.now) result }
 {
+    let Ok(chosen) = chosen_for(alloc, store, how, source) else {
+        return Event::OutOfMemory;
+    };
+    let tidy = Tidy {
+        layout: layout_of(chosen),
+    };
     match source {
-        Input::StandardInput => format_input(alloc, format, how.stdin_name, how.mode, input),
-        Input::File(path) => format_file(alloc, store, format, path.as_str(), how.mode),
+        Input::StandardInput => format_input(alloc, &tidy, how.stdin_name, how.mode, input),
+        Input::File(path) => format_file(alloc, store, &tidy, path.as_str(), how.mode),
     }
 }
 
@@ -159,17 +194,16 @@ fn changed_words(mode: Mode) -> &'static str
 /// the messages and, of more than one input, a summary. An error of one input stops none of the
 /// others, nor does a write that fails, after which no more is written. Returns the highest status
 /// that was called for.
-pub fn format_all<S: Store, F: Format, R: Read, W: Write, E: Write>(
+pub fn format_all<S: Store, R: Read, W: Write, E: Write>(
     alloc: Global,
     store: &mut S,
-    format: &F,
     how: How<'_>,
     inputs: &[Input],
     input: &mut R,
     output: &mut W,
     errors: &mut E,
 ) -> Status
-    ensures runs { Runs (F.becomes format.now) (F.refuses format.now)
+    ensures runs { Runs (BecomesBy how.entry.choices (option_copied how.entry.stdin_path)) Refuses
         how.entry.mode how.entry.quiet how.entry.stdin_name.now (map input_view inputs.now)
         (state (S.files store.old) (R.remaining input.old))
         (state (S.files store.new) (R.remaining input.new))
@@ -188,7 +222,7 @@ pub fn format_all<S: Store, F: Format, R: Read, W: Write, E: Write>(
         whole: true,
     };
     for source in inputs {
-        let event = event_of(alloc, store, format, how, source, input);
+        let event = event_of(alloc, store, how, source, input);
         let name = source.name(how.stdin_name);
         let whole = tell_more(tally.whole, name, &event, output, errors);
         tally = tally.after(&event, whole);

@@ -11,7 +11,7 @@ Options:
   --check            write no file, and list the files that would change
   --diff             write no file, and show what would change as a unified diff
   --quiet            print no summary
-  --stdin-path NAME  the name of the standard input in messages
+  --stdin-path NAME  the name of the standard input in messages, and for .editorconfig files
   --width N          break lines of more than N columns (100), with 0 none
   --indent N|tab     indent by N spaces a level (4), or by a tab
   --newlines KIND    end lines with lf, crlf, or as the first one of the text (auto)
@@ -19,8 +19,11 @@ Options:
   --version          print the version
   --                 what follows is a file or a folder
 
+What these leave open of the layout is as the nearest .editorconfig file says.
+
 Status: 0 success, 1 a file would change, 2 wrong usage, 3 a file has an error or is not UTF-8,
-4 a file could not be read or written, 5 out of memory.
+4 a file could not be read or written, 5 out of memory. Without files and options the statuses are
+others: see man wgsltidy.
 ";
 
 /// The name and the version of the program.

@@ -10,6 +10,7 @@ ghost use Rattle.wgsl_lex_templates.specs.Lists.{TellLists};
 ghost use Rattle.wgsl_lex_templates.specs.Findings.{AreRight};
 ghost use Rattle.wgsl_lex_templates.specs.Readings.{IsOutcome, costs};
 
+use crate::depth::nest_deeper;
 use crate::expression_list::is_expression_list;
 use crate::findings::Finding;
 use crate::kept::{Kept, Rest};
@@ -21,18 +22,20 @@ use wgsl_lex_comments::Comments;
 use wgsl_lex_scanner::scan::{Scanned, place};
 use wgsl_lex_token::kind::TokenKind;
 
-/// Space for the kinds of one list, used again at each.
+/// Space for the kinds of one list, used again at each, and how deep brackets may nest in it.
 #[derive(Drop)]
 pub(crate) struct Scratch {
     kinds: Vec<TokenKind>,
     rests: Vec<Rest>,
+    depth: usize,
 }
 
 impl Scratch {
-    pub(crate) fn new(alloc: Global) -> Scratch {
+    pub(crate) fn new(alloc: Global, depth: usize) -> Scratch {
         Scratch {
             kinds: Vec::new(alloc),
             rests: Vec::new(alloc),
+            depth,
         }
     }
 }
@@ -45,6 +48,9 @@ fn is_list(kept: &Kept, start: usize, scratch: &mut Scratch) -> Result<bool, All
 {
     scratch.kinds.clear();
     kept.push_kinds(start, kept.len(), &mut scratch.kinds, &mut scratch.rests)?;
+    if nest_deeper(&scratch.kinds, scratch.depth) {
+        return Err(AllocError);
+    }
     Ok(is_expression_list(&scratch.kinds))
 }
 
@@ -79,7 +85,7 @@ pub(crate) fn attempt(
         return Ok(None);
     }
     let start = kept.len();
-    match read(tried, comments, kept, reads, source, after)? {
+    match read(tried, comments, kept, reads, source, after, scratch.depth)? {
         Reading::Around => Ok(Some(Finding::Around)),
         Reading::Within(rest) => Ok(Some(Finding::GoesOn {
             is_list: false,

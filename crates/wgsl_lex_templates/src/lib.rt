@@ -2,6 +2,7 @@
 #![tactic(auto)]
 
 mod attempt;
+mod depth;
 mod expression;
 mod expression_list;
 mod findings;
@@ -15,4 +16,4 @@ pub mod text;
 mod tried;
 
 pub use expression_list::is_expression_list;
-pub use templates::{Templates, discover};
+pub use templates::{Templates, discover, discover_within};

@@ -147,7 +147,8 @@ fn look_up<'s>(findings: &Findings, source: &'s str, kind: TokenKind, text: &'s 
     }
 }
 
-/// Reads behind a `<`, which stands before the text. What was read becomes pieces behind the others.
+/// Reads what is after a `<`, which is before the text. What was read becomes pieces after the
+/// others. The error is also returned where more brackets than the limit are open at one place.
 pub(crate) fn read<'s>(
     tried: &Tried,
     comments: &mut Comments,
@@ -155,6 +156,7 @@ pub(crate) fn read<'s>(
     reads: &mut u128,
     source: &'s str,
     text: &'s str,
+    limit: usize,
 ) -> Result<Reading<'s>, AllocError>
     requires ends { EndsWith (chars source.now) (chars text.now) }
     requires reads { reads.old + length text.now + 1 < 2 ^ 128 }
@@ -210,6 +212,9 @@ pub(crate) fn read<'s>(
             Turn::Stops => return Ok(Reading::Within(rest)),
             Turn::Refutes => return Ok(Reading::Around),
             Turn::Takes(open) => depth = open,
+        }
+        if depth > limit {
+            return Err(AllocError);
         }
         kept.push(kind)?;
         behind_word = is_word(kind);

@@ -78,7 +78,7 @@ pub mod syntax_node {
 pub mod parser {
     pub use wgsl_parser::{
         ExpressionParser, FromSource, GlobalDeclParser, GlobalDirectiveParser, LiteralParser,
-        StatementParser, TranslationUnitParser, TryTemplateListParser, parse_str,
+        StatementParser, TranslationUnitParser, TryTemplateListParser, parse_str, parse_within,
         recognize_template_list,
     };
     pub use wgsl_read_dialect::recognize_str;
@@ -87,7 +87,7 @@ pub mod parser {
 
 /// Laying modules out for people: comments and the author's line breaks stay.
 pub mod tidy {
-    pub use wgsl_format_tidy::{Indent, Layout, Newlines, tidy, tidy_with};
+    pub use wgsl_format::{Indent, Layout, Newlines, tidy, tidy_with, tidy_within};
 }
 
 /// What holds of all texts and trees, as contracts of functions that do nothing.

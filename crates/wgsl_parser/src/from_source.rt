@@ -35,7 +35,7 @@ impl FromSource for TranslationUnit {
     ghost reads = { λ source result. IsRead unit (λ u. IsTreeOf unit (chars source) (unit_view u)) source result };
 
     fn from_str(alloc: Global, source: &str) -> Result<Self, Error> {
-        unit_from(alloc, source)
+        unit_from(alloc, source, usize::MAX)
     }
 }
 

@@ -12,7 +12,7 @@ mod template_list;
 mod whole;
 
 pub use from_source::FromSource;
-pub use parse::parse_str;
+pub use parse::{parse_str, parse_within};
 pub use parsers::{
     ExpressionParser, GlobalDeclParser, GlobalDirectiveParser, LiteralParser, StatementParser,
     TranslationUnitParser,

@@ -22,5 +22,17 @@ pub fn parse_str(alloc: Global, source: &str) -> Result<TranslationUnit, Error>
         IsOutOfMemory e ⊎ IsFaultOf (chars source.now) (fault_view e)) }
     ensures placed { IfErr result (λ e. StandsWithin e.span (length source.now)) }
 {
-    unit_from(alloc, source)
+    parse_within(alloc, source, usize::MAX)
+}
+
+/// `parse_str` on a stack that grows with a depth: where statements and expressions nest deeper
+/// than so many levels, the error is of the kind `OutOfMemory`. Each statement inside another, each
+/// expression inside another and each operator before an operand is a level.
+pub fn parse_within(alloc: Global, source: &str, depth: usize) -> Result<TranslationUnit, Error>
+    ensures accepted { IfOk result (λ unit. IsUnit (chars source.now) (unit_view unit)) }
+    ensures refused { IfErr result (λ e.
+        IsOutOfMemory e ⊎ IsFaultOf (chars source.now) (fault_view e)) }
+    ensures placed { IfErr result (λ e. StandsWithin e.span (length source.now)) }
+{
+    unit_from(alloc, source, depth)
 }

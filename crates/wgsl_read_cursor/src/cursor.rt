@@ -28,6 +28,8 @@ pub struct Cursor<'s> {
     /// Which of them stands next, if one does.
     next: Option<TokenKind>,
     end: usize,
+    /// How many levels deeper what is read may nest.
+    depth: usize,
     ghost known: { option_map class_of_kind next ≡ next_class tokens },
 }
 
@@ -48,18 +50,18 @@ impl<'s> Cursor<'s> {
         ensures { state result ≡ record { end = 0; rest = map placed_view tokens.items } }
     {
         let alloc = *tokens.allocator();
-        Cursor::before(alloc, Tokens::Given(tokens))
+        Cursor::before(alloc, Tokens::Given(tokens), usize::MAX)
     }
 
-    /// The tokens of a text.
-    pub fn of_text(alloc: Global, tokens: TextTokens<'s>) -> Cursor<'s>
+    /// The tokens of a text, which may nest so many levels deep.
+    pub fn of_text(alloc: Global, tokens: TextTokens<'s>, depth: usize) -> Cursor<'s>
         ensures { state result ≡ record { end = 0; rest = tokens_left tokens.entry } }
     {
-        Cursor::before(alloc, Tokens::Text(tokens))
+        Cursor::before(alloc, Tokens::Text(tokens), depth)
     }
 
     /// Tokens of which none was taken.
-    fn before(alloc: Global, tokens: Tokens<'s>) -> Cursor<'s>
+    fn before(alloc: Global, tokens: Tokens<'s>, depth: usize) -> Cursor<'s>
         ensures { state result ≡ record { end = 0; rest = rest_of tokens.entry } }
     {
         let next = tokens.kind();
@@ -68,7 +70,31 @@ impl<'s> Cursor<'s> {
             tokens,
             next,
             end: 0,
+            depth,
         }
+    }
+
+    /// Begins what is one level deeper. The error is returned where that is too deep, so that the
+    /// stack does not end: it is memory too.
+    #[inline]
+    pub fn go_deeper(&mut self) -> Result<(), AllocError>
+        ensures { state self.new ≡ state self.old }
+    {
+        match self.depth.checked_sub(1) {
+            Some(depth) => {
+                self.depth = depth;
+                Ok(())
+            }
+            None => Err(AllocError),
+        }
+    }
+
+    /// Ends what is one level deeper.
+    #[inline]
+    pub fn come_back(&mut self)
+        ensures { state self.new ≡ state self.old }
+    {
+        self.depth = self.depth.saturating_add(1);
     }
 
     /// Whether no token is left.

@@ -33,23 +33,32 @@ impl<'s> TokenSource<'s> {
     ghost use Rattle.wgsl_lexer.specs.TextTokens.{tokens_left, ending_left};
     ghost use Rattle.wgsl_read_cursor.specs.Origins.{IsSourceOf};
 
-    /// The tokens of a text.
-    pub fn of_text(alloc: Global, text: &'s str) -> Result<TokenSource<'s>, AllocError>
+    /// The tokens of a text, which may nest so many levels deep.
+    pub fn of_text(
+        alloc: Global,
+        text: &'s str,
+        depth: usize,
+    ) -> Result<TokenSource<'s>, AllocError>
         ensures { IfOk result (λ source. (ts : List grammar.Token) × (ending : Ending) ×
             IsTokenList (chars text.now) ts ending × IsSourceOf source ts ending) }
     {
-        let tokens = TextTokens::new(alloc, text)?;
-        Ok(TokenSource::of_tokens(alloc, text, tokens))
+        let tokens = TextTokens::within(alloc, text, depth)?;
+        Ok(TokenSource::of_tokens(alloc, text, tokens, depth))
     }
 
-    /// The tokens of a text that are found already.
-    pub fn of_tokens(alloc: Global, text: &'s str, tokens: TextTokens<'s>) -> TokenSource<'s>
+    /// The tokens of a text that are found already, which may nest so many levels deep.
+    pub fn of_tokens(
+        alloc: Global,
+        text: &'s str,
+        tokens: TextTokens<'s>,
+        depth: usize,
+    ) -> TokenSource<'s>
         requires { IsTokenList
             (chars text.now) (tokens_left tokens) (ending_left tokens) }
         ensures { IsSourceOf result (tokens_left tokens.entry) (ending_left tokens.entry) }
     {
         TokenSource {
-            tokens: Cursor::of_text(alloc, tokens),
+            tokens: Cursor::of_text(alloc, tokens, depth),
             origin: Origin::Text(text),
         }
     }

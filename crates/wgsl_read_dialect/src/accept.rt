@@ -61,6 +61,7 @@ pub fn accept(dialect: Dialect, steps: &'static [Step], tokens: &mut Cursor) -> 
     ensures { Gives (λ u. u) result (state tokens.new)
         (follow (dialect_view dialect) (steps_view steps.now) (state tokens.old)) }
 {
+    tokens.go_deeper()?;
     let mut left = steps;
     'steps: while let Some((step, rest)) = left.split_first() {
         match step {
@@ -96,6 +97,7 @@ pub fn accept(dialect: Dialect, steps: &'static [Step], tokens: &mut Cursor) -> 
             }
         }
     }
+    tokens.come_back();
     Ok(())
 }
 

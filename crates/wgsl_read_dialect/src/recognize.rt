@@ -49,15 +49,21 @@ pub fn recognize_str(alloc: Global, source: &str) -> Result<(), Error>
     recognize_unit(
         alloc,
         Dialect::Recognized,
-        TokenSource::of_text(alloc, source)?,
+        TokenSource::of_text(alloc, source, usize::MAX)?,
     )
 }
 
 /// Whether a text with these tokens is a module, as `parse_str` reads them but without its checks:
 /// a reserved word is a name, and attributes, `var` templates and severities may say anything.
 /// Otherwise the error is the first token that can't be where it is; else the text that is no
-/// token; else that the text ends too early. No tree is made.
-pub fn check_syntax(alloc: Global, source: &str, tokens: TextTokens) -> Result<(), Error>
+/// token; else that the text ends too early. No tree is made. Where rules of the grammar nest
+/// deeper than so many levels, the error is of the kind `OutOfMemory`: the stack grows with each.
+pub fn check_syntax(
+    alloc: Global,
+    source: &str,
+    tokens: TextTokens,
+    depth: usize,
+) -> Result<(), Error>
     requires { IsTokenList
         (chars source.now) (tokens_left tokens) (ending_left tokens) }
     ensures accepted { IfOk result (λ _. IsModuleInSyntax (chars source.now)) }
@@ -65,6 +71,6 @@ pub fn check_syntax(alloc: Global, source: &str, tokens: TextTokens) -> Result<(
         IsOutOfMemory e ⊎ IsSyntaxFaultOf (chars source.now) (fault_view e)) }
     ensures placed { IfErr result (λ e. StandsWithin e.span (length source.now)) }
 {
-    let tokens = TokenSource::of_tokens(alloc, source, tokens);
+    let tokens = TokenSource::of_tokens(alloc, source, tokens, depth);
     recognize_unit(alloc, Dialect::Parsed, tokens)
 }

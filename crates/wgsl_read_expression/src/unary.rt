@@ -15,17 +15,21 @@ use wgsl_read_cursor::{Cursor, Fault};
 use wgsl_span::Spanned;
 use wgsl_tree_expression::ExpressionNode;
 
-/// An operand with the operators before it.
+/// An operand with the operators before it. Each expression inside another is inside its operand.
 #[cycle(expression)]
 pub fn parse_unary_expression(alloc: Global, tokens: &mut Cursor) -> Result<ExpressionNode, Fault>
     ensures { Parses expression_node_view result tokens.old tokens.new
         (reader (of unary_expression)) }
 {
     let start = tokens.start();
+    tokens.go_deeper()?;
     let Some(operator) = unary_operator(tokens) else {
-        return parse_singular_expression(alloc, tokens);
+        let operand = parse_singular_expression(alloc, tokens)?;
+        tokens.come_back();
+        return Ok(operand);
     };
     let operand = parse_unary_expression(alloc, tokens)?;
+    tokens.come_back();
     let span = tokens.span_from(start);
     Ok(Spanned::new(alloc, unary(operator, operand), span)?)
 }

@@ -127,7 +127,9 @@ fn parse_parenthesized_left_side(
 {
     let start = tokens.start();
     tokens.expect(TokenKind::SymParenLeft)?;
+    tokens.go_deeper()?;
     let expression = parse_lhs_expression(alloc, tokens)?;
+    tokens.come_back();
     tokens.expect(TokenKind::SymParenRight)?;
     let parenthesized = Expression::Parenthesized(ParenthesizedExpression { expression });
     Ok(Spanned::new(alloc, parenthesized, tokens.span_from(start))?)
@@ -146,7 +148,9 @@ fn parse_unary_left_side(
 {
     let start = tokens.start();
     tokens.expect(kind)?;
+    tokens.go_deeper()?;
     let operand = parse_lhs_expression(alloc, tokens)?;
+    tokens.come_back();
     let unary = Expression::Unary(UnaryExpression { operator, operand });
     Ok(Spanned::new(alloc, unary, tokens.span_from(start))?)
 }

@@ -90,7 +90,8 @@ pub fn parse_statement(alloc: Global, tokens: &mut Cursor) -> Result<StatementNo
     parse_statement_behind(alloc, tokens, attributes, start)
 }
 
-/// A statement behind its attributes, and its place, which begins where they do.
+/// A statement after its attributes, and its place, which begins where they do. Each statement
+/// inside another is read by this.
 #[cycle(statement)]
 pub fn parse_statement_behind(
     alloc: Global,
@@ -101,7 +102,9 @@ pub fn parse_statement_behind(
     ensures { Parses statement_node_view result tokens.old tokens.new
         (statement_behind_at (attributes_view attributes.items) start) }
 {
+    tokens.go_deeper()?;
     let statement = parse_statement_part(alloc, tokens, attributes)?;
+    tokens.come_back();
     Ok(Spanned::new(alloc, statement, tokens.span_from(start))?)
 }
 

@@ -1,8 +1,11 @@
-//! Tests of the command line, of `.editorconfig` files, of files that are rewritten, of diffs, and of runs over files.
+//! Tests of the command line, of `.editorconfig` files, of files that are rewritten, of diffs, and
+//! of runs over files.
 #![tactic(auto)]
 
 #[cfg(test)]
 mod commands;
+#[cfg(test)]
+mod configs;
 #[cfg(test)]
 mod diffs;
 #[cfg(test)]

@@ -15,8 +15,13 @@ const FILES: [(&str, &str); 4] = [
 ];
 
 fn store(alloc: Global) -> Result<MemoryStore, AllocError> {
+    store_of(alloc, &FILES)
+}
+
+/// Files with these paths and texts.
+pub fn store_of(alloc: Global, texts: &[(&str, &str)]) -> Result<MemoryStore, AllocError> {
     let mut files = BTreeMap::new(alloc);
-    for (path, text) in FILES {
+    for (path, text) in texts {
         let bytes = Vec::from_slice(alloc, text.as_bytes())?;
         files.insert(String::from_str(alloc, path)?, bytes)?;
     }
@@ -25,14 +30,14 @@ fn store(alloc: Global) -> Result<MemoryStore, AllocError> {
 
 /// What a run leaves: its status, and what it wrote.
 #[derive(Drop)]
-struct Run {
+pub struct Run {
     status: u8,
     output: Vec<u8>,
     errors: Vec<u8>,
 }
 
 /// Runs the program with the words of a text as its arguments, and this on the standard input.
-fn run_of(
+pub fn run_of(
     alloc: Global,
     store: &mut MemoryStore,
     arguments: &str,
@@ -61,14 +66,14 @@ fn run_of(
 }
 
 /// Whether a run ends so.
-fn is_run(run: &Run, status: u8, output: &str, errors: &str) -> bool {
+pub fn is_run(run: &Run, status: u8, output: &str, errors: &str) -> bool {
     run.status == status
         && run.output.as_slice() == output.as_bytes()
         && run.errors.as_slice() == errors.as_bytes()
 }
 
 /// Whether the file at a path has this text.
-fn has(store: &MemoryStore, path: &str, text: &str) -> bool {
+pub fn has(store: &MemoryStore, path: &str, text: &str) -> bool {
     match store.files.get(path) {
         Some(bytes) => bytes.as_slice() == text.as_bytes(),
         None => false,

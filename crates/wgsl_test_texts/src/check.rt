@@ -1,5 +1,6 @@
 //! What is seen of a row's text, by how it is read.
 
+use crate::depths::see_depth;
 use crate::discovered::see_lists;
 use crate::facts::Facts;
 use crate::faults::see_fault;
@@ -27,7 +28,7 @@ pub fn report_of(alloc: Global, row: &Row<'_>) -> Result<String, AllocError> {
 fn see_field(read: &Field<'_>, facts: &mut Facts<'_>) -> Result<(), AllocError> {
     let (word, argument) = read.words.split_once(' ').unwrap_or((read.words, ""));
     let arguments = argument.parse::<usize>().unwrap_or(0);
-    if let Some(call) = Call::start(word, arguments) {
+    if let Some(call) = Call::named(word, arguments) {
         return see_call(call, &read.value, facts);
     }
     match std::str::from_utf8(&read.value) {
@@ -50,6 +51,7 @@ fn see_text(
         "discover" => see_lists(text, facts),
         "dialect" => see_dialect(text, facts),
         "path" => see_path(text, facts),
+        "parse_within" => see_depth(text, argument, facts),
         "tidy_with" => see_layout(text, argument, facts),
         "snippet" => see_snippet(text, argument, facts),
         _ => facts.expect(false, "a row says how its text is read"),

@@ -3,7 +3,7 @@
 use crate::facts::Facts;
 use crate::faults::see_fault;
 use std::alloc::AllocError;
-use wgsl_format_tidy::{Indent, Layout, Newlines, tidy_with};
+use wgsl_format::{Indent, Layout, Newlines, tidy_with};
 
 /// What a text is formatted as with a layout, and that this is formatted already.
 pub fn see_layout(text: &str, words: &str, facts: &mut Facts<'_>) -> Result<(), AllocError> {

@@ -4,6 +4,7 @@
 #![tactic(auto)]
 
 mod check;
+mod depths;
 mod discovered;
 mod facts;
 mod failing;

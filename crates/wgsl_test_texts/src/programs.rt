@@ -2,31 +2,30 @@
 
 use std::alloc::Global;
 use std::io::{Read, Write};
+use wgsl_format::{Printer, Tidier, run, start_keeping};
 
-/// A call of one of the programs: `run`, or `start` with so many arguments.
+/// A call of one of the programs: `run`, or `start_keeping` of `wgslfmt` with so many arguments.
 #[derive(Clone, Copy)]
 pub enum Call {
     RunWgslfmt,
     RunWgsltidy,
     StartWgslfmt(usize),
-    StartWgsltidy(usize),
 }
 
 impl Call {
-    /// The call `start` of the program that has a name.
-    pub fn start(name: &str, arguments: usize) -> Option<Call> {
+    /// The call that a row names, with so many arguments.
+    pub fn named(name: &str, arguments: usize) -> Option<Call> {
         match name {
             "wgslfmt" => Some(Call::StartWgslfmt(arguments)),
-            "wgsltidy" => Some(Call::StartWgsltidy(arguments)),
+            "wgsltidy" if arguments == 0 => Some(Call::RunWgsltidy),
             _ => None,
         }
     }
 
-    /// The call `run` that does the same, if there is one.
+    /// The call `run` that does the same as `start_keeping`, if there is one.
     pub fn run(self) -> Option<Call> {
         match self {
             Call::StartWgslfmt(0) => Some(Call::RunWgslfmt),
-            Call::StartWgsltidy(0) => Some(Call::RunWgsltidy),
             _ => None,
         }
     }
@@ -40,13 +39,18 @@ impl Call {
         errors: &mut E,
     ) -> u8 {
         match self {
-            Call::RunWgslfmt => wgsl_format_print::run(alloc, input, output, errors),
-            Call::RunWgsltidy => wgsl_format_tidy::run(alloc, input, output, errors),
+            Call::RunWgslfmt => run(alloc, &Printer { depth: 1_000 }, input, output, errors),
+            Call::RunWgsltidy => run(alloc, &Tidier { depth: 1_000 }, input, output, errors),
             Call::StartWgslfmt(arguments) => {
-                wgsl_format_print::start(alloc, arguments, input, output, errors)
-            }
-            Call::StartWgsltidy(arguments) => {
-                wgsl_format_tidy::start(alloc, arguments, input, output, errors)
+                start_keeping(
+                    alloc,
+                    &Printer { depth: 1_000 },
+                    arguments,
+                    input,
+                    output,
+                    errors,
+                )
+                .0
             }
         }
     }

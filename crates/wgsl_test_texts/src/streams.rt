@@ -122,7 +122,7 @@ impl Case<'_> {
     }
 }
 
-/// What a program returns and writes by its call `start`, and by `run` where that does the same.
+/// What a program returns and writes by a call, and by `run` where that does the same.
 pub fn see_call(call: Call, source: &[u8], facts: &mut Facts<'_>) -> Result<(), AllocError> {
     let alloc = facts.alloc;
     let case = Case {
@@ -135,7 +135,7 @@ pub fn see_call(call: Call, source: &[u8], facts: &mut Facts<'_>) -> Result<(), 
     if let Some(call) = call.run() {
         let case = Case { call, ..case };
         let is_alike = case.answer(Calls::whole(), Calls::whole()).is_alike(&due);
-        facts.expect(is_alike, "`run` and `start` answer alike")?;
+        facts.expect(is_alike, "`run` and `start_keeping` answer alike")?;
         case.check(&due, facts)?;
     }
     facts.answer("status", &due.status)?;

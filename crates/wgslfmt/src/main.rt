@@ -4,7 +4,10 @@
 use std::io::ErrorKind;
 use std::mem::forget;
 use std::process::ExitCode;
-use wgsl_format_print::{refuse_memory, start_keeping};
+use wgsl_format::{Printer, refuse_memory, start_keeping};
+
+/// How many levels deep a module may nest: a level takes at most 2,750 bytes of a stack of 8 MB.
+const DEPTH: usize = 1_000;
 
 fn main(rt: HostRuntime) -> ExitCode {
     let arguments = match std::env::args(&rt) {
@@ -17,6 +20,7 @@ fn main(rt: HostRuntime) -> ExitCode {
     };
     let (status, report) = start_keeping(
         rt.alloc(),
+        &Printer { depth: DEPTH },
         arguments,
         &mut rt.stdin(),
         &mut rt.stdout(),

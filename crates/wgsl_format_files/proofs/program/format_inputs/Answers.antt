@@ -1,9 +1,8 @@
 use Rattle.std.proofs.Common.{ℕ, List, sym, subst, map}
+use Rattle.std.specs.Option.{option_copied}
 use Rattle.wgsl_files.specs.Statuses.{code_of}
-use Rattle.wgsl_model_tidy.specs.Layout.{Layout}
-use Rattle.wgsl_format_tidy.specs.RunOutput.{IsTidiedBy}
+use Rattle.wgsl_format_files.specs.Configs.{BecomesBy}
 use Rattle.wgsl_format_files.specs.Inputs.{input_view}
-use Rattle.wgsl_format_files.specs.Layouts.{layout_of}
 use Rattle.wgsl_format_files.specs.Runs.{state, Runs}
 use Rattle.wgsl_format_files.specs.Tidy.{Refuses}
 use Rattle.wgsl_command.specs.View.{request_view}
@@ -16,8 +15,8 @@ returns g c =
     let next = c.format_all.new in
     let old = state (g.S.Store.files c.args.store.now) (g.R.Read.remaining c.args.input.now) in
     let new = state (g.S.Store.files next.store) (g.R.Read.remaining next.input) in
-    let runs : Layout → List ℕ → ℕ → Type 0 = λ layout name status. Runs (IsTidiedBy layout) Refuses request.mode request.quiet name (map input_view c.args.inputs.now) old new
+    let runs : List ℕ → ℕ → Type 0 = λ name status. Runs (BecomesBy request.choices (option_copied request.stdin_path)) Refuses
+    request.mode request.quiet name (map input_view c.args.inputs.now) old new
     (g.W.Write.contents c.args.output.now) (g.W.Write.contents next.output) (g.E.Write.contents c.args.errors.now) (g.E.Write.contents next.errors) status in
-    subst (runs (layout_of request.choices) (name_of (request_view request))) (sym c.code.ensures)
-    (subst (λ name. runs (layout_of request.choices) name (code_of c.format_all.result)) c.name_of.ensures
-    (subst (λ layout. runs layout c.name_of.result.now (code_of c.format_all.result)) c.layout_of.ensures c.format_all.ensures.runs))
+    subst (runs (name_of (request_view request))) (sym c.code.ensures)
+    (subst (λ name. runs name (code_of c.format_all.result)) c.name_of.ensures c.format_all.ensures.runs)

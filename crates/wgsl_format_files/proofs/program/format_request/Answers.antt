@@ -1,8 +1,8 @@
 use Rattle.std.proofs.Common.{inr, refl, subst, map}
 use Rattle.wgsl_command.specs.View.{source_view, request_view}
 use Rattle.wgsl_format_files.specs.Inputs.{input_view, AreInputsOf}
-use Rattle.wgsl_format_tidy.specs.RunOutput.{IsTidiedBy}
-use Rattle.wgsl_format_files.specs.Layouts.{layout_of}
+use Rattle.std.specs.Option.{option_copied}
+use Rattle.wgsl_format_files.specs.Configs.{BecomesBy}
 use Rattle.wgsl_format_files.specs.Runs.{state, Runs}
 use Rattle.wgsl_format_files.specs.Start.{name_of}
 use Rattle.wgsl_format_files.specs.Tidy.{Refuses}
@@ -24,7 +24,7 @@ returns-in-Ok g c =
     (g.R.Read.remaining c.args.input.now) (g.R.Read.remaining next.input) (g.W.Write.contents c.args.output.now) (g.W.Write.contents next.output)
     (g.E.Write.contents c.args.errors.now) (g.E.Write.contents next.errors) c.format_inputs.result c.is_filter.ensures (map input_view inputs) c.if-is_filter.false
     (subst (λ sources. AreInputsOf (g.S.Store.files c.args.store.now) (map source_view sources) (map input_view inputs)) c.as_slice.ensures.value (c.in-Ok.ensures))
-    (subst (λ is. Runs (IsTidiedBy (layout_of c.args.request.now.choices)) Refuses c.args.request.now.mode c.args.request.now.quiet (name_of (request_view c.args.request.now)) (map input_view is)
+    (subst (λ is. Runs (BecomesBy c.args.request.now.choices (option_copied c.args.request.now.stdin_path)) Refuses c.args.request.now.mode c.args.request.now.quiet (name_of (request_view c.args.request.now)) (map input_view is)
     (state (g.S.Store.files c.args.store.now) (g.R.Read.remaining c.args.input.now)) (state (g.S.Store.files next.store) (g.R.Read.remaining next.input))
     (g.W.Write.contents c.args.output.now) (g.W.Write.contents next.output) (g.E.Write.contents c.args.errors.now) (g.E.Write.contents next.errors) c.format_inputs.result)
     c.as_slice-in-Ok.ensures.value c.format_inputs.ensures)

@@ -1,17 +1,20 @@
 use Rattle.std.proofs.Common.{rules, arith, ◌≡◌, subst, ◌+◌, length, take, map}
 use Rattle.std.proofs.lemmas.List.{take_all}
 use Rattle.wgsl_files.specs.Statuses.{code_of}
+use Rattle.std.specs.Option.{option_copied}
+use Rattle.wgsl_format_files.specs.Configs.{BecomesBy}
 use Rattle.wgsl_format_files.specs.Inputs.{input_view}
 use Rattle.wgsl_format_files.specs.Runs.{state, Runs, WroteMore, summary}
+use Rattle.wgsl_format_files.specs.Tidy.{Refuses}
 use Rattle.wgsl_format_files.proofs.Others.{only_named, none_written}
 use Rattle.wgsl_format_files.proofs.Runs.{IsRunSoFar, run_more, run_ends, inputs_more}
 use Rattle.wgsl_format_files.proofs.run.format_all.Goals as goal
 
 pub loop-source-preserved : goal.loop-source-preserved
 loop-source-preserved g c =
-    let becomes = g.F.Format.becomes c.args.format.now in
-    let refuses = g.F.Format.refuses c.args.format.now in
     let how = c.args.how in
+    let becomes = BecomesBy how.choices (option_copied how.stdin_path) in
+    let refuses = Refuses in
     let at = c.loop-source in
     let item = c.source-item.result in
     let event = c.event_of-event in
@@ -34,9 +37,9 @@ loop-source-preserved g c =
 
 pub returns : goal.returns
 returns g c =
-    let becomes = g.F.Format.becomes c.args.format.now in
-    let refuses = g.F.Format.refuses c.args.format.now in
     let how = c.args.how in
+    let becomes = BecomesBy how.choices (option_copied how.stdin_path) in
+    let refuses = Refuses in
     let at = c.loop-source in
     let end = c.finish in
     let old = state (g.S.Store.files c.args.store.now) (g.R.Read.remaining c.args.input.now) in

@@ -8,4 +8,4 @@ pub returns : goal.returns
 returns c ts e =
     let emptied = ap (λ (x : List TokenKind). classes x ++ held c.args.kept.now.pieces.items c.args.start c.len.result) c.clear.ensures.items in
     let all = c.in_ok-push_kinds.ensures ∙ emptied ∙ ap (held c.args.kept.now.pieces.items c.args.start) c.len.ensures in
-    c.is_expression_list.ensures ts (e ∙ sym all ∙ ap classes (sym c.deref.ensures.value))
+    c.is_expression_list.ensures ts (e ∙ sym all ∙ ap classes (sym c.deref-2.ensures.value))

@@ -1,0 +1,5 @@
+pub mod Ends
+pub mod Told
+pub mod Report
+pub mod Run
+pub mod RunOutput

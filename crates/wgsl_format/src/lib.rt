@@ -1,0 +1,23 @@
+//! The programs that format, over any reader and writers: what each makes of its input, and the
+//! formatted text of a module.
+#![tactic(auto)]
+
+mod formatter;
+mod printer;
+mod program;
+mod report;
+mod source;
+mod start;
+mod streams;
+mod tidied;
+mod tidier;
+
+pub use formatter::Formatter;
+pub use printer::Printer;
+pub use program::run;
+pub use report::Report;
+pub use start::start_keeping;
+pub use streams::{ReadError, read_all, refuse_memory, send};
+pub use tidied::{tidy, tidy_with, tidy_within};
+pub use tidier::Tidier;
+pub use wgsl_format_layout::{Indent, Layout, Newlines};

@@ -1,0 +1,39 @@
+//! The formatter of `wgslfmt`.
+
+ghost use Rattle.wgsl_model.specs.Program.{Formats};
+ghost use Rattle.wgsl_format.specs.RunOutput.{IsReprinted};
+
+use crate::formatter::Formatter;
+use crate::report::{Report, refused};
+use std::alloc::{AllocError, Global};
+use wgsl_parser::parse_within;
+use wgsl_tree_unit::TranslationUnit;
+
+/// Of a module its unit is printed, and kept.
+#[derive(Clone, Copy, Debug)]
+pub struct Printer {
+    /// How many levels deep a module may nest (see `parse_within`): a deeper one is out of memory.
+    pub depth: usize,
+}
+
+impl Formatter for Printer {
+    type Kept = TranslationUnit;
+
+    ghost writes = { λ _ bytes due. Formats bytes due };
+
+    ghost is_made_of = { λ _ bytes text. IsReprinted bytes text };
+
+    fn report(&self, alloc: Global, source: &[u8]) -> Result<Report<TranslationUnit>, AllocError> {
+        let Ok(text) = std::str::from_utf8(source) else {
+            return Ok(Report::NotUtf8);
+        };
+        match parse_within(alloc, text, self.depth) {
+            Ok(unit) => {
+                let mut printed = String::with_capacity(alloc, text.len())?;
+                write!(printed, "{unit}")?;
+                Ok(Report::Written(printed, unit))
+            }
+            Err(error) => refused(alloc, error),
+        }
+    }
+}

@@ -1,0 +1,74 @@
+//! What a program has to tell of its input.
+
+ghost use Rattle.std.specs.Prelude.{◌≡◌, ◌<◌, ◌++◌, codes, IfOk};
+ghost use Rattle.std.specs.Io.KnownBytes.{Appends};
+ghost use Rattle.wgsl_model.specs.Program.{ProcessOutput, complaint, shown_fault};
+ghost use Rattle.wgsl_error.specs.View.{fault_view};
+ghost use Rattle.wgsl_error.specs.declared.ErrorKind.TheVariants as kinds;
+ghost use Rattle.wgsl_format.specs.Ends.{IsDueUnread, GoesOut};
+ghost use Rattle.wgsl_format.specs.Report.{outcome_of};
+
+use crate::streams::{FAILED, ReadError, refuse_memory, tell};
+use std::alloc::{AllocError, Global};
+use std::io::Write;
+use wgsl_error::{Error, ErrorKind};
+
+/// What is to be written, and the status that goes with it.
+#[derive(Drop)]
+pub enum Report<K> {
+    /// The text for the output, with status 0, and what it was made of: who ends the program need
+    /// not wait until that is freed.
+    Written(String, K),
+    /// The line of the fault that is named, for the errors: status 1.
+    Refused(String),
+    /// The source is no text: status 2.
+    NotUtf8,
+    /// Memory was refused: status 3.
+    OutOfMemory,
+    /// A read failed: nothing is written, with status 4.
+    Unread,
+}
+
+/// What is to be written where the input could not be read.
+pub(crate) fn unread<K>(error: ReadError) -> Report<K>
+    ensures { IsDueUnread error (outcome_of result) }
+{
+    match error {
+        ReadError::OutOfMemory => Report::OutOfMemory,
+        ReadError::Failed => Report::Unread,
+    }
+}
+
+/// What is to be written where the source is refused, unless that is for want of memory.
+pub(crate) fn refused<K>(alloc: Global, error: Error) -> Result<Report<K>, AllocError>
+    ensures told { IfOk result (λ report.
+        outcome_of report ≡ complaint 1 (shown_fault (fault_view error) ++ codes "\n")) }
+    ensures memory { IfOk result (λ _. ¬ (error.error ≡ kinds.OutOfMemory)) }
+{
+    match error.error {
+        ErrorKind::OutOfMemory => Err(AllocError),
+        _ => Ok(Report::Refused(format!(in alloc; "{}\n", error.without_expected())?)),
+    }
+}
+
+/// Sends the report to the writer that it is for, and returns its status, or `FAILED`.
+pub(crate) fn deliver<K, W: Write, E: Write>(
+    report: &Report<K>,
+    output: &mut W,
+    errors: &mut E,
+) -> u8
+    ensures sent { (end : ProcessOutput) × GoesOut (outcome_of report.now) end
+        × (result ≡ end.status)
+        × Appends (W.contents output.old) (W.contents output.new) end.output
+        × Appends (E.contents errors.old) (E.contents errors.new) end.errors }
+    // Nothing but the text for the output touches it.
+    ensures spared { 0 < (outcome_of report.now).status → output.new ≡ output.old }
+{
+    match report {
+        Report::Written(text, _) => tell(output, text.as_str().as_bytes(), 0),
+        Report::Refused(line) => tell(errors, line.as_bytes(), 1),
+        Report::NotUtf8 => tell(errors, b"input is not UTF-8\n", 2),
+        Report::OutOfMemory => refuse_memory(errors),
+        Report::Unread => FAILED,
+    }
+}

@@ -1,4 +1,0 @@
-pub mod Told
-pub mod Ends
-pub mod Runs
-pub mod Reports

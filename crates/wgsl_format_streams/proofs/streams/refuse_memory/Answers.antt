@@ -1,5 +1,0 @@
-use Rattle.wgsl_format_streams.proofs.Told.{told_to_errors}
-use Rattle.wgsl_format_streams.proofs.streams.refuse_memory.Goals as goal
-
-pub returns : goal.returns
-returns g c = told_to_errors _ _ _ _ _ _ c.tell.ensures.1 c.tell.ensures.2

@@ -1,4 +1,0 @@
-pub mod Ends
-pub mod Told
-pub mod Report
-pub mod Run

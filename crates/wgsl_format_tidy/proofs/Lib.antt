@@ -1,4 +1,0 @@
-pub mod Laid
-pub mod Refused
-pub mod RunOutput
-pub mod Sources

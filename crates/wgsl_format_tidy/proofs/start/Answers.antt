@@ -1,5 +1,0 @@
-use Rattle.wgsl_format_streams.proofs.Told.{told_to_errors}
-use Rattle.wgsl_format_tidy.proofs.start.Goals as goal
-
-pub returns-clause-told : goal.returns-clause-told
-returns-clause-told g c = λ _. told_to_errors _ _ _ _ _ _ c.tell.ensures.1 c.tell.ensures.2
