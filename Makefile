@@ -37,10 +37,10 @@ tables:
 # to use the words of the dictionary; the tables that tools write have to be up to date; each wrong
 # body has to be one that can be applied; each crate has to pass rt ci, and each wrong body has to be
 # refused; each shader of examples/ has to print as its file in examples/printed/, and that file as
-# itself; the built programs are run on made texts, and wgsltidy on its rows and on real files; each
-# allocation of each call fails in turn; the rows are run over the library and the programs; and the
-# library is called from C, and from Rust if there is cargo. ANEW=--anew takes nothing from earlier
-# runs.
+# itself; the built programs are run on made texts and on deep nests, and wgsltidy on its rows and on
+# real files; each allocation of each call, of both programs as filters and of wgsltidy over files
+# fails in turn; the rows are run over the library and the programs; and the library is called from
+# C, and from Rust if there is cargo. ANEW=--anew takes nothing from earlier runs.
 test:
 	@test "$$(cat HANDLES)" = "Handles allowed: none." \
 	    || { echo "Failed: the file HANDLES."; exit 1; }
@@ -56,6 +56,8 @@ test:
 	done
 	@tools/fuzz --program crates/wgslfmt/out/wgslfmt \
 	    || { echo "Failed: tools/fuzz, as the lines above say."; exit 1; }
+	@tools/nests --program crates/wgsltidy/out/wgsltidy --printer crates/wgslfmt/out/wgslfmt \
+	    || { echo "Failed: tools/nests, as the lines above say."; exit 1; }
 	@tools/tidy_texts --program crates/wgsltidy/out/wgsltidy --printer crates/wgslfmt/out/wgslfmt \
 	    || { echo "Failed: tools/tidy_texts, as the lines above say."; exit 1; }
 	@tools/files_test --program crates/wgsltidy/out/wgsltidy \

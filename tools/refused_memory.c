@@ -1,8 +1,9 @@
 /* Refuses a program one request for memory, the one with the number REFUSED_REQUEST (the first is
-   1), and counts all of them. It is preloaded, and its last line on the errors says how many
-   requests were made, how many blocks were given, and how many came back. Rattle's allocator calls
-   malloc, realloc and free alone, and never for no bytes; a block from elsewhere would come back
-   without having been given. No header is needed, so the kit's clang builds it too. */
+   1), and counts all of them. If the number is negative, the requests after that one are refused
+   too. It is preloaded, and its last line on the errors says how many requests were made, how many
+   blocks were given, and how many came back. Rattle's allocator calls malloc, realloc and free
+   alone, and never for no bytes; a block from elsewhere would come back without having been given.
+   No header is needed, so the kit's clang builds it too. */
 
 void *__libc_malloc(unsigned long size);
 void *__libc_realloc(void *block, unsigned long size);
@@ -26,8 +27,13 @@ __attribute__((destructor)) static void end(void) {
     dprintf(2, "requests %ld, given %ld, returned %ld\n", requests, given, returned);
 }
 
+static int is_refused(void) {
+    requests++;
+    return requests == refused || (refused < 0 && requests >= -refused);
+}
+
 void *malloc(unsigned long size) {
-    if (++requests == refused)
+    if (is_refused())
         return 0;
     void *block = __libc_malloc(size);
     given += block != 0;
@@ -35,7 +41,7 @@ void *malloc(unsigned long size) {
 }
 
 void *realloc(void *block, unsigned long size) {
-    if (++requests == refused)
+    if (is_refused())
         return 0;
     void *moved = __libc_realloc(block, size);
     given += !block && moved;
