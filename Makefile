@@ -34,13 +34,14 @@ tables:
 	@tools/make_tables
 
 # The quotes in README.md, docs/USE.md and CALLING.md have to be in the sources; the documents have
-# to use the words of the dictionary; the tables that tools write have to be up to date; each wrong
-# body has to be one that can be applied; each crate has to pass rt ci, and each wrong body has to be
-# refused; each shader of examples/ has to print as its file in examples/printed/, and that file as
-# itself; the built programs are run on made texts and on deep nests, and wgsltidy on its rows and on
-# real files; each allocation of each call, of both programs as filters and of wgsltidy over files
-# fails in turn; the rows are run over the library and the programs; and the library is called from
-# C, and from Rust if there is cargo. ANEW=--anew takes nothing from earlier runs.
+# to use the words of the dictionary; what tools write has to be up to date, and the table of nodes
+# to have the types of the library; each wrong body has to be one that can be applied; each crate
+# has to pass rt ci, and each wrong body has to be refused; each shader of examples/ has to print as
+# its file in examples/printed/, and that file as itself; the built programs are run on made texts
+# and on deep nests, and wgsltidy on its rows and on real files; each allocation of each call, of
+# both programs as filters and of wgsltidy over files fails in turn; the rows are run over the
+# library and the programs; and the library is called from C, and from Rust if there is cargo.
+# ANEW=--anew takes nothing from earlier runs.
 test:
 	@test "$$(cat HANDLES)" = "Handles allowed: none." \
 	    || { echo "Failed: the file HANDLES."; exit 1; }

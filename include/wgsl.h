@@ -114,7 +114,7 @@ enum wgsl_tree_kind {
     WGSL_EXPRESSION = 4
 };
 
-/* The kinds of tokens. No call gives a comment. */
+/* The kinds of tokens, written by tools/nodes.py. No call gives a comment. */
 enum wgsl_token_kind {
     WGSL_SYM_AND = 0,
     WGSL_SYM_AND_AND = 1,

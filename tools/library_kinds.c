@@ -8,31 +8,35 @@
 
 static const char path[] = "bindings/rust/tests/every_kind.wgsl";
 
-/* An enum and its variants. A name that two enums share has what follows it too, where that
-   differs. */
+/* An enum and its variants, written by tools/nodes.py from crates/wgsl_model/nodes. A name that two
+   enums share has what follows it too, where that differs. */
 struct kinds {
     const char *name;
     const char *variants[32];
 };
 
 static const struct kinds enums[] = {
+    {"GlobalDirective",
+     {"Diagnostic\":{\"attributes", "Enable", "Requires"}},
+    {"GlobalDeclaration",
+     {"Void", "Declaration", "TypeAlias", "Struct", "Function", "ConstAssert"}},
+    {"DeclarationKind",
+     {"Const", "Override", "Let", "Var"}},
     {"Expression",
      {"Literal", "Parenthesized", "NamedComponent", "Indexing", "Unary", "Binary",
       "FunctionCall\":{\"ty", "TypeOrIdentifier"}},
-    {"LiteralExpression", {"Bool", "AbstractInt", "I32", "U32", "AbstractFloat", "F32", "F16"}},
-    {"Attribute",
-     {"Align", "Binding", "BlendSrc", "Group", "Id", "Location", "Size", "If\":{\"span", "Elif",
-      "Builtin", "Const", "Invariant", "MustUse", "Vertex", "Fragment", "Compute", "Else",
-      "Diagnostic\":{\"severity", "Interpolate", "WorkgroupSize", "TypeConstraint", "Custom"}},
-    {"CaseSelector", {"Default", "Expression"}},
-    {"DeclarationKind", {"Const", "Override", "Let", "Var"}},
+    {"LiteralExpression",
+     {"Bool", "AbstractInt", "I32", "U32", "AbstractFloat", "F32", "F16"}},
     {"Statement",
      {"Void", "Compound", "Assignment", "Increment", "Decrement", "If\":{\"attributes", "Switch",
       "Loop", "For", "While", "Break", "Continue", "Return", "Discard",
       "FunctionCall\":{\"attributes", "ConstAssert", "Declaration"}},
-    {"GlobalDirective", {"Diagnostic\":{\"attributes", "Enable", "Requires"}},
-    {"GlobalDeclaration",
-     {"Void", "Declaration", "TypeAlias", "Struct", "Function", "ConstAssert"}},
+    {"CaseSelector",
+     {"Default", "Expression"}},
+    {"Attribute",
+     {"Align", "Binding", "BlendSrc", "Group", "Id", "Location", "Size", "If\":{\"span", "Elif",
+      "Builtin", "Const", "Invariant", "MustUse", "Vertex", "Fragment", "Compute", "Else",
+      "Diagnostic\":{\"severity", "Interpolate", "WorkgroupSize", "TypeConstraint", "Custom"}},
 };
 
 /* Reads the module, and writes its form with a byte 0 after it; returns whether both fit. */

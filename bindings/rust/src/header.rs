@@ -3,7 +3,6 @@
 use crate::calls::{DONE, REFUSED, TOO_SMALL};
 use crate::fault::FaultKind;
 use crate::form::sealed::Numbered;
-use crate::kind::TokenKind;
 use crate::syntax::{Expression, GlobalDeclaration, GlobalDirective, Statement, TranslationUnit};
 
 const HEADER: &str = include_str!("../../../include/wgsl.h");
@@ -19,32 +18,6 @@ fn numbers(name: &str) -> Vec<(&'static str, usize)> {
     pairs
         .map(|(name, number)| (name, number.parse().expect("a number")))
         .collect()
-}
-
-/// The name of a kind, as the header writes it.
-fn header_name(kind: TokenKind) -> String {
-    let mut name = String::new();
-    for c in format!("{kind:?}").chars() {
-        if c.is_ascii_uppercase() && !name.is_empty() {
-            name.push('_');
-        }
-        name.push(c.to_ascii_uppercase());
-    }
-    name
-}
-
-#[test]
-fn tokens_have_the_numbers_of_the_header() {
-    let here: Vec<_> = TokenKind::ALL.iter().copied().map(header_name).collect();
-    let there = numbers("wgsl_token_kind");
-    assert_eq!(there.len(), 84);
-    let in_order = there
-        .iter()
-        .enumerate()
-        .all(|(at, (_, number))| at == *number);
-    assert!(in_order);
-    let there: Vec<_> = there.iter().map(|(name, _)| *name).collect();
-    assert_eq!(here, there);
 }
 
 #[test]

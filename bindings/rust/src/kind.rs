@@ -4,7 +4,7 @@
 macro_rules! kinds {
     ($($(#[$note:meta])* $kind:ident,)*) => {
         /// Which token it is, without what it holds. They stand in the order of their numbers in
-        /// `wgsl.h`.
+        /// `wgsl.h`. No call gives a comment.
         #[derive(Clone, Copy, Debug, PartialEq, Eq, Hash)]
         pub enum TokenKind {
             $($(#[$note])* $kind,)*
@@ -18,172 +18,173 @@ macro_rules! kinds {
 }
 
 kinds! {
-    /// `&`.
+    // Written by tools/nodes.py from crates/wgsl_model/specs/Tokens/Classes.antt.
+    /// The symbol `&`.
     SymAnd,
-    /// `&&`.
+    /// The symbol `&&`.
     SymAndAnd,
-    /// `->`.
+    /// The symbol `->`.
     SymArrow,
-    /// `@`.
+    /// The symbol `@`.
     SymAttr,
-    /// `/`.
+    /// The symbol `/`.
     SymForwardSlash,
-    /// `!`.
+    /// The symbol `!`.
     SymBang,
-    /// `[`.
+    /// The symbol `[`.
     SymBracketLeft,
-    /// `]`.
+    /// The symbol `]`.
     SymBracketRight,
-    /// `{`.
+    /// The symbol `{`.
     SymBraceLeft,
-    /// `}`.
+    /// The symbol `}`.
     SymBraceRight,
-    /// `:`.
+    /// The symbol `:`.
     SymColon,
-    /// `,`.
+    /// The symbol `,`.
     SymComma,
-    /// `=`.
+    /// The symbol `=`.
     SymEqual,
-    /// `==`.
+    /// The symbol `==`.
     SymEqualEqual,
-    /// `!=`.
+    /// The symbol `!=`.
     SymNotEqual,
-    /// `>`.
+    /// The symbol `>`.
     SymGreaterThan,
-    /// `>=`.
+    /// The symbol `>=`.
     SymGreaterThanEqual,
-    /// `>>`.
+    /// The symbol `>>`.
     SymShiftRight,
-    /// `<`.
+    /// The symbol `<`.
     SymLessThan,
-    /// `<=`.
+    /// The symbol `<=`.
     SymLessThanEqual,
-    /// `<<`.
+    /// The symbol `<<`.
     SymShiftLeft,
-    /// `%`.
+    /// The symbol `%`.
     SymModulo,
-    /// `-`.
+    /// The symbol `-`.
     SymMinus,
-    /// `--`.
+    /// The symbol `--`.
     SymMinusMinus,
-    /// `.`.
+    /// The symbol `.`.
     SymPeriod,
-    /// `+`.
+    /// The symbol `+`.
     SymPlus,
-    /// `++`.
+    /// The symbol `++`.
     SymPlusPlus,
-    /// `|`.
+    /// The symbol `|`.
     SymOr,
-    /// `||`.
+    /// The symbol `||`.
     SymOrOr,
-    /// `(`.
+    /// The symbol `(`.
     SymParenLeft,
-    /// `)`.
+    /// The symbol `)`.
     SymParenRight,
-    /// `;`.
+    /// The symbol `;`.
     SymSemicolon,
-    /// `*`.
+    /// The symbol `*`.
     SymStar,
-    /// `~`.
+    /// The symbol `~`.
     SymTilde,
-    /// `_`.
+    /// The symbol `_`.
     SymUnderscore,
-    /// `^`.
+    /// The symbol `^`.
     SymXor,
-    /// `+=`.
+    /// The symbol `+=`.
     SymPlusEqual,
-    /// `-=`.
+    /// The symbol `-=`.
     SymMinusEqual,
-    /// `*=`.
+    /// The symbol `*=`.
     SymTimesEqual,
-    /// `/=`.
+    /// The symbol `/=`.
     SymDivisionEqual,
-    /// `%=`.
+    /// The symbol `%=`.
     SymModuloEqual,
-    /// `&=`.
+    /// The symbol `&=`.
     SymAndEqual,
-    /// `|=`.
+    /// The symbol `|=`.
     SymOrEqual,
-    /// `^=`.
+    /// The symbol `^=`.
     SymXorEqual,
-    /// `>>=`.
+    /// The symbol `>>=`.
     SymShiftRightAssign,
-    /// `<<=`.
+    /// The symbol `<<=`.
     SymShiftLeftAssign,
-    /// `alias`.
+    /// The keyword `alias`.
     KwAlias,
-    /// `break`.
+    /// The keyword `break`.
     KwBreak,
-    /// `case`.
+    /// The keyword `case`.
     KwCase,
-    /// `const`.
+    /// The keyword `const`.
     KwConst,
-    /// `const_assert`.
+    /// The keyword `const_assert`.
     KwConstAssert,
-    /// `continue`.
+    /// The keyword `continue`.
     KwContinue,
-    /// `continuing`.
+    /// The keyword `continuing`.
     KwContinuing,
-    /// `default`.
+    /// The keyword `default`.
     KwDefault,
-    /// `diagnostic`.
+    /// The keyword `diagnostic`.
     KwDiagnostic,
-    /// `discard`.
+    /// The keyword `discard`.
     KwDiscard,
-    /// `else`.
+    /// The keyword `else`.
     KwElse,
-    /// `enable`.
+    /// The keyword `enable`.
     KwEnable,
-    /// `false`.
+    /// The keyword `false`.
     KwFalse,
-    /// `fn`.
+    /// The keyword `fn`.
     KwFn,
-    /// `for`.
+    /// The keyword `for`.
     KwFor,
-    /// `if`.
+    /// The keyword `if`.
     KwIf,
-    /// `let`.
+    /// The keyword `let`.
     KwLet,
-    /// `loop`.
+    /// The keyword `loop`.
     KwLoop,
-    /// `override`.
+    /// The keyword `override`.
     KwOverride,
-    /// `requires`.
+    /// The keyword `requires`.
     KwRequires,
-    /// `return`.
+    /// The keyword `return`.
     KwReturn,
-    /// `struct`.
+    /// The keyword `struct`.
     KwStruct,
-    /// `switch`.
+    /// The keyword `switch`.
     KwSwitch,
-    /// `true`.
+    /// The keyword `true`.
     KwTrue,
-    /// `var`.
+    /// The keyword `var`.
     KwVar,
-    /// `while`.
+    /// The keyword `while`.
     KwWhile,
-    /// A name.
+    /// An identifier.
     Ident,
-    /// A word that no name may be.
+    /// A reserved word.
     ReservedWord,
-    /// A whole number without a suffix.
+    /// A whole number without suffix.
     AbstractInt,
-    /// A whole number with `i`.
+    /// A whole number with the suffix `i`.
     I32,
-    /// A whole number with `u`.
+    /// A whole number with the suffix `u`.
     U32,
-    /// A float without a suffix.
+    /// A float without suffix.
     AbstractFloat,
-    /// A float with `f`.
+    /// A float with the suffix `f`.
     F32,
-    /// A float with `h`.
+    /// A float with the suffix `h`.
     F16,
-    /// The `<` of a template list.
+    /// The `<` that begins a template list.
     TemplateArgsStart,
-    /// The `>` of a template list.
+    /// The `>` that ends a template list.
     TemplateArgsEnd,
-    /// A comment to the end of its line, which no call gives.
+    /// A line comment.
     LineComment,
-    /// A comment between `/*` and `*/`, which no call gives.
+    /// A block comment.
     BlockComment,
 }

@@ -13,17 +13,13 @@ use std::str::FromStr;
 #[macro_use]
 mod macros;
 
-mod attributes;
-mod expressions;
 #[cfg(test)]
 mod kinds;
-mod statements;
-mod units;
+mod node_enums;
+mod node_structs;
 
-pub use self::attributes::*;
-pub use self::expressions::*;
-pub use self::statements::*;
-pub use self::units::*;
+pub use self::node_enums::*;
+pub use self::node_structs::*;
 pub use crate::words::{
     AccessMode, AddressSpace, AssignmentOperator, BinaryOperator, BuiltinValue, DiagnosticSeverity,
     InterpolationSampling, InterpolationType, UnaryOperator, UnknownWord,

@@ -77,78 +77,21 @@ macro_rules! words {
             }
         }
     )*
-
-        /// The enums, each with its variants and their words.
-        #[cfg(test)]
-        pub(crate) const WORDS: &[(&str, &[(&str, &str)])] =
-            &[$((stringify!($name), &[$((stringify!($variant), $word)),*])),*];
     };
 }
 
 words! {
-    /// What a stage is given or gives.
-    BuiltinValue {
-        /// `vertex_index`.
-        VertexIndex = "vertex_index",
-        /// `instance_index`.
-        InstanceIndex = "instance_index",
-        /// `clip_distances`.
-        ClipDistances = "clip_distances",
-        /// `position`.
-        Position = "position",
-        /// `front_facing`.
-        FrontFacing = "front_facing",
-        /// `frag_depth`.
-        FragDepth = "frag_depth",
-        /// `sample_index`.
-        SampleIndex = "sample_index",
-        /// `sample_mask`.
-        SampleMask = "sample_mask",
-        /// `local_invocation_id`.
-        LocalInvocationId = "local_invocation_id",
-        /// `local_invocation_index`.
-        LocalInvocationIndex = "local_invocation_index",
-        /// `global_invocation_id`.
-        GlobalInvocationId = "global_invocation_id",
-        /// `workgroup_id`.
-        WorkgroupId = "workgroup_id",
-        /// `num_workgroups`.
-        NumWorkgroups = "num_workgroups",
-        /// `subgroup_invocation_id`.
-        SubgroupInvocationId = "subgroup_invocation_id",
-        /// `subgroup_size`.
-        SubgroupSize = "subgroup_size",
-    }
-    /// How a value is interpolated.
-    InterpolationType {
-        /// `perspective`.
-        Perspective = "perspective",
-        /// `linear`.
-        Linear = "linear",
-        /// `flat`.
-        Flat = "flat",
-    }
-    /// Where a value is sampled.
-    InterpolationSampling {
-        /// `center`.
-        Center = "center",
-        /// `centroid`.
-        Centroid = "centroid",
-        /// `sample`.
-        Sample = "sample",
-        /// `first`.
-        First = "first",
-        /// `either`.
-        Either = "either",
-    }
-    /// How memory is used.
-    AccessMode {
-        /// `read`.
-        Read = "read",
-        /// `write`.
-        Write = "write",
-        /// `read_write`.
-        ReadWrite = "read_write",
+    // Written by tools/nodes.py from crates/wgsl_model/nodes.
+    /// How a diagnostic is reported.
+    DiagnosticSeverity {
+        /// `error`.
+        Error = "error",
+        /// `warning`.
+        Warning = "warning",
+        /// `info`.
+        Info = "info",
+        /// `off`.
+        Off = "off",
     }
     /// Where a variable is stored.
     AddressSpace {
@@ -163,16 +106,14 @@ words! {
         /// `storage`.
         Storage = "storage",
     }
-    /// How a diagnostic is reported.
-    DiagnosticSeverity {
-        /// `error`.
-        Error = "error",
-        /// `warning`.
-        Warning = "warning",
-        /// `info`.
-        Info = "info",
-        /// `off`.
-        Off = "off",
+    /// How memory is used.
+    AccessMode {
+        /// `read`.
+        Read = "read",
+        /// `write`.
+        Write = "write",
+        /// `read_write`.
+        ReadWrite = "read_write",
     }
     /// An operator before an operand.
     UnaryOperator {
@@ -250,5 +191,60 @@ words! {
         ShiftRightAssign = ">>=",
         /// `<<=`.
         ShiftLeftAssign = "<<=",
+    }
+    /// What a stage is given or gives.
+    BuiltinValue {
+        /// `vertex_index`.
+        VertexIndex = "vertex_index",
+        /// `instance_index`.
+        InstanceIndex = "instance_index",
+        /// `clip_distances`.
+        ClipDistances = "clip_distances",
+        /// `position`.
+        Position = "position",
+        /// `front_facing`.
+        FrontFacing = "front_facing",
+        /// `frag_depth`.
+        FragDepth = "frag_depth",
+        /// `sample_index`.
+        SampleIndex = "sample_index",
+        /// `sample_mask`.
+        SampleMask = "sample_mask",
+        /// `local_invocation_id`.
+        LocalInvocationId = "local_invocation_id",
+        /// `local_invocation_index`.
+        LocalInvocationIndex = "local_invocation_index",
+        /// `global_invocation_id`.
+        GlobalInvocationId = "global_invocation_id",
+        /// `workgroup_id`.
+        WorkgroupId = "workgroup_id",
+        /// `num_workgroups`.
+        NumWorkgroups = "num_workgroups",
+        /// `subgroup_invocation_id`.
+        SubgroupInvocationId = "subgroup_invocation_id",
+        /// `subgroup_size`.
+        SubgroupSize = "subgroup_size",
+    }
+    /// How a value is interpolated.
+    InterpolationType {
+        /// `perspective`.
+        Perspective = "perspective",
+        /// `linear`.
+        Linear = "linear",
+        /// `flat`.
+        Flat = "flat",
+    }
+    /// Where a value is sampled.
+    InterpolationSampling {
+        /// `center`.
+        Center = "center",
+        /// `centroid`.
+        Centroid = "centroid",
+        /// `sample`.
+        Sample = "sample",
+        /// `first`.
+        First = "first",
+        /// `either`.
+        Either = "either",
     }
 }

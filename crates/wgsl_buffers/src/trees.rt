@@ -13,7 +13,8 @@ use wgsl_parser::FromSource;
 use wgsl_tree_expression::Expression;
 use wgsl_tree_statement::Statement;
 use wgsl_tree_text::{
-    write_declaration, write_directive, write_expression, write_statement, write_unit,
+    write_expression, write_global_declaration, write_global_directive, write_statement,
+    write_translation_unit,
 };
 use wgsl_tree_unit::{GlobalDeclaration, GlobalDirective, TranslationUnit};
 
@@ -33,19 +34,19 @@ macro_rules! tree_text {
 fn unit_text(alloc: Global, source: &str) -> Result<String, Error>
     ensures { IsReadTree unit source.now result }
 {
-    tree_text!(TranslationUnit, write_unit, alloc, source)
+    tree_text!(TranslationUnit, write_translation_unit, alloc, source)
 }
 
 fn directive_text(alloc: Global, source: &str) -> Result<String, Error>
     ensures { IsReadTree global_directive source.now result }
 {
-    tree_text!(GlobalDirective, write_directive, alloc, source)
+    tree_text!(GlobalDirective, write_global_directive, alloc, source)
 }
 
 fn declaration_text(alloc: Global, source: &str) -> Result<String, Error>
     ensures { IsReadTree global_declaration source.now result }
 {
-    tree_text!(GlobalDeclaration, write_declaration, alloc, source)
+    tree_text!(GlobalDeclaration, write_global_declaration, alloc, source)
 }
 
 fn statement_text(alloc: Global, source: &str) -> Result<String, Error>

@@ -37,13 +37,26 @@ macro_rules! write_optional {
     };
 }
 
-mod attributes;
-mod expressions;
-mod simple_statements;
-mod statements;
-mod texts;
-mod units;
+/// Writes a pair as a list of two, and what writes each of them.
+macro_rules! write_pair {
+    ($out:ident, $pair:expr, $first:ident => $write:expr, $second:ident => $rest:expr) => {{
+        let $first = &$pair.0;
+        let $second = &$pair.1;
+        $out.write_str("[")?;
+        $write?;
+        $out.write_str(",")?;
+        $rest?;
+        $out.write_str("]")
+    }};
+}
 
-pub use expressions::write_expression;
-pub use statements::write_statement;
-pub use units::{write_declaration, write_directive, write_unit};
+mod attribute_nodes;
+mod chain;
+mod expression_nodes;
+mod statement_nodes;
+mod texts;
+mod unit_nodes;
+
+pub use chain::write_expression;
+pub use statement_nodes::write_statement;
+pub use unit_nodes::{write_global_declaration, write_global_directive, write_translation_unit};

@@ -38,13 +38,6 @@ macro_rules! structs {
             }
         }
     )*
-
-        /// The structs, each with its fields and their types.
-        #[cfg(test)]
-        pub(super) const STRUCTS: &[(&str, &[(&str, &str)])] = &[$((stringify!($name), &[
-            (stringify!($first), stringify!($first_type)),
-            $((stringify!($field), stringify!($type)),)*
-        ])),*];
     };
 }
 
@@ -73,11 +66,10 @@ macro_rules! enums {
         }
     )*
 
-        /// The enums, each with its variants and the types of what they hold.
+        /// The variants, each behind its enum.
         #[cfg(test)]
-        pub(super) const ENUMS: &[(&str, &[(&str, &str)])] = &[$((stringify!($name), &[
-            $((stringify!($variant), concat!($(stringify!($held))?)),)*
-        ])),*];
+        pub(super) const VARIANTS: &[(&str, &str)] =
+            &[$($((stringify!($name), stringify!($variant)),)*)*];
     };
 }
 
