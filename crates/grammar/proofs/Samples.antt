@@ -171,7 +171,7 @@ tokens_are_refused : read_all tables checking body 2 unit (at Alias 0 ∷ at Wor
 tokens_are_refused = refl
 
 -- what is answered is true, however the list ended
-units_are_answered : (wording : Wording) (ts : List Token) (ending : Ending) → Answers body apart wording unit ts ending (answer wording ts ending (reads tables body 2 unit (start_state ts)))
+units_are_answered : (wording : Wording) (ts : List Token) (ending : Ending) → Answers body apart wording unit ts ending (answer wording ending (reads tables body 2 unit (start_state ts)))
 units_are_answered wording ts ending = answers tables body 2 apart tested wording unit ts ending
 
 -- the names behind those that were read so far

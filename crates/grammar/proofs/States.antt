@@ -1,5 +1,5 @@
 -- The reader over states is the reader over lists.
-use Rattle.std.proofs.Common.{◌≡◌, ℕ, zero, suc, ◌+◌, ◌*◌, ◌<◌, ◌≤◌, Bool, true, false, cond, eqb, List, [], ◌∷◌, ◌++◌, length, inl, inr, refl, sym, ap, ap₂, subst, ◌∙◌, arith, append_assoc, length-append}
+use Rattle.std.proofs.Common.{◌≡◌, ℕ, zero, suc, ◌+◌, ◌*◌, ◌<◌, ◌≤◌, Bool, true, false, cond, eqb, List, [], ◌∷◌, ◌++◌, length, inl, inr, refl, sym, ap, ap₂, subst, ◌∙◌, arith, append_assoc, append-nil, length-append}
 use Rattle.std.specs.Prelude.{Option, Some, None}
 use Rattle.grammar.specs.Tokens.{Token, Span, span_of, last_end, tokens_between, span_between}
 use Rattle.grammar.specs.Grammar.{Grammar, Grammar.empty, Grammar.token, Grammar.sequence, Grammar.choice, Grammar.mapped, Grammar.node, Grammar.checked, Grammar.symbol, Grammar.left_chain, Mode.checking, is_among, Means, Part}
@@ -54,7 +54,8 @@ tag_bind s P out f f' p h = refl
 
 retag : {A : Type 0} (s : State) (us : List Token) → Advance s.rest us → (m : Outcome A) → OfOk (λ a vs. Advance us vs) m → tag s m ≡ tag (state_at s us) m
 retag s us g (ok a vs) h = ap (done a) (sym (placed_twice s us vs g h))
-retag s us g (stuck vs) h = refl
+retag s us g (stuck []) h = ap refused (sym (placed_twice s us [] g (us, sym (append-nil us))))
+retag s us g (stuck (t ∷ vs)) h = refl
 retag s us g (bad x vs) h = refl
 retag s us g out h = refl
 
@@ -87,14 +88,14 @@ any_is cs s = go_on cs s.end s.rest
     go_on (c ∷ (d ∷ cs)) e [] = go_on (d ∷ cs) e []
     go_on (c ∷ (d ∷ cs)) e (t ∷ ts) = ap (λ (x : Bool). cond (eqb t.class c) true x) (go_on (d ∷ cs) e (t ∷ ts))
 
-taken_at : (cs : List ℕ) (e : ℕ) (ts : List Token) → let s : State = record { end = e; rest = ts } in tag s (take_token cs ts) ≡ cond (is_any cs s) (done (first_of s) (after s)) (refused ts)
+taken_at : (cs : List ℕ) (e : ℕ) (ts : List Token) → let s : State = record { end = e; rest = ts } in tag s (take_token cs ts) ≡ cond (is_any cs s) (done (first_of s) (after s)) (refused s)
 unfolding first_of after
-taken_at cs e [] = ap (λ (z : Bool). cond z (done (first_of (record { end = e; rest = [] })) (after (record { end = e; rest = [] }))) (refused [])) (any_is cs (record { end = e; rest = [] }))
+taken_at cs e [] = ap (λ (z : Bool). cond z (done (first_of (record { end = e; rest = [] })) (after (record { end = e; rest = [] }))) (refused (record { end = e; rest = [] }))) (any_is cs (record { end = e; rest = [] }))
 taken_at cs e (t ∷ ts) =
     let s : State = record { end = e; rest = t ∷ ts } in
     tag_cond s (is_among t.class cs) (is_any cs s) (ok t ts) (stuck (t ∷ ts)) _ _ (any_is cs s) (ap (λ (x : ℕ). done t (record { end = x; rest = ts })) (ap (last_end e) (tokens_are (t ∷ ts) (t ∷ []) ts refl))) refl
 
-take_is : (cs : List ℕ) (s : State) → cond (is_any cs s) (done (first_of s) (after s)) (refused s.rest) ≡ take_any cs s
+take_is : (cs : List ℕ) (s : State) → cond (is_any cs s) (done (first_of s) (after s)) (refused s) ≡ take_any cs s
 unfolding take
 take_is [] s = refl
 take_is (c ∷ []) s = refl

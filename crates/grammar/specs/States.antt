@@ -15,10 +15,10 @@ pub record State : Type 0 where
 abbrev pub start_state : List Token → State
 start_state ts = record { end = 0; rest = ts }
 
--- why reading stopped: at a token, at the end, by a check's fault, or never, as fuel is enough
+-- why reading stopped: at a token, at the end, where the last token that was taken ended at a place, by a check's fault, or never, as fuel is enough
 pub data Stop : Type 0 where
   unexpected : Token → Stop
-  ended : Stop
+  ended : ℕ → Stop
   faulty : Fault → Stop
   never : Stop
 
@@ -33,10 +33,14 @@ abbrev pub ◌>>=◌ : {A B : Type 0} → Read A → (A → State → Read B) �
 (done a s) >>= f = f a s
 (stop e) >>= f = stop e
 
--- what stands first is refused
-abbrev pub refused : {A : Type 0} → List Token → Read A
-refused [] = stop ended
-refused (t ∷ ts) = stop (unexpected t)
+-- what stands first of the tokens that are left is refused, where the last one that was taken ended at a place
+abbrev pub refused_at : {A : Type 0} → ℕ → List Token → Read A
+refused_at e [] = stop (ended e)
+refused_at e (t ∷ ts) = stop (unexpected t)
+
+-- what stands next is refused
+abbrev pub refused : {A : Type 0} → State → Read A
+refused s = refused_at s.end s.rest
 
 -- the first token of a list is of a class
 abbrev pub is_first : ℕ → List Token → Bool
@@ -82,13 +86,13 @@ after s = behind s.end s.rest
 
 -- the next token, which has to be of this class
 unfoldable pub take : ℕ → State → Read Token
-take c s = cond (is_at c s) (done (first_of s) (after s)) (refused s.rest)
+take c s = cond (is_at c s) (done (first_of s) (after s)) (refused s)
 
 -- the next token, which has to be of one of the classes
 abbrev pub take_any : List ℕ → State → Read Token
-take_any [] s = refused s.rest
+take_any [] s = refused s
 take_any (c ∷ []) s = take c s
-take_any (c ∷ (d ∷ cs)) s = cond (is_any (c ∷ (d ∷ cs)) s) (done (first_of s) (after s)) (refused s.rest)
+take_any (c ∷ (d ∷ cs)) s = cond (is_any (c ∷ (d ∷ cs)) s) (done (first_of s) (after s)) (refused s)
 
 -- a value, unless a check found a fault
 abbrev pub judged : {A : Type 0} → Option Fault → A → State → Read A
@@ -127,7 +131,7 @@ state_at s us = record { end = last_end s.end (tokens_between s.rest us); rest =
 -- an outcome over the tokens that are left, as one over states
 abbrev pub tag : {A : Type 0} → State → Outcome A → Read A
 tag s (ok a us) = done a (state_at s us)
-tag s (stuck us) = refused us
+tag s (stuck us) = refused (state_at s us)
 tag s (bad x us) = stop (faulty x)
 tag s out = stop never
 
@@ -146,9 +150,9 @@ whole_answer wording ending a [] = at_end ending (accepted a)
 whole_answer wording ending a (t ∷ ts) = denied (wording.unexpected t)
 
 -- what is answered where a list ended so, and this was read of it (the last case is never met)
-abbrev pub answer : {A : Type 0} → Wording → List Token → Ending → Read A → Answer A
-answer wording ts ending (done a s) = whole_answer wording ending a s.rest
-answer wording ts ending (stop (unexpected t)) = denied (wording.unexpected t)
-answer wording ts ending (stop ended) = at_end ending (denied (wording.missing (last_end 0 ts)))
-answer wording ts ending (stop (faulty x)) = denied x
-answer wording ts ending (stop never) = denied (wording.missing (last_end 0 ts))
+abbrev pub answer : {A : Type 0} → Wording → Ending → Read A → Answer A
+answer wording ending (done a s) = whole_answer wording ending a s.rest
+answer wording ending (stop (unexpected t)) = denied (wording.unexpected t)
+answer wording ending (stop (ended place)) = at_end ending (denied (wording.missing place))
+answer wording ending (stop (faulty x)) = denied x
+answer wording ending (stop never) = denied (wording.missing 0)

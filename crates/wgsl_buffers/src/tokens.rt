@@ -1,14 +1,13 @@
 //! Tokens, by their kinds and places.
 
-ghost use Rattle.std.specs.Prelude.{◌≡◌, length};
-ghost use Rattle.grammar.specs.Tokens.{last_end};
-ghost use Rattle.wgsl_lexer.specs.TextTokens.{tokens_left};
+ghost use Rattle.std.specs.Prelude.{◌≡◌, [], length};
+ghost use Rattle.wgsl_lexer.specs.TextTokens.{tokens_left, ending_left};
 ghost use Rattle.wgsl_buffers.specs.Items.{count_of, HoldItems, kind_and_place, token_items};
 ghost use Rattle.wgsl_buffers.specs.Calls.{WritesTokens};
 
 use crate::answer::{Answer, DONE, NOT_UTF8, REFUSED, TOO_SMALL, refuse_memory, text_of};
 use std::alloc::Global;
-use wgsl_lexer::{TextTokens, invalid_behind};
+use wgsl_lexer::TextTokens;
 
 /// A token: the number of its kind, and where it starts and ends.
 #[repr(C)]
@@ -19,23 +18,16 @@ pub struct PlacedKind {
     pub end: usize,
 }
 
-/// How many tokens there are, and where the last one ends.
-struct Counted {
-    count: usize,
-    end: usize,
-}
-
-/// Writes the tokens that are left, as many as fit.
+/// Takes the tokens that are left, writes as many as fit, and returns how many there are.
 #[tactic(auto, using(crate::proofs::Written::tokens))]
-fn fill(left: TextTokens, room: &mut [PlacedKind]) -> Counted
-    ensures end { result.end ≡ last_end 0 (tokens_left left.entry) }
+fn fill(left: &mut TextTokens, room: &mut [PlacedKind]) -> usize
+    ensures none { tokens_left left.new ≡ [] }
+    ensures ending { ending_left left.new ≡ ending_left left.old }
     ensures length { length room.new ≡ length room.old }
-    ensures count { result.count ≡ count_of (length (tokens_left left.entry)) }
-    ensures held { HoldItems kind_and_place (token_items (tokens_left left.entry)) room.new }
+    ensures count { result ≡ count_of (length (tokens_left left.old)) }
+    ensures held { HoldItems kind_and_place (token_items (tokens_left left.old)) room.new }
 {
-    let mut left = left;
     let mut count = 0;
-    let mut end = 0;
     'tokens: while let (Some(kind), Some(span)) = (left.kind(), left.span()) {
         if count < room.len() {
             room[count] = PlacedKind {
@@ -45,10 +37,9 @@ fn fill(left: TextTokens, room: &mut [PlacedKind]) -> Counted
             };
         }
         count = count.saturating_add(1);
-        end = span.end;
         left.skip();
     }
-    Counted { count, end }
+    count
 }
 
 /// The tokens of a text: as many as fit, and how many there are. Where text that is no token ends
@@ -59,15 +50,15 @@ pub fn write_tokens(alloc: Global, text: &[u8], room: &mut [PlacedKind], answer:
     let Some(source) = text_of(text, answer) else {
         return NOT_UTF8;
     };
-    let Ok(left) = TextTokens::new(alloc, source) else {
+    let Ok(mut left) = TextTokens::new(alloc, source) else {
         return refuse_memory(answer);
     };
-    let Counted { count, end } = fill(left, room);
+    let count = fill(&mut left, room);
     *answer = Answer::of_size(count);
     if room.len() < count {
         return TOO_SMALL;
     }
-    match invalid_behind(source, end) {
+    match left.invalid() {
         None => DONE,
         Some(span) => {
             answer.start = span.start;

@@ -12,3 +12,4 @@ pub mod MarkedLeft
 pub mod TokensWritten
 pub mod SourcesLaid
 pub mod Deciding
+pub mod CommentEnds

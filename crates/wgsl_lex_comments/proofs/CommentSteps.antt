@@ -1,60 +1,58 @@
--- Steps over blank space and comments, a character at a time.
-use Rattle.std.proofs.Common.{◌≡◌, ℕ, zero, suc, ◌+◌, ◌-◌, false, ◌&&◌, List, [], ◌∷◌, Option, Some, None, chars, refl, sym, ap, subst, ◌∙◌, arith}
+-- Steps over lines and block comments, a character at a time.
+use Rattle.std.proofs.Common.{◌≡◌, ℕ, zero, suc, ◌+◌, ◌-◌, false, ◌&&◌, List, [], ◌∷◌, Option, Some, None, chars, refl, sym, ap, ◌∙◌, arith}
 use Rattle.std.specs.Prelude.{◌==◌, MatchOption, ⊤}
 use Rattle.std.specs.Borrow.{Bor}
-use Rattle.std.proofs.lemmas.Bool.{cond-false, ne_eqb}
-use Rattle.wgsl_model.specs.Tokens.Characters.{is_blank, is_line_break}
 use Rattle.wgsl_model.specs.Tokens.Trivia.{Place, after_trivia, outside, in_line, in_block, out_of_block, first_or_zero}
 use Rattle.wgsl_theory_grammar.proofs.Tokens.Cuts.{EndsWith, joined}
-use Rattle.wgsl_lex_comments.specs.declared.trivia.Front.{Front}
-use Rattle.wgsl_lex_comments.specs.declared.trivia.Front.TheVariants as front
-use Rattle.wgsl_lex_comments.specs.Comments.{Leaves, IsFront}
-use Rattle.wgsl_lex_comments.proofs.Commented.{in_same_line}
+use Rattle.wgsl_lex_scanner.specs.declared.trivia.Piece.{Piece}
+use Rattle.wgsl_lex_scanner.specs.declared.trivia.Piece.TheVariants as piece
+use Rattle.wgsl_lex_scanner.specs.Trivia.{BeginsWith, piece_rest, IsInLine, after_line}
+use Rattle.wgsl_lex_scanner.proofs.Pieces.{after_line-left}
+use Rattle.wgsl_lex_comments.specs.Comments.{Leaves}
 
--- ---- outside
-pub no_trivia : (c : ℕ) (cs : List ℕ) → is_blank c ≡ false → (c ≡ 47 → ⊥) → after_trivia outside (c ∷ cs) ≡ c ∷ cs
-unfolding after_trivia
-no_trivia c cs e n = let f = ne_eqb c 47 n in cond-false (is_blank c) _ _ e ∙ cond-false (c == 47 && first_or_zero cs == 47) _ _ (ap (λ b. b && first_or_zero cs == 47) f) ∙ cond-false (c == 47 && first_or_zero cs == 42) _ _ (ap (λ b. b && first_or_zero cs == 42) f)
+-- what follows one character, or two, of an end of a source ends the source
+pub after_one : (source text cs : List ℕ) (c : ℕ) → EndsWith source text → text ≡ c ∷ cs → EndsWith source cs
+after_one source text cs c h e = joined source text cs h (c ∷ [], e)
 
-pub no_comment : (cs : List ℕ) → (first_or_zero cs == 47) ≡ false → (first_or_zero cs == 42) ≡ false → after_trivia outside (47 ∷ cs) ≡ 47 ∷ cs
-unfolding after_trivia
-no_comment cs e f = cond-false (first_or_zero cs == 47) _ _ e ∙ cond-false (first_or_zero cs == 42) _ _ f
+pub after_two : (source text cs : List ℕ) (c d : ℕ) → EndsWith source text → text ≡ c ∷ (d ∷ cs) → EndsWith source cs
+after_two source text cs c d h e = joined source text cs h (c ∷ (d ∷ []), e)
 
-pub nothing : (text : List ℕ) → text ≡ [] → text ≡ after_trivia outside text
-unfolding after_trivia
-nothing [] e = refl
-nothing (c ∷ cs) e = absurd cc
-
--- the front of an end of a text
-pub front_from : (text rest : List ℕ) (f : Front) → EndsWith text rest → after_trivia outside rest ≡ after_trivia outside text → IsFront rest f → IsFront text f
-front_from text rest (front.Token token) e same is = is ∙ same
-front_from text rest (front.Comment from block body) e same (d, is, sign) = (joined text rest (chars from.now) e d, is ∙ same, sign)
+-- and what follows a blank or a sign
+pub after_begun : (source text : List ℕ) (p : Piece) → EndsWith source text → BeginsWith text p → EndsWith source (chars (piece_rest p))
+after_begun source text (piece.Blank after) h begins = after_one source text (chars after.now) begins.0 h begins.1
+after_begun source text (piece.LineComment body) h begins = after_two source text (chars body.now) 47 47 h begins
+after_begun source text (piece.BlockComment body) h begins = after_two source text (chars body.now) 47 42 h begins
 
 -- ---- in a line
-pub along : (c : ℕ) (cs : List ℕ) → is_line_break c ≡ false → after_trivia in_line (c ∷ cs) ≡ after_trivia in_line cs
+pub along : (text cs : List ℕ) → IsInLine text cs → after_trivia in_line text ≡ after_trivia in_line cs
 unfolding after_trivia
-along c cs e = cond-false (is_line_break c) _ _ e
+along text cs (c, e, n) = rw (e, n) refl
+
+pub at_end : (text : List ℕ) → after_line text ≡ text → after_trivia outside text ≡ after_trivia in_line text
+at_end text e = ap (after_trivia outside) (sym e) ∙ after_line-left text
+
+-- what is found of a line comment in another
+pub over_line : (text body : List ℕ) (r : Option (Bor (List ℕ))) → text ≡ 47 ∷ (47 ∷ body) → MatchOption r ⊤ (λ over. Leaves text (chars over.now)) → MatchOption r ⊤ (λ over. after_trivia outside (chars over.now) ≡ after_trivia in_line text)
+unfolding after_trivia
+over_line text body None e l = l
+over_line text body (Some over) e l = l.line body e ∙ ap (after_trivia in_line) (sym e)
 
 -- ---- in a block comment
-pub goes : (n c : ℕ) (cs : List ℕ) → (c ≡ 47 → ⊥) → (c ≡ 42 → ⊥) → after_trivia (in_block n) (c ∷ cs) ≡ after_trivia (in_block n) cs
+pub goes : (n c : ℕ) (text cs : List ℕ) → text ≡ c ∷ cs → (c == 47 && first_or_zero cs == 42) ≡ false → (c == 42 && first_or_zero cs == 47) ≡ false → after_trivia (in_block n) cs ≡ after_trivia (in_block n) text
 unfolding after_trivia
-goes n c cs e f = cond-false (c == 47 && first_or_zero cs == 42) _ _ (ap (λ b. b && first_or_zero cs == 42) (ne_eqb c 47 e)) ∙ cond-false (c == 42 && first_or_zero cs == 47) _ _ (ap (λ b. b && first_or_zero cs == 47) (ne_eqb c 42 f))
+goes n c text cs e h k = rw (e, h, k) refl
 
-pub goes_slash : (n : ℕ) (cs : List ℕ) → (first_or_zero cs == 42) ≡ false → after_trivia (in_block n) (47 ∷ cs) ≡ after_trivia (in_block n) cs
+pub goes_in : (n : ℕ) (text body : List ℕ) → text ≡ 47 ∷ (42 ∷ body) → after_trivia (in_block (suc n)) body ≡ after_trivia (in_block n) text
 unfolding after_trivia
-goes_slash n cs e = cond-false (first_or_zero cs == 42) _ _ e
+goes_in n text body e = rw e refl
 
-pub goes_star : (n : ℕ) (cs : List ℕ) → (first_or_zero cs == 47) ≡ false → after_trivia (in_block n) (42 ∷ cs) ≡ after_trivia (in_block n) cs
+pub goes_out : (n : ℕ) (text outer : List ℕ) → text ≡ 42 ∷ (47 ∷ outer) → after_trivia (out_of_block n) outer ≡ after_trivia (in_block n) text
 unfolding after_trivia
-goes_star n cs e = cond-false (first_or_zero cs == 47) _ _ e
+goes_out n text outer e = rw e refl
 
-pub goes_in : (n : ℕ) (body : List ℕ) → after_trivia (in_block n) (47 ∷ (42 ∷ body)) ≡ after_trivia (in_block (suc n)) body
-unfolding after_trivia
-goes_in n body = refl
-
-pub goes_out : (n : ℕ) (body : List ℕ) → after_trivia (in_block n) (42 ∷ (47 ∷ body)) ≡ after_trivia (out_of_block n) body
-unfolding after_trivia
-goes_out n body = refl
+-- over a known block comment in another
+pub goes_over : (n : ℕ) (text body over : List ℕ) → text ≡ 47 ∷ (42 ∷ body) → Leaves text over → after_trivia (in_block n) over ≡ after_trivia (in_block n) text
+goes_over n text body over e l = l.block body (suc n) e ∙ goes_in n text body e
 
 -- where nothing is left it is the same wherever one stands
 pub none_left : (p q : Place) (cs : List ℕ) → cs ≡ [] → after_trivia p cs ≡ after_trivia q cs
@@ -62,15 +60,10 @@ unfolding after_trivia
 none_left p q [] e = refl
 none_left p q (c ∷ cs) e = absurd cc
 
--- behind the end of a comment that stands in others
+-- after the end of a comment that is in others
 pub closed_deeper : (m n : ℕ) → m ≡ suc n → out_of_block m ≡ in_block n
 closed_deeper m n e = rw e refl
 
 pub one_less : (n d : ℕ) → (d ≡ 0 → ⊥) → n + d ≡ suc (n + (d - 1))
 one_less n zero z = absurd (z refl)
 one_less n (suc d) z = omega arith
-
--- what is found of a line comment in another
-pub over_line : (text body : List ℕ) (r : Option (Bor (List ℕ))) → text ≡ 47 ∷ (47 ∷ body) → MatchOption r ⊤ (λ over. Leaves text (chars over.now)) → MatchOption r ⊤ (λ over. after_trivia outside (chars over.now) ≡ after_trivia in_line text)
-over_line text body None e l = l
-over_line text body (Some over) e l = in_same_line body (chars over.now) (subst (λ t. Leaves t (chars over.now)) e l) ∙ ap (after_trivia in_line) (sym e)

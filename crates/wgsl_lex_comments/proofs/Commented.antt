@@ -1,15 +1,18 @@
 -- The places of comments, and what stands behind them.
-use Rattle.std.proofs.Common.{◌≡◌, ℕ, zero, suc, ◌+◌, ◌-◌, ◌<◌, ◌≤◌, Bool, true, false, List, [], ◌∷◌, ◌++◌, drop, length, get_or, Equal, chars, refl, sym, ap, subst, ◌∙◌, arith}
+use Rattle.std.proofs.Common.{◌≡◌, ℕ, zero, suc, ◌+◌, ◌-◌, ◌<◌, ◌≤◌, true, false, List, [], ◌∷◌, ◌++◌, drop, length, get_or, Equal, chars, sym, ap, subst, ◌∙◌, arith}
 use Rattle.std.specs.Str.{IsUtf8, IsCharBoundary}
 use Rattle.std.proofs.lemmas.Cmp.{ranked}
 use Rattle.std.specs.Ordering.{nat_cmp}
+use Rattle.std.proofs.lemmas.Bool.{true≢false}
+use Rattle.wgsl_model.specs.Tokens.Characters.{is_blank}
 use Rattle.wgsl_model.specs.Tokens.Places.{width}
 use Rattle.wgsl_model.specs.Tokens.Trivia.{after_trivia, outside, in_line, in_block, out_of_block}
 use Rattle.wgsl_lex_comments.specs.declared.comments.Comment.{Comment}
 use Rattle.wgsl_lex_comments.specs.declared.comments.Known.{Known}
-use Rattle.wgsl_lex_comments.specs.Comments.{BeginsAt, Leaves, IsCommentOf, IsKnownOf, IsKnown, AreComments, AreLeft, second_of}
-use Rattle.wgsl_theory_grammar.proofs.Tokens.Cuts.{EndsWith, joined, trivia-ends}
-use Rattle.wgsl_theory_grammar.proofs.Tokens.Widths.{width-append, within}
+use Rattle.wgsl_lex_comments.specs.Comments.{BeginsAt, Leaves, IsCommentOf, IsKnownOf, IsKnown, AreComments, AreLeft}
+use Rattle.wgsl_theory_grammar.proofs.Tokens.Cuts.{EndsWith, EndsPast}
+use Rattle.wgsl_theory_grammar.proofs.Tokens.Widths.{width-append, within, past}
+use Rattle.wgsl_lex_scanner.proofs.Pieces.{over_blank}
 use Rattle.wgsl_theory_grammar.proofs.Tokens.Places.{same_end, bytes_width, cut_end}
 
 -- ---- places
@@ -64,32 +67,39 @@ found_at source text found start at d all b l same =
     let other = is.1.2 in
     subst (λ t. IsKnownOf source t known) (one_text source known.comment.start start is.0 text other.start b (sym (ranked start known.comment.start _ (sym same)))) is.1
 
--- ---- what stands behind a comment
-pub behind_both : (block : Bool) (text body over : List ℕ) → text ≡ 47 ∷ (second_of block ∷ body) → Leaves text over → after_trivia outside over ≡ after_trivia outside text
+-- ---- what is after a blank or a comment
+blank_is_no_slash : (c : ℕ) → is_blank c ≡ true → c ≡ 47 → ⊥
+blank_is_no_slash c h e = true≢false (sym h ∙ ap is_blank e)
+
+pub leaves_blank : (c : ℕ) (text over : List ℕ) → text ≡ c ∷ over → is_blank c ≡ true → Leaves text over
+leaves_blank c text over e h = record {
+  line = λ body f. absurd (blank_is_no_slash c h cc);
+  block = λ body n f. absurd (blank_is_no_slash c h cc);
+  left = sym (over_blank c text over e h);
+}
+
+other_sign : (xs ys : List ℕ) → 47 ∷ (47 ∷ xs) ≡ 47 ∷ (42 ∷ ys) → ⊥
+other_sign xs ys e = absurd cc
+
+pub leaves_block : (text body over : List ℕ) → text ≡ 47 ∷ (42 ∷ body) → ((n : ℕ) → after_trivia (out_of_block n) over ≡ after_trivia (in_block n) body) → Leaves text over
 unfolding after_trivia
-behind_both true text body over s l = l.block body 0 s ∙ ap (after_trivia outside) (sym s)
-behind_both false text body over s l = l.line body s ∙ ap (after_trivia outside) (sym s)
+leaves_block text body over e h = record {
+  line = λ other f. absurd (other_sign other body (sym f ∙ e));
+  block = λ other n f. h n ∙ ap (after_trivia (in_block n)) (tail other f);
+  left = h 0 ∙ ap (after_trivia outside) (sym e);
+} where
+  tail : (other : List ℕ) → text ≡ 47 ∷ (42 ∷ other) → body ≡ other
+  tail other f = cc
 
--- the same of a block comment in others
-pub opens : (n : ℕ) (body over : List ℕ) → Leaves (47 ∷ (42 ∷ body)) over → after_trivia (in_block n) over ≡ after_trivia (in_block n) (47 ∷ (42 ∷ body))
+pub leaves_line : (text body over : List ℕ) → text ≡ 47 ∷ (47 ∷ body) → after_trivia outside over ≡ after_trivia in_line body → Leaves text over
 unfolding after_trivia
-opens n body over l = l.block body (suc n) refl
-
--- and of a line comment in another
-pub in_same_line : (body over : List ℕ) → Leaves (47 ∷ (47 ∷ body)) over → after_trivia outside over ≡ after_trivia in_line (47 ∷ (47 ∷ body))
-unfolding after_trivia
-in_same_line body over l = l.line body refl
-
--- how a comment is left, by its sign
-pub leaves_block : (body over : List ℕ) → ((n : ℕ) → after_trivia (out_of_block n) over ≡ after_trivia (in_block n) body) → Leaves (47 ∷ (42 ∷ body)) over
-leaves_block body over h = record { line = λ other e. absurd cc; block = λ other n e. h n ∙ ap (after_trivia (in_block n)) (tail body other e) } where
-  tail : (xs ys : List ℕ) → 47 ∷ (42 ∷ xs) ≡ 47 ∷ (42 ∷ ys) → xs ≡ ys
-  tail xs ys e = cc
-
-pub leaves_line : (body over : List ℕ) → after_trivia outside over ≡ after_trivia in_line body → Leaves (47 ∷ (47 ∷ body)) over
-leaves_line body over h = record { line = λ other e. h ∙ ap (after_trivia in_line) (tail body other e); block = λ other n e. absurd cc } where
-  tail : (xs ys : List ℕ) → 47 ∷ (47 ∷ xs) ≡ 47 ∷ (47 ∷ ys) → xs ≡ ys
-  tail xs ys e = cc
+leaves_line text body over e h = record {
+  line = λ other f. h ∙ ap (after_trivia in_line) (tail other f);
+  block = λ other n f. absurd (other_sign body other (sym e ∙ f));
+  left = h ∙ ap (after_trivia outside) (sym e);
+} where
+  tail : (other : List ℕ) → text ≡ 47 ∷ (47 ∷ other) → body ≡ other
+  tail other f = cc
 
 -- a comment that was walked
 pub walked : (source text over rest : List ℕ) (comment : Comment) → BeginsAt source comment.start text → BeginsAt source comment.end over → Leaves text over → width over < width text → after_trivia outside over ≡ rest → IsCommentOf source text rest comment
@@ -102,23 +112,13 @@ walked source text over rest comment s e leaves less left = record {
   left = left;
 }
 
--- a sign has two bytes
-sign_width : (block : Bool) → width (47 ∷ (second_of block ∷ [])) ≡ 2
-unfolding lib.Utf8.encode
-sign_width true = refl
-sign_width false = refl
-
--- what is no longer than the text behind it is shorter than the comment
-pub signed : (block : Bool) (text bs cs : List ℕ) → IsUtf8 bs → IsUtf8 cs → text ≡ 47 ∷ (second_of block ∷ chars bs) → length cs ≤ length bs → width (chars cs) < width text
-signed block text bs cs u v s less = omega (arith, less, ap width s, bytes_width bs u, bytes_width cs v, width-append (47 ∷ (second_of block ∷ [])) (chars bs), sign_width block)
+-- what is no longer than what is after a first character is narrower than the text
+pub narrower : (text bs cs : List ℕ) → IsUtf8 bs → IsUtf8 cs → EndsPast text (chars bs) → length cs ≤ length bs → width (chars cs) < width text
+narrower text bs cs u v h less = omega (arith, less, past text (chars bs) h, bytes_width bs u, bytes_width cs v)
 
 -- in bytes
 pub no_longer : (bs cs : List ℕ) → IsUtf8 bs → IsUtf8 cs → EndsWith (chars bs) (chars cs) → length cs ≤ length bs
 no_longer bs cs u v h = omega (arith, within (chars bs) (chars cs) h, bytes_width bs u, bytes_width cs v)
-
--- where a text is left
-pub left_of : (source text rest : List ℕ) → rest ≡ after_trivia outside text → EndsWith source text → EndsWith source rest
-left_of source text rest e h = joined source text rest h (subst (EndsWith text) (sym e) (trivia-ends outside text))
 
 -- at the start none is known
 pub no_comments : (source : List ℕ) (comments : List Known) → comments ≡ [] → AreComments source comments

@@ -1,13 +1,15 @@
 //! The comments of a source, which are remembered when they were passed over.
 
-ghost use Rattle.std.specs.Prelude.{◌≡◌, ◌≤◌, ◌<◌, ⊤, ℕ, List, [], ◌∷◌, ◌++◌, chars, length, IfOk, MatchOption};
+ghost use Rattle.std.specs.Prelude.{◌≡◌, ◌≤◌, ◌<◌, ⊤, ℕ, List, [], ◌++◌, chars, length, IfOk, MatchOption};
 ghost use Rattle.wgsl_model.specs.Tokens.Places.{width};
 ghost use Rattle.wgsl_model.specs.Tokens.Trivia.{after_trivia, outside};
 ghost use Rattle.wgsl_theory_grammar.proofs.Tokens.Cuts.{EndsWith};
-ghost use Rattle.wgsl_lex_comments.specs.Comments.{BeginsAt, Leaves, IsKnown, IsKnownOf, AreComments, AreLeft, second_of};
+ghost use Rattle.wgsl_lex_scanner.specs.Trivia.{BeginsWith};
+ghost use Rattle.wgsl_lex_comments.specs.Comments.{BeginsAt, Leaves, IsKnown, IsKnownOf, AreComments, AreLeft};
 
-use crate::trivia::{Front, after_comment, front_of};
+use crate::trivia::after_piece;
 use std::alloc::{AllocError, Global};
+use wgsl_lex_scanner::trivia::{Piece, piece_at};
 
 /// A comment, by places in the source.
 #[derive(Clone, Copy)]
@@ -108,31 +110,30 @@ fn walk(
         AreLeft (chars source.now) (after_trivia outside (chars text.now)) run.new.items) }
 {
     let mut rest = text;
-    'comments: loop {
-        match front_of(rest) {
-            Front::Token(token) => return Ok(place(source, token)),
-            Front::Comment { from, block, body } => {
-                if let Some(found) = find(known, source, from) {
-                    return Ok(found.behind);
-                }
-                rest = over_new(known, run, source, from, block, body)?;
-            }
+    'pieces: while let Some(piece) = piece_at(rest) {
+        if let Piece::Blank(after) = piece {
+            rest = after;
+            continue;
         }
+        if let Some(found) = find(known, source, rest) {
+            return Ok(found.behind);
+        }
+        rest = over_new(known, run, source, rest, piece)?;
     }
+    Ok(place(source, rest))
 }
 
-/// The text behind a comment that isn't known, which is added to the run.
+/// The text after a comment that isn't known, which is added to the run.
 fn over_new<'s>(
     known: &[Known],
     run: &mut Vec<Comment>,
     source: &'s str,
     text: &str,
-    block: bool,
-    body: &'s str,
+    comment: Piece<'s>,
 ) -> Result<&'s str, AllocError>
     requires end { EndsWith (chars source.now) (chars text.now) }
     requires known { AreComments (chars source.now) known.now }
-    requires sign { chars text.now ≡ 47 ∷ (second_of block ∷ chars body.now) }
+    requires begins { BeginsWith (chars text.now) comment }
     ensures rest { IfOk result (λ over.
         after_trivia outside (chars over.now) ≡ after_trivia outside (chars text.now)) }
     ensures end { IfOk result (λ over. EndsWith (chars source.now) (chars over.now)) }
@@ -141,7 +142,7 @@ fn over_new<'s>(
         AreLeft (chars source.now) rest run.old.items →
         IfOk result (λ _. AreLeft (chars source.now) rest run.new.items) }
 {
-    let over = after_comment(known, source, block, body);
+    let over = after_piece(known, source, comment);
     run.push(Comment {
         start: place(source, text),
         end: place(source, over),

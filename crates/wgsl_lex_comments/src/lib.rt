@@ -5,4 +5,3 @@ mod comments;
 mod trivia;
 
 pub use comments::Comments;
-pub use trivia::{Step, behind};

@@ -12,4 +12,4 @@ pub mod Symbols
 pub mod Words
 pub mod Front
 pub mod Table
-pub mod Blanks
+pub mod Pieces

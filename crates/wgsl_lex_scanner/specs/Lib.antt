@@ -4,3 +4,4 @@ pub mod Scanning
 pub mod View
 pub mod Parts
 pub mod WordTable
+pub mod Trivia

@@ -9,6 +9,6 @@ mod number;
 pub mod scan;
 mod symbol;
 pub mod text;
-mod trivia;
+pub mod trivia;
 mod word;
 mod word_table;

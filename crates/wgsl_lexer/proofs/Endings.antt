@@ -11,7 +11,7 @@ use Rattle.wgsl_model.specs.Tokens.Templates.{is_word}
 use Rattle.wgsl_model.specs.Tokens.TokenList.{IsTokenList, place, width}
 use Rattle.wgsl_span.specs.declared.Span.{Span}
 use Rattle.wgsl_theory_grammar.proofs.Tokens.Cuts.{EndsWith, cut_at, joined, behind_first, behind_token}
-use Rattle.wgsl_theory_grammar.proofs.Tokens.Lists.{fault_at, token_list_unique}
+use Rattle.wgsl_theory_grammar.proofs.Tokens.Lists.{fault_at}
 use Rattle.wgsl_theory_grammar.proofs.Tokens.Places.{bytes_width, cut_end, gets_end}
 use Rattle.wgsl_theory_templates.specs.Rest.Left.{LeftOf, left_nothing, left_fault, left_end, left_start, left_token}
 use Rattle.wgsl_theory_templates.proofs.Rest.LeftTokens.{stream}
@@ -70,7 +70,3 @@ always_behind bs at u gets ts e h place_is =
     let cut = cut_end bs k.1.0 k.0 u k.1.1 in
     let start : at ≡ width k.1.0 = omega (arith, place_is, k.2, cut.3) in
     absurd (gets (omega (arith, start, cut.3)) (subst (IsCharBoundary bs) (sym start) cut.2) (IsCharBoundary-end bs))
-
--- the tokens that were gone through are those of the source
-pub last_is : (source : List ℕ) (us : List Token) (f : Ending) (at : ℕ) → IsTokenList source us f → at ≡ last_end 0 us → (ts : List Token) (e : Ending) → IsTokenList source ts e → at ≡ last_end 0 ts
-last_is source us f at k same ts e h = same ∙ ap (last_end 0) (token_list_unique source us ts f e k h).0

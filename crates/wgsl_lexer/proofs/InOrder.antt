@@ -5,7 +5,7 @@ use Rattle.grammar.specs.Endings.{Ending, Ending.finished, Ending.carried}
 use Rattle.wgsl_model.specs.Tokens.Raw.{Raw, invalid, token, raw}
 use Rattle.wgsl_model.specs.Tokens.Templates.{is_word}
 use Rattle.wgsl_model.specs.Tokens.TokenList.{IsTokenList, place, width}
-use Rattle.wgsl_lexer.specs.Left.{LeftOf, left_nothing, left_fault, left_end, left_start, left_token}
+use Rattle.wgsl_theory_templates.specs.Rest.Left.{LeftOf, left_nothing, left_fault, left_end, left_start, left_token}
 use Rattle.wgsl_lexer.specs.InOrder.{AreInOrder, IsFaultBehind}
 use Rattle.wgsl_theory_grammar.proofs.Tokens.Cuts.{CutsIn, IsCut, raw-cuts, cut_at}
 use Rattle.wgsl_theory_grammar.proofs.Tokens.Widths.{within, past, past_first}

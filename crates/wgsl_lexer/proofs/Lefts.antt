@@ -1,44 +1,21 @@
--- What a lexer has left, by what its rest begins with.
-use Rattle.std.proofs.Common.{◌≡◌, ◌↔◌, ℕ, Bool, true, false, List, [], ◌∷◌, Option, Some, None, Ok, Err, inl, inr, chars, drop, refl, sym, ap, ap₂, subst, ◌∙◌, arith}
-use Rattle.std.proofs.lemmas.Str.{chars-nil}
+-- What is left of a text, by what it begins with, and what a lexer has left.
+use Rattle.std.proofs.Common.{◌≡◌, ◌↔◌, ℕ, Bool, true, false, List, [], ◌∷◌, Option, Some, None, Ok, Err, inl, inr, drop, refl, sym, ap, subst, ◌∙◌, arith}
 use Rattle.grammar.specs.Tokens.{Token, Fault}
-use Rattle.grammar.specs.Endings.{Ending, Ending.finished, Ending.carried}
+use Rattle.grammar.specs.Endings.{Ending, Ending.carried}
 use Rattle.wgsl_model.specs.Tokens.Classes.{SymLessThan, TemplateArgsStart, TemplateArgsEnd}
 use Rattle.wgsl_model.specs.Tokens.Kind.{Kind, plain, placed}
-use Rattle.wgsl_model.specs.Tokens.Raw.{none_left, invalid, token, raw}
-use Rattle.wgsl_model.specs.Tokens.Trivia.{after_trivia}
-use Rattle.wgsl_model.specs.Faults.Kinds.{invalid_token}
+use Rattle.wgsl_model.specs.Tokens.Raw.{token, raw}
 use Rattle.wgsl_model.specs.Tokens.Templates.{is_word}
 use Rattle.wgsl_model.specs.Tokens.TokenList.{IsTokenList, place, width}
-use Rattle.wgsl_lexer.specs.declared.lexer.Lexer.{Lexer}
+use Rattle.wgsl_theory_grammar.proofs.Tokens.Lists.{token_list_unique}
 use Rattle.wgsl_theory_templates.specs.Attempts.{EndsAt, HasNoEnd}
-use Rattle.wgsl_lexer.specs.Left.{IsBeforeEnd, LeftOf, left_nothing, left_fault, left_end, left_start, left_token, IsLeft, HasEnded, HasToken, GivesItem}
-use Rattle.wgsl_lexer.specs.Given.{TokenItem}
+use Rattle.wgsl_theory_templates.specs.Rest.Left.{IsBeforeEnd, LeftOf, left_end, left_start, left_token}
 use Rattle.wgsl_theory_templates.proofs.Swaps.Attempts.{none_begins}
-use Rattle.wgsl_theory_templates.proofs.Rest.LeftTokens.{left_exists, left_unique, some_left, stream, unstream}
-
--- a text with nothing in it has no tokens
-empty_raw : raw [] ≡ none_left
-unfolding after_trivia
-empty_raw = refl
-
--- an empty rest has nothing left
-pub ended : (total : ℕ) (ends : List ℕ) (word : Bool) → LeftOf total ends word (chars []) [] finished
-ended total ends word = left_nothing ends word (chars []) (ap raw chars-nil ∙ empty_raw)
-
--- where the rest begins with no token, nothing is left
-pub nothing_left : (l : Lexer) → raw (chars l.rest.now) ≡ none_left → HasEnded l
-nothing_left l e = left_nothing l.lists l.behind_word (chars l.rest.now) e
-
--- where it begins with an invalid token, that fault is left
-pub fault_left : (l : Lexer) (from after : List ℕ) (start end : ℕ) → raw (chars l.rest.now) ≡ invalid from after → start ≡ place l.total from → end ≡ place l.total after
-    → IsLeft l [] (carried (invalid_token (record { start = start; end = end })))
-fault_left l from after start end e s d =
-    subst (λ x. IsLeft l [] (carried x)) (ap₂ (λ a b. invalid_token (record { start = a; end = b })) (sym s) (sym d)) (left_fault l.lists l.behind_word (chars l.rest.now) from after e)
-
--- where it begins with a token, some token is left
-pub some_token : (l : Lexer) (from after : List ℕ) (kind : Kind) → raw (chars l.rest.now) ≡ token kind from after → HasToken l
-some_token l from after kind r = some_left l.total l.lists l.behind_word (chars l.rest.now) from after kind r
+use Rattle.wgsl_theory_templates.proofs.Rest.LeftTokens.{unstream}
+use Rattle.wgsl_lexer.specs.declared.lexer.Lexer.{Lexer}
+use Rattle.wgsl_lexer.specs.Given.{TokenItem}
+use Rattle.wgsl_lexer.specs.TextTokens.{tokens_left, ending_left}
+use Rattle.wgsl_lexer.specs.Left.{IsLeft, HasEnded, GivesItem}
 
 -- the same token
 same_token : (total : ℕ) (from after : List ℕ) (kind : Kind) (start : ℕ) (same : Kind) (end : ℕ) → start ≡ place total from → end ≡ place total after → same ≡ kind → placed kind (place total from) (place total after) ≡ placed same start end
@@ -74,25 +51,31 @@ pub before_end_of : (total : ℕ) (ends from : List ℕ) (start : ℕ) → start
 before_end_of total [] from start s n = tt
 before_end_of total (end ∷ ends) from start s n = λ same. n ends (ap (λ x. x ∷ ends) (sym (s ∙ same)))
 
+-- tokens that are left of a whole source are its token list
+pub whole_left : (source : List ℕ) (total : ℕ) (ends : List ℕ) → total ≡ width source → ends ≡ [] → (ts : List Token) (e : Ending) → LeftOf total ends false source ts e → IsTokenList source ts e
+whole_left source total ends t n ts e = rw (t, n) (unstream (width source) source ts e (omega arith))
+
+-- ---- what a lexer has left
+-- of a source, its token list alone
+pub source_left : (source : List ℕ) (l : Lexer) → IsTokenList source (tokens_left l.tokens) (ending_left l.tokens) → (ts : List Token) (e : Ending) → IsTokenList source ts e ↔ IsLeft l ts e
+source_left source l whole ts e = (
+  (λ h. token_list_unique source ts (tokens_left l.tokens) e (ending_left l.tokens) h whole),
+  (λ h. subst (λ f. IsTokenList source ts f) (sym h.1) (subst (λ (us : List Token). IsTokenList source us (ending_left l.tokens)) (sym h.0) whole)),
+)
+
 -- where nothing is left, no token is
 no_token : (l : Lexer) (t : Token) (ts : List Token) (e : Ending) → HasEnded l → IsLeft l (t ∷ ts) e → ⊥
-no_token l t ts e h k = let same = (left_unique l.total l.lists l.behind_word (chars l.rest.now) [] (t ∷ ts) finished e h k).0 in cc
+no_token l t ts e h k = let same = h.0 ∙ sym k.0 in cc
 
 -- nor a fault
 no_fault : (l : Lexer) (x : Fault) → HasEnded l → IsLeft l [] (carried x) → ⊥
-no_fault l x h k = let same = (left_unique l.total l.lists l.behind_word (chars l.rest.now) [] [] finished (carried x) h k).1 in cc
+no_fault l x h k = let same = h.1 ∙ sym k.1 in cc
 
 -- where nothing is left, a call of `next` gives nothing and leaves nothing
 pub ended_gives : (old : Lexer) (item : Option TokenItem) (new : Lexer) → HasEnded old → GivesItem old item new → (item ≡ None) × HasEnded new
 ended_gives old None new h g = (refl, g.1)
-ended_gives old (Some (Ok given)) new h g =
-    let m = left_exists new.total new.lists new.behind_word (chars new.rest.now) in
-    absurd (no_token old _ m.0 m.1 h (g m.0 m.1 m.2))
+ended_gives old (Some (Ok given)) new h g = absurd (no_token old _ _ _ h (g (tokens_left new.tokens) (ending_left new.tokens) (refl, refl)))
 ended_gives old (Some (Err x)) new h g = elim g.0 [
   | inl fault ↦ absurd (no_fault old _ h fault)
   | inr refused ↦ absurd (no_token old refused.1.0 refused.1.1 refused.1.2 h refused.1.3)
 ]
-
--- a source is left whole
-pub whole_left : (source : List ℕ) (total : ℕ) (ends : List ℕ) → total ≡ width source → ends ≡ [] → (ts : List Token) (e : Ending) → IsTokenList source ts e ↔ LeftOf total ends false source ts e
-whole_left source total ends t n ts e = rw (t, n) (stream (width source) source ts e (omega arith), unstream (width source) source ts e (omega arith))

@@ -1,5 +1,5 @@
 -- What a lexer has still to give.
-use Rattle.std.specs.Prelude.{◌≡◌, ◌⊎◌, ℕ, List, [], ◌∷◌, chars, length, Option, Some, None, Ok, Err}
+use Rattle.std.specs.Prelude.{◌≡◌, ◌⊎◌, ◌+◌, ℕ, List, [], ◌∷◌, length, Option, Some, None, Ok, Err}
 use Rattle.grammar.specs.Tokens.{Token}
 use Rattle.grammar.specs.Endings.{Ending, Ending.finished, Ending.carried}
 use Rattle.wgsl_model.specs.Tokens.Templates.{Template}
@@ -9,11 +9,11 @@ use Rattle.wgsl_error.specs.declared.ParseError.TheVariants as parse
 use Rattle.wgsl_lexer.specs.declared.lexer.Lexer.{Lexer}
 use Rattle.wgsl_lexer.specs.Placed.{placed_fault}
 use Rattle.wgsl_lexer.specs.Given.{TokenItem}
-pub use Rattle.wgsl_theory_templates.specs.Rest.Left.{IsBeforeEnd, LeftOf, left_nothing, left_fault, left_end, left_start, left_token}
+pub use Rattle.wgsl_lexer.specs.TextTokens.{tokens_left, ending_left}
 
 -- these tokens are left, and this is how they end
 abbrev pub IsLeft : Lexer → List Token → Ending → Type 0
-IsLeft l ts e = LeftOf l.total l.lists l.behind_word (chars l.rest.now) ts e
+IsLeft l ts e = (ts ≡ tokens_left l.tokens) × (e ≡ ending_left l.tokens)
 
 -- nothing is left
 abbrev pub HasEnded : Lexer → Type 0
@@ -29,9 +29,14 @@ GivesItem old None new = HasEnded old × HasEnded new
 GivesItem old (Some (Ok given)) new = (ts : List Token) (e : Ending) → IsLeft new ts e → IsLeft old (token_view given.0 given.1 given.2 ∷ ts) e
 GivesItem old (Some (Err x)) new = (IsLeft old [] (carried (placed_fault x)) ⊎ ((x.1 ≡ parse.OutOfMemory) × HasToken old)) × HasEnded new
 
--- how many bytes of the source are left
-abbrev pub bytes_left : Lexer → ℕ
-bytes_left l = length l.rest.now
+-- how many faults end tokens that end so
+abbrev pub faults_in : Ending → ℕ
+faults_in finished = 0
+faults_in (carried x) = 1
+
+-- how many items are left: tokens, and a fault that ends them
+abbrev pub items_left : Lexer → ℕ
+items_left l = length (tokens_left l.tokens) + faults_in (ending_left l.tokens)
 
 -- the text begins with a template list, where it is a source of its own
 abbrev pub BeginsWithList : List ℕ → Type 0

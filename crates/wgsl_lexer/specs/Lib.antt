@@ -2,7 +2,7 @@ pub mod InOrder
 pub mod Placed
 pub mod Given
 pub mod OpenLists
-pub mod Left
 pub mod Room
 pub mod TextTokens
 pub mod Endings
+pub mod Left

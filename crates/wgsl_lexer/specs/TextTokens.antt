@@ -15,7 +15,7 @@ use Rattle.wgsl_lex_scanner.specs.View.{lexeme_view}
 use Rattle.wgsl_lexer.specs.declared.text_tokens.TextTokens.{TextTokens}
 use Rattle.wgsl_lexer.specs.declared.text_tokens.Next.{Next}
 use Rattle.wgsl_lexer.specs.declared.text_tokens.Next.TheVariants as next
-use Rattle.wgsl_lexer.specs.Left.{LeftOf}
+use Rattle.wgsl_theory_templates.specs.Rest.Left.{LeftOf}
 use Rattle.wgsl_theory_templates.proofs.Rest.LeftTokens.{HasLeft, left_exists}
 
 -- these tokens stand in the text behind what stands next, and this is how they end

@@ -1,38 +1,14 @@
-//! Where the tokens of a text end, and what ends them.
+//! What ends the tokens of a text.
 
-ghost use Rattle.std.specs.Prelude.{◌≡◌, List, chars, IfOk};
+ghost use Rattle.std.specs.Prelude.{◌≡◌, List, chars};
 ghost use Rattle.grammar.specs.Tokens.{Token, last_end};
 ghost use Rattle.grammar.specs.Endings.{Ending};
 ghost use Rattle.wgsl_model.specs.Tokens.Raw.{raw};
 ghost use Rattle.wgsl_model.specs.Tokens.TokenList.{IsTokenList};
-ghost use Rattle.wgsl_lexer.specs.TextTokens.{tokens_left};
 ghost use Rattle.wgsl_lexer.specs.Endings.{IsInvalidAt, ending_with};
 
-use crate::text_tokens::TextTokens;
-use std::alloc::{AllocError, Global};
 use wgsl_lex_scanner::scan::{Scanned, place, scan};
 use wgsl_span::Span;
-
-/// Where the last token of a text ends, or 0 where there is none.
-pub fn end_of_tokens(alloc: Global, source: &str) -> Result<usize, AllocError>
-    ensures { IfOk result (λ place. (ts : List Token) (e : Ending) →
-        IsTokenList (chars source.now) ts e → place ≡ last_end 0 ts) }
-{
-    Ok(last_end(TextTokens::new(alloc, source)?))
-}
-
-/// Where the last of the tokens that are left ends, or 0 where there is none.
-fn last_end(tokens: TextTokens) -> usize
-    ensures { result ≡ last_end 0 (tokens_left tokens.entry) }
-{
-    let mut tokens = tokens;
-    let mut end = 0;
-    'tokens: while let Some(span) = tokens.span() {
-        end = span.end;
-        tokens.skip();
-    }
-    end
-}
 
 /// The invalid token at the front of the end of a text of so many bytes, if one stands there.
 fn invalid_at(total: usize, text: &str) -> Option<Span>

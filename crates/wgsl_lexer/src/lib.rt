@@ -5,13 +5,12 @@ mod collect;
 mod ending;
 mod ends;
 mod lexer;
-mod open_lists;
 mod source;
 mod text_tokens;
 mod token_iterator;
 
 pub use collect::{Collected, collect_tokens};
-pub use ending::{end_of_tokens, invalid_behind};
+pub use ending::invalid_behind;
 pub use lexer::Lexer;
 pub use source::{lex, recognize_template_list};
 pub use text_tokens::TextTokens;

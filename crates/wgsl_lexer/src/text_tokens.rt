@@ -50,13 +50,14 @@ pub struct TextTokens<'s> {
 impl<'s> TextTokens<'s> {
     ghost use Rattle.std.specs.Prelude.{◌≡◌, ◌<◌, List, [], drop, true, IfOk, IfSome, MatchOption, Some, None};
     ghost use Rattle.grammar.specs.Tokens as grammar;
-    ghost use Rattle.grammar.specs.Endings.{Ending};
+    ghost use Rattle.grammar.specs.Endings.{Ending, Ending.finished};
     ghost use Rattle.wgsl_model.specs.Tokens.Classes.{SymLessThan};
     ghost use Rattle.wgsl_model.specs.Tokens.Raw.{raw, Raw.token};
     ghost use Rattle.wgsl_model.specs.Tokens.TokenList.{IsTokenList, place};
     ghost use Rattle.wgsl_lex_token.specs.View.{class_of_kind};
     ghost use Rattle.wgsl_lex_scanner.specs.View.{lexeme_view};
     ghost use Rattle.wgsl_lex_templates.specs.Spans.{end_from};
+    ghost use Rattle.wgsl_lexer.specs.Endings.{ending_with};
     ghost use Rattle.wgsl_lexer.specs.TextTokens.{AreBehind, has_left, from_next, IsToken, tokens_left, ending_left, StartWithKind, BeginAt, BeginWithName, IsTaken};
 
     pub fn new(alloc: Global, source: &'s str) -> Result<TextTokens<'s>, AllocError>
@@ -164,6 +165,24 @@ impl<'s> TextTokens<'s> {
         let token = lexeme.to_token(self.alloc)?;
         self.go_on();
         Ok(Some(PlacedToken { token, span }))
+    }
+
+    /// The text that is no token and ends the tokens, if no token is left and there is such text.
+    pub fn invalid(&self) -> Option<Span>
+        ensures { tokens_left self.now ≡ [] → ending_left self.now ≡ ending_with result }
+    {
+        match self.next {
+            Next::Invalid(span) => Some(span),
+            Next::Token { .. } | Next::NoneLeft => None,
+        }
+    }
+
+    /// Passes over all that is left, and over what ends it.
+    pub(crate) fn finish(&mut self)
+        ensures left { tokens_left self.new ≡ [] }
+        ensures ending { ending_left self.new ≡ finished }
+    {
+        self.next = Next::NoneLeft;
     }
 
     /// Goes on behind the next token, if there is one.

@@ -3,7 +3,7 @@ use Rattle.std.proofs.Common.{◌≡◌, ℕ, Bool, true, false, cond, List, [],
 use Rattle.grammar.specs.Tokens as plain
 use Rattle.grammar.specs.Grammar.{Grammar.symbol}
 use Rattle.grammar.specs.Notation.{◌gives◌}
-use Rattle.grammar.specs.States.{State, Read, done, stop, ◌>>=◌, refused, is_at, first_of, after, take, next_start, judged, span_from}
+use Rattle.grammar.specs.States.{State, Read, done, stop, ◌>>=◌, refused_at, refused, is_at, first_of, after, take, next_start, judged, span_from}
 use Rattle.grammar.proofs.States.{turns_are, shortens}
 use Rattle.wgsl_model.specs.Tokens.Classes.{SymAttr}
 use Rattle.wgsl_model.specs.Faults.Kinds.{invalid_attribute}
@@ -35,13 +35,13 @@ pub attribute_parts_is : (s : State) → attribute_parts_at s
 unfolding attribute_parts_at attribute_name_at optional_arguments_at
 attribute_parts_is s = refl
 
-after_taken : (b : Bool) (left behind s' : State) (t u : plain.Token) → cond b (done t behind) (refused left.rest) ≡ done u s' → behind ≡ s'
+after_taken : (b : Bool) (left behind s' : State) (t u : plain.Token) → cond b (done t behind) (refused left) ≡ done u s' → behind ≡ s'
 after_taken true left behind s' t u h = cc
-after_taken false left behind s' t u h = absurd (none_taken left.rest s' u h)
+after_taken false left behind s' t u h = absurd (none_taken left.end left.rest s' u h)
   where
-    none_taken : (ts : List plain.Token) (s' : State) (u : plain.Token) → refused ts ≡ done u s' → ⊥
-    none_taken [] s' u h = cc
-    none_taken (t ∷ ts) s' u h = cc
+    none_taken : (end : ℕ) (ts : List plain.Token) (s' : State) (u : plain.Token) → refused_at end ts ≡ done u s' → ⊥
+    none_taken end [] s' u h = cc
+    none_taken end (t ∷ ts) s' u h = cc
 
 -- what is left behind a token that was taken
 pub taken_is : (c : ℕ) (s s' : State) (t : plain.Token) → take c s ≡ done t s' → after s ≡ s'

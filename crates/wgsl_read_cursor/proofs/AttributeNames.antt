@@ -32,7 +32,7 @@ unfolding attribute_name_at is_at first_of after one_from
 attribute_name_is end t ts = ap (λ (b : Bool). named end t ts (cond (eqb t.class Ident) true (cond (eqb t.class ReservedWord) true b))) (from_to KwAlias (Ident - suc KwAlias) t.class)
 
 -- at the end there is no name
-pub no_attribute_name : (end : ℕ) → attribute_name_at (record { end = end; rest = [] }) ≡ stop ended
+pub no_attribute_name : (end : ℕ) → attribute_name_at (record { end = end; rest = [] }) ≡ stop (ended end)
 unfolding attribute_name_at is_at
 no_attribute_name end = refl
 

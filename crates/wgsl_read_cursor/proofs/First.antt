@@ -1,5 +1,6 @@
 -- The first of the tokens that are left.
 use Rattle.std.proofs.Common.{◌≡◌, ◌↔◌, ℕ, ◌<◌, true, false, List, [], ◌∷◌, length, eqb, ap, ap₂, sym, refl, IsTrue, Option, Some, None, arith}
+use Rattle.std.proofs.lemmas.Bool.{eq-eqb}
 use Rattle.std.specs.Prelude.{drop, is_none, option_map, MatchOption}
 use Rattle.grammar.specs.Tokens.{Token}
 use Rattle.grammar.specs.States.{is_first, first_start, behind}
@@ -15,6 +16,12 @@ kind_known [] None h = refl
 kind_known [] (Some kind) h = absurd h
 kind_known (t ∷ ts) None h = absurd cc
 kind_known (t ∷ ts) (Some kind) h = ap (λ (c : ℕ). Some c) (sym h)
+
+pub known_kind : (ts : List Token) (next : Option TokenKind) → option_map class_of_kind next ≡ first_class ts → MatchOption next (ts ≡ []) (λ kind. is_first (class_of_kind kind) ts ≡ true)
+known_kind [] None h = refl
+known_kind [] (Some kind) h = absurd cc
+known_kind (t ∷ ts) None h = absurd cc
+known_kind (t ∷ ts) (Some kind) h = eq-eqb t.class (class_of_kind kind) cc
 
 -- whether there is none
 pub none_known : (ts : List Token) (next : Option TokenKind) → option_map class_of_kind next ≡ first_class ts → IsTrue (is_none next) ↔ (ts ≡ [])

@@ -1,4 +1,3 @@
-pub mod Lasts
 pub mod Behind
 pub mod Origins
 pub mod Seen

@@ -29,16 +29,16 @@ end_fault (carried x) place = x
 abbrev pub IsRefusalOf : Token → Ending → Error → Type 0
 IsRefusalOf t ending e = ((t ≡ opening) → wants_memory ending ≡ false) × (fault_view e ≡ unexpected_token t)
 
--- the error that is told of what was refused, where the tokens ended so and the last of them at a place
-abbrev pub IsToldOfRefusal : Refusal → Ending → ℕ → Error → Type 0
-IsToldOfRefusal (refusal.UnexpectedToken t expected) ending place e = IsRefusalOf (placed_view t) ending e
-IsToldOfRefusal (refusal.UnexpectedEnd expected) ending place e = fault_view e ≡ end_fault ending place
-IsToldOfRefusal (refusal.Checked x) ending place e = e ≡ x
+-- the error that is told of what was refused, where the tokens ended so
+abbrev pub IsToldOfRefusal : Refusal → Ending → Error → Type 0
+IsToldOfRefusal (refusal.UnexpectedToken t expected) ending e = IsRefusalOf (placed_view t) ending e
+IsToldOfRefusal (refusal.UnexpectedEnd place expected) ending e = fault_view e ≡ end_fault ending place
+IsToldOfRefusal (refusal.Checked x) ending e = e ≡ x
 
--- the error that is told of why tokens could not be read, where they ended so and the last of them at a place
-abbrev pub IsToldOf : declared.Fault → Ending → ℕ → Error → Type 0
-IsToldOf (fault.Refused refusal) ending place e = IsToldOfRefusal refusal.value ending place e
-IsToldOf fault.OutOfMemory ending place e = ⊥
+-- the error that is told of why tokens could not be read, where they ended so
+abbrev pub IsToldOf : declared.Fault → Ending → Error → Type 0
+IsToldOf (fault.Refused refusal) ending e = IsToldOfRefusal refusal.value ending e
+IsToldOf fault.OutOfMemory ending e = ⊥
 
 -- what is told of a value behind which these tokens are left
 abbrev pub IsToldBehind : List Token → Ending → Error → Type 0
@@ -47,11 +47,11 @@ IsToldBehind [] (carried x) e = fault_view e ≡ x
 IsToldBehind (t ∷ ts) ending e = IsRefusalOf t ending e
 
 -- what is answered of what was returned: the value, where no token is left behind it and the tokens ended of themselves; else an error that is told of it, unless memory ran out
-abbrev pub IsAnsweredOf : {T : Type 0} → Result T declared.Fault → State → Ending → ℕ → Result T Error → Type 0
-IsAnsweredOf (Ok v) left ending place (Ok w) = (w ≡ v) × (left.rest ≡ []) × (ending ≡ finished)
-IsAnsweredOf (Ok v) left ending place (Err e) = IsOutOfMemory e ⊎ IsToldBehind left.rest ending e
-IsAnsweredOf (Err x) left ending place (Ok w) = ⊥
-IsAnsweredOf (Err x) left ending place (Err e) = IsOutOfMemory e ⊎ IsToldOf x ending place e
+abbrev pub IsAnsweredOf : {T : Type 0} → Result T declared.Fault → State → Ending → Result T Error → Type 0
+IsAnsweredOf (Ok v) left ending (Ok w) = (w ≡ v) × (left.rest ≡ []) × (ending ≡ finished)
+IsAnsweredOf (Ok v) left ending (Err e) = IsOutOfMemory e ⊎ IsToldBehind left.rest ending e
+IsAnsweredOf (Err x) left ending (Ok w) = ⊥
+IsAnsweredOf (Err x) left ending (Err e) = IsOutOfMemory e ⊎ IsToldOf x ending e
 
 -- what is answered, seen by view, unless memory ran out
 abbrev pub Answered : {X Y : Type 0} → (X → Y) → Result X Error → Answer Y → Type 0

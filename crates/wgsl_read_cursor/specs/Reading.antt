@@ -16,14 +16,14 @@ use Rattle.wgsl_read_cursor.specs.declared.fault.Fault.TheVariants as fault
 abbrev pub state : Cursor → State
 state c = record { end = c.end; rest = rest_of c.tokens }
 
--- the first of some tokens, whatever it is
-abbrev pub first_token : List Token → Read Token
-first_token [] = stop ended
-first_token (t ∷ ts) = done t (record { end = t.end; rest = ts })
+-- the first of some tokens, whatever it is, where the last one that was taken ended at a place
+abbrev pub first_token : ℕ → List Token → Read Token
+first_token end [] = stop (ended end)
+first_token end (t ∷ ts) = done t (record { end = t.end; rest = ts })
 
 -- the next token, whatever it is
 unfoldable pub token_at : State → Read Token
-token_at s = first_token s.rest
+token_at s = first_token s.end s.rest
 
 -- from a place to the end of the last token that was taken
 abbrev pub span_back : ℕ → State → Span
@@ -32,7 +32,7 @@ span_back start s = record { start = start; end = s.end }
 -- what was refused
 unfoldable pub refusal_stop : Refusal → Stop
 refusal_stop (refusal.UnexpectedToken t expected) = unexpected (placed_view t)
-refusal_stop (refusal.UnexpectedEnd expected) = ended
+refusal_stop (refusal.UnexpectedEnd place expected) = ended place
 refusal_stop (refusal.Checked e) = faulty (fault_view e)
 
 -- why reading stopped

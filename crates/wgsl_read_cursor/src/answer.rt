@@ -1,7 +1,7 @@
 //! What is answered of what was read of all tokens.
 
 ghost use Rattle.std.specs.Prelude.{List};
-ghost use Rattle.grammar.specs.Tokens.{Token, last_end};
+ghost use Rattle.grammar.specs.Tokens.{Token};
 ghost use Rattle.grammar.specs.Endings.{Ending};
 ghost use Rattle.wgsl_read_cursor.specs.Reading.{state};
 ghost use Rattle.wgsl_read_cursor.specs.Answers.{IsAnsweredOf};
@@ -22,7 +22,7 @@ impl TokenSource<'_> {
     ) -> Result<T, Error>
         ensures { (ts : List Token) (ending : Ending) → AreOf self.entry.origin ts ending →
             IsReadTo self.entry.origin read (state self.entry.tokens) ts →
-            IsAnsweredOf read (state self.entry.tokens) ending (last_end 0 ts) result }
+            IsAnsweredOf read (state self.entry.tokens) ending result }
     {
         let TokenSource { mut tokens, origin } = self;
         let value = match read {

@@ -34,7 +34,7 @@ pub struct Cursor<'s> {
 }
 
 impl<'s> Cursor<'s> {
-    ghost use Rattle.std.specs.Prelude.{◌↔◌, ◌<◌, [], length, map, OnOk, IfOk, IsTrue, if◌then◌else◌, string_bytes};
+    ghost use Rattle.std.specs.Prelude.{◌↔◌, ◌<◌, true, [], length, map, MatchOption, OnOk, IfOk, IsTrue, if◌then◌else◌, string_bytes};
     ghost use Rattle.grammar.specs.States.{is_at, next_start, first_of, after, take, refused};
     ghost use Rattle.wgsl_model.specs.Grammar.TokenValues.{text_of};
     ghost use Rattle.wgsl_model.specs.Grammar.Symbols.{Symbol.ident};
@@ -102,6 +102,15 @@ impl<'s> Cursor<'s> {
         ensures { IsTrue result ↔ ((state self.now).rest ≡ []) }
     {
         self.next.is_none()
+    }
+
+    /// Which token stands next, if one does.
+    #[inline]
+    pub fn kind(&self) -> Option<TokenKind>
+        ensures { MatchOption result ((state self.now).rest ≡ [])
+            (λ kind. is_at (class_of_kind kind) (state self.now) ≡ true) }
+    {
+        self.next
     }
 
     /// Whether the next token is of a kind.
@@ -196,11 +205,11 @@ impl<'s> Cursor<'s> {
 
     /// Takes the next token, which can't stand here, as the fault; or the fault is that there is none.
     pub fn refuse(&mut self, expected: Expected) -> Fault
-        ensures { Fails result (refused {A = Token} (state self.old).rest) }
+        ensures { Fails result (refused {A = Token} (state self.old)) }
     {
         match self.take() {
             Ok(Some(next)) => Fault::unexpected_token(self.alloc, next, expected),
-            Ok(None) => Fault::unexpected_end(self.alloc, expected),
+            Ok(None) => Fault::unexpected_end(self.alloc, self.end, expected),
             Err(error) => Fault::from(error),
         }
     }
@@ -210,7 +219,7 @@ impl<'s> Cursor<'s> {
         ensures { Parses placed_view result self.old self.new token_at }
     {
         match self.take()? {
-            None => Err(Fault::unexpected_end(self.alloc, expected)),
+            None => Err(Fault::unexpected_end(self.alloc, self.end, expected)),
             Some(token) => {
                 self.end = token.span.end;
                 Ok(token)
@@ -245,7 +254,11 @@ impl<'s> Cursor<'s> {
             (length (state self.new).rest < length (state self.old).rest) }
     {
         match self.take()? {
-            None => Err(Fault::unexpected_end(self.alloc, Expected::One(TokenKind::Ident))),
+            None => Err(Fault::unexpected_end(
+                self.alloc,
+                self.end,
+                Expected::One(TokenKind::Ident),
+            )),
             Some(PlacedToken { token, span }) => match token {
                 Token::Ident(name) => {
                     self.end = span.end;
@@ -276,7 +289,7 @@ impl<'s> Cursor<'s> {
             (length (state self.new).rest < length (state self.old).rest) }
     {
         match self.take()? {
-            None => Err(Fault::unexpected_end(self.alloc, Expected::ATTRIBUTE_NAME)),
+            None => Err(Fault::unexpected_end(self.alloc, self.end, Expected::ATTRIBUTE_NAME)),
             Some(PlacedToken { token, span }) => {
                 let word = match token {
                     Token::Ident(name) | Token::ReservedWord(name) => Word::Held(name),

@@ -13,7 +13,8 @@ use wgsl_lex_token::placed::PlacedToken;
 #[derive(Drop)]
 pub enum Refusal {
     UnexpectedToken(PlacedToken, Expected),
-    UnexpectedEnd(Expected),
+    /// No token was left, and the last one that was taken ended at the place.
+    UnexpectedEnd { place: usize, expected: Expected },
     /// What a check of the grammar found.
     Checked(Error),
 }
@@ -39,12 +40,12 @@ impl Fault {
         Fault::refused(alloc, Refusal::UnexpectedToken(token, expected))
     }
 
-    /// The fault of tokens that end too early.
+    /// The fault of tokens that end too early, the last of them at a place.
     #[inline(never)]
-    pub(crate) fn unexpected_end(alloc: Global, expected: Expected) -> Fault
-        ensures { Tells result ended }
+    pub(crate) fn unexpected_end(alloc: Global, place: usize, expected: Expected) -> Fault
+        ensures { Tells result (ended place) }
     {
-        Fault::refused(alloc, Refusal::UnexpectedEnd(expected))
+        Fault::refused(alloc, Refusal::UnexpectedEnd { place, expected })
     }
 
     /// The fault of what a check of the grammar found.

@@ -16,5 +16,5 @@ pub use cursor::Cursor;
 pub use expected::Expected;
 pub use fault::{Fault, Refusal};
 pub use lists::add;
-pub use source::{TokenSource, is_out_of_memory, last_end};
+pub use source::{TokenSource, is_out_of_memory};
 pub use word::Word;

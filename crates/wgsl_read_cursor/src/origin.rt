@@ -10,30 +10,27 @@ use crate::{Expected, Fault, Refusal};
 use std::alloc::{AllocError, Global};
 use wgsl_error::{Error, ParseError};
 use wgsl_lex_token::placed::PlacedToken;
-use wgsl_lexer::{end_of_tokens, invalid_behind};
+use wgsl_lexer::invalid_behind;
 use wgsl_span::Span;
 
 /// Where tokens are from.
 #[derive(Drop)]
 pub enum Origin<'s> {
     Text(&'s str),
-    /// An iterator: the error that it gave behind them if there was one, and where the last of them ends.
-    Given {
-        error: Option<(usize, ParseError, usize)>,
-        place: usize,
-    },
+    /// An iterator, with the error that it gave after them if there was one.
+    Given(Option<(usize, ParseError, usize)>),
 }
 
 impl Origin<'_> {
     ghost use Rattle.std.specs.Prelude.{false};
-    ghost use Rattle.grammar.specs.Tokens.{Token, last_end};
+    ghost use Rattle.grammar.specs.Tokens.{Token};
     ghost use Rattle.grammar.specs.Endings.{Ending};
     ghost use Rattle.wgsl_model.specs.Faults.Checked.{wants_memory};
     ghost use Rattle.wgsl_theory_grammar.specs.Answers.{opening};
     ghost use Rattle.wgsl_error.specs.View.{fault_view};
     ghost use Rattle.wgsl_lex_token.specs.Placed.{placed_view};
     ghost use Rattle.wgsl_read_cursor.specs.Answers.{IsToldOf, IsToldOfRefusal, end_fault};
-    ghost use Rattle.wgsl_read_cursor.specs.Origins.{AreOf, IsLastOf};
+    ghost use Rattle.wgsl_read_cursor.specs.Origins.{AreOf, IsLastOf, IsFaultOf, IsRefusedOf};
 
     /// Whether memory was refused for a token.
     fn is_out_of_memory(&self) -> bool
@@ -42,7 +39,7 @@ impl Origin<'_> {
     {
         match self {
             Origin::Text(_) => false,
-            Origin::Given { error, .. } => is_out_of_memory(error),
+            Origin::Given(error) => is_out_of_memory(error),
         }
     }
 
@@ -57,17 +54,6 @@ impl Origin<'_> {
         is_opening(token)
     }
 
-    /// Where the last token ends, or 0 where there is none. The tokens of a text are gone through for it.
-    fn last_end(&self, alloc: Global) -> Result<usize, AllocError>
-        ensures { IfOk result (λ place. (ts : List Token) (ending : Ending) →
-            AreOf self.now ts ending → place ≡ last_end 0 ts) }
-    {
-        match self {
-            Origin::Text(source) => end_of_tokens(alloc, source),
-            Origin::Given { place, .. } => Ok(*place),
-        }
-    }
-
     /// The error that ended the tokens if there was one, where the last of them ends at the place.
     pub(crate) fn error(self, place: usize) -> Option<(usize, ParseError, usize)>
         ensures { (ts : List Token) (ending : Ending) → AreOf self.entry ts ending →
@@ -75,16 +61,22 @@ impl Origin<'_> {
     {
         match self {
             Origin::Text(source) => invalid_token(invalid_behind(source, place)),
-            Origin::Given { error, .. } => error,
+            Origin::Given(error) => error,
         }
     }
 
-    /// The error of tokens that end too early: the one that ended them, or else that a token is missing.
-    fn unexpected_end(self, alloc: Global, expected: Expected) -> Result<Error, AllocError>
+    /// The error of tokens that end too early, the last of them at a place: the one that ended
+    /// them, or else that a token is missing.
+    fn unexpected_end(
+        self,
+        alloc: Global,
+        place: usize,
+        expected: Expected,
+    ) -> Result<Error, AllocError>
         ensures { IfOk result (λ e. (ts : List Token) (ending : Ending) →
-            AreOf self.entry ts ending → fault_view e ≡ end_fault ending (last_end 0 ts)) }
+            AreOf self.entry ts ending → IsLastOf self.entry place ts →
+            fault_view e ≡ end_fault ending place) }
     {
-        let place = self.last_end(alloc)?;
         match self.error(place) {
             Some(error) => Ok(Error::from(error)),
             None => unexpected_end(alloc, place, expected),
@@ -94,7 +86,8 @@ impl Origin<'_> {
     /// The error of what stopped a parse function.
     pub(crate) fn name(self, alloc: Global, fault: Fault) -> Result<Error, AllocError>
         ensures { IfOk result (λ e. (ts : List Token) (ending : Ending) →
-            AreOf self.entry ts ending → IsToldOf fault ending (last_end 0 ts) e) }
+            AreOf self.entry ts ending → IsFaultOf self.entry fault ts →
+            IsToldOf fault ending e) }
     {
         match fault {
             Fault::Refused(refusal) => self.name_refusal(alloc, Box::into_inner(refusal)),
@@ -105,7 +98,8 @@ impl Origin<'_> {
     /// The error of what was refused.
     fn name_refusal(self, alloc: Global, refusal: Refusal) -> Result<Error, AllocError>
         ensures { IfOk result (λ e. (ts : List Token) (ending : Ending) →
-            AreOf self.entry ts ending → IsToldOfRefusal refusal ending (last_end 0 ts) e) }
+            AreOf self.entry ts ending → IsRefusedOf self.entry refusal ts →
+            IsToldOfRefusal refusal ending e) }
     {
         match refusal {
             Refusal::UnexpectedToken(token, expected) => {
@@ -114,7 +108,9 @@ impl Origin<'_> {
                 }
                 unexpected_token(alloc, token, expected)
             }
-            Refusal::UnexpectedEnd(expected) => self.unexpected_end(alloc, expected),
+            Refusal::UnexpectedEnd { place, expected } => {
+                self.unexpected_end(alloc, place, expected)
+            }
             Refusal::Checked(error) => Ok(error),
         }
     }

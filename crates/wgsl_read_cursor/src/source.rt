@@ -1,7 +1,6 @@
 //! The tokens that are to be read, and where they are from.
 
-ghost use Rattle.std.specs.Prelude.{◌≡◌, map, IfOk, IsTrue};
-ghost use Rattle.grammar.specs.Tokens.{last_end};
+ghost use Rattle.std.specs.Prelude.{◌≡◌, IfOk, IsTrue};
 ghost use Rattle.wgsl_model.specs.Faults.Checked.{wants_memory};
 ghost use Rattle.wgsl_lex_token.specs.Placed.{placed_view};
 ghost use Rattle.wgsl_lexer.specs.Placed.{ending_view};
@@ -10,7 +9,6 @@ ghost use Rattle.wgsl_theory_grammar.specs.Answers.{opening};
 use crate::Cursor;
 use crate::origin::Origin;
 use std::alloc::{AllocError, Global};
-use std::collections::VecDeque;
 use wgsl_error::ParseError;
 use wgsl_lex_token::placed::PlacedToken;
 use wgsl_lex_token::token::Token;
@@ -70,25 +68,13 @@ impl<'s> TokenSource<'s> {
             IsSourceOf source (tokens_view found) (ending_view found.error)) }
     {
         let Collected { mut tokens, error } = found;
-        let place = last_end(&tokens);
         if is_out_of_memory(&error) {
             tokens.push_back(opening())?;
         }
         Ok(TokenSource {
             tokens: Cursor::new(tokens),
-            origin: Origin::Given { error, place },
+            origin: Origin::Given(error),
         })
-    }
-}
-
-/// Where the last token ends, or 0 where there is none.
-#[tactic(auto, using(crate::proofs::Lasts::last_is))]
-pub fn last_end(tokens: &VecDeque<PlacedToken>) -> usize
-    ensures { result ≡ last_end 0 (map placed_view tokens.now.items) }
-{
-    match tokens.back() {
-        Some(last) => last.span.end,
-        None => 0,
     }
 }
 

@@ -2,7 +2,7 @@
 use Rattle.std.proofs.Common.{◌≡◌, ℕ, true, false, cond, eqb, List, [], ◌∷◌, inl, inr, refl, sym, ap, ap₂, subst, ◌∙◌}
 use Rattle.std.specs.Prelude.{Option, Some, None}
 use Rattle.grammar.specs.Tokens.{Token, Span, Fault}
-use Rattle.grammar.specs.States.{State, Read, Read.done, Read.stop, Stop.faulty, ◌>>=◌, is_first, is_at, is_any, head_of, behind, first_start, first_of, after, next_start, span_from, take, refused, judged}
+use Rattle.grammar.specs.States.{State, Read, Read.done, Read.stop, Stop.faulty, ◌>>=◌, is_first, is_at, is_any, head_of, behind, first_start, first_of, after, next_start, span_from, take, refused_at, refused, judged}
 use Rattle.grammar.proofs.Reading.Sets.{cases}
 use Rattle.grammar.proofs.Reading.Beginnings.{cond_yes, cond_no}
 use Rattle.wgsl_model.specs.Tokens.Classes.{SymParenLeft, KwDiagnostic, Ident, ReservedWord}
@@ -29,18 +29,18 @@ unknown : (text : List ℕ) → ((severity : DiagnosticSeverity) → ¬ (text �
 unknown = unnamed severity_text severities refl
 
 -- ---- tokens that were taken
-refused_not_done : {A : Type 0} (ts : List Token) (f : Token → State → Read A) (a : A) (s : State) → ¬ ((refused ts >>= f) ≡ done a s)
-refused_not_done [] f a s e = absurd cc
-refused_not_done (t ∷ ts) f a s e = absurd cc
+refused_not_done : {A : Type 0} (end : ℕ) (ts : List Token) (f : Token → State → Read A) (a : A) (s : State) → ¬ ((refused_at end ts >>= f) ≡ done a s)
+refused_not_done end [] f a s e = absurd cc
+refused_not_done end (t ∷ ts) f a s e = absurd cc
 
 -- the state behind a token that was taken
 taken : (class : ℕ) (s : State) (t : Token) (s' : State) → take class s ≡ done t s' → s' ≡ after s
 unfolding take
 taken class s t s' e = elim (cases (is_at class s)) [
-  | inl y ↦ let q = sym (cond_yes {A = Read Token} (is_at class s) (done (first_of s) (after s)) (refused s.rest) y) ∙ e in cc
+  | inl y ↦ let q = sym (cond_yes {A = Read Token} (is_at class s) (done (first_of s) (after s)) (refused s) y) ∙ e in cc
   | inr n ↦
-      let q = sym (cond_no {A = Read Token} (is_at class s) (done (first_of s) (after s)) (refused s.rest) n) ∙ e in
-      absurd (refused_not_done s.rest (λ u v. done u v) t s' (ap (λ (m : Read Token). m >>= λ u v. done u v) q))
+      let q = sym (cond_no {A = Read Token} (is_at class s) (done (first_of s) (after s)) (refused s) n) ∙ e in
+      absurd (refused_not_done s.end s.rest (λ u v. done u v) t s' (ap (λ (m : Read Token). m >>= λ u v. done u v) q))
 ]
 
 head_start : (ts : List Token) → (head_of ts).start ≡ first_start ts
@@ -73,11 +73,11 @@ ident_read s t s' e =
     let at_name = is_any (Ident ∷ ReservedWord ∷ []) s in
     elim (cases at_name) [
       | inl y ↦
-          let q = judged_done _ (first_of s) (after s) t s' (sym (step (of ident) s ∙ ap (λ (m : Read Token). m >>= check) (cond_yes {A = Read Token} at_name (done (first_of s) (after s)) (refused s.rest) y)) ∙ e) in (
+          let q = judged_done _ (first_of s) (after s) t s' (sym (step (of ident) s ∙ ap (λ (m : Read Token). m >>= check) (cond_yes {A = Read Token} at_name (done (first_of s) (after s)) (refused s) y)) ∙ e) in (
             subst (λ (u : Token). eqb u.class ReservedWord ≡ false) q.1 (unreserved_class (first_of s) (span_from (next_start s) (after s)) q.0),
             ap span_of_token (sym q.1) ∙ first_span s y ∙ ap (span_from (next_start s)) q.2,
           )
-      | inr n ↦ absurd (refused_not_done s.rest check t s' (sym (step (of ident) s ∙ ap (λ (m : Read Token). m >>= check) (cond_no {A = Read Token} at_name (done (first_of s) (after s)) (refused s.rest) n)) ∙ e))
+      | inr n ↦ absurd (refused_not_done s.end s.rest check t s' (sym (step (of ident) s ∙ ap (λ (m : Read Token). m >>= check) (cond_no {A = Read Token} at_name (done (first_of s) (after s)) (refused s) n)) ∙ e))
     ]
 
 -- ---- the check

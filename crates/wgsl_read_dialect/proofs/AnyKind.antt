@@ -3,7 +3,7 @@ use Rattle.std.proofs.Common.{◌≡◌, ℕ, ◌+◌, ◌<◌, ◌≤◌, Bool,
 use Rattle.std.specs.List.{list_any}
 use Rattle.std.proofs.lemmas.List.{drop_all}
 use Rattle.grammar.specs.Tokens.{Token}
-use Rattle.grammar.specs.States.{State, Read, Read.done, first_of, after, refused, is_at, is_any, take, take_any}
+use Rattle.grammar.specs.States.{State, Read, Read.done, first_of, after, refused_at, refused, is_at, is_any, take, take_any}
 use Rattle.wgsl_lex_token.specs.declared.kind.TokenKind.{TokenKind}
 use Rattle.wgsl_lex_token.specs.View.{class_of_kind, classes}
 use Rattle.wgsl_read_cursor.specs.declared.fault.Fault.{Fault}
@@ -28,15 +28,15 @@ any_is (kind ∷ (next ∷ kinds)) s =
 -- a kind that the next token is not of
 pub skipped : (c : ℕ) (cs : List ℕ) (s : State) → is_at c s ≡ false → take_any (c ∷ cs) s ≡ take_any cs s
 unfolding take
-skipped c [] s e = ap (λ (x : Bool). cond x (done (first_of s) (after s)) (refused s.rest)) e
-skipped c (d ∷ []) s e = ap (λ (x : Bool). cond (cond x true (is_at d s)) (done (first_of s) (after s)) (refused s.rest)) e
-skipped c (d ∷ (b ∷ cs)) s e = ap (λ (x : Bool). cond (cond x true (is_any (d ∷ (b ∷ cs)) s)) (done (first_of s) (after s)) (refused s.rest)) e
+skipped c [] s e = ap (λ (x : Bool). cond x (done (first_of s) (after s)) (refused s)) e
+skipped c (d ∷ []) s e = ap (λ (x : Bool). cond (cond x true (is_at d s)) (done (first_of s) (after s)) (refused s)) e
+skipped c (d ∷ (b ∷ cs)) s e = ap (λ (x : Bool). cond (cond x true (is_any (d ∷ (b ∷ cs)) s)) (done (first_of s) (after s)) (refused s)) e
 
 -- the kind that it is of
 pub taken : (c : ℕ) (cs : List ℕ) (s : State) → is_at c s ≡ true → take_any (c ∷ cs) s ≡ done (first_of s) (after s)
 unfolding take
-taken c [] s e = ap (λ (x : Bool). cond x (done (first_of s) (after s)) (refused s.rest)) e
-taken c (d ∷ cs) s e = ap (λ (x : Bool). cond (cond x true (is_any (d ∷ cs) s)) (done (first_of s) (after s)) (refused s.rest)) e
+taken c [] s e = ap (λ (x : Bool). cond x (done (first_of s) (after s)) (refused s)) e
+taken c (d ∷ cs) s e = ap (λ (x : Bool). cond (cond x true (is_any (d ∷ cs) s)) (done (first_of s) (after s)) (refused s)) e
 
 -- the kind at a place, and those behind it
 at_place : (kinds : List TokenKind) (i : ℕ) (d : TokenKind) → i < length kinds → classes (drop i kinds) ≡ class_of_kind (get_or kinds i d) ∷ classes (drop (i + 1) kinds)
@@ -50,7 +50,7 @@ pub this_kind : (kinds : List TokenKind) (i : ℕ) (d : TokenKind) (s : State) �
     → take_any (classes (drop i kinds)) s ≡ done (first_of s) (after s)
 this_kind kinds i d s h e = ap (λ (cs : List ℕ). take_any cs s) (at_place kinds i d h) ∙ taken _ _ s e
 
-pub no_kind : (kinds : List TokenKind) (i : ℕ) (s : State) → length kinds ≤ i → take_any (classes (drop i kinds)) s ≡ refused s.rest
+pub no_kind : (kinds : List TokenKind) (i : ℕ) (s : State) → length kinds ≤ i → take_any (classes (drop i kinds)) s ≡ refused s
 no_kind kinds i s h = ap (λ (xs : List TokenKind). take_any (classes xs) s) (drop_all i kinds h)
 
 -- what fails, with its value forgotten
@@ -58,6 +58,9 @@ pub fails_forgotten : {A : Type 0} (e : Fault) (m : Read A) → Fails e m → Fa
 fails_forgotten (fault.Refused refusal) m h = ap (λ (r : Read _). forgotten r) h
 fails_forgotten fault.OutOfMemory m h = tt
 
-pub refused_forgotten : (A : Type 0) (ts : List Token) → forgotten (refused {A = A} ts) ≡ refused ts
-refused_forgotten A [] = refl
-refused_forgotten A (t ∷ ts) = refl
+pub refused_forgotten : (A : Type 0) (s : State) → forgotten (refused {A = A} s) ≡ refused s
+refused_forgotten A s = by_rest s.end s.rest
+  where
+    by_rest : (end : ℕ) (ts : List Token) → forgotten (refused_at {A = A} end ts) ≡ refused_at end ts
+    by_rest end [] = refl
+    by_rest end (t ∷ ts) = refl

@@ -2,7 +2,7 @@
 use Rattle.std.proofs.Common.{◌≡◌, ◌⊎◌, inl, inr, ℕ, false, List, [], ◌∷◌, length, refl, sym, ap, subst, ◌∙◌}
 use Rattle.std.specs.Prelude.{Result, Ok, Err, IfOk, IfErr, chars}
 use Rattle.std.specs.Str.{IsUtf8}
-use Rattle.grammar.specs.Tokens.{Token, Fault, last_end}
+use Rattle.grammar.specs.Tokens.{Token, Fault}
 use Rattle.grammar.specs.Grammar.{Mode.checking}
 use Rattle.grammar.specs.Endings.{Ending, Ending.finished, Ending.carried, Answer, Answer.accepted, Answer.denied}
 use Rattle.grammar.specs.Reading.{Outcome, Outcome.ok, Outcome.stuck, Outcome.bad, Outcome.out, read_all}
@@ -93,13 +93,13 @@ true_is L ts ending (Err e) (denied x) h (inr r) = let same : x ≡ fault_view e
 -- what is returned of what was followed
 pub unit_is : (L : Dialect) (source : TokenSource) (ts : List Token) (ending : Ending) (read : Result (Unit {0}) declared.Fault) (left : State) (result : Result (Unit {0}) Error) → IsSourceOf source ts ending → wants_memory ending ≡ false
     → Gives (λ u. u) read left (follow L (rule_steps L (of unit)) (state source.tokens))
-    → ((us : List Token) (e : Ending) → AreOf source.origin us e → IsReadTo source.origin read left us → IsAnsweredOf read left e (last_end 0 us) result) → Recognized L result ts ending
+    → ((us : List Token) (e : Ending) → AreOf source.origin us e → IsReadTo source.origin read left us → IsAnsweredOf read left e result) → Recognized L result ts ending
 unit_is L source ts ending read left result is w gives answered =
     let alone = read_alone ts ending w in
     let start : state source.tokens ≡ start_state ts = is.0 ∙ ap start_state alone in
     let given = subst (λ (m : Read (Unit {0})). Gives (λ u. u) read left m) (ap (follow L (rule_steps L (of unit))) start ∙ followed L ts) gives in
     let taken = all_taken (λ u. u) source.origin ts ending (without_value (outcome L ts)) read left is.1 (subst (λ (us : List Token). Gives (λ u. u) read left (tag (start_state us) (without_value (outcome L ts)))) (sym alone) given) in
-    let said = said_seen (λ u. u) ts ending (start_state ts) (without_value (outcome L ts)) read left result given (answered ts ending is.1 taken) in
+    let said = said_seen (λ u. u) ts ending (without_value (outcome L ts)) read left result given (answered ts ending is.1 taken) in
     true_is L ts ending result (answer_said ts ending (outcome L ts)) (answers_are_true L ts ending) (subst (Answered (λ u. u) result) (said_without_value ts ending (outcome L ts)) said)
 
 -- ---- of the text

@@ -3,7 +3,7 @@ use Rattle.std.proofs.Common.{◌≡◌, ℕ, zero, suc, ◌+◌, ◌<◌, ◌�
 use Rattle.std.proofs.lemmas.Bool.Decides.{nat_tests}
 use Rattle.grammar.specs.Tokens.{Token}
 use Rattle.grammar.specs.Grammar.{Grammar.token, Grammar.symbol, Mode.checking}
-use Rattle.grammar.specs.States.{State, Read, Read.done, Read.stop, ◌>>=◌, refused, is_any, take_any, turns_in, reads}
+use Rattle.grammar.specs.States.{State, Read, Read.done, Read.stop, ◌>>=◌, refused_at, is_any, take_any, turns_in, reads}
 use Rattle.grammar.proofs.Reading.Beginnings.{pick}
 use Rattle.grammar.proofs.Reading.Exact.{part_front}
 use Rattle.grammar.proofs.States.{turns_are, shortens, read_is_part}
@@ -78,12 +78,12 @@ symbol_takes L n s u s' e =
         omega (arith, same, length-append p.0 s'.rest)
     by_case false w v h = let l = shortens tables (unchecked_body L) rank_limit (unchecked_passes L) (symbol n) refl refl w s v s' h in omega (arith, l)
 
-never_refused : {A : Type 0} (ts : List Token) (a : A) (s : State) → refused ts ≡ done a s → ⊥
-never_refused [] a s e = cc
-never_refused (t ∷ ts) a s e = cc
+never_refused : {A : Type 0} (end : ℕ) (ts : List Token) (a : A) (s : State) → refused_at end ts ≡ done a s → ⊥
+never_refused end [] a s e = cc
+never_refused end (t ∷ ts) a s e = cc
 
 token_takes : (cs : List ℕ) (s : State) (t : Token) (s' : State) → take_any cs s ≡ done t s' → length s'.rest < length s.rest
-token_takes [] s t s' e = absurd (never_refused s.rest t s' e)
+token_takes [] s t s' e = absurd (never_refused s.end s.rest t s' e)
 token_takes (c ∷ cs) s t s' e = shortens tables small_body rank_limit small_passes {A = Token} (token (c ∷ cs)) refl refl refl s t s' e
 
 -- a reader that leaves no more tokens than there are, and fewer, unless it may take none

@@ -4,7 +4,7 @@ use Rattle.grammar.specs.Tokens.{Token}
 use Rattle.grammar.specs.Grammar.{Grammar.symbol}
 use Rattle.grammar.specs.Notation.{◌or◌}
 use Rattle.grammar.specs.Tables.{subset}
-use Rattle.grammar.specs.States.{State, Read, Read.done, ◌>>=◌, refused, is_at, is_any, take, next_start, span_from, go}
+use Rattle.grammar.specs.States.{State, Read, Read.done, ◌>>=◌, refused_at, refused, is_at, is_any, take, next_start, span_from, go}
 use Rattle.grammar.proofs.Reading.Sets.{cases, cond_and}
 use Rattle.grammar.proofs.Reading.Beginnings.{cond_yes, cond_no}
 use Rattle.grammar.proofs.Binding.{bind_associates, bind_alike, pair_goes_on}
@@ -33,29 +33,29 @@ with_semicolon m = (m >>= λ u s. take SymSemicolon s >>= λ t s'. done (u, t) s
 abbrev break_from : Read Token → Read UnattributedStatement
 break_from m = with_semicolon (m >>= λ t s. done UnattributedStatement.break_statement s)
 
-break_stops : (ts : List Token) → break_from (refused ts) ≡ refused ts
-break_stops [] = refl
-break_stops (t ∷ ts) = refl
+break_stops : (end : ℕ) (ts : List Token) → break_from (refused_at end ts) ≡ refused_at end ts
+break_stops end [] = refl
+break_stops end (t ∷ ts) = refl
 
-break_refused : (s : State) → is_at KwBreak s ≡ false → break_part_at s ≡ refused s.rest
+break_refused : (s : State) → is_at KwBreak s ≡ false → break_part_at s ≡ refused s
 unfolding break_part_at
-break_refused s n = ap break_from (not_taken KwBreak s n) ∙ break_stops s.rest
+break_refused s n = ap break_from (not_taken KwBreak s n) ∙ break_stops s.end s.rest
 
 -- `const_assert` of its token
 abbrev assert_from : Read Token → Read UnattributedStatement
 assert_from m = (((m >>= λ t s. reader (of expression) s >>= λ e s'. done (t, e) s') >>= λ (p : Token × ExpressionNode) s. done p.1 s) >>= λ e s. done (assert_of e) s) >>= λ c s. done (UnattributedStatement.const_assert c) s
 
-assert_stops : (ts : List Token) → assert_from (refused ts) ≡ refused ts
-assert_stops [] = refl
-assert_stops (t ∷ ts) = refl
+assert_stops : (end : ℕ) (ts : List Token) → assert_from (refused_at end ts) ≡ refused_at end ts
+assert_stops end [] = refl
+assert_stops end (t ∷ ts) = refl
 
-assert_refused : (s : State) → is_at KwConstAssert s ≡ false → assert_statement_at s ≡ refused s.rest
+assert_refused : (s : State) → is_at KwConstAssert s ≡ false → assert_statement_at s ≡ refused s
 unfolding assert_statement_at assert_part_at
-assert_refused s n = ap (λ m. m >>= λ c s'. done (UnattributedStatement.const_assert c) s') (assert_part_is s) ∙ ap assert_from (not_taken KwConstAssert s n) ∙ assert_stops s.rest
+assert_refused s n = ap (λ m. m >>= λ c s'. done (UnattributedStatement.const_assert c) s') (assert_part_is s) ∙ ap assert_from (not_taken KwConstAssert s n) ∙ assert_stops s.end s.rest
 
-ended_stops : (ts : List Token) → with_semicolon (refused ts) ≡ refused ts
-ended_stops [] = refl
-ended_stops (t ∷ ts) = refl
+ended_stops : (end : ℕ) (ts : List Token) → with_semicolon (refused_at end ts) ≡ refused_at end ts
+ended_stops end [] = refl
+ended_stops end (t ∷ ts) = refl
 
 -- the classes that begin a statement other than `break` that a `;` ends
 abbrev begin_ended_part : List ℕ
@@ -73,13 +73,13 @@ none_begun {A} (p ∷ parts) last classes s h n =
     let both = cond_and (subset p.0 classes) (begin_within parts classes) h in
     cond_no {A = Read A} (is_any p.0 s) (p.1 s) (begun_part parts last s) (none_among p.0 classes s both.0 n) ∙ none_begun parts last classes s both.1 n
 
-kinds_refused : (s : State) → is_any begin_ended_part s ≡ false → ended_kinds_at s ≡ refused s.rest
+kinds_refused : (s : State) → is_any begin_ended_part s ≡ false → ended_kinds_at s ≡ refused s
 unfolding ended_kinds_at
 kinds_refused s n = none_begun ended_kinds assert_statement_at begin_ended_part s refl n ∙ assert_refused s (not_one KwConstAssert begin_ended_part s refl n)
 
-ended_refused : (s : State) → is_any begin_ended_part s ≡ false → reader (further ended_part) s ≡ refused s.rest
+ended_refused : (s : State) → is_any begin_ended_part s ≡ false → reader (further ended_part) s ≡ refused s
 unfolding ended_part_at ended_kinds_at word_at assert_statement_at
-ended_refused s n = ended_part_is s ∙ ap with_semicolon (kinds_refused s n) ∙ ended_stops s.rest
+ended_refused s n = ended_part_is s ∙ ap with_semicolon (kinds_refused s n) ∙ ended_stops s.end s.rest
 
 -- ---- a statement behind its attributes
 -- as the grammar writes it

@@ -12,6 +12,9 @@ tokens_append xs rest =
     let e : length (xs ++ rest) - length rest ≡ length xs = omega (arith, length-append xs rest) in
     ap (λ (n : ℕ). first_tokens n (xs ++ rest)) e ∙ front_append xs rest
 
+pub tokens_all : (ts : List Token) → tokens_between ts [] ≡ ts
+tokens_all ts = ap (λ (xs : List Token). tokens_between xs []) (sym (append-nil ts)) ∙ tokens_append ts []
+
 pub span_append : (xs rest : List Token) → span_between (xs ++ rest) rest ≡ span_of xs
 span_append xs rest =
     let e : length (xs ++ rest) - length rest ≡ length xs = omega (arith, length-append xs rest) in

@@ -233,11 +233,3 @@ unstream total text ts e fits h =
     let m = tokens_exist total text in
     let same = left_unique total [] false text m.0 ts m.1 e (stream total text m.0 m.1 fits m.2) h in
     subst (λ x. TokensOf total text ts x) same.1 (subst (λ (x : List Token). TokensOf total text x m.1) same.0 m.2)
-
--- where a token is at the front, some token is left
-pub some_left : (total : ℕ) (ends : List ℕ) (word : Bool) (text from after : List ℕ) (kind : Kind) → raw text ≡ token kind from after → (t : Token) × (ts : List Token) × (e : Ending) × LeftOf total ends word text (t ∷ ts) e
-some_left total ends word text from after kind r = let m = left_exists total ends word text in go m.0 m.1 m.2 (left_says total ends word text m.0 m.1 (token kind from after) r m.2) where
-  go : (ts : List Token) (e : Ending) → LeftOf total ends word text ts e → LeftStep total ends word text kind from after ts e → (t : Token) × (us : List Token) × (e : Ending) × LeftOf total ends word text (t ∷ us) e
-  go ts e h (end_step outer o us s k) = (_, us, e, subst (λ x. LeftOf total ends word text x e) s h)
-  go ts e h (start_step b w c end l us s k) = (_, us, e, subst (λ x. LeftOf total ends word text x e) s h)
-  go ts e h (token_step b n us s k) = (_, us, e, subst (λ x. LeftOf total ends word text x e) s h)

@@ -1,12 +1,11 @@
 use Rattle.std.proofs.Common.{◌≡◌, length}
-use Rattle.grammar.specs.Tokens.{last_end}
-use Rattle.wgsl_lexer.specs.TextTokens.{tokens_left}
+use Rattle.wgsl_lexer.specs.TextTokens.{tokens_left, ending_left}
 use Rattle.wgsl_buffers.proofs.Written.{Written}
 use Rattle.wgsl_buffers.proofs.tokens.fill.Given as goal
 
 abbrev pub invariant-tokens : goal.invariant-tokens
 invariant-tokens l = record {
-  end : last_end l.end (tokens_left l.left) ≡ last_end 0 (tokens_left l.fn.left);
+  ending : ending_left l.left ≡ ending_left l.fn.left;
   written : Written (tokens_left l.fn.left) (tokens_left l.left) l.room l.count;
 }
 

@@ -1,26 +1,19 @@
-use Rattle.std.proofs.Common.{[], ◌∷◌, chars, sym, subst, ◌∙◌}
-use Rattle.wgsl_theory_grammar.proofs.Tokens.Cuts.{joined}
+use Rattle.std.proofs.Common.{chars, sym, subst, ◌∙◌}
 use Rattle.wgsl_lex_comments.specs.declared.comments.Comment.{Comment}
-use Rattle.wgsl_lex_comments.specs.Comments.{Leaves, AreLeft, second_of}
-use Rattle.wgsl_lex_comments.proofs.Commented.{behind_both, walked, signed, left_more}
+use Rattle.wgsl_lex_comments.specs.Comments.{AreLeft}
+use Rattle.wgsl_lex_comments.proofs.CommentSteps.{after_begun}
+use Rattle.wgsl_lex_comments.proofs.Commented.{walked, left_more}
 use Rattle.wgsl_lex_comments.proofs.comments.over_new.Goals as goal
 
-pub after_comment-over-requires-clause-end : goal.after_comment-over-requires-clause-end
-after_comment-over-requires-clause-end c = joined (chars c.args.source.now) (chars c.args.text.now) (chars c.args.body.now) c.requires.end (47 ∷ (second_of c.args.block ∷ []), c.requires.sign)
+pub after_piece-over-requires-clause-end : goal.after_piece-over-requires-clause-end
+after_piece-over-requires-clause-end c = after_begun (chars c.args.source.now) (chars c.args.text.now) c.args.comment c.requires.end c.requires.begins
 
-pub returns : goal.returns
-returns c =
+pub returns-clause-run : goal.returns-clause-run
+returns-clause-run c rest is all =
     let source = chars c.args.source.now in
     let text = chars c.args.text.now in
-    let body = chars c.args.body.now in
-    let over = chars c.after_comment-over.result.now in
-    let leaves = subst (λ t. Leaves t over) (sym c.requires.sign) c.after_comment-over.ensures.leaves in
-    let same = behind_both c.args.block text body over c.requires.sign leaves in
-    let shorter = signed c.args.block text c.args.body.now c.after_comment-over.result.now c.utf8.body c.after_comment-over.utf8 c.requires.sign c.after_comment-over.ensures.within in
+    let over = chars c.after_piece-over.result.now in
+    let leaves = c.after_piece-over.ensures.leaves text c.requires.begins in
     let comment : Comment = record { start = c.place.result; end = c.place-2.result } in
-    record {
-      rest = same;
-      end = c.after_comment-over.ensures.end;
-      shorter = shorter;
-      run = λ rest is all. subst (AreLeft source rest) (sym c.in_ok-push.ensures.items) (left_more source rest c.args.run.now.items comment all (text, walked source text over rest comment c.place.ensures c.place-2.ensures leaves shorter (same ∙ is)));
-    }
+    let one = walked source text over rest comment c.place.ensures c.place-2.ensures leaves (c.after_piece-over.ensures.shorter text c.requires.begins) (leaves.left ∙ is) in
+    subst (AreLeft source rest) (sym c.in_ok-push.ensures.items) (left_more source rest c.args.run.now.items comment all (text, one))

@@ -1,13 +1,17 @@
-use Rattle.std.proofs.Common.{rules, arith, [], ◌∷◌, chars, sym, ap, ◌∙◌}
-use Rattle.wgsl_model.specs.Tokens.Trivia.{after_trivia, in_line}
-use Rattle.wgsl_theory_grammar.proofs.Tokens.Cuts.{joined}
-use Rattle.wgsl_lex_comments.proofs.CommentSteps.{along}
+use Rattle.std.proofs.Common.{rules, arith, chars, sym, ◌∙◌}
+use Rattle.wgsl_lex_comments.proofs.CommentSteps.{after_one, along, at_end}
 use Rattle.wgsl_lex_comments.proofs.trivia.after_line.Goals as goal
 
-pub loop-c-preserved : goal.loop-c-preserved
-loop-c-preserved c = record {
-  text = search rules;
-  rest = sym (along c.in-Some.c (chars c.in-Some.after.now) (sym c.is_line_break.ensures ∙ c.if-is_line_break.false)) ∙ ap (after_trivia in_line) (sym c.in-Some.ensures.parts) ∙ c.loop-c.invariant.rest;
-  end = joined (chars c.args.source.now) (chars c.loop-c.rest.now) (chars c.in-Some.after.now) c.loop-c.invariant.end (c.in-Some.c ∷ [], c.in-Some.ensures.parts);
-  within = omega (arith, c.loop-c.invariant.within, c.in-Some.ensures.shorter);
-}
+pub loop-after-preserved : goal.loop-after-preserved
+loop-after-preserved c =
+    let rest = chars c.loop-after.rest.now in
+    let after = chars c.in-Some.after.now in
+    record {
+      text = search rules;
+      rest = sym (along rest after c.in-Some.ensures.value) ∙ c.loop-after.invariant.rest;
+      end = after_one (chars c.args.source.now) rest after c.in-Some.ensures.value.0 c.loop-after.invariant.end c.in-Some.ensures.value.1;
+      within = omega (arith, c.loop-after.invariant.within, c.in-Some.ensures.shorter);
+    }
+
+pub returns-clause-rest : goal.returns-clause-rest
+returns-clause-rest c = at_end (chars c.loop-after.rest.now) c.in_default.ensures.value ∙ c.loop-after.invariant.rest

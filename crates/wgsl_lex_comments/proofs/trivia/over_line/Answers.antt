@@ -1,12 +1,10 @@
-use Rattle.std.proofs.Common.{◌≡◌, ◌∷◌, chars, ap, ◌∙◌}
+use Rattle.std.proofs.Common.{chars, subst}
+use Rattle.wgsl_lex_scanner.specs.Trivia.{BeginsWith}
 use Rattle.wgsl_lex_comments.proofs.CommentSteps.{over_line}
 use Rattle.wgsl_lex_comments.proofs.trivia.over_line.Goals as goal
 
-pub returns : goal.returns
-returns c =
-    let sign : chars c.args.text.now ≡ 47 ∷ (47 ∷ chars c.in-Some.field-0.now) = c.requires.first ∙ ap (λ x. x ∷ chars c.args.after.now) c.if-c-ne47.false ∙ ap (λ x. 47 ∷ x) c.in-Some.ensures.value in
-    record {
-      rest = over_line (chars c.args.text.now) (chars c.in-Some.field-0.now) c.over_known.result sign c.over_known.ensures.leaves;
-      end = c.over_known.ensures.end;
-      shorter = c.over_known.ensures.shorter;
-    }
+pub returns-in-Some-LineComment-clause-rest : goal.returns-in-Some-LineComment-clause-rest
+returns-in-Some-LineComment-clause-rest c =
+    let text = chars c.args.text.now in
+    let sign = subst (BeginsWith text) c.in-Some-LineComment.field-0-is c.in-Some-LineComment.ensures.value in
+    over_line text (chars c.in-Some-LineComment.field-0-0.now) c.over_known.result sign c.over_known.ensures.leaves

@@ -26,8 +26,8 @@ loop-kind-preserved c =
 pub returns : goal.returns
 returns c =
     let i = c.loop-kind.invariant in
-    let none = no_kind c.args.kinds.now c.loop-kind.kind-index (state c.loop-kind.tokens) c.loop-kind-test.false in
-    let rest = (state c.loop-kind.tokens).rest in
-    let all : forgotten (take_any (classes c.args.kinds.now) (state c.args.tokens.now)) ≡ refused rest =
-    ap (λ (r : Read Token). forgotten r) (sym i.left ∙ ap (take_any (classes _)) (sym i.same) ∙ none) ∙ refused_forgotten _ rest in
-    subst (Fails c.refuse.result) (refused_forgotten _ rest ∙ sym all) (fails_forgotten c.refuse.result _ c.refuse.ensures)
+    let left = state c.loop-kind.tokens in
+    let none = no_kind c.args.kinds.now c.loop-kind.kind-index left c.loop-kind-test.false in
+    let all : forgotten (take_any (classes c.args.kinds.now) (state c.args.tokens.now)) ≡ refused left =
+    ap (λ (r : Read Token). forgotten r) (sym i.left ∙ ap (take_any (classes _)) (sym i.same) ∙ none) ∙ refused_forgotten _ left in
+    subst (Fails c.refuse.result) (refused_forgotten _ left ∙ sym all) (fails_forgotten c.refuse.result _ c.refuse.ensures)

@@ -21,4 +21,4 @@ pub returns : goal.returns
 returns c ts e h =
     let text = c.args.source.now in
     let same : width (chars text) ≡ length text = ap length (encodes-chars text c.utf8.source) in
-    (whole_left (chars text) (length text) (reverse c.in_ok-ends.ends.items) (sym same) (ap reverse c.in_ok-ends.ensures.items) ts e).1 h
+    whole_left (chars text) (length text) (reverse c.in_ok-ends.ends.items) (sym same) (ap reverse c.in_ok-ends.ensures.items) ts e h

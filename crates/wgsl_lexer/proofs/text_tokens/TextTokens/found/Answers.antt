@@ -7,7 +7,7 @@ use Rattle.wgsl_theory_grammar.proofs.Tokens.Places.{bytes_width}
 use Rattle.wgsl_lex_templates.proofs.TextLists.Known.{known_end}
 use Rattle.wgsl_lex_templates.specs.Lists.{AreTold}
 use Rattle.wgsl_lexer.specs.OpenLists.{LeavesEnds}
-use Rattle.wgsl_lexer.specs.Left.{LeftOf}
+use Rattle.wgsl_theory_templates.specs.Rest.Left.{LeftOf}
 use Rattle.wgsl_lexer.proofs.Told.{end_told, no_end_told}
 use Rattle.wgsl_lexer.proofs.Lefts.{token_left, start_left, end_left, before_end_of}
 use Rattle.wgsl_lexer.proofs.Room.{fewer, entered}
