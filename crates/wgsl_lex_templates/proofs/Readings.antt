@@ -6,4 +6,6 @@ pub mod Held
 pub mod Rests
 pub mod Found
 pub mod Pieces
+pub mod Replaced
+pub mod Enclosed
 pub mod Reached

@@ -1,7 +1,5 @@
 -- What is known of each `<` of a source that was tried.
 use Rattle.std.specs.Prelude.{◌≡◌, ◌<◌, ◌+◌, ℕ, Bool, true, false, List, [], ◌∷◌, length, get_or}
-use Rattle.wgsl_model.specs.Tokens.Kind.{Kind}
-use Rattle.wgsl_model.specs.Tokens.Raw.{raw, token}
 use Rattle.wgsl_model.specs.Tokens.Places.{place}
 use Rattle.wgsl_theory_grammar.proofs.Tokens.Cuts.{EndsWith}
 use Rattle.wgsl_theory_templates.specs.Attempts.{EndsAt, HasNoEnd, NoneAround}
@@ -36,9 +34,9 @@ abbrev pub greater_place : Finding → ℕ
 greater_place (finding.GoesOn true at start end) = at
 greater_place f = 0
 
--- what an entry says is right
+-- what an entry says of the text after its `<` is right
 abbrev pub IsRight : ℕ → List ℕ → List Piece → Entry → Type 0
-IsRight total source pieces entry = (from after : List ℕ) (kind : Kind) → EndsWith source from → entry.start ≡ place total from → raw from ≡ token kind from after → IsFinding total pieces after entry.finding
+IsRight total source pieces entry = (after : List ℕ) → EndsWith source after → entry.start + 1 ≡ place total after → IsFinding total pieces after entry.finding
 
 -- and so of each
 abbrev pub AreRight : ℕ → List ℕ → List Piece → List Entry → Type 0

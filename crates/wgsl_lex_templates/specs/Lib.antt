@@ -4,6 +4,7 @@ pub mod Roles
 pub mod Spans
 pub mod Lists
 pub mod Kept
+pub mod Shortened
 pub mod Reached
 pub mod Findings
 pub mod TemplateEnds

@@ -3,17 +3,17 @@ use Rattle.std.specs.Prelude.{◌≡◌, ◌≤◌, ℕ, Bool, false, List, leng
 use Rattle.grammar.specs.Tokens.{Token}
 use Rattle.wgsl_theory_grammar.proofs.Tokens.Cuts.{EndsWith}
 use Rattle.wgsl_theory_templates.specs.Attempts.{ReadsTo}
-use Rattle.wgsl_theory_templates.proofs.Swaps.Swapped.{Swapped}
+use Rattle.wgsl_theory_templates.specs.Exchanged.{Exchanged}
 use Rattle.wgsl_lex_templates.specs.ExpressionLists.{classes_of}
 use Rattle.wgsl_lex_templates.specs.declared.kept.Piece.{Piece}
 use Rattle.wgsl_lex_templates.specs.Kept.{held}
 
--- From a text tokens were seen, up to a rest. The classes are of tokens that stand in their place: a template list in place of another.
+-- From a text tokens were seen, up to a rest. The classes are of tokens that may stand in their place.
 pub record Reaches (total : ℕ) (text now : List ℕ) (word : Bool) (depth : ℕ) (rest : List ℕ) : Type 0 where
   pub seen : List Token
   pub short : List Token
   pub read : now ≡ classes_of short
-  pub swapped : Swapped short seen
+  pub exchanged : Exchanged short seen
   pub reads : ReadsTo total text seen word depth rest
 
 -- with as many brackets open as at the text, behind no word; the classes are held by the pieces from one place up to another

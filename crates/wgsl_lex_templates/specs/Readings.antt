@@ -1,11 +1,12 @@
 -- What reading behind a `<` comes to.
 use Rattle.std.specs.Prelude.{◌≡◌, ◌↔◌, ⊤, ℕ, true, List, Option, Some, None, chars, length}
 use Rattle.grammar.specs.Tokens.{Token}
+use Rattle.grammar.specs.Grammar.{is_among}
 use Rattle.wgsl_model.specs.Tokens.Classes.{SymLessThan}
 use Rattle.wgsl_model.specs.Tokens.Kind.{Kind}
 use Rattle.wgsl_model.specs.Tokens.Raw.{raw, token}
 use Rattle.wgsl_model.specs.Tokens.Templates.{Inside, NoTemplate, Template}
-use Rattle.wgsl_theory_templates.specs.Attempts.{HasNoEnd, NoneAround}
+use Rattle.wgsl_theory_templates.specs.Attempts.{HasNoEnd, NoneAround, less_signs}
 use Rattle.wgsl_lex_templates.specs.ExpressionLists.{classes_of, IsExpressionList}
 use Rattle.wgsl_lex_templates.specs.declared.kept.Piece.{Piece}
 use Rattle.wgsl_lex_templates.specs.declared.reading.Met.{Met}
@@ -18,11 +19,11 @@ use Rattle.wgsl_lex_templates.specs.Kept.{held}
 use Rattle.wgsl_lex_templates.specs.Reached.{GoesOn}
 use Rattle.wgsl_lex_templates.specs.Findings.{IsFinding, IsListOrNone}
 
--- what is known of the token of a class that begins a text
+-- what is known of the token of a class that stands before a text
 abbrev pub IsMet : ℕ → List Piece → ℕ → List ℕ → Met → Type 0
-IsMet total pieces class text met.Around = (class ≡ SymLessThan) × ((kind : Kind) (after : List ℕ) → raw text ≡ token kind text after → NoneAround total after)
-IsMet total pieces class text (met.GoesOn is_list rest start end) = (class ≡ SymLessThan) × ((kind : Kind) (after : List ℕ) → raw text ≡ token kind text after → IsListOrNone is_list total after (chars rest.now) × GoesOn total pieces after (chars rest.now) start end)
-IsMet total pieces class text met.Nothing = ⊤
+IsMet total pieces class after met.Around = (is_among class less_signs ≡ true) × NoneAround total after
+IsMet total pieces class after (met.GoesOn is_list rest start end) = (is_among class less_signs ≡ true) × IsListOrNone is_list total after (chars rest.now) × GoesOn total pieces after (chars rest.now) start end
+IsMet total pieces class after met.Nothing = ⊤
 
 -- what stands inside a list up to the `>`, and that tokens of the classes of what was read are a list of expressions just where that is one; or that there is no list, and as above
 abbrev pub IsReading : ℕ → List ℕ → List Piece → ℕ → Reading → Type 0

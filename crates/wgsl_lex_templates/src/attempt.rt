@@ -1,13 +1,15 @@
 //! One try at a `<`: whether a template list begins there, where what stands behind it is known.
 
-ghost use Rattle.std.specs.Prelude.{◌≡◌, ◌↔◌, ◌+◌, ◌<◌, ◌≤◌, ◌^◌, List, chars, drop, length, IfOk, IsTrue};
+ghost use Rattle.std.specs.Prelude.{◌≡◌, ◌↔◌, ◌+◌, ◌<◌, ◌≤◌, ◌^◌, List, chars, take, drop, length, IfOk, IsTrue};
 ghost use Rattle.grammar.specs.Tokens.{Token};
 ghost use Rattle.wgsl_theory_grammar.proofs.Tokens.Cuts.{EndsWith};
+ghost use Rattle.wgsl_lex_token.specs.View.{classes};
 ghost use Rattle.wgsl_lex_templates.specs.ExpressionLists.{classes_of, IsExpressionList};
 ghost use Rattle.wgsl_lex_comments.specs.Comments.{AreComments};
 ghost use Rattle.wgsl_lex_templates.specs.Kept.{BeginWith, held};
 ghost use Rattle.wgsl_lex_templates.specs.Lists.{TellLists};
 ghost use Rattle.wgsl_lex_templates.specs.Findings.{AreRight};
+ghost use Rattle.wgsl_lex_templates.specs.Shortened.{MayReplace};
 ghost use Rattle.wgsl_lex_templates.specs.Readings.{IsOutcome, costs};
 
 use crate::depth::nest_deeper;
@@ -16,16 +18,21 @@ use crate::findings::Finding;
 use crate::kept::{Kept, Rest};
 use crate::reading::{Reading, read, take};
 use crate::roles::is_less_than;
+use crate::shortened::shorten;
 use crate::tried::Tried;
 use std::alloc::{AllocError, Global};
 use wgsl_lex_comments::Comments;
 use wgsl_lex_scanner::scan::{Scanned, place};
 use wgsl_lex_token::kind::TokenKind;
 
+/// So many kinds are no longer few. Fewer are not shortened.
+const FEW_KINDS: usize = 8;
+
 /// Space for the kinds of one list, used again at each, and how deep brackets may nest in it.
 #[derive(Drop)]
 pub(crate) struct Scratch {
     kinds: Vec<TokenKind>,
+    short: Vec<TokenKind>,
     rests: Vec<Rest>,
     depth: usize,
 }
@@ -34,17 +41,21 @@ impl Scratch {
     pub(crate) fn new(alloc: Global, depth: usize) -> Scratch {
         Scratch {
             kinds: Vec::new(alloc),
+            short: Vec::new(alloc),
             rests: Vec::new(alloc),
             depth,
         }
     }
 }
 
-/// Whether the kinds of what was read from a place on are a list of expressions.
+/// Whether the kinds of what was read from a place on are a list of expressions. They are left in
+/// the space.
 fn is_list(kept: &Kept, start: usize, scratch: &mut Scratch) -> Result<bool, AllocError>
-    ensures { IfOk result (λ list. (ts : List Token) →
+    ensures value { IfOk result (λ list. (ts : List Token) →
         classes_of ts ≡ held kept.now.pieces.items start (length kept.now.pieces.items) →
         IsTrue list ↔ IsExpressionList ts) }
+    ensures kinds { IfOk result (λ _. classes scratch.new.kinds.items
+        ≡ held kept.now.pieces.items start (length kept.now.pieces.items)) }
 {
     scratch.kinds.clear();
     kept.push_kinds(start, kept.len(), &mut scratch.kinds, &mut scratch.rests)?;
@@ -52,6 +63,30 @@ fn is_list(kept: &Kept, start: usize, scratch: &mut Scratch) -> Result<bool, All
         return Err(AllocError);
     }
     Ok(is_expression_list(&scratch.kinds))
+}
+
+/// Keeps what was read from a place on in a shorter form, so that the tests of the lists around it
+/// do not go over all of it again, if that takes fewer pieces. Its kinds are in the space.
+fn keep_short(kept: &mut Kept, start: usize, scratch: &mut Scratch) -> Result<(), AllocError>
+    requires within { start ≤ length kept.old.pieces.items }
+    requires kinds { classes scratch.old.kinds.items
+        ≡ held kept.old.pieces.items start (length kept.old.pieces.items) }
+    ensures more { IfOk result (λ _.
+        BeginWith (take start kept.old.pieces.items) kept.new.pieces.items) }
+    ensures short { IfOk result (λ _. MayReplace
+        (held kept.new.pieces.items start (length kept.new.pieces.items))
+        (held kept.old.pieces.items start (length kept.old.pieces.items))) }
+{
+    if scratch.kinds.len() < FEW_KINDS {
+        return Ok(());
+    }
+    let pieces = kept.len() - start;
+    if !shorten(&scratch.kinds, pieces, &mut scratch.short)? {
+        return Ok(());
+    }
+    kept.truncate(start);
+    kept.push_all(&scratch.short)?;
+    Ok(())
 }
 
 /// Tries the `<` at the front of a text that ends the source: nothing is found where `<` is not its first token.
@@ -97,6 +132,7 @@ pub(crate) fn attempt(
             if !is_list(kept, start, scratch)? {
                 return Ok(Some(Finding::Around));
             }
+            keep_short(kept, start, scratch)?;
             Ok(Some(Finding::GoesOn {
                 is_list: true,
                 place: place(source.len(), greater),

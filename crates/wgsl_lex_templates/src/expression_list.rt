@@ -1,8 +1,9 @@
-//! Lists of expressions.
+//! Expressions, and lists of them.
 #![tactic(auto, unfolding(crate::proofs::Hints::definitions), using(crate::proofs::Hints::lemmas))]
 
 ghost use Rattle.std.specs.Prelude.{◌↔◌, List, IsTrue};
 ghost use Rattle.grammar.specs.Tokens.{Token};
+ghost use Rattle.wgsl_theory_templates.proofs.Swaps.Swapped.{IsOne};
 ghost use Rattle.wgsl_lex_templates.specs.ExpressionLists.{AreOfKinds, IsExpressionList};
 
 use crate::expression::expression;
@@ -24,4 +25,14 @@ pub fn is_expression_list(kinds: &[TokenKind]) -> bool
         }
     }
     left.is_empty()
+}
+
+/// Whether tokens of these kinds are one expression, without a comma behind it.
+pub(crate) fn is_expression(kinds: &[TokenKind]) -> bool
+    ensures { (ts : List Token) → AreOfKinds ts kinds.now → IsTrue result ↔ IsOne ts }
+{
+    match expression(kinds) {
+        Some(left) => left.is_empty(),
+        None => false,
+    }
 }

@@ -5,7 +5,7 @@ ghost use Rattle.wgsl_lex_templates.specs.Findings.{IsEntry};
 
 use std::alloc::{AllocError, Global};
 
-/// What a `<` is to the lists around it that take it for an operator.
+/// What a `<` is to the lists around it that take it for an operator, or for the end of one.
 #[derive(Clone, Copy)]
 pub(crate) enum Finding {
     /// It begins no list, and none is around it.

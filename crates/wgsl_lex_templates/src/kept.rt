@@ -2,7 +2,7 @@
 
 ghost use Rattle.std.specs.Prelude.{◌≡◌, ◌≤◌, [], ◌∷◌, ◌++◌, take, length, IfOk, IsTrue};
 ghost use Rattle.wgsl_lex_token.specs.View.{classes};
-ghost use Rattle.wgsl_lex_templates.specs.Kept.{are_earlier, held};
+ghost use Rattle.wgsl_lex_templates.specs.Kept.{are_earlier, held, BeginWith};
 ghost use Rattle.wgsl_lex_templates.specs.declared.kept.Piece.TheVariants.{Token, Stretch};
 
 use std::alloc::{AllocError, Global};
@@ -59,6 +59,18 @@ impl Kept {
             self.new.pieces.items ≡ self.old.pieces.items ++ Stretch start end ∷ []) }
     {
         self.pieces.push(Piece::Stretch { start, end })?;
+        Ok(())
+    }
+
+    /// Adds tokens of these kinds.
+    pub(crate) fn push_all(&mut self, kinds: &[TokenKind]) -> Result<(), AllocError>
+        ensures more { IfOk result (λ _. BeginWith self.old.pieces.items self.new.pieces.items) }
+        ensures value { IfOk result (λ _. held self.new.pieces.items
+            (length self.old.pieces.items) (length self.new.pieces.items) ≡ classes kinds.now) }
+    {
+        for kind in kinds {
+            self.push(*kind)?;
+        }
         Ok(())
     }
 

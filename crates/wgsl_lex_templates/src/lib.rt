@@ -11,6 +11,7 @@ mod lists;
 mod next;
 mod reading;
 pub mod roles;
+mod shortened;
 mod templates;
 pub mod text;
 mod tried;

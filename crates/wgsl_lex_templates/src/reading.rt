@@ -19,7 +19,7 @@ ghost use Rattle.wgsl_lex_templates.specs.Readings.{IsReading, IsMet};
 use crate::findings::{Finding, Findings};
 use crate::kept::Kept;
 use crate::lists::Lists;
-use crate::roles::{Turn, is_less_than, is_word, turn_of};
+use crate::roles::{Turn, ends_with_less_than, is_less_than, is_word, turn_of};
 use crate::tried::Tried;
 use std::alloc::AllocError;
 use wgsl_lex_comments::Comments;
@@ -103,9 +103,10 @@ fn push_list(kept: &mut Kept) -> Result<(), AllocError>
 
 /// What is known of a token.
 enum Met<'s> {
-    /// It is a `<`, and neither at it nor around it is a list.
+    /// It ends with a `<`, at which no list begins, and none is around the token.
     Around,
-    /// It is a `<`, which begins a list or none. A list around it goes on at the rest, behind the stretch; where the `<` begins none, one in whose brackets it stands.
+    /// It ends with a `<`, which begins a list or none. A list around the token goes on at the
+    /// rest, after the stretch; where the `<` begins none, one in whose brackets it stands.
     GoesOn {
         is_list: bool,
         rest: &'s str,
@@ -115,17 +116,18 @@ enum Met<'s> {
     Nothing,
 }
 
-/// What was found before of the token of a kind that begins a text.
-fn look_up<'s>(findings: &Findings, source: &'s str, kind: TokenKind, text: &'s str) -> Met<'s>
-    requires { EndsWith (chars source.now) (chars text.now) }
+/// What was found before of the `<` that a token of a kind ends with, which is before a text.
+fn look_up<'s>(findings: &Findings, source: &'s str, kind: TokenKind, after: &'s str) -> Met<'s>
+    requires ends { EndsWith (chars source.now) (chars after.now) }
+    requires shorter { length after.now < length source.now }
     ensures { (pieces : List Piece) →
         AreRight (length source.now) (chars source.now) pieces findings.now.entries.items →
-        IsMet (length source.now) pieces (class_of_kind kind) (chars text.now) result }
+        IsMet (length source.now) pieces (class_of_kind kind) (chars after.now) result }
 {
-    if !is_less_than(kind) {
+    if !ends_with_less_than(kind) {
         return Met::Nothing;
     }
-    match findings.at(place(source.len(), text)) {
+    match findings.at(place(source.len(), after) - 1) {
         Some(Finding::Around) => Met::Around,
         Some(
             Finding::GoesOn {
@@ -188,7 +190,7 @@ pub(crate) fn read<'s>(
             behind_word = false;
             continue;
         }
-        match look_up(&tried.findings, source, kind, from) {
+        match look_up(&tried.findings, source, kind, after) {
             Met::Around => return Ok(Reading::Around),
             Met::GoesOn {
                 is_list,

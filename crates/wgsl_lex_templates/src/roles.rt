@@ -1,8 +1,10 @@
 //! What a token is to a template list.
 
 ghost use Rattle.std.specs.Prelude.{◌≡◌, ◌<◌, ◌+◌, ◌==◌, ◌^◌};
+ghost use Rattle.grammar.specs.Grammar.{is_among};
 ghost use Rattle.wgsl_model.specs.Tokens.Classes.{SymLessThan};
 ghost use Rattle.wgsl_model.specs.Tokens.Templates.{is_word};
+ghost use Rattle.wgsl_theory_templates.specs.Attempts.{less_signs};
 ghost use Rattle.wgsl_lex_token.specs.View.{class_of_kind};
 ghost use Rattle.wgsl_lex_templates.specs.Roles.{role, turn};
 
@@ -99,4 +101,11 @@ pub fn is_less_than(kind: TokenKind) -> bool
     ensures { result ≡ (class_of_kind kind == SymLessThan) }
 {
     kind as u8 == TokenKind::SymLessThan as u8
+}
+
+/// Whether it is an operator that ends with a `<`: `<` or `<<`.
+pub(crate) fn ends_with_less_than(kind: TokenKind) -> bool
+    ensures { result ≡ is_among (class_of_kind kind) less_signs }
+{
+    is_less_than(kind) || kind as u8 == TokenKind::SymShiftLeft as u8
 }

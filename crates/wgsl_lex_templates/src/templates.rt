@@ -89,6 +89,7 @@ pub fn discover_within(alloc: Global, source: &str, depth: usize) -> Result<Temp
         let start = before.len();
         let (_, text) = source.split_at(start);
         let read = kept.len();
+        let read_before = reads;
         let found = attempt(
             &tried,
             &mut comments,
@@ -100,7 +101,8 @@ pub fn discover_within(alloc: Global, source: &str, depth: usize) -> Result<Temp
         )?;
         attempts += 1;
         if let Some(found) = found {
-            tried.add(&mut kept, read, start, found)?;
+            let tokens = reads.saturating_sub(read_before);
+            tried.add(&mut kept, read, tokens, start, found)?;
         }
         left = before;
     }

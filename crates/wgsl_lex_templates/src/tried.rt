@@ -10,8 +10,8 @@ use crate::lists::Lists;
 use std::alloc::{AllocError, Global};
 use wgsl_span::Span;
 
-/// So many pieces are no longer few.
-const FEW: usize = 8;
+/// So many tokens are no longer few.
+const FEW_TOKENS: u128 = 10;
 
 /// The lists that were found, and what was found of each `<` whose attempt read more than a few tokens.
 #[derive(Drop)]
@@ -32,11 +32,14 @@ impl Tried {
     }
 
     /// Adds what was found of a `<` before all others.
-    /// The pieces from a place on are what its attempt read. Where they are few, they and the finding are forgotten, since they are read again as fast; where no list is around the `<`, none stands for them.
+    /// The pieces from a place on are of what its attempt read. Where it read few tokens, they and
+    /// the finding are forgotten, since they are read again as fast; where no list is around the
+    /// `<`, none stands for them.
     pub(crate) fn add(
         &mut self,
         kept: &mut Kept,
         read: usize,
+        tokens: u128,
         start: usize,
         finding: Finding,
     ) -> Result<(), AllocError>
@@ -50,7 +53,7 @@ impl Tried {
             (record { start = start; finding = finding }) → IfOk result (λ _.
             AreRight total source kept.new.pieces.items self.new.findings.entries.items) }
     {
-        let are_few = kept.len().saturating_sub(read) < FEW;
+        let are_few = tokens < FEW_TOKENS;
         let Finding::GoesOn { is_list, place, .. } = finding else {
             kept.truncate(read);
             if are_few {

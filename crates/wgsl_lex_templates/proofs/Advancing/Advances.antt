@@ -95,7 +95,7 @@ name_is read (t ∷ ts) =
     ∙ one_of_two (eqb t.class Ident) (eqb t.class ReservedWord) (Some (classes_of ts)) (not_reserved t.class)
 
 -- ---- tokens of the same classes
-bare_classes : (cs : List ℕ) → classes_of (map token_of_class cs) ≡ cs
+pub bare_classes : (cs : List ℕ) → classes_of (map token_of_class cs) ≡ cs
 bare_classes [] = refl
 bare_classes (c ∷ cs) = ap (λ (z : List ℕ). c ∷ z) (bare_classes cs)
 

@@ -36,8 +36,8 @@ finding_more total pieces more text (OneGoesOn is_list at start end) (rest, e, l
 
 -- what was right stays so
 pub right_more : (total : ℕ) (source : List ℕ) (first pieces : List Piece) (entries : List Entry) → BeginWith first pieces → AreRight total source first entries → AreRight total source pieces entries
-right_more total source first pieces entries (more, longer) are i d l from after kind cut s e =
-    subst (λ (x : List Piece). IsFinding total x after (get_or entries i d).finding) (sym longer) (finding_more total first more after (get_or entries i d).finding (are i d l from after kind cut s e))
+right_more total source first pieces entries (more, longer) are i d l after cut s =
+    subst (λ (x : List Piece). IsFinding total x after (get_or entries i d).finding) (sym longer) (finding_more total first more after (get_or entries i d).finding (are i d l after cut s))
 
 pub right_same : (total : ℕ) (source : List ℕ) (pieces now : List Piece) (entries more : List Entry) → now ≡ pieces → more ≡ entries → AreRight total source pieces entries → AreRight total source now more
 right_same total source pieces now entries more e f are = rw (e, f) are

@@ -1,6 +1,6 @@
 -- What pieces stand for, as tokens and stretches are pushed behind them.
 use Rattle.std.proofs.Common.{◌≡◌, ℕ, suc, ◌≤◌, List, [], ◌∷◌, ◌++◌, length, refl, sym, ap, ◌∙◌, take, append-nil, append_assoc, arith}
-use Rattle.std.proofs.lemmas.List.{length-append, take-append-le, take_all}
+use Rattle.std.proofs.lemmas.List.{length-append, length-take, take-append-le, take_all}
 use Rattle.wgsl_lex_token.specs.declared.kind.TokenKind.{TokenKind}
 use Rattle.wgsl_lex_token.specs.declared.kind.TokenKind.TheVariants as kind
 use Rattle.wgsl_lex_token.specs.View.{class_of_kind}
@@ -59,3 +59,7 @@ no_shorter first ps (more, e) = omega (arith, ap length e, length-append first m
 -- cut back to those they begin with
 pub cut_back : (first ps : List Piece) → BeginWith first ps → take (length first) ps ≡ first
 cut_back first ps (more, e) = ap (take (length first)) e ∙ (take-append-le (length first) first more (omega arith) ∙ take_all (length first) first (omega arith))
+
+-- so many of them
+pub cut_length : (ps : List Piece) (n : ℕ) → n ≤ length ps → length (take n ps) ≡ n
+cut_length ps n l = omega (arith, length-take n ps, l)

@@ -1,9 +1,7 @@
 -- Where template lists end, and what is known of them where no more is known than that they are told.
-use Rattle.std.proofs.Common.{◌≡◌, ℕ, suc, ◌+◌, ◌≤◌, List, [], ◌∷◌, ◌++◌, Some, None, inl, inr, drop, length, chars, subst, sym, ap, ◌∙◌, arith}
-use Rattle.std.proofs.lemmas.List.{length-append}
+use Rattle.std.proofs.Common.{◌≡◌, ℕ, suc, ◌+◌, ◌≤◌, List, ◌∷◌, Some, None, inl, inr, drop, length, chars, subst, sym, ap, ◌∙◌, arith}
 use Rattle.std.proofs.Math.Logic.{∥∥₁_map, ∥∥₁_elim}
-use Rattle.std.proofs.lemmas.Str.{encode_ascii}
-use Rattle.std.specs.Str.{IsUtf8, encode_utf8_all}
+use Rattle.std.specs.Str.{IsUtf8}
 use Rattle.std.specs.Coded.{coded_ℕ}
 use base.Stored.{Coded-set}
 use Rattle.grammar.specs.Tokens.{Token}
@@ -17,6 +15,7 @@ use Rattle.wgsl_theory_grammar.proofs.Tokens.Decided.{template_decided}
 use Rattle.wgsl_theory_grammar.proofs.Tokens.Unique.{template_unique}
 use Rattle.wgsl_lex_templates.specs.Spans.{end_from}
 use Rattle.wgsl_lex_templates.specs.Lists.{ListEnds, AreLists, AreTold}
+use Rattle.wgsl_lex_templates.proofs.TextLists.Begun.{one_wider}
 use Rattle.wgsl_lex_templates.proofs.TextLists.Fronts.{greater_first}
 use Rattle.wgsl_theory_grammar.proofs.Tokens.Places.{bytes_width}
 use Rattle.wgsl_lex_templates.proofs.TextLists.Ends.{tell_end, found_ends, none_found}
@@ -36,19 +35,12 @@ pub end_place : (total : ℕ) (text : List ℕ) (ts : List Token) (end : List �
 end_place total text ts end fits i =
     let g = inside_greater total (Template total) 0 text ts end i in
     let e = inside_leaves total (Template total) (template_leaves total) 0 text ts end i in
-    let size : width end ≡ width (drop 1 end) + 1 = ap width g.1 ∙ one_more g.0 ∙ ap (λ x. width (drop 1 x) + 1) (sym g.1) in
+    let size : width end ≡ width (drop 1 end) + 1 = ap width g.1 ∙ one_wider 62 g.0 (omega arith) ∙ ap (λ x. width (drop 1 x) + 1) (sym g.1) in
     omega (arith, size, fits, within text end e)
-  where
-    one_more : (behind : List ℕ) → width (62 ∷ behind) ≡ width behind + 1
-    one_more behind = let e : width (62 ∷ behind) ≡ length (62 ∷ encode_utf8_all behind) = ap (λ x. length (x ++ encode_utf8_all behind)) (encode_ascii 62 (omega arith)) in omega (arith, e)
 
 -- ---- where it is only known that the lists of a text are told
 pub known_end : (total : ℕ) (spans : List Span) (text rest : List ℕ) → EndsWith text rest → AreTold total spans text → AreTold total spans rest
 known_end total spans text rest h known = ∥∥₁_map known (tell_end total spans text rest h)
-
--- nothing is to be told of an empty text
-pub nothing_known : (total : ℕ) (spans : List Span) (text : List ℕ) → text ≡ [] → AreTold total spans text
-nothing_known total spans text none = ∣ (λ before behind end e. absurd (omega (arith, ap length (sym none ∙ e), length-append before (60 ∷ behind)))) ∣₁
 
 -- a list that is told begins the text
 pub known_some : (total : ℕ) (spans : List Span) (text behind : List ℕ) (start end : ℕ) → AreTold total spans text → text ≡ 60 ∷ behind → start ≡ place total text → end_from spans start ≡ Some end → ListEnds total text end

@@ -8,6 +8,7 @@ use Rattle.wgsl_model.specs.Tokens.Classes.{SymComma, SymColon, SymSemicolon, Sy
 use Rattle.wgsl_model.specs.Tokens.Kind.{Kind}
 use Rattle.wgsl_theory_templates.proofs.Reaching.Reach.{Role, Role.template_start, Role.template_end, role, Place, Place.inside, reach}
 use Rattle.wgsl_theory_templates.proofs.Reaching.Moves.{kinds}
+use Rattle.wgsl_theory_templates.specs.Attempts.{less_signs}
 use Rattle.wgsl_theory_templates.proofs.Reaching.Behind.{NoListAt}
 use Rattle.wgsl_theory_templates.proofs.Reaching.Clear.{template_ends, AllClear, done, other_token, template}
 use Rattle.wgsl_theory_templates.proofs.Lexed.RoleClasses.{Says, role_says, is_mark_role}
@@ -62,7 +63,7 @@ none_ends : (t : Token) (ts : List Kind) (k : ℕ) → k ≡ 0 → role t.class 
 none_ends t ts k z e h = subst (λ (r : Role). nested_role r 0 (λ j. Nested j ts)) e (subst (λ (n : ℕ). nested_role (role t.class) n (λ j. Nested j ts)) z h)
 
 -- two lists that begin alike and are both ended are the same
-pub same_split : (k : ℕ) (us vs : List Token) (e f : Token) (ts rs : List Token) → role e.class ≡ template_end → role f.class ≡ template_end → Nested k (kinds us) → Nested k (kinds vs)
+same_split : (k : ℕ) (us vs : List Token) (e f : Token) (ts rs : List Token) → role e.class ≡ template_end → role f.class ≡ template_end → Nested k (kinds us) → Nested k (kinds vs)
     → us ++ (e ∷ ts) ≡ vs ++ (f ∷ rs) → (us ≡ vs) × (ts ≡ rs)
 same_split k [] [] e f ts rs p q h g w = (refl, tail_of e f ts rs w)
 same_split k [] (v ∷ vs) e f ts rs p q h g w = absurd (none_ends v (kinds vs) k h (ap (λ (t : Token). role t.class) (sym (same_head e v ts (vs ++ (f ∷ rs)) w)) ∙ p) g)
@@ -78,7 +79,7 @@ same_split k (u ∷ us) (v ∷ vs) e f ts rs p q h g w =
 start_role : (c : ℕ) → is_among c (TemplateArgsStart ∷ []) ≡ true → role c ≡ template_start
 start_role c h = ap role (one_class c TemplateArgsStart h)
 
-pub end_role : (c : ℕ) → is_among c (TemplateArgsEnd ∷ []) ≡ true → role c ≡ template_end
+end_role : (c : ℕ) → is_among c (TemplateArgsEnd ∷ []) ≡ true → role c ≡ template_end
 end_role c h = ap role (one_class c TemplateArgsEnd h)
 
 -- a token that is no mark
@@ -109,7 +110,7 @@ clear_behind _ _ _ (other_token p u rest ys none less a) e t ts w m =
     let head = same_head u t rest ts w in
     let tail = tail_of u t rest ts w in (
       λ l n. subst (λ (z : List Token). reach p 0 0 (kinds z) ≡ false) tail
-          (less (ap (λ (x : Token). is_among x.class (SymLessThan ∷ [])) head ∙ ap (λ (x : ℕ). is_among x (SymLessThan ∷ [])) l) (subst (λ (z : List Token). NoListAt p z) (sym tail) n)),
+          (less (ap (λ (x : Token). is_among x.class less_signs) head ∙ ap (λ (x : ℕ). is_among x less_signs) l) (subst (λ (z : List Token). NoListAt p z) (sym tail) n)),
       subst (λ (z : List Token). AllClear p z []) tail (subst (λ (z : List Token). AllClear p rest z) e a),
     )
 clear_behind _ _ _ (template p start end mid rest ys v h i d c a) e t ts w m =

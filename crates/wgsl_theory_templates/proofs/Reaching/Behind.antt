@@ -1,12 +1,15 @@
--- Behind a comparison's `<` no token that begins with `>` is reached, where no template list was found.
+-- After the `<` of a comparison and after `<<` no token that begins with `>` is reached, where no template list was found.
 use Rattle.std.proofs.Common.{◌≡◌, ℕ, Bool, true, false, ◌&&◌, List, [], ◌∷◌, ◌⊎◌, refl, sym, ap, ◌∙◌, inl, inr}
 use Rattle.std.proofs.lemmas.Bool.{false≢true}
-use Rattle.grammar.specs.Tokens.{Token, Span, first_tokens}
+use Rattle.grammar.specs.Tokens.{Token, Span, first_tokens, span_between}
 use Rattle.grammar.specs.Grammar.{Grammar.empty, Grammar.token, Grammar.sequence, Grammar.choice, Grammar.mapped, Grammar.node, Grammar.checked, Grammar.symbol, Grammar.left_chain, Mode.checking, Chain, Chain.base, Chain.more, Means, Derives, is_among}
+use Rattle.grammar.specs.Notation.{◌then◌}
 use Rattle.grammar.proofs.Reading.Sets.{and_true, cases}
 use Rattle.grammar.proofs.Reading.Depth.{Kept, roll, unroll, least}
 use Rattle.wgsl_model.specs.Tokens.Classes.{KwDefault}
+use Rattle.wgsl_model.specs.Trees.Operators.{BinaryOperator}
 use Rattle.wgsl_model.specs.Trees.Expressions.{ExpressionNode}
+use Rattle.wgsl_model.specs.Grammar.ExpressionParts.{relational_operator, operation_of}
 use Rattle.wgsl_model.specs.Grammar.Symbols.{Symbol, expressions, shift_expression, relational_expression, expression, attribute, compound_statement, case_selector, Value, Rule}
 use Rattle.wgsl_model.specs.Grammar.Written.{written}
 use Rattle.wgsl_theory_grammar.proofs.Faults.PlainFaults.{one_class}
@@ -15,20 +18,31 @@ use Rattle.wgsl_theory_templates.proofs.Reaching.Reach.{Role, greater, greater_s
 use Rattle.wgsl_theory_templates.proofs.Reaching.Moves.{kinds, stretch, all_roles, role_of}
 use Rattle.wgsl_theory_templates.proofs.Reaching.Closes.{GoesOn, IsList, closes}
 
--- ---- comparisons
+-- ---- comparisons and shifts
 -- no list of expressions stands before a token that begins with `>` and is reached
 abbrev pub NoListAt : Place → List Token → Type 0
 NoListAt p xs = reach p 0 0 (kinds xs) ≡ true → (w : List ExpressionNode) → Derives checking written expressions w (stretch 0 0 xs) → ⊥
 
--- behind the `<` of a comparison, from its second operand on
-pub less_than_is_clear : (v : ExpressionNode) (xs ys : List Token) → D shift_expression v xs ys → (p : Place) → GoesOn p ys → NoListAt p xs → reach p 0 0 (kinds xs) ≡ false
-less_than_is_clear v xs ys d p g none = by (cases (reach p 0 0 (kinds xs)))
-  where
-    operand : D expression v xs ys
-    operand = roll checking written expression v xs ys (inl (roll checking written relational_expression v xs ys (inl d)))
+-- from each shift before these tokens to a token that begins with `>` stands a list of expressions
+abbrev pub ShiftCloses : Place → List Token → Type 0
+ShiftCloses p ys = (v : ExpressionNode) (xs : List Token) → D shift_expression v xs ys → reach p 0 0 (kinds xs) ≡ true → IsList (stretch 0 0 xs)
 
+-- before what goes on with a list
+pub shift_closes : (p : Place) (ys : List Token) → GoesOn p ys → ShiftCloses p ys
+shift_closes p ys g v xs d h = closes v xs ys (roll checking written expression v xs ys (inl (roll checking written relational_expression v xs ys (inl d)))) p g h
+
+-- before the operator and the second operand of a comparison, which stand before what goes on with a list
+pub compared_closes : (p : Place) (w : BinaryOperator × ExpressionNode) (ms ys : List Token) → Means checking D (relational_operator then symbol shift_expression) w ms ys → GoesOn p ys → ShiftCloses p ms
+compared_closes p w ms ys d g v xs e h =
+    let whole : ExpressionNode = operation_of (v, w) (span_between xs ys) in
+    closes whole xs ys (roll checking written expression whole xs ys (inl (roll checking written relational_expression whole xs ys (inr ((v, w), refl, (ms, e, d)))))) p g h
+
+-- after the operator, from its second operand on
+pub operand_is_clear : (v : ExpressionNode) (xs ys : List Token) → D shift_expression v xs ys → (p : Place) → ShiftCloses p ys → NoListAt p xs → reach p 0 0 (kinds xs) ≡ false
+operand_is_clear v xs ys d p g none = by (cases (reach p 0 0 (kinds xs)))
+  where
     by : (reach p 0 0 (kinds xs) ≡ true) ⊎ (reach p 0 0 (kinds xs) ≡ false) → reach p 0 0 (kinds xs) ≡ false
-    by (inl h) = let w = closes v xs ys operand p g h in absurd (none h w.0 w.1)
+    by (inl h) = let w = g v xs d h in absurd (none h w.0 w.1)
     by (inr h) = h
 
 -- ---- what ends an expression or a list

@@ -2,24 +2,25 @@
 use Rattle.std.proofs.Common.{◌≡◌, Bool, true, false, ◌&&◌, ◌||◌, List, [], ◌∷◌, ◌++◌, inl, inr, refl, sym, ap, subst, ◌∙◌, append_assoc, append-nil}
 use Rattle.grammar.specs.Tokens.{Token, Span}
 use Rattle.grammar.specs.Grammar.{Grammar.empty, Grammar.token, Grammar.sequence, Grammar.choice, Grammar.mapped, Grammar.node, Grammar.checked, Grammar.symbol, Grammar.left_chain, Mode.checking, Chain, Chain.base, Chain.more, Means, Derives, is_among}
+use Rattle.grammar.specs.Notation.{◌then◌}
 use Rattle.grammar.specs.Tables.{subset}
 use Rattle.grammar.proofs.Reading.Sets.{and_true, either, in_subset, apart}
 use Rattle.grammar.proofs.Reading.Frame.{joined}
 use Rattle.grammar.proofs.Reading.Depth.{roll}
-use Rattle.wgsl_model.specs.Tokens.Classes.{SymComma, SymEqualEqual, SymGreaterThan, SymGreaterThanEqual, SymLessThan, SymLessThanEqual, SymNotEqual}
-use Rattle.wgsl_model.specs.Trees.Operators.{BinaryOperator}
+use Rattle.wgsl_model.specs.Tokens.Classes.{SymComma, SymEqualEqual, SymGreaterThan, SymGreaterThanEqual, SymLessThan, SymLessThanEqual, SymNotEqual, SymShiftLeft, SymShiftRight}
+use Rattle.wgsl_model.specs.Trees.Operators.{BinaryOperator, shift_right}
 use Rattle.wgsl_model.specs.Trees.Expressions.{ExpressionNode}
 use Rattle.wgsl_model.specs.Trees.Units.{TranslationUnit}
-use Rattle.wgsl_model.specs.Grammar.ExpressionParts.{relational_operator}
-use Rattle.wgsl_model.specs.Grammar.Symbols.{Symbol, template_list, expressions, shift_expression, relational_expression, expression, case_selector, unit, Value, Rule}
+use Rattle.wgsl_model.specs.Grammar.ExpressionParts.{relational_operator, two}
+use Rattle.wgsl_model.specs.Grammar.Symbols.{Symbol, template_list, expressions, unary_expression, shift_expression, relational_expression, expression, case_selector, unit, Value, Rule}
 use Rattle.wgsl_model.specs.Grammar.Written.{written}
 use Rattle.wgsl_theory_reread.proofs.Again.{D}
 use Rattle.wgsl_theory_reread.proofs.Derived.{by_derivation}
 use Rattle.wgsl_theory_templates.proofs.Reaching.Reach.{Place, outside, inside, reach}
 use Rattle.wgsl_theory_templates.proofs.Reaching.Moves.{kinds}
-use Rattle.wgsl_theory_templates.proofs.Reaching.Closes.{closes, ended, last_comma, comma, comma_moves}
-use Rattle.wgsl_theory_templates.proofs.Reaching.Behind.{less_than_is_clear, ending, ended_at, BeginsList, selector_closes}
-use Rattle.wgsl_theory_templates.proofs.Reaching.Clear.{template_ends, AllClear, done, other_token, template, Need, any_tokens, rest_of_list, end_of_list, Meets, need, is_enough, Cut, wider_cut, none_cut, both_cut, is_plain, token_cut, Cleared, derived, moved}
+use Rattle.wgsl_theory_templates.proofs.Reaching.Closes.{closes, unary_is_shift, ended, last_comma, comma, comma_moves}
+use Rattle.wgsl_theory_templates.proofs.Reaching.Behind.{compared_closes, operand_is_clear, ending, ended_at, BeginsList, selector_closes}
+use Rattle.wgsl_theory_templates.proofs.Reaching.Clear.{template_ends, AllClear, done, other_token, template, Need, any_tokens, rest_of_shift, rest_of_list, end_of_list, Meets, need, is_enough, enough, Cut, wider_cut, none_cut, both_cut, is_plain, token_cut, Cleared, derived, moved}
 
 -- ---- the test
 -- the items of lists that stand for expressions
@@ -37,6 +38,7 @@ goes_on n g = false
 -- before what meets n, what a right side derives meets m
 abbrev leads : {A : Type 0} → Need → Need → Rule A → Bool
 leads any_tokens n g = true
+leads rest_of_shift n g = false
 leads rest_of_list n g = ending false g || goes_on n g
 leads end_of_list n g = ending false g
 
@@ -83,6 +85,7 @@ led_on n g e v xs ys d p q h = absurd cc
 
 led : {A : Type 0} (m n : Need) (g : Rule A) → leads m n g ≡ true → Leads m n (Means checking D g)
 led any_tokens n g e v xs ys d p q = tt
+led rest_of_shift n g e v xs ys d p q = absurd cc
 led rest_of_list n g e v xs ys d p q = elim (either (ending false g) (goes_on n g) e) [ inl a ↦ λ h. ended (ended_at g a v xs ys d) | inr b ↦ led_on n g b v xs ys d p q ]
 led end_of_list n g e v xs ys d p q = ended_at g e v xs ys d
 
@@ -149,25 +152,46 @@ operator_token o xs ys (inr (inr (inr (inl d)))) = (d.0, apart d.0.class (SymGre
 operator_token o xs ys (inr (inr (inr (inr (inl d))))) = (d.0, apart d.0.class (SymEqualEqual ∷ []) template_ends refl d.2.0, d.2.1)
 operator_token o xs ys (inr (inr (inr (inr (inr d))))) = (d.0, apart d.0.class (SymNotEqual ∷ []) template_ends refl d.2.0, d.2.1)
 
--- the operator and the second operand
-comparison_clears : (o : BinaryOperator) (v : ExpressionNode) (xs ms ys : List Token) → Means checking Cleared relational_operator o xs ms → Cleared shift_expression v ms ys → Cut rest_of_list xs ys
-comparison_clears o v xs ms ys d (i, operand) =
-    let operator = operator_token o xs ms d in
-    let t = operator.0 in record {
-      tokens = t ∷ operand.tokens;
-      whole = operator.2 ∙ ap (λ (z : List Token). t ∷ z) operand.whole;
-      clear = λ p zs g.
-          let second = moved (symbol shift_expression) v ms ys operand.tokens operand.whole i zs in
-          other_token p t (operand.tokens ++ zs) zs operator.1 (λ less none. less_than_is_clear v (operand.tokens ++ zs) zs second p g none) (operand.clear p zs tt);
-    }
+-- an operator and its second operand, which is a shift
+operator_clears : (m n : Need) → is_enough m n ≡ true → is_enough m rest_of_shift ≡ true → (t : Token) (v : ExpressionNode) (xs ms ys : List Token) → is_among t.class template_ends ≡ false → xs ≡ t ∷ ms
+    → (operand : Cut n ms ys) → ((zs : List Token) → D shift_expression v (operand.tokens ++ zs) zs) → Cut m xs ys
+operator_clears m n e f t v xs ms ys other w operand shift = record {
+  tokens = t ∷ operand.tokens;
+  whole = w ∙ ap (λ (z : List Token). t ∷ z) operand.whole;
+  clear = λ p zs g.
+      other_token p t (operand.tokens ++ zs) zs other (λ less none. operand_is_clear v (operand.tokens ++ zs) zs (shift zs) p (enough m rest_of_shift f p zs g) none) (operand.clear p zs (enough m n e p zs g));
+}
 
+-- a shift: before its operator all tokens may stand
+shift_expression_clears : Clears rest_of_shift (Means checking Cleared (written shift_expression))
+shift_expression_clears v xs ys (inl d) = wider_cut refl d.1
+shift_expression_clears v xs ys (inr (inl d)) =
+    let operator = d.2.2.1 in
+    let second = d.2.2.2 in
+    let operand = second.1 in
+    both_cut d.2.1.1
+    (operator_clears rest_of_shift any_tokens refl refl operator.0 d.0.1.1 d.2.0 d.2.2.0 ys (apart operator.0.class (SymShiftLeft ∷ []) template_ends refl operator.2.0) operator.2.1 operand
+    (λ zs. unary_is_shift d.0.1.1 (operand.tokens ++ zs) zs (moved (symbol unary_expression) d.0.1.1 d.2.2.0 ys operand.tokens operand.whole second.0 zs))) (λ p zs h. tt)
+shift_expression_clears v xs ys (inr (inr d)) = clear rest_of_shift (two SymShiftRight shift_right (symbol unary_expression)) refl v xs ys d
+
+-- a comparison: its first operand stands before the operator and the second one
 relational_expression_clears : Clears rest_of_list (Means checking Cleared (written relational_expression))
 relational_expression_clears v xs ys (inl d) = wider_cut refl d.1
-relational_expression_clears v xs ys (inr d) = both_cut d.2.1.1 (comparison_clears d.0.1.0 d.0.1.1 d.2.0 d.2.2.0 ys d.2.2.1 d.2.2.2) (λ p zs h. tt)
+relational_expression_clears v xs ys (inr d) =
+    let operator = operator_token d.0.1.0 d.2.0 d.2.2.0 d.2.2.1 in
+    let second = d.2.2.2 in
+    let operand = second.1 in
+    let rest =
+    operator_clears rest_of_list rest_of_shift refl refl operator.0 d.0.1.1 d.2.0 d.2.2.0 ys operator.1 operator.2 operand
+    (λ zs. moved (symbol shift_expression) d.0.1.1 d.2.2.0 ys operand.tokens operand.whole second.0 zs) in
+    let compared = relational_operator then symbol shift_expression in
+    both_cut d.2.1.1 rest
+    (λ p zs h. compared_closes p d.0.1 (rest.tokens ++ zs) zs (moved compared d.0.1 d.2.0 ys rest.tokens rest.whole (derived compared d.0.1 d.2.0 ys d.2.2) zs) h)
 
 -- ---- all symbols
 rules : (n : Symbol) → Clears (need n) (Means checking Cleared (written n))
 rules template_list = template_list_clears
+rules shift_expression = shift_expression_clears
 rules relational_expression = relational_expression_clears
 rules n = clear (need n) (written n) refl
 

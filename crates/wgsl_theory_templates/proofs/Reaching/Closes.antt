@@ -46,10 +46,13 @@ lifted : (m n : Symbol) (p : Place) (xs ys : List Token) → Lifts m n → Way m
 lifted m n p xs ys f (passed a) = passed a
 lifted m n p xs ys f (closed g) = closed (λ h. let w = g h in f w.0 (stretch 0 0 xs) w.1)
 
+pub unary_is_shift : (v : ExpressionNode) (xs ys : List Token) → D unary_expression v xs ys → D shift_expression v xs ys
+unary_is_shift v xs ys d =
+    let m = roll checking written multiplicative_expression v xs ys (base v ys d) in
+    roll checking written shift_expression v xs ys (inl (roll checking written additive_expression v xs ys (base v ys m)))
+
 unary_shifts : Lifts unary_expression shift_expression
-unary_shifts v xs d =
-    let m = roll checking written multiplicative_expression v xs [] (base v [] d) in
-    (v, roll checking written shift_expression v xs [] (inl (roll checking written additive_expression v xs [] (base v [] m))))
+unary_shifts v xs d = (v, unary_is_shift v xs [] d)
 
 shift_relates : Lifts shift_expression relational_expression
 shift_relates v xs d = (v, roll checking written relational_expression v xs [] (inl d))

@@ -1,16 +1,18 @@
 -- How far a list that would begin at a `<` was read: what is read from there is read alike by each list around that `<`.
-use Rattle.std.proofs.Common.{◌≡◌, ◌⊎◌, ◌+◌, ℕ, suc, Bool, true, false, List, [], ◌∷◌, ◌++◌, drop, inl, inr, refl, sym, ap, subst, ◌∙◌, append-nil, append_assoc, arith}
+use Rattle.std.proofs.Common.{◌≡◌, ◌⊎◌, ◌+◌, ℕ, suc, Bool, true, false, not, List, [], ◌∷◌, ◌++◌, drop, inl, inr, refl, sym, ap, subst, ◌∙◌, append-nil, append_assoc, arith}
 use Rattle.grammar.specs.Tokens.{Token}
+use Rattle.grammar.specs.Grammar.{is_among}
+use Rattle.grammar.proofs.Reading.Sets.{not_true}
 use Rattle.wgsl_model.specs.Tokens.Classes.{SymLessThan}
 use Rattle.wgsl_model.specs.Tokens.Kind.{Kind}
 use Rattle.wgsl_model.specs.Tokens.Raw.{Raw, token, raw}
 use Rattle.wgsl_model.specs.Tokens.Templates.{is_word, is_opening, is_closing, begins_with_greater, goes_on, NoTemplate, Inside, at_greater, at_opening, at_closing, at_template, at_other, Enclosed, enclosed, Template}
-use Rattle.wgsl_theory_grammar.proofs.Tokens.Classes.{opening_word, closing_word}
+use Rattle.wgsl_theory_grammar.proofs.Tokens.Classes.{passes_on, opening_word, closing_word}
 use Rattle.wgsl_theory_grammar.proofs.Tokens.Bounds.{template_is}
 use Rattle.wgsl_theory_grammar.proofs.Tokens.Inside.{at, step_at, Behind, behind_list, behind_none, from_opening, from_closing, from_other, to_other}
 use Rattle.wgsl_theory_grammar.proofs.Tokens.Unique.{template_unique, marked}
 use Rattle.wgsl_theory_grammar.proofs.Tokens.Decided.{enclosed_kind}
-use Rattle.wgsl_theory_templates.specs.Attempts.{EndsAt, HasNoEnd, ReadsTo}
+use Rattle.wgsl_theory_templates.specs.Attempts.{EndsAt, HasNoEnd, ReadsTo, less_signs}
 use Rattle.wgsl_theory_templates.proofs.Swaps.InsideNested.{no_less}
 use Rattle.wgsl_theory_templates.proofs.Swaps.ReadAlike.{no_list_behind, deeper_goes_on}
 
@@ -146,6 +148,10 @@ takes_list total text seen word depth rest from after end kind r e w c k =
           (vs, s ∙ ap (λ (x : List Token). x ++ vs) (sym same.0), behind_none (λ x. absurd cc) (subst (λ (x : List ℕ). Inside total (Template total) d x vs f) (sym same.1) h))
       again d ms q ts f (behind_none n h) = absurd (n w ms (drop 1 end) q)
 
+-- an operator that ends with a `<` is taken, and is no word
+pub sign_taken : (depth c : ℕ) → is_among c less_signs ≡ true → (goes_on depth c ≡ true) × (is_word c ≡ false)
+sign_taken depth c m = (deeper_goes_on 0 depth c (omega arith) (passes_on (goes_on 0) c less_signs refl m), not_true (is_word c) (passes_on (λ x. not (is_word x)) c less_signs refl m))
+
 -- what was read from a place that was come to goes on what was read up to there
 pub goes_further : (total : ℕ) (text : List ℕ) (seen more : List Token) (word : Bool) (depth deep : ℕ) (place rest : List ℕ) → ReadsTo total text seen false depth place → ReadsTo total place more word deep rest
     → ReadsTo total text (seen ++ more) word (depth + deep) rest
@@ -161,15 +167,14 @@ goes_further total text seen more word depth deep place rest r s = record {
       (m.0, k.1 ∙ ap (λ (x : List Token). seen ++ x) m.1 ∙ sym (append_assoc seen more m.0), subst (λ (x : ℕ). Behind total (Template total) word x rest m.0 end) e m.2);
 }
 
--- and what was read from a `<` on that begins no list behind a word, goes on what was read up to that `<`
+-- and what was read after an operator that ends with a `<` goes on what was read up to it, where it begins no list after a word
 pub goes_by_less : (total : ℕ) (text : List ℕ) (seen more : List Token) (word last : Bool) (depth deep : ℕ) (rest from after place : List ℕ) (kind : Kind) → ReadsTo total text seen word depth rest → raw rest ≡ token kind from after
-    → kind.class ≡ SymLessThan → (word ≡ true → HasNoEnd total after) → ReadsTo total after more last deep place → ReadsTo total text (seen ++ (at total kind from after ∷ more)) last (depth + deep) place
+    → is_among kind.class less_signs ≡ true → (word ≡ true → kind.class ≡ SymLessThan → HasNoEnd total after) → ReadsTo total after more last deep place → ReadsTo total text (seen ++ (at total kind from after ∷ more)) last (depth + deep) place
 goes_by_less total text seen more word last depth deep rest from after place kind r e c n s =
     let less : Token = at total kind from after in
-    let no_word : is_word kind.class ≡ false = ap is_word c in
-    let on : goes_on depth kind.class ≡ true = deeper_goes_on 0 depth kind.class (omega arith) (ap (goes_on 0) c) in
+    let is = sign_taken depth kind.class c in
     let one : ReadsTo total text (seen ++ less ∷ []) false depth after =
-    subst (λ (x : Bool). ReadsTo total text (seen ++ less ∷ []) x depth after) no_word (takes total text seen word depth depth rest from after kind r e (λ w l. n w) (inr (inr (on, refl)))) in
+    subst (λ (x : Bool). ReadsTo total text (seen ++ less ∷ []) x depth after) is.1 (takes total text seen word depth depth rest from after kind r e n (inr (inr (is.0, refl)))) in
     subst (λ (x : List Token). ReadsTo total text x last (depth + deep) place) (append_assoc seen (less ∷ []) more) (goes_further total text (seen ++ less ∷ []) more last depth deep after place one s)
 
 -- the `>` that ends the list

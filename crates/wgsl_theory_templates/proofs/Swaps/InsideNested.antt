@@ -1,8 +1,9 @@
--- In tokens that are clear, no token that begins with `>` is reached behind a `<` either, where template lists begin and end in pairs behind it.
+-- In tokens that are clear, no token that begins with `>` is reached after a `<` or `<<` either, where template lists begin and end in pairs after it.
 use Rattle.std.proofs.Common.{◌≡◌, ℕ, zero, suc, Bool, true, false, List, [], ◌∷◌, ◌++◌, length, refl, sym, ap, subst, ◌∙◌}
 use Rattle.grammar.specs.Tokens.{Token}
 use Rattle.grammar.specs.Grammar.{is_among}
-use Rattle.grammar.proofs.Reading.Sets.{clash}
+use Rattle.grammar.specs.Tables.{disjoint}
+use Rattle.grammar.proofs.Reading.Sets.{clash, apart}
 use Rattle.grammar.proofs.Faults.Anchors.{tail_of}
 use Rattle.wgsl_model.specs.Tokens.Classes.{SymLessThan, TemplateArgsStart, TemplateArgsEnd}
 use Rattle.wgsl_model.specs.Tokens.Kind.{Kind}
@@ -11,6 +12,7 @@ use Rattle.wgsl_model.specs.Tokens.Templates.{TemplateRelation, Inside, at_great
 use Rattle.wgsl_theory_grammar.proofs.Faults.PlainFaults.{one_class}
 use Rattle.wgsl_theory_templates.proofs.Reaching.Reach.{Role, Role.template_end, role, Place, inside, reach}
 use Rattle.wgsl_theory_templates.proofs.Reaching.Moves.{kinds}
+use Rattle.wgsl_theory_templates.specs.Attempts.{less_signs}
 use Rattle.wgsl_theory_templates.proofs.Reaching.Behind.{NoListAt}
 use Rattle.wgsl_theory_templates.proofs.Reaching.Clear.{AllClear, done, other_token, template}
 use Rattle.wgsl_theory_templates.proofs.Lexed.RawClasses.{raw_unmarked}
@@ -96,25 +98,29 @@ no_token : (us : List Token) (l : Token) (ys : List Token) → [] ≡ us ++ (l �
 no_token [] l ys w = cc
 no_token (u ∷ us) l ys w = cc
 
+-- nor does such an operator stand for a token of other classes
+no_sign : (s : List ℕ) (t l : Token) → disjoint s less_signs ≡ true → is_among t.class s ≡ true → is_among l.class less_signs ≡ true → t ≡ l → ⊥
+no_sign s t l d m c e = clash _ (ap (λ (x : Token). is_among x.class less_signs) e ∙ c) (apart t.class s less_signs d m)
+
 -- a `<` behind the start of a template list stands behind its end
-by_place : (p : Place) (mid rest us ys : List Token) (l end : Token) → is_among end.class (TemplateArgsEnd ∷ []) ≡ true → l.class ≡ SymLessThan → Nested 0 (kinds mid) → Nested 0 (kinds rest) → Nested 0 (kinds ys)
+by_place : (p : Place) (mid rest us ys : List Token) (l end : Token) → is_among end.class (TemplateArgsEnd ∷ []) ≡ true → is_among l.class less_signs ≡ true → Nested 0 (kinds mid) → Nested 0 (kinds rest) → Nested 0 (kinds ys)
     → ((bs : List Token) → rest ≡ bs ++ (l ∷ ys) → reach p 0 0 (kinds ys) ≡ false) → Where mid (end ∷ rest) us l ys → reach p 0 0 (kinds ys) ≡ false
 by_place p mid rest us ys l end i c m r n again (in_first vs f g) =
     absurd (no_end_between us vs rest l end (subst (λ (z : List Token). Nested 0 (kinds z)) f m) (ap role (one_class end.class TemplateArgsEnd i)) r (subst (λ (z : List Token). Nested 0 (kinds z)) g n))
-by_place p mid rest us ys l end i c m r n again (in_second [] f g) = absurd (no_less (λ x. is_among x (TemplateArgsEnd ∷ [])) end.class i refl (ap (λ (x : Token). x.class) (same_head end l rest ys g) ∙ c))
+by_place p mid rest us ys l end i c m r n again (in_second [] f g) = absurd (no_sign (TemplateArgsEnd ∷ []) end l refl i c (same_head end l rest ys g))
 by_place p mid rest us ys l end i c m r n again (in_second (b ∷ bs) f g) = again bs (tail_of end b rest (bs ++ (l ∷ ys)) g)
 
 -- behind a `<` in them, where each list that begins behind it is ended and no other
-pub clear_at : (p : Place) (xs zs : List Token) → AllClear p xs zs → zs ≡ [] → (us : List Token) (l : Token) (ys : List Token) → xs ≡ us ++ (l ∷ ys) → l.class ≡ SymLessThan → Nested 0 (kinds ys) → NotReachedBehind p ys
+pub clear_at : (p : Place) (xs zs : List Token) → AllClear p xs zs → zs ≡ [] → (us : List Token) (l : Token) (ys : List Token) → xs ≡ us ++ (l ∷ ys) → is_among l.class less_signs ≡ true → Nested 0 (kinds ys) → NotReachedBehind p ys
 clear_at _ _ _ (done p zs) e us l ys w c n none_at = absurd (no_token us l ys (sym e ∙ w))
 clear_at _ _ _ (other_token p t rest zs none less a) e [] l ys w c n none_at =
     let head = same_head t l rest ys w in
     let tail = tail_of t l rest ys w in
-    let is_less : is_among t.class (SymLessThan ∷ []) ≡ true = ap (λ (x : Token). is_among x.class (SymLessThan ∷ [])) head ∙ ap (λ (x : ℕ). is_among x (SymLessThan ∷ [])) c in
+    let is_less : is_among t.class less_signs ≡ true = ap (λ (x : Token). is_among x.class less_signs) head ∙ c in
     subst (λ (z : List Token). reach p 0 0 (kinds z) ≡ false) tail (less is_less (subst (λ (z : List Token). NoListAt p z) (sym tail) none_at))
 clear_at _ _ _ (other_token p t rest zs none less a) e (u ∷ us) l ys w c n none_at = clear_at p rest zs a e us l ys (tail_of t u rest (us ++ (l ∷ ys)) w) c n none_at
 clear_at _ _ _ (template p start end mid rest zs v h i d k a) e [] l ys w c n none_at =
-    absurd (no_less (λ x. is_among x (TemplateArgsStart ∷ [])) start.class h refl (ap (λ (x : Token). x.class) (same_head start l (mid ++ (end ∷ rest)) ys w) ∙ c))
+    absurd (no_sign (TemplateArgsStart ∷ []) start l refl h c (same_head start l (mid ++ (end ∷ rest)) ys w))
 clear_at _ _ _ (template p start end mid rest zs v h i d k a) e (u ∷ us) l ys w c n none_at =
     by_place p mid rest us ys l end i c (clear_nested inside mid [] k refl) (clear_nested p rest zs a e) n (λ bs f. clear_at p rest zs a e bs l ys f c n none_at)
     (stands mid (end ∷ rest) us l ys (tail_of start u (mid ++ (end ∷ rest)) (us ++ (l ∷ ys)) w))

@@ -2,9 +2,8 @@
 use Rattle.std.proofs.Common.{◌≡◌, ℕ, zero, suc, ◌+◌, ◌≤◌, Bool, true, false, List, [], ◌∷◌, ◌++◌, length, inl, inr, refl, sym, ap, subst, ◌∙◌, arith}
 use Rattle.std.proofs.lemmas.List.{map-append, length-map}
 use Rattle.grammar.specs.Tokens.{Token, first_tokens}
-use Rattle.grammar.specs.Grammar.{Mode.checking, Derives}
+use Rattle.grammar.specs.Grammar.{Mode.checking, Derives, is_among}
 use Rattle.grammar.proofs.Reading.Sets.{clash}
-use Rattle.wgsl_model.specs.Tokens.Classes.{SymLessThan}
 use Rattle.wgsl_model.specs.Tokens.Kind.{Kind}
 use Rattle.wgsl_model.specs.Tokens.Raw.{token}
 use Rattle.wgsl_model.specs.Grammar.Symbols.{Symbol.expressions}
@@ -24,6 +23,7 @@ use Rattle.wgsl_theory_templates.proofs.Lexed.RawClasses.{raw_unmarked}
 use Rattle.wgsl_theory_templates.proofs.Lexed.PassedOver.{Closed, front_over}
 use Rattle.wgsl_theory_templates.proofs.Lexed.ReachedRuns.{AllClosed, template_closed}
 use Rattle.wgsl_theory_templates.proofs.Lexed.NoStops.{is_stop_role, NoStop, no_stops}
+use Rattle.wgsl_theory_templates.specs.Attempts.{less_signs}
 use Rattle.wgsl_theory_templates.proofs.Swaps.InsideNested.{all_nested, clear_at}
 
 -- ---- tokens and their roles
@@ -150,8 +150,8 @@ alike total R u c j text us e (at_other i t from after e' k vs r g b h) d le ts 
     (λ o. alike total R u c j after vs e h d le s.0 end (no_list_behind total R (is_word k.class) d after s.0 end b s.2) o)
 
 -- ---- lists
--- what would stand inside a list that begins at a `<` is a list of expressions, if a list around the `<` is one
-pub list_within : (total : ℕ) (before : List Token) (less : Token) (ts us : List Token) (depth : ℕ) (after end e : List ℕ) → IsList (before ++ (less ∷ ts)) → less.class ≡ SymLessThan
+-- what would stand inside a list that begins at a `<` is a list of expressions, if a list around an operator that ends with this `<` is one
+pub list_within : (total : ℕ) (before : List Token) (less : Token) (ts us : List Token) (depth : ℕ) (after end e : List ℕ) → IsList (before ++ (less ∷ ts)) → is_among less.class less_signs ≡ true
     → Inside total (Template total) depth after ts end → Inside total (Template total) 0 after us e → IsList us
 list_within total before less ts us depth after end e (v, d) l h i = elim (list_decided us) [ inl y ↦ y | inr never ↦ absurd (refuse never) ] where
   found : Found 0 ts us

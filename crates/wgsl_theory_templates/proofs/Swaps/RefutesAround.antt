@@ -3,19 +3,18 @@ use Rattle.std.proofs.Common.{◌≡◌, ◌+◌, ℕ, Bool, true, List, ◌∷�
 use Rattle.grammar.specs.Tokens.{Token}
 use Rattle.grammar.specs.Grammar.{is_among}
 use Rattle.grammar.proofs.Reading.Sets.{clash}
-use Rattle.wgsl_model.specs.Tokens.Classes.{SymLessThan}
 use Rattle.wgsl_model.specs.Tokens.Kind.{Kind}
 use Rattle.wgsl_model.specs.Tokens.Raw.{Raw, none_left, invalid, token, raw}
-use Rattle.wgsl_model.specs.Tokens.Templates.{is_word, is_closing, begins_with_greater, is_short_circuit, goes_on, NoTemplate, Inside, Template}
+use Rattle.wgsl_model.specs.Tokens.Templates.{is_word, is_closing, begins_with_greater, is_short_circuit, NoTemplate, Inside, Template}
 use Rattle.wgsl_theory_grammar.specs.Tokens.Refuted.{in_no_expression}
 use Rattle.wgsl_theory_grammar.proofs.Tokens.Inside.{at, Step, greater_step, opening_step, closing_step, template_step, other_step, step_at, from_closing, from_short_circuit, from_other}
 use Rattle.wgsl_theory_grammar.proofs.Tokens.Unique.{inside_unique, template_unique}
 use Rattle.wgsl_theory_grammar.proofs.Tokens.Decided.{IsList}
 use Rattle.wgsl_theory_grammar.proofs.Tokens.Refuted.{refuted, none_greater}
 use Rattle.wgsl_theory_templates.proofs.Swaps.InsideNested.{no_less}
-use Rattle.wgsl_theory_templates.proofs.Swaps.ReadAlike.{no_list_behind, deeper_goes_on, list_within}
-use Rattle.wgsl_theory_templates.specs.Attempts.{HasNoEnd, NoneAround, ReadsTo}
-use Rattle.wgsl_theory_templates.proofs.Swaps.Attempts.{none_begins, none_left_begins}
+use Rattle.wgsl_theory_templates.proofs.Swaps.ReadAlike.{no_list_behind, list_within}
+use Rattle.wgsl_theory_templates.specs.Attempts.{HasNoEnd, NoneAround, ReadsTo, less_signs}
+use Rattle.wgsl_theory_templates.proofs.Swaps.Attempts.{none_begins, none_left_begins, sign_taken}
 
 -- ---- where it ends
 -- what stands inside is no list of expressions: then there is none around it
@@ -76,31 +75,31 @@ pub nothing_refutes : (total : ℕ) (text : List ℕ) (seen : List Token) (word 
 nothing_refutes total text seen word depth rest x r e n =
     around total text seen word depth rest r (λ w. none_left_begins total rest x e n) (λ d before us end h l. nothing_inside total (d + depth) rest x e n us end h)
 
--- ---- a `<`
+-- ---- an operator that ends with a `<`
 -- the tokens behind it
-behind_less : (total depth : ℕ) (rest from after : List ℕ) (kind : Kind) (us : List Token) (end : List ℕ) → raw rest ≡ token kind from after → kind.class ≡ SymLessThan → Inside total (Template total) depth rest us end
+behind_less : (total depth : ℕ) (rest from after : List ℕ) (kind : Kind) (us : List Token) (end : List ℕ) → raw rest ≡ token kind from after → is_among kind.class less_signs ≡ true → Inside total (Template total) depth rest us end
     → (vs : List Token) × (us ≡ at total kind from after ∷ vs) × Inside total (Template total) depth after vs end
 behind_less total depth rest from after kind us end e c h =
-    let on : goes_on depth kind.class ≡ true = deeper_goes_on 0 depth kind.class (omega arith) (ap (goes_on 0) c) in
-    let k = from_other total (Template total) depth kind from after us end on (step_at total (Template total) depth rest us end (token kind from after) e h) in
-    (k.0, k.1, no_list_behind total (Template total) (is_word kind.class) depth after k.0 end (λ w. clash _ w (ap is_word c)) k.2)
+    let is = sign_taken depth kind.class c in
+    let k = from_other total (Template total) depth kind from after us end is.0 (step_at total (Template total) depth rest us end (token kind from after) e h) in
+    (k.0, k.1, no_list_behind total (Template total) (is_word kind.class) depth after k.0 end (λ w. clash _ w is.1) k.2)
 
 -- one that is refuted with each list around it, wherever it stands
 pub refuted_less_refutes : (total : ℕ) (text : List ℕ) (seen : List Token) (word : Bool) (depth : ℕ) (rest from after : List ℕ) (kind : Kind) → ReadsTo total text seen word depth rest → raw rest ≡ token kind from after
-    → kind.class ≡ SymLessThan → NoneAround total after → NoneAround total text
+    → is_among kind.class less_signs ≡ true → NoneAround total after → NoneAround total text
 refuted_less_refutes total text seen word depth rest from after kind r e c n =
     around total text seen word depth rest r (λ w. none_begins total rest from after kind e (λ l. n.0)) (λ d before us end h l.
     let k = behind_less total (d + depth) rest from after kind us end e c h in
     n.1 before (at total kind from after) k.0 (d + depth) end c k.2 (subst (λ (x : List Token). IsList (before ++ x)) k.1 l))
 
 -- no list of expressions has, outside brackets, one that begins no list
-pub less_in_no_list : (total : ℕ) (before : List Token) (less : Token) (ts : List Token) (after end : List ℕ) → IsList (before ++ (less ∷ ts)) → less.class ≡ SymLessThan → HasNoEnd total after
+pub less_in_no_list : (total : ℕ) (before : List Token) (less : Token) (ts : List Token) (after end : List ℕ) → IsList (before ++ (less ∷ ts)) → is_among less.class less_signs ≡ true → HasNoEnd total after
     → Inside total (Template total) 0 after ts end → ⊥
 less_in_no_list total before less ts after end l c n h = n end (ts, h, list_within total before less ts ts 0 after end end l c h h)
 
 -- one that begins no list, outside brackets
 pub less_refutes : (total : ℕ) (text : List ℕ) (seen : List Token) (word : Bool) (rest from after : List ℕ) (kind : Kind) → ReadsTo total text seen word 0 rest → raw rest ≡ token kind from after
-    → kind.class ≡ SymLessThan → HasNoEnd total after → HasNoEnd total text
+    → is_among kind.class less_signs ≡ true → HasNoEnd total after → HasNoEnd total text
 less_refutes total text seen word rest from after kind r e c n =
     alone total text seen word 0 rest r (λ w. none_begins total rest from after kind e (λ l. n)) (λ before us end h l.
     let k = behind_less total 0 rest from after kind us end e c h in

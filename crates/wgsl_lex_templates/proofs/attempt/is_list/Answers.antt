@@ -4,8 +4,13 @@ use Rattle.wgsl_lex_token.specs.View.{classes}
 use Rattle.wgsl_lex_templates.specs.Kept.{held}
 use Rattle.wgsl_lex_templates.proofs.attempt.is_list.Goals as goal
 
-pub returns : goal.returns
-returns c ts e =
+pub returns-clause-value : goal.returns-clause-value
+returns-clause-value c ts e =
     let emptied = ap (λ (x : List TokenKind). classes x ++ held c.args.kept.now.pieces.items c.args.start c.len.result) c.clear.ensures.items in
     let all = c.in_ok-push_kinds.ensures ∙ emptied ∙ ap (held c.args.kept.now.pieces.items c.args.start) c.len.ensures in
     c.is_expression_list.ensures ts (e ∙ sym all ∙ ap classes (sym c.deref-2.ensures.value))
+
+pub returns-clause-kinds : goal.returns-clause-kinds
+returns-clause-kinds c =
+    c.in_ok-push_kinds.ensures ∙ ap (λ (x : List TokenKind). classes x ++ held c.args.kept.now.pieces.items c.args.start c.len.result) c.clear.ensures.items
+    ∙ ap (held c.args.kept.now.pieces.items c.args.start) c.len.ensures

@@ -1,4 +1,4 @@
-use Rattle.std.proofs.Common.{rules, arith, ◌≡◌, ◌≤◌, ◌++◌, ◌∷◌, [], ◌∙◌, true, false, inl, inr, sym, ap, subst, chars, length, refl}
+use Rattle.std.proofs.Common.{rules, arith, ◌≤◌, ◌++◌, ◌∷◌, [], ◌∙◌, false, inl, inr, sym, ap, subst, chars, length, refl}
 use Rattle.std.specs.Str.{IsUtf8}
 use Rattle.std.proofs.lemmas.List.{length-append}
 use Rattle.wgsl_model.specs.Tokens.Templates.{is_word}
@@ -6,7 +6,7 @@ use Rattle.wgsl_lex_scanner.specs.View.{scanned_view}
 use Rattle.wgsl_theory_grammar.proofs.Tokens.Cuts.{joined}
 use Rattle.wgsl_theory_grammar.proofs.Tokens.Widths.{within}
 use Rattle.wgsl_theory_grammar.proofs.Tokens.Bounds.{template_leaves}
-use Rattle.wgsl_theory_templates.specs.Attempts.{HasNoEnd, ReadsTo}
+use Rattle.wgsl_theory_templates.specs.Attempts.{ReadsTo}
 use Rattle.wgsl_theory_templates.proofs.Swaps.Attempts.{list_front, none_begins}
 use Rattle.wgsl_theory_templates.proofs.Swaps.RefutesAround as refutes
 use Rattle.wgsl_lex_templates.specs.declared.kept.Piece.TheVariants.{Token}
@@ -18,7 +18,7 @@ use Rattle.wgsl_lex_templates.proofs.TextLists.Ends.{tell_end}
 use Rattle.wgsl_lex_templates.proofs.Readings.Found.{right_more}
 use Rattle.wgsl_lex_templates.proofs.TextLists.Fronts.{less_first}
 use Rattle.wgsl_lex_templates.proofs.Readings.Pieces.{held_from, nothing_held, token_held, list_held, begin_with_all, one_more, list_more, no_shorter}
-use Rattle.wgsl_lex_templates.proofs.Readings.Reached.{starts, takes, takes_list, goes_on_by, ends, forget_word, reached_alike, moved, taken_within, no_end_behind}
+use Rattle.wgsl_lex_templates.proofs.Readings.Reached.{starts, takes, takes_list, goes_on_by, ends, forget_word, reached_alike, moved, taken_within, no_end_behind, sign_of}
 use Rattle.wgsl_lex_templates.proofs.Readings.Turns.{turned}
 use Rattle.wgsl_lex_templates.proofs.TextLists.Scans.{no_token, taken}
 use Rattle.wgsl_lex_templates.proofs.reading.read.Goals as goal
@@ -78,10 +78,14 @@ tokens-preserved-in-Some c =
           (takes_list total (chars c.args.text.now) (held_from c.tokens.kept.pieces.items start) c.tokens.behind_word c.tokens.depth _ _ _ list.1 _ c.tokens.invariant.reached t.front found.0 list.0 list.2);
     }
 
-pub look_up-requires : goal.look_up-requires
-look_up-requires c =
-    joined (chars c.args.source.now) (chars c.tokens.rest.now) (chars c.in-Found.from.now) (joined (chars c.args.source.now) (chars c.args.text.now) (chars c.tokens.rest.now) c.requires.ends c.tokens.invariant.ends)
-    (taken c.tokens.rest.now _ c.in-Found.lexeme c.in-Found.from c.in-Found.after c.in-Found.is c.in_ok-lexeme.ensures.value c.in_ok-lexeme.ensures.shorter).starts
+pub look_up-requires-clause-ends : goal.look_up-requires-clause-ends
+look_up-requires-clause-ends c =
+    joined (chars c.args.source.now) (chars c.tokens.rest.now) (chars c.in-Found.after.now) (joined (chars c.args.source.now) (chars c.args.text.now) (chars c.tokens.rest.now) c.requires.ends c.tokens.invariant.ends)
+    (taken c.tokens.rest.now _ c.in-Found.lexeme c.in-Found.from c.in-Found.after c.in-Found.is c.in_ok-lexeme.ensures.value c.in_ok-lexeme.ensures.shorter).leaves
+
+pub look_up-requires-clause-shorter : goal.look_up-requires-clause-shorter
+look_up-requires-clause-shorter c =
+    omega (arith, (taken c.tokens.rest.now _ c.in-Found.lexeme c.in-Found.from c.in-Found.after c.in-Found.is c.in_ok-lexeme.ensures.value c.in_ok-lexeme.ensures.shorter).shorter, c.tokens.invariant.within, within (chars c.args.source.now) (chars c.args.text.now) c.requires.ends, bytes_width c.args.source.now c.utf8.source, bytes_width c.args.text.now c.utf8.text)
 
 pub returns-in-Around-clause-value : goal.returns-in-Around-clause-value
 returns-in-Around-clause-value c =
@@ -89,29 +93,26 @@ returns-in-Around-clause-value c =
     let known = c.in-Around.ensures c.tokens.kept.pieces.items (right_more (length c.args.source.now) (chars c.args.source.now) c.args.kept.now.pieces.items c.tokens.kept.pieces.items c.args.tried.now.findings.entries.items c.tokens.invariant.more c.requires.right) in
     let r = c.tokens.invariant.reached in
     refutes.refuted_less_refutes (length c.args.source.now) (chars c.args.text.now) r.seen c.tokens.behind_word c.tokens.depth _ _ _ _
-    r.reads t.front (sym c.kind-kind.ensures ∙ known.0) (known.1 _ (chars c.in-Found.after.now) t.again)
+    r.reads t.front (sign_of _ _ c.kind-kind.ensures known.0) known.1
 
 pub push_stretch-requires : goal.push_stretch-requires
 push_stretch-requires c =
     let t = taken c.tokens.rest.now _ c.in-Found.lexeme c.in-Found.from c.in-Found.after c.in-Found.is c.in_ok-lexeme.ensures.value c.in_ok-lexeme.ensures.shorter in
     let known = c.in-GoesOn.ensures c.tokens.kept.pieces.items (right_more (length c.args.source.now) (chars c.args.source.now) c.args.kept.now.pieces.items c.tokens.kept.pieces.items c.args.tried.now.findings.entries.items c.tokens.invariant.more c.requires.right) in
-    let here = known.1 _ _ t.again in
-    omega (arith, here.1.1, ap length c.in_ok-push-in-GoesOn.ensures, length-append c.tokens.kept.pieces.items (Token c.kind-kind.result ∷ []))
+    omega (arith, known.2.1, ap length c.in_ok-push-in-GoesOn.ensures, length-append c.tokens.kept.pieces.items (Token c.kind-kind.result ∷ []))
 
 pub returns-then-not-is_list-clause-value : goal.returns-then-not-is_list-clause-value
 returns-then-not-is_list-clause-value c =
     let total = length c.args.source.now in
     let t = taken c.tokens.rest.now _ c.in-Found.lexeme c.in-Found.from c.in-Found.after c.in-Found.is c.in_ok-lexeme.ensures.value c.in_ok-lexeme.ensures.shorter in
     let known = c.in-GoesOn.ensures c.tokens.kept.pieces.items (right_more (length c.args.source.now) (chars c.args.source.now) c.args.kept.now.pieces.items c.tokens.kept.pieces.items c.args.tried.now.findings.entries.items c.tokens.invariant.more c.requires.right) in
-    let here = known.1 _ _ t.again in
     let none = c.in_default-list_behind.ensures.value in
-    let behind_word : c.tokens.behind_word ≡ true → HasNoEnd total (chars c.in-Found.after.now) = λ w. no_end_behind total _ _ _ t.again (sym c.kind-kind.ensures ∙ known.0) (none w known.0) in
     let start = length c.args.kept.now.pieces.items in
     let on = goes_on_by total (chars c.args.text.now) c.tokens.kept.pieces.items c.push.new.self.pieces.items c.push_stretch.new.self.pieces.items c.kind-kind.result start c.in-GoesOn.start c.in-GoesOn.end c.tokens.behind_word c.tokens.depth _ _ _
-    (chars c.in-GoesOn.behind.now) _ c.tokens.invariant.reached t.front (sym c.kind-kind.ensures ∙ known.0) behind_word here.1 (no_shorter c.args.kept.now.pieces.items c.tokens.kept.pieces.items c.tokens.invariant.more) c.in_ok-push-in-GoesOn.ensures c.kind-kind.ensures c.in_ok-push_stretch-in-GoesOn.ensures c.tokens.invariant.ends in
+    (chars c.in-GoesOn.behind.now) _ c.tokens.invariant.reached t.front (sign_of _ _ c.kind-kind.ensures known.0) (λ w less. no_end_behind total _ _ _ t.again less (none w (c.kind-kind.ensures ∙ less))) known.2 (no_shorter c.args.kept.now.pieces.items c.tokens.kept.pieces.items c.tokens.invariant.more) c.in_ok-push-in-GoesOn.ensures c.kind-kind.ensures c.in_ok-push_stretch-in-GoesOn.ensures c.tokens.invariant.ends in
     let r = c.tokens.invariant.reached in
     let outside = subst (λ d. ReadsTo total (chars c.args.text.now) r.seen c.tokens.behind_word d (chars c.tokens.rest.now)) c.if-depth-eq0.true r.reads in (
-      refutes.less_refutes total (chars c.args.text.now) r.seen c.tokens.behind_word _ _ _ _ outside t.front (sym c.kind-kind.ensures ∙ known.0) (subst (λ b. IsListOrNone b total (chars c.in-Found.after.now) (chars c.in-GoesOn.behind.now)) c.if-not-is_list.true here.0),
+      refutes.less_refutes total (chars c.args.text.now) r.seen c.tokens.behind_word _ _ _ _ outside t.front (sign_of _ _ c.kind-kind.ensures known.0) (subst (λ b. IsListOrNone b total (chars c.in-Found.after.now) (chars c.in-GoesOn.behind.now)) c.if-not-is_list.true known.1),
       (on.0, omega arith, subst (λ d. Reaches total (chars c.args.text.now) (held_from c.push_stretch.new.self.pieces.items start) false d (chars c.in-GoesOn.behind.now)) c.if-depth-eq0.true on.1),
     )
 
@@ -119,32 +120,29 @@ pub tokens-smaller-in-GoesOn : goal.tokens-smaller-in-GoesOn
 tokens-smaller-in-GoesOn c =
     let t = taken c.tokens.rest.now _ c.in-Found.lexeme c.in-Found.from c.in-Found.after c.in-Found.is c.in_ok-lexeme.ensures.value c.in_ok-lexeme.ensures.shorter in
     let known = c.in-GoesOn.ensures c.tokens.kept.pieces.items (right_more (length c.args.source.now) (chars c.args.source.now) c.args.kept.now.pieces.items c.tokens.kept.pieces.items c.args.tried.now.findings.entries.items c.tokens.invariant.more c.requires.right) in
-    let here = known.1 _ _ t.again in
     let one : IsUtf8 c.in-GoesOn.behind.now = search rules in
     let other : IsUtf8 c.in-Found.after.now = search rules in
-    omega (arith, within _ (chars c.in-GoesOn.behind.now) here.1.0, bytes_width c.in-GoesOn.behind.now one, bytes_width c.in-Found.after.now other, t.shorter)
+    omega (arith, within _ (chars c.in-GoesOn.behind.now) known.2.0, bytes_width c.in-GoesOn.behind.now one, bytes_width c.in-Found.after.now other, t.shorter)
 
 pub tokens-preserved-in-GoesOn : goal.tokens-preserved-in-GoesOn
 tokens-preserved-in-GoesOn c =
     let total = length c.args.source.now in
     let t = taken c.tokens.rest.now _ c.in-Found.lexeme c.in-Found.from c.in-Found.after c.in-Found.is c.in_ok-lexeme.ensures.value c.in_ok-lexeme.ensures.shorter in
     let known = c.in-GoesOn.ensures c.tokens.kept.pieces.items (right_more (length c.args.source.now) (chars c.args.source.now) c.args.kept.now.pieces.items c.tokens.kept.pieces.items c.args.tried.now.findings.entries.items c.tokens.invariant.more c.requires.right) in
-    let here = known.1 _ _ t.again in
     let none = c.in_default-list_behind.ensures.value in
-    let behind_word : c.tokens.behind_word ≡ true → HasNoEnd total (chars c.in-Found.after.now) = λ w. no_end_behind total _ _ _ t.again (sym c.kind-kind.ensures ∙ known.0) (none w known.0) in
     let start = length c.args.kept.now.pieces.items in
     let on = goes_on_by total (chars c.args.text.now) c.tokens.kept.pieces.items c.push.new.self.pieces.items c.push_stretch.new.self.pieces.items c.kind-kind.result start c.in-GoesOn.start c.in-GoesOn.end c.tokens.behind_word c.tokens.depth _ _ _
-    (chars c.in-GoesOn.behind.now) _ c.tokens.invariant.reached t.front (sym c.kind-kind.ensures ∙ known.0) behind_word here.1 (no_shorter c.args.kept.now.pieces.items c.tokens.kept.pieces.items c.tokens.invariant.more) c.in_ok-push-in-GoesOn.ensures c.kind-kind.ensures c.in_ok-push_stretch-in-GoesOn.ensures c.tokens.invariant.ends in
+    (chars c.in-GoesOn.behind.now) _ c.tokens.invariant.reached t.front (sign_of _ _ c.kind-kind.ensures known.0) (λ w less. no_end_behind total _ _ _ t.again less (none w (c.kind-kind.ensures ∙ less))) known.2 (no_shorter c.args.kept.now.pieces.items c.tokens.kept.pieces.items c.tokens.invariant.more) c.in_ok-push-in-GoesOn.ensures c.kind-kind.ensures c.in_ok-push_stretch-in-GoesOn.ensures c.tokens.invariant.ends in
     let one : IsUtf8 c.in-GoesOn.behind.now = search rules in
     let other : IsUtf8 c.in-Found.after.now = search rules in
-    let shorter : length c.in-GoesOn.behind.now ≤ length c.in-Found.after.now = omega (arith, within _ (chars c.in-GoesOn.behind.now) here.1.0, bytes_width c.in-GoesOn.behind.now one, bytes_width c.in-Found.after.now other) in
+    let shorter : length c.in-GoesOn.behind.now ≤ length c.in-Found.after.now = omega (arith, within _ (chars c.in-GoesOn.behind.now) known.2.0, bytes_width c.in-GoesOn.behind.now one, bytes_width c.in-Found.after.now other) in
     record {
       text = search rules;
       within = omega (arith, c.tokens.invariant.within, t.shorter, shorter);
       some = omega (arith, c.tokens.invariant.some, c.take.ensures.reads);
       few = omega (arith, c.tokens.invariant.few, c.take.ensures.reads, t.shorter, shorter);
       ends = on.0;
-      lists = tell_end total c.args.tried.now.lists.spans.items _ (chars c.in-GoesOn.behind.now) (joined _ _ (chars c.in-GoesOn.behind.now) t.leaves here.1.0) c.tokens.invariant.lists;
+      lists = tell_end total c.args.tried.now.lists.spans.items _ (chars c.in-GoesOn.behind.now) (joined _ _ (chars c.in-GoesOn.behind.now) t.leaves known.2.0) c.tokens.invariant.lists;
       known = c.in_ok-lexeme.ensures.known;
       more = one_more c.args.kept.now.pieces.items c.push.new.self.pieces.items c.push_stretch.new.self.pieces.items _ c.in_ok-push_stretch-in-GoesOn.ensures (one_more c.args.kept.now.pieces.items c.tokens.kept.pieces.items c.push.new.self.pieces.items _ c.in_ok-push-in-GoesOn.ensures c.tokens.invariant.more);
       reached = on.1;
