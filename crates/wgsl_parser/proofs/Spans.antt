@@ -1,5 +1,5 @@
 -- What is answered of the tokens of a template list.
-use Rattle.std.proofs.Common.{◌≡◌, ℕ, List, [], ◌∷◌, inl, inr, ap₂, subst, Ok, Err, Result}
+use Rattle.std.proofs.Common.{◌≡◌, ℕ, ◌-◌, ◌<◌, suc, List, [], ◌∷◌, map, length, get_or, inl, inr, sym, ap, ap₂, subst, ◌∙◌, arith, Ok, Err, Result}
 use Rattle.std.specs.Prelude.{Option}
 use Rattle.grammar.specs.Tokens.{Token, last_end}
 use Rattle.grammar.specs.Endings.{Ending}
@@ -10,12 +10,22 @@ use Rattle.wgsl_theory_grammar.specs.Answers.{answer_of, IsAnswer}
 use Rattle.wgsl_theory_grammar.proofs.Faults.Answers.{answers_are_true}
 use Rattle.wgsl_span.specs.declared.Span.{Span}
 use Rattle.wgsl_error.specs.declared.Error.{Error}
+use Rattle.wgsl_lex_token.specs.declared.placed.PlacedToken.{PlacedToken}
+use Rattle.wgsl_lex_token.specs.Placed.{placed_view}
 use Rattle.wgsl_lexer.specs.declared.collect.Collected.{Collected}
 use Rattle.wgsl_lexer.specs.Given.{TokenItem, Gave}
 use Rattle.wgsl_lexer.specs.Placed.{tokens_view, ending_view}
 use Rattle.wgsl_read_cursor.specs.Answers.{Answered}
 use Rattle.wgsl_parser.specs.Iterators.{Derived, IsParsed}
 use Rattle.wgsl_parser.specs.Spans.{IsSpanOf, SpanAnswered}
+
+-- where the last of some tokens ends
+pub last_is : (place : ℕ) (ts : List PlacedToken) (t : PlacedToken) → 0 < length ts → t ≡ get_or ts (length ts - 1) t → last_end place (map placed_view ts) ≡ t.span.end
+last_is place [] t h e = absurd (omega arith)
+last_is place (u ∷ []) t h e = ap (λ (x : PlacedToken). x.span.end) (sym e)
+last_is place (u ∷ v ∷ ts) t h e =
+    let k : length (u ∷ v ∷ ts) - 1 ≡ suc (length (v ∷ ts) - 1) = omega arith in
+    last_is u.span.end (v ∷ ts) t (omega arith) (e ∙ ap (λ (n : ℕ). get_or (u ∷ v ∷ ts) n t) k)
 
 -- from where the first token starts to where the last one ends
 pub span_is : (ts : List Token) (span : Span) → span.start ≡ first_start ts → span.end ≡ last_end 0 ts → IsSpanOf span ts

@@ -13,12 +13,12 @@ ghost use Rattle.wgsl_tree_unit.specs.View.{unit_view, global_directive_view, gl
 ghost use Rattle.wgsl_model.specs.SourceTrees.{IsTreeOf};
 ghost use Rattle.wgsl_parser.specs.Sources.{IsRead};
 
-use crate::source::{declaration_from, directive_from, expression_from, statement_from, unit_from};
+use crate::read::read_text;
 use std::alloc::Global;
 use wgsl_error::Error;
-use wgsl_tree_expression::Expression;
-use wgsl_tree_statement::Statement;
-use wgsl_tree_unit::{GlobalDeclaration, GlobalDirective, TranslationUnit};
+use wgsl_tree_expression::{Expression, ExpressionNode};
+use wgsl_tree_statement::{Statement, StatementNode};
+use wgsl_tree_unit::{GlobalDeclaration, GlobalDeclarationNode, GlobalDirective, TranslationUnit};
 
 /// What can be read from a text, whole and by itself.
 pub trait FromSource: Sized {
@@ -35,7 +35,7 @@ impl FromSource for TranslationUnit {
     ghost reads = { λ source result. IsRead unit (λ u. IsTreeOf unit (chars source) (unit_view u)) source result };
 
     fn from_str(alloc: Global, source: &str) -> Result<Self, Error> {
-        unit_from(alloc, source, usize::MAX)
+        read_text::<TranslationUnit>(alloc, source, usize::MAX)
     }
 }
 
@@ -43,7 +43,7 @@ impl FromSource for GlobalDirective {
     ghost reads = { λ source result. IsRead global_directive (λ d. IsTreeOf global_directive (chars source) (global_directive_view d)) source result };
 
     fn from_str(alloc: Global, source: &str) -> Result<Self, Error> {
-        directive_from(alloc, source)
+        read_text::<GlobalDirective>(alloc, source, usize::MAX)
     }
 }
 
@@ -52,7 +52,7 @@ impl FromSource for GlobalDeclaration {
 
     #[tactic(auto, using(crate::proofs::Texts::alike))]
     fn from_str(alloc: Global, source: &str) -> Result<Self, Error> {
-        Ok(declaration_from(alloc, source)?.into_inner())
+        Ok(read_text::<GlobalDeclarationNode>(alloc, source, usize::MAX)?.into_inner())
     }
 }
 
@@ -61,7 +61,7 @@ impl FromSource for Statement {
 
     #[tactic(auto, using(crate::proofs::Texts::alike))]
     fn from_str(alloc: Global, source: &str) -> Result<Self, Error> {
-        Ok(statement_from(alloc, source)?.into_inner())
+        Ok(read_text::<StatementNode>(alloc, source, usize::MAX)?.into_inner())
     }
 }
 
@@ -70,6 +70,6 @@ impl FromSource for Expression {
 
     #[tactic(auto, using(crate::proofs::Texts::alike))]
     fn from_str(alloc: Global, source: &str) -> Result<Self, Error> {
-        Ok(expression_from(alloc, source)?.into_inner())
+        Ok(read_text::<ExpressionNode>(alloc, source, usize::MAX)?.into_inner())
     }
 }

@@ -2,14 +2,12 @@
 //! of tokens.
 #![tactic(auto)]
 
-mod expected;
 mod from_source;
-mod from_tokens;
 mod parse;
+mod parsed;
 mod parsers;
-mod source;
+mod read;
 mod template_list;
-mod whole;
 
 pub use from_source::FromSource;
 pub use parse::{parse_str, parse_within};

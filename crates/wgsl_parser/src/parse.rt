@@ -7,7 +7,7 @@ ghost use Rattle.wgsl_tree_unit.specs.View.{unit_view};
 ghost use Rattle.wgsl_read_cursor.specs.Answers.{IsOutOfMemory};
 ghost use Rattle.wgsl_read_cursor.specs.Places.{StandsWithin};
 
-use crate::source::unit_from;
+use crate::read::read_text;
 use std::alloc::Global;
 use wgsl_error::Error;
 use wgsl_tree_unit::TranslationUnit;
@@ -34,5 +34,5 @@ pub fn parse_within(alloc: Global, source: &str, depth: usize) -> Result<Transla
         IsOutOfMemory e ⊎ IsFaultOf (chars source.now) (fault_view e)) }
     ensures placed { IfErr result (λ e. StandsWithin e.span (length source.now)) }
 {
-    unit_from(alloc, source, depth)
+    read_text(alloc, source, depth)
 }

@@ -10,15 +10,13 @@ ghost use Rattle.wgsl_tree_statement.specs.View.{statement_view};
 ghost use Rattle.wgsl_tree_unit.specs.View.{unit_view, global_directive_view, global_declaration_view};
 ghost use Rattle.wgsl_parser.specs.Iterators.{Derived, IsParsed};
 
-use crate::from_tokens::{declaration_given, expression_given, statement_given};
-use crate::whole::{directive_of, literal_of, unit_of};
+use crate::read::read_tokens;
 use std::alloc::Global;
 use wgsl_error::Error;
-use wgsl_lexer::{TokenIterator, collect_tokens};
-use wgsl_read_cursor::TokenSource;
-use wgsl_tree_expression::{Expression, LiteralExpression};
-use wgsl_tree_statement::Statement;
-use wgsl_tree_unit::{GlobalDeclaration, GlobalDirective, TranslationUnit};
+use wgsl_lexer::TokenIterator;
+use wgsl_tree_expression::{Expression, ExpressionNode, LiteralExpression};
+use wgsl_tree_statement::{Statement, StatementNode};
+use wgsl_tree_unit::{GlobalDeclaration, GlobalDeclarationNode, GlobalDirective, TranslationUnit};
 
 /// Reads a module from all tokens of an iterator. It keeps nothing between calls.
 #[derive(Default, Drop)]
@@ -39,7 +37,7 @@ impl TranslationUnitParser {
         ensures { IsParsed unit (λ v found. Derived unit (unit_view v) found)
             (T.into_iter_gives tokens) T.IntoIter.next_gives result }
     {
-        unit_of(alloc, TokenSource::new(collect_tokens(alloc, tokens)?)?)
+        read_tokens::<TranslationUnit, T>(alloc, tokens)
     }
 }
 
@@ -63,7 +61,7 @@ impl GlobalDirectiveParser {
             (λ v found. Derived global_directive (global_directive_view v) found)
             (T.into_iter_gives tokens) T.IntoIter.next_gives result }
     {
-        directive_of(alloc, TokenSource::new(collect_tokens(alloc, tokens)?)?)
+        read_tokens::<GlobalDirective, T>(alloc, tokens)
     }
 }
 
@@ -88,7 +86,7 @@ impl GlobalDeclParser {
             Derived global_declaration (spanned (global_declaration_view d) s) found)
             (T.into_iter_gives tokens) T.IntoIter.next_gives result }
     {
-        Ok(declaration_given(alloc, tokens)?.into_inner())
+        Ok(read_tokens::<GlobalDeclarationNode, T>(alloc, tokens)?.into_inner())
     }
 }
 
@@ -109,7 +107,7 @@ impl StatementParser {
             Derived statement (statement_node (statement_view s) place) found)
             (T.into_iter_gives tokens) T.IntoIter.next_gives result }
     {
-        Ok(statement_given(alloc, tokens)?.into_inner())
+        Ok(read_tokens::<StatementNode, T>(alloc, tokens)?.into_inner())
     }
 }
 
@@ -129,7 +127,7 @@ impl ExpressionParser {
         ensures { IsParsed expression (λ e found. (s : Span) × Derived expression (expression_node
             (expression_view e) s) found) (T.into_iter_gives tokens) T.IntoIter.next_gives result }
     {
-        Ok(expression_given(alloc, tokens)?.into_inner())
+        Ok(read_tokens::<ExpressionNode, T>(alloc, tokens)?.into_inner())
     }
 }
 
@@ -152,6 +150,6 @@ impl LiteralParser {
         ensures { IsParsed literal (λ v found. Derived literal (literal_view v) found)
             (T.into_iter_gives tokens) T.IntoIter.next_gives result }
     {
-        literal_of(alloc, TokenSource::new(collect_tokens(alloc, tokens)?)?)
+        read_tokens::<LiteralExpression, T>(alloc, tokens)
     }
 }

@@ -1,24 +1,21 @@
 //! Reading a template list from all tokens of an iterator.
 
 ghost use Rattle.std.specs.Prelude.{◌≡◌, List, map};
+ghost use Rattle.grammar.specs.Tokens.{last_end};
 ghost use Rattle.grammar.specs.States.{first_start};
 ghost use Rattle.wgsl_model.specs.Trees.Expressions as plain;
 ghost use Rattle.wgsl_model.specs.Grammar.Symbols.{Symbol.template_list};
-ghost use Rattle.wgsl_theory_grammar.specs.Answers.{answer_of};
 ghost use Rattle.wgsl_lex_token.specs.Placed.{placed_view};
 ghost use Rattle.wgsl_lexer.specs.Placed.{tokens_view, ending_view};
-ghost use Rattle.wgsl_tree_expression.specs.View.{template_arg_view};
-ghost use Rattle.wgsl_read_cursor.specs.Answers.{Answered};
 ghost use Rattle.wgsl_parser.specs.Iterators.{Derived, IsParsed};
 ghost use Rattle.wgsl_parser.specs.Spans.{IsSpanOf, SpanAnswered};
 
+use crate::read::read_collected;
 use std::alloc::Global;
 use std::collections::VecDeque;
 use wgsl_error::Error;
 use wgsl_lex_token::placed::PlacedToken;
 use wgsl_lexer::{Collected, TokenIterator, collect_tokens};
-use wgsl_read_cursor::{Expected, TokenSource, last_end};
-use wgsl_read_expression::parse_template_list;
 use wgsl_span::Span;
 use wgsl_tree_expression::TemplateArg;
 
@@ -28,6 +25,17 @@ fn first_start(tokens: &VecDeque<PlacedToken>) -> usize
 {
     match tokens.front() {
         Some(first) => first.span.start,
+        None => 0,
+    }
+}
+
+/// Where the last token ends, or 0 where there is none.
+#[tactic(auto, using(crate::proofs::Spans::last_is))]
+fn last_end(tokens: &VecDeque<PlacedToken>) -> usize
+    ensures { result ≡ last_end 0 (map placed_view tokens.now.items) }
+{
+    match tokens.back() {
+        Some(last) => last.span.end,
         None => 0,
     }
 }
@@ -43,23 +51,12 @@ fn span_of(found: &Collected) -> Span
     }
 }
 
-/// The arguments of the template list that the tokens are.
-#[tactic(auto, using(wgsl_read_cursor::proofs::Seen::source_seen))]
-fn template_args_of(alloc: Global, found: Collected) -> Result<Vec<TemplateArg>, Error>
-    ensures { Answered (λ args. map template_arg_view args.items) result
-        (answer_of template_list (tokens_view found) (ending_view found.error)) }
-{
-    let mut source = TokenSource::new(found)?;
-    let read = parse_template_list(alloc, &mut source.tokens);
-    source.answer(alloc, read, Expected::End)
-}
-
 /// The span of the template list that the tokens are.
 fn template_list_of(alloc: Global, found: Collected) -> Result<Span, Error>
     ensures { SpanAnswered result (tokens_view found) (ending_view found.error) }
 {
     let span = span_of(&found);
-    template_args_of(alloc, found)?;
+    read_collected::<Vec<TemplateArg>>(alloc, found)?;
     Ok(span)
 }
 

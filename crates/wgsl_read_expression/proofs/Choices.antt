@@ -1,10 +1,13 @@
 -- A choice between two parts that begin with different tokens, tested in the other order.
 use Rattle.std.proofs.Common.{◌≡◌, ℕ, Bool, true, false, cond, eqb, List, [], ◌∷◌, refl, sym, ap, ◌∙◌}
+use Rattle.std.proofs.lemmas.Bool.{eqb-true}
 use Rattle.grammar.specs.Tokens.{Token}
 use Rattle.grammar.specs.Grammar.{is_among}
 use Rattle.grammar.specs.Tables.{disjoint, subset}
-use Rattle.grammar.specs.States.{State, Read, ◌>>=◌, refused, is_at, is_any, take}
+use Rattle.grammar.specs.States.{State, Read, ◌>>=◌, refused_at, refused, is_first, is_at, is_any, take}
 use Rattle.grammar.proofs.Reading.Beginnings.{cond_no}
+use Rattle.wgsl_lex_token.specs.declared.kind.TokenKind.{TokenKind}
+use Rattle.wgsl_lex_token.specs.View.{class_of_kind}
 use Rattle.grammar.proofs.Reading.Sets.{apart', not_subset}
 
 -- the class of the first token is one of a list
@@ -24,6 +27,18 @@ any_is (c ∷ []) end [] = refl
 any_is (c ∷ []) end (t ∷ ts) = cond_self (eqb t.class c)
 any_is (c ∷ (d ∷ cs)) end [] = any_is (d ∷ cs) end []
 any_is (c ∷ (d ∷ cs)) end (t ∷ ts) = ap (λ (b : Bool). cond (eqb t.class c) true b) (any_is (d ∷ cs) end (t ∷ ts))
+
+-- the next token is of one of some classes, by its kind
+pub any_of_kind : (cs : List ℕ) (s : State) (kind : TokenKind) (b : Bool) → is_at (class_of_kind kind) s ≡ true → b ≡ is_among (class_of_kind kind) cs → b ≡ is_any cs s
+unfolding is_at
+any_of_kind cs s kind b h e = e ∙ of_list s.rest h ∙ sym (any_is cs s.end s.rest)
+  where
+    of_list : (ts : List Token) → is_first (class_of_kind kind) ts ≡ true → is_among (class_of_kind kind) cs ≡ begins_with cs ts
+    of_list [] h = absurd cc
+    of_list (t ∷ ts) h = ap (λ (c : ℕ). is_among c cs) (sym (eqb-true t.class (class_of_kind kind) h))
+
+pub any_of_none : (cs : List ℕ) (s : State) → s.rest ≡ [] → false ≡ is_any cs s
+any_of_none cs s h = sym (any_is cs s.end s.rest ∙ ap (begins_with cs) h)
 
 -- what begins with one class of a list begins with none of a list apart from it
 pub apart_at : (cs ds : List ℕ) → disjoint cs ds ≡ true → (s : State) → is_any ds s ≡ true → is_any cs s ≡ false
@@ -52,14 +67,14 @@ pub tested_first : {A : Type 0} (cs ds : List ℕ) → disjoint cs ds ≡ true �
 tested_first cs ds h s x y k = other_first (is_any cs s) (is_any ds s) x y (apart_at cs ds h s) k
 
 -- what is refused gives nothing to go on with
-refused_goes_on : {A B : Type 0} (ts : List Token) (f : A → State → Read B) → (refused ts >>= f) ≡ refused ts
-refused_goes_on [] f = refl
-refused_goes_on (t ∷ ts) f = refl
+refused_goes_on : {A B : Type 0} (end : ℕ) (ts : List Token) (f : A → State → Read B) → (refused_at end ts >>= f) ≡ refused_at end ts
+refused_goes_on end [] f = refl
+refused_goes_on end (t ∷ ts) f = refl
 
-pub refuses : {A B : Type 0} (ts : List Token) (m : Read A) (f : A → State → Read B) → m ≡ refused ts → (m >>= f) ≡ refused ts
-refuses ts m f e = ap (λ m. m >>= f) e ∙ refused_goes_on ts f
+pub refuses : {A B : Type 0} (s : State) (m : Read A) (f : A → State → Read B) → m ≡ refused s → (m >>= f) ≡ refused s
+refuses s m f e = ap (λ m. m >>= f) e ∙ refused_goes_on s.end s.rest f
 
 -- a token that is not there is refused
-pub not_taken : (c : ℕ) (s : State) → is_at c s ≡ false → take c s ≡ refused s.rest
+pub not_taken : (c : ℕ) (s : State) → is_at c s ≡ false → take c s ≡ refused s
 unfolding take
 not_taken c s e = cond_no (is_at c s) _ _ e

@@ -8,7 +8,7 @@ use Rattle.grammar.proofs.Reading.Beginnings.{cond_no}
 use Rattle.grammar.proofs.States.{Shortens, turns_are, shortens}
 use Rattle.grammar.proofs.Lists.{separated, behind_none}
 use Rattle.grammar.proofs.Binding.{bind_associates, bind_alike, bind_cond, pair_goes_on}
-use Rattle.wgsl_model.specs.Tokens.Classes.{SymAnd, SymAndAnd, SymBang, SymBracketLeft, SymComma, SymMinus, SymMinusMinus, SymOr, SymOrOr, SymParenLeft, SymParenRight, SymPeriod, SymShiftLeft, SymShiftRight, SymStar, SymTilde, SymXor, KwTrue, KwFalse, Ident, ReservedWord, AbstractInt, I32, U32, AbstractFloat, F32, F16, TemplateArgsEnd}
+use Rattle.wgsl_model.specs.Tokens.Classes.{SymAnd, SymAndAnd, SymBang, SymBracketLeft, SymComma, SymMinus, SymMinusMinus, SymOr, SymOrOr, SymParenLeft, SymParenRight, SymPeriod, SymPlus, SymShiftLeft, SymShiftRight, SymStar, SymTilde, SymXor, KwTrue, KwFalse, Ident, ReservedWord, AbstractInt, I32, U32, AbstractFloat, F32, F16, TemplateArgsEnd}
 use Rattle.wgsl_model.specs.Trees.Operators.{BinaryOperator, BinaryOperator.subtraction, BinaryOperator.short_circuit_or, BinaryOperator.short_circuit_and, BinaryOperator.bitwise_or, BinaryOperator.bitwise_and, BinaryOperator.bitwise_xor, BinaryOperator.shift_left, BinaryOperator.shift_right}
 use Rattle.wgsl_model.specs.Trees.Expressions as tree
 use Rattle.wgsl_model.specs.Trees.Expressions.{ExpressionNode, Expression}
@@ -20,7 +20,7 @@ use Rattle.wgsl_theory_grammar.specs.Tables.{rank_limit, tables, begin_primary_e
 use Rattle.wgsl_theory_grammar.specs.Reader.{reader}
 use Rattle.wgsl_theory_grammar.proofs.Passes.{passes}
 use Rattle.wgsl_theory_grammar.proofs.Reader.{step}
-use Rattle.wgsl_read_expression.specs.Rules.{unary_operators, multiplicative_operators, relational_operators, call_or_type_at, parenthesized_expression_at, primary_at, component_behind, unary_operator_at, multiplicative_operator_at, additive_operator_at, relational_operator_at, factors_behind, products_from, summand_at, summands_behind, sum_behind, relation_behind, bitwise_behind, logical_behind, logical_at, expression_behind}
+use Rattle.wgsl_read_expression.specs.Rules.{binary_operators, unary_operators, multiplicative_operators, relational_operators, call_or_type_at, parenthesized_expression_at, primary_at, component_behind, unary_operator_at, multiplicative_operator_at, additive_operator_at, relational_operator_at, factors_behind, products_from, summand_at, summands_behind, sum_behind, relation_behind, bitwise_behind, logical_behind, logical_at, expression_behind}
 use Rattle.wgsl_read_expression.proofs.Turns.{template_items_from, template_items_turn, arguments_from, arguments_turn, placed_primary_at, components_behind, components_turn, singular_at, unary_at, factors_turn, products_turn, product_at, negated_product_at, summands_turn, sum_turn, shift_at, relation_turn, relational_at, bitwise_turn, logical_turn, expression_turn, whole_expression_at}
 use Rattle.wgsl_read_expression.proofs.Binding.{cond_alike}
 use Rattle.wgsl_read_expression.proofs.Lists.{one_and_more}
@@ -66,21 +66,21 @@ arguments_are es s =
 literals : List ℕ
 literals = KwFalse ∷ KwTrue ∷ AbstractInt ∷ I32 ∷ U32 ∷ AbstractFloat ∷ F32 ∷ F16 ∷ []
 
-no_literal : (s : State) → is_any literals s ≡ false → reader (of literal) s ≡ refused s.rest
+no_literal : (s : State) → is_any literals s ≡ false → reader (of literal) s ≡ refused s
 unfolding literals
 no_literal s e =
-    step (of literal) s ∙ refuses s.rest _ _ (cond_no _ _ _ (none_at (KwTrue ∷ KwFalse ∷ AbstractInt ∷ I32 ∷ U32 ∷ AbstractFloat ∷ F32 ∷ F16 ∷ []) literals refl s e))
+    step (of literal) s ∙ refuses s _ _ (cond_no _ _ _ (none_at (KwTrue ∷ KwFalse ∷ AbstractInt ∷ I32 ∷ U32 ∷ AbstractFloat ∷ F32 ∷ F16 ∷ []) literals refl s e))
 
-no_parenthesis : (s : State) → is_at SymParenLeft s ≡ false → parenthesized_expression_at s ≡ refused s.rest
+no_parenthesis : (s : State) → is_at SymParenLeft s ≡ false → parenthesized_expression_at s ≡ refused s
 unfolding parenthesized_expression_at
-no_parenthesis s e = refuses s.rest _ _ (refuses s.rest _ _ (refuses s.rest _ _ (not_taken SymParenLeft s e)))
+no_parenthesis s e = refuses s _ _ (refuses s _ _ (refuses s _ _ (not_taken SymParenLeft s e)))
 
 pub primary_expression_is : (s : State) → reader (of primary_expression) s ≡ placed_primary_at s
 unfolding placed_primary_at primary_at call_or_type_at parenthesized_expression_at literals
 primary_expression_is s =
     step (of primary_expression) s
     ∙ ap (λ (m : Read Expression). cond (is_any (Ident ∷ ReservedWord ∷ []) s) (call_or_type_at s) m >>= λ e s'. done (placed_expression e (span_from (next_start s) s')) s')
-    (tested_first literals (SymParenLeft ∷ []) refl s _ _ (λ n m. refuses s.rest _ _ (no_literal s n) ∙ sym (no_parenthesis s m)))
+    (tested_first literals (SymParenLeft ∷ []) refl s _ _ (λ n m. refuses s _ _ (no_literal s n) ∙ sym (no_parenthesis s m)))
 
 -- ---- components
 abbrev component_step : ExpressionNode → (ExpressionNode → Expression) × ℕ → ExpressionNode
@@ -105,29 +105,29 @@ unfolding singular_at components_behind
 singular_expression_is s = step (of singular_expression) s ∙ grown_pair (reader (of primary_expression) s) (reader (further components))
 
 -- ---- operators
-no_primary : (s : State) → is_any begin_primary_expression s ≡ false → reader (of singular_expression) s ≡ refused s.rest
+no_primary : (s : State) → is_any begin_primary_expression s ≡ false → reader (of singular_expression) s ≡ refused s
 unfolding placed_primary_at primary_at literals
 no_primary s e =
-    step (of singular_expression) s ∙ refuses s.rest _ _ (refuses s.rest _ _ (primary_expression_is s ∙ no_placed))
+    step (of singular_expression) s ∙ refuses s _ _ (refuses s _ _ (primary_expression_is s ∙ no_placed))
   where
-    no_placed : placed_primary_at s ≡ refused s.rest
-    no_placed = refuses s.rest _ _
+    no_placed : placed_primary_at s ≡ refused s
+    no_placed = refuses s _ _
         (cond_no _ _ _ (none_at (Ident ∷ ReservedWord ∷ []) begin_primary_expression refl s e)
         ∙ cond_no _ _ _ (none_at (SymParenLeft ∷ []) begin_primary_expression refl s e)
-        ∙ refuses s.rest _ _ (no_literal s (none_at literals begin_primary_expression refl s e)))
+        ∙ refuses s _ _ (no_literal s (none_at literals begin_primary_expression refl s e)))
 
-no_unary_operator : (s : State) → is_any unary_operators s ≡ false → unary_operator_at s ≡ refused s.rest
+no_unary_operator : (s : State) → is_any unary_operators s ≡ false → unary_operator_at s ≡ refused s
 unfolding unary_operator_at
 no_unary_operator s e =
     cond_no _ _ _ (none_at (SymMinus ∷ []) unary_operators refl s e) ∙ cond_no _ _ _ (none_at (SymBang ∷ []) unary_operators refl s e)
     ∙ cond_no _ _ _ (none_at (SymTilde ∷ []) unary_operators refl s e) ∙ cond_no _ _ _ (none_at (SymStar ∷ []) unary_operators refl s e)
-    ∙ refuses s.rest _ _ (not_taken SymAnd s (none_at (SymAnd ∷ []) unary_operators refl s e))
+    ∙ refuses s _ _ (not_taken SymAnd s (none_at (SymAnd ∷ []) unary_operators refl s e))
 
 pub unary_expression_is : (s : State) → reader (of unary_expression) s ≡ unary_at s
 unfolding unary_at unary_operator_at
 unary_expression_is s =
     step (of unary_expression) s
-    ∙ tested_first begin_primary_expression unary_operators refl s _ _ (λ n m. no_primary s n ∙ sym (refuses s.rest _ _ (refuses s.rest _ _ (no_unary_operator s m))))
+    ∙ tested_first begin_primary_expression unary_operators refl s _ _ (λ n m. no_primary s n ∙ sym (refuses s _ _ (refuses s _ _ (no_unary_operator s m))))
     ∙ ap (λ (m : Read ExpressionNode). cond (is_any unary_operators s) m (reader (of singular_expression) s))
     (pair_goes_on (unary_operator_at s) (reader (of unary_expression)) _)
 
@@ -277,6 +277,27 @@ expression_behind_is e s =
     (λ not_or. bind_cond (is_at SymXor s) _ _ (applied e)
     ∙ cond_alike (is_at SymXor s) _ _ _ _ (bitwise_is SymXor bitwise_xor (reader (further bitwise_xor_rest)) (step (further bitwise_xor_rest)) e s)
     (λ not_xor. relational_is e s)))
+
+-- where no operator is next, an operand is the whole expression
+pub operand_alone : (e : ExpressionNode) (s : State) → is_any binary_operators s ≡ false → expression_behind e s ≡ done e s
+unfolding expression_turn sum_turn factors_turn summands_turn relation_turn logical_at
+operand_alone e s none =
+    expression_behind_is e s
+    ∙ cond_no (is_at SymAnd s) _ _ (none_at (SymAnd ∷ []) binary_operators refl s none)
+    ∙ cond_no (is_at SymOr s) _ _ (none_at (SymOr ∷ []) binary_operators refl s none)
+    ∙ cond_no (is_at SymXor s) _ _ (none_at (SymXor ∷ []) binary_operators refl s none)
+    ∙ ap (λ m. m >>= λ e s'. relation_behind e s' >>= logical_at) alone_in_sum
+    ∙ ap (λ m. m >>= logical_at) (relation_is e s ∙ cond_no (is_any relational_operators s) _ _ (none_at relational_operators binary_operators refl s none))
+    ∙ cond_no (is_at SymAndAnd s) _ _ (none_at (SymAndAnd ∷ []) binary_operators refl s none)
+    ∙ cond_no (is_at SymOrOr s) _ _ (none_at (SymOrOr ∷ []) binary_operators refl s none)
+  where
+    alone_in_sum : sum_behind e s ≡ done e s
+    alone_in_sum =
+        sum_is e s
+        ∙ cond_no (is_at SymShiftLeft s) _ _ (none_at (SymShiftLeft ∷ []) binary_operators refl s none)
+        ∙ cond_no (is_at SymShiftRight s) _ _ (none_at (SymShiftRight ∷ []) binary_operators refl s none)
+        ∙ ap (λ m. m >>= summands_behind) (factors_are e s ∙ cond_no (is_any multiplicative_operators s) _ _ (none_at multiplicative_operators binary_operators refl s none))
+        ∙ summands_are e s ∙ cond_no (is_any (SymPlus ∷ SymMinus ∷ SymMinusMinus ∷ []) s) _ _ (none_at (SymPlus ∷ SymMinus ∷ SymMinusMinus ∷ []) binary_operators refl s none)
 
 pub expression_is : (s : State) → reader (of expression) s ≡ whole_expression_at s
 unfolding whole_expression_at expression_behind

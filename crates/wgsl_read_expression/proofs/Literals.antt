@@ -26,7 +26,7 @@ abbrev pub taken_as_literal : Token → State → Read LiteralExpression
 taken_as_literal t left =
     cond (is_any (KwTrue ∷ KwFalse ∷ AbstractInt ∷ I32 ∷ U32 ∷ AbstractFloat ∷ F32 ∷ F16 ∷ []) (record { end = 0; rest = t ∷ [] })) (done t left) (stop (unexpected t)) >>= λ t s'. done (literal_of t) s'
 
-next_in : (end : ℕ) (ts : List Token) (t : Token) (left : State) → first_token ts ≡ done t left → reader (of literal) (record { end = end; rest = ts }) ≡ taken_as_literal t left
+next_in : (end : ℕ) (ts : List Token) (t : Token) (left : State) → first_token end ts ≡ done t left → reader (of literal) (record { end = end; rest = ts }) ≡ taken_as_literal t left
 unfolding literal_at is_at first_of after take
 next_in end [] t left h = absurd cc
 next_in end (u ∷ us) t left h =
@@ -62,9 +62,9 @@ pub literal_refused : (s left : State) (p : PlacedToken) (x : Fault) → token_a
 literal_refused s left p x h none tells = told x (unexpected (placed_view p)) _ tells (literal_next s left (placed_view p) h ∙ other_refused p.token p.span left none)
 
 -- at the end there is none
-none_in : (end : ℕ) (ts : List Token) (x : Fault) → Fails x (first_token ts) → Fails x (reader (of literal) (record { end = end; rest = ts }))
+none_in : (end : ℕ) (ts : List Token) (x : Fault) → Fails x (first_token end ts) → Fails x (reader (of literal) (record { end = end; rest = ts }))
 unfolding literal_at is_at take
-none_in end [] (fault.Refused refusal) h = let same : ended ≡ refusal_stop refusal.value = cc in literal_is (record { end = end; rest = [] }) ∙ ap stop same
+none_in end [] (fault.Refused refusal) h = let same : ended end ≡ refusal_stop refusal.value = cc in literal_is (record { end = end; rest = [] }) ∙ ap stop same
 none_in end (t ∷ ts) (fault.Refused refusal) h = absurd cc
 none_in end ts fault.OutOfMemory h = tt
 

@@ -3,7 +3,7 @@ use Rattle.std.specs.Prelude.{ℕ, List, [], ◌∷◌, Option, cond}
 use Rattle.grammar.specs.Grammar.{Grammar.symbol}
 use Rattle.grammar.specs.Notation.{◌means◌, ◌then◌, ◌gives◌, ◌▹◌, ◌◃◌, optional}
 use Rattle.grammar.specs.States.{State, Read, Read.done, ◌>>=◌, is_at, is_any, turns, go}
-use Rattle.wgsl_model.specs.Tokens.Classes.{SymAnd, SymAndAnd, SymBang, SymEqualEqual, SymForwardSlash, SymGreaterThan, SymGreaterThanEqual, SymLessThan, SymLessThanEqual, SymMinus, SymModulo, SymNotEqual, SymOrOr, SymParenLeft, SymParenRight, SymPlus, SymStar, SymTilde, Ident, ReservedWord}
+use Rattle.wgsl_model.specs.Tokens.Classes.{SymAnd, SymAndAnd, SymBang, SymEqualEqual, SymForwardSlash, SymGreaterThan, SymGreaterThanEqual, SymLessThan, SymLessThanEqual, SymMinus, SymMinusMinus, SymModulo, SymNotEqual, SymOr, SymOrOr, SymParenLeft, SymParenRight, SymPlus, SymShiftLeft, SymShiftRight, SymStar, SymTilde, SymXor, Ident, ReservedWord}
 use Rattle.wgsl_model.specs.Trees.Operators.{UnaryOperator, BinaryOperator, BinaryOperator.short_circuit_or, BinaryOperator.short_circuit_and, BinaryOperator.subtraction}
 use Rattle.wgsl_model.specs.Trees.Expressions as tree
 use Rattle.wgsl_model.specs.Trees.Expressions.{ExpressionNode, Expression}
@@ -18,6 +18,10 @@ use Rattle.wgsl_read_expression.specs.Growing.{read_growth}
 -- before an operand
 abbrev pub unary_operators : List ℕ
 unary_operators = SymMinus ∷ SymBang ∷ SymTilde ∷ SymStar ∷ SymAnd ∷ []
+
+-- between operands
+abbrev pub binary_operators : List ℕ
+binary_operators = SymAnd ∷ SymOr ∷ SymXor ∷ SymAndAnd ∷ SymOrOr ∷ SymShiftLeft ∷ SymShiftRight ∷ SymStar ∷ SymForwardSlash ∷ SymModulo ∷ SymPlus ∷ SymMinus ∷ SymMinusMinus ∷ SymLessThan ∷ SymGreaterThan ∷ SymLessThanEqual ∷ SymGreaterThanEqual ∷ SymEqualEqual ∷ SymNotEqual ∷ []
 
 -- of products
 abbrev pub multiplicative_operators : List ℕ

@@ -11,7 +11,7 @@ ghost use Rattle.wgsl_read_cursor.specs.Reading.{Parses, ParsesNullable};
 ghost use Rattle.wgsl_read_expression.specs.Rules.{relation_behind, bitwise_behind, logical_behind, logical_at, expression_behind};
 
 use crate::nodes::join;
-use crate::operators::relational_operator;
+use crate::operators::{is_at_operator, relational_operator};
 use crate::sums::{parse_shift_expression, parse_sum_rest};
 use crate::unary::parse_unary_expression;
 use std::alloc::Global;
@@ -39,6 +39,9 @@ fn parse_expression_rest(
     ensures { ParsesNullable expression_node_view result tokens.old tokens.new
         (expression_behind (expression_node_view left)) }
 {
+    if !is_at_operator(tokens) {
+        return Ok(left);
+    }
     if tokens.is_at(TokenKind::SymAnd) {
         return parse_bitwise_operands(
             alloc,

@@ -1,13 +1,57 @@
 //! The operators before and between operands.
 #![tactic(auto, unfolding(crate::proofs::Hints::definitions), using(crate::proofs::Hints::lemmas))]
 
+ghost use Rattle.std.specs.Prelude.{◌≡◌};
+ghost use Rattle.grammar.specs.Grammar.{is_among};
+ghost use Rattle.grammar.specs.States.{is_any};
+ghost use Rattle.wgsl_lex_token.specs.View.{class_of_kind};
 ghost use Rattle.wgsl_tree_words.specs.View.{unary_operator_view, binary_operator_view};
 ghost use Rattle.wgsl_read_expression.specs.Taking.{Takes};
-ghost use Rattle.wgsl_read_expression.specs.Rules.{unary_operators, multiplicative_operators, additive_operators, relational_operators, unary_operator_at, multiplicative_operator_at, additive_operator_at, relational_operator_at};
+ghost use Rattle.wgsl_read_cursor.specs.Reading.{state};
+ghost use Rattle.wgsl_read_expression.specs.Rules.{binary_operators, unary_operators, multiplicative_operators, additive_operators, relational_operators, unary_operator_at, multiplicative_operator_at, additive_operator_at, relational_operator_at};
 
 use wgsl_lex_token::kind::TokenKind;
 use wgsl_read_cursor::Cursor;
 use wgsl_tree_words::{BinaryOperator, UnaryOperator};
+
+/// Whether a token of a kind stands between two operands.
+#[tactic(auto)]
+fn is_operator(kind: TokenKind) -> bool
+    ensures { result ≡ is_among (class_of_kind kind) binary_operators }
+{
+    matches!(
+        kind,
+        TokenKind::SymAnd
+            | TokenKind::SymOr
+            | TokenKind::SymXor
+            | TokenKind::SymAndAnd
+            | TokenKind::SymOrOr
+            | TokenKind::SymShiftLeft
+            | TokenKind::SymShiftRight
+            | TokenKind::SymStar
+            | TokenKind::SymForwardSlash
+            | TokenKind::SymModulo
+            | TokenKind::SymPlus
+            | TokenKind::SymMinus
+            | TokenKind::SymMinusMinus
+            | TokenKind::SymLessThan
+            | TokenKind::SymGreaterThan
+            | TokenKind::SymLessThanEqual
+            | TokenKind::SymGreaterThanEqual
+            | TokenKind::SymEqualEqual
+            | TokenKind::SymNotEqual
+    )
+}
+
+/// Whether an operator between two operands is next.
+pub fn is_at_operator(tokens: &Cursor) -> bool
+    ensures { result ≡ is_any binary_operators (state tokens.now) }
+{
+    match tokens.kind() {
+        Some(kind) => is_operator(kind),
+        None => false,
+    }
+}
 
 /// Takes an operator that stands before an operand, if it is next.
 pub fn unary_operator(tokens: &mut Cursor) -> Option<UnaryOperator>

@@ -1,9 +1,0 @@
-use Rattle.wgsl_model.specs.Grammar.Symbols.{Symbol.global_directive}
-use Rattle.wgsl_tree_unit.specs.View.{global_directive_view}
-use Rattle.wgsl_parser.proofs.Texts.{read_is}
-use Rattle.wgsl_parser.proofs.source.directive_from.Goals as goal
-
-pub returns : goal.returns
-returns c =
-    let found = c.in_ok-of_text.ensures in
-    read_is global_directive global_directive_view c.args.source.now found.0 found.1 c.directive_of.result c.utf8.source found.2 (c.directive_of.ensures found.0 found.1 found.3)
