@@ -1,6 +1,6 @@
 /* Measures how many megabytes of the standard input a second the library takes: speed WHAT TURNS,
-   where WHAT is bytes (a loop over them, to compare with), tokens, lists (the template lists),
-   check (read to a tree that is dropped) or format (the same, and the printed text). */
+   where WHAT is bytes (a loop over them, to compare with), lists (the template lists), check
+   (read to a tree that is dropped) or format (the same, and the printed text). */
 #define _POSIX_C_SOURCE 199309L
 #include <stdio.h>
 #include <stdlib.h>
@@ -25,10 +25,6 @@ static uint32_t count_ends(struct given *it) {
     return WGSL_DONE;
 }
 
-static uint32_t give_tokens(struct given *it) {
-    return wgsl_tokens(it->text, it->size, it->room, it->room_size, &it->answer);
-}
-
 static uint32_t give_lists(struct given *it) {
     return wgsl_template_lists(it->text, it->size, it->room, it->room_size, &it->answer);
 }
@@ -48,7 +44,6 @@ static const struct measured {
     size_t item;
 } all[] = {
     {"bytes", count_ends, 1},
-    {"tokens", give_tokens, sizeof(struct wgsl_token)},
     {"lists", give_lists, sizeof(struct wgsl_place)},
     {"check", check, 1},
     {"format", format, 1},
@@ -107,7 +102,7 @@ int main(int count, char **words) {
     struct given it = {0};
     double took, bytes;
     if (turns < 1) {
-        fprintf(stderr, "usage: speed bytes|tokens|lists|check|format TURNS < TEXT\n");
+        fprintf(stderr, "usage: speed bytes|lists|check|format TURNS < TEXT\n");
         return 5;
     }
     if (!read_text(&it) || !make_room(what, &it)) {
