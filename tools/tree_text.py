@@ -28,7 +28,7 @@ WIDTH = 100
 
 
 def fields(values, indent):
-    """What writes an object: each field and what writes its value. It is laid out here, because
+    """What writes an object: each field and what writes its value. It is formatted here, because
     `rt fmt` does not change what a macro is given."""
     (name, value), *others = values
     if not others and indent + len(name) + len(value) < 70:

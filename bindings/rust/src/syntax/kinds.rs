@@ -6,7 +6,7 @@ use std::cell::RefCell;
 use std::collections::BTreeSet;
 
 thread_local! {
-    /// The variants that were read, each behind its enum.
+    /// The variants that were read, each after its enum.
     static READ: RefCell<BTreeSet<(&'static str, &'static str)>> = RefCell::default();
 }
 

@@ -66,7 +66,7 @@ macro_rules! enums {
         }
     )*
 
-        /// The variants, each behind its enum.
+        /// The variants, each after its enum.
         #[cfg(test)]
         pub(super) const VARIANTS: &[(&str, &str)] =
             &[$($((stringify!($name), stringify!($variant)),)*)*];
