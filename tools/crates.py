@@ -1,4 +1,5 @@
 """The crates of the repository, and a check of one of them over the libraries that `rt ci` left."""
+import hashlib
 import re
 import shutil
 import subprocess
@@ -7,6 +8,8 @@ from pathlib import Path
 
 TOP = Path(__file__).resolve().parent.parent
 
+# the sum of what tools/prove_all proved last
+PROVED = TOP / "build" / "proved.sum"
 # the parts of a crate that the prover reads, and those that neither its proof nor its program does
 READ = ("src", "specs", "proofs")
 LEFT_OUT = ("out", "must-fail")
@@ -42,6 +45,26 @@ def files_of(crate):
     return [TOP / "crates.txt", *(it for it in inside if it.is_file())]
 
 
+def sum_of(files):
+    """The kit and some files, as one sum."""
+    found = hashlib.sha256(subprocess.run(["rt", "version"], capture_output=True).stdout)
+    for file in sorted(set(files)):
+        text = hashlib.sha256(file.read_bytes()).hexdigest()
+        found.update(f"{file.relative_to(TOP)} {text}\n".encode())
+    return found.hexdigest()
+
+
+def state():
+    """The kit and the files of all crates, as one sum."""
+    return sum_of(file for crate in listed() for file in files_of(crate))
+
+
+def are_proved(names, lines):
+    """Whether tools/prove_all proved all crates as they are, and what it left of these is there."""
+    made = [made_of(it) for it in names if it in lines]
+    return all(it.exists() for it in [PROVED, *made]) and PROVED.read_text() == state()
+
+
 def copy_crate(crate, to):
     """Copies the files that a crate is proved and built from to a new folder."""
     to.mkdir(parents=True)
@@ -75,6 +98,13 @@ def is_static(crate, lines):
 def rlib(crate, folder):
     """The library that `rt ci` left of a crate in a folder of crates."""
     return folder / crate / "out" / "rlib" / f"{crate}.rlib"
+
+
+def made_of(crate):
+    """What tools/prove_all left of a crate: its library, or the program that it is."""
+    folder = TOP / "crates"
+    is_program = (folder / crate / "src/main.rt").is_file()
+    return folder / crate / "out" / crate if is_program else rlib(crate, folder)
 
 
 def words(crate, lines, folder):

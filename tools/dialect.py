@@ -13,7 +13,8 @@ import re
 import sys
 from pathlib import Path
 
-from tables import DIALECTS, MODEL, Tables, rules
+import token_table
+from tables import DIALECTS, Tables, rules
 
 THEORY = Path("crates/wgsl_theory_grammar")
 
@@ -284,7 +285,7 @@ def steps_in(language, steps):
 
 
 def main(crate):
-    classes = re.findall(r"^(\w+) = \d+$", (MODEL / "Tokens" / "Classes.antt").read_text(), re.M)
+    classes = token_table.Table().classes
     tables = Tables(rules(THEORY, "parsed"))
     steps = Steps(tables, {c: i for i, c in enumerate(classes)})
     found = {language: steps_in(language, steps) for language in DIALECTS}

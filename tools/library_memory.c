@@ -2,12 +2,14 @@
    second, and so on, and exits with the line of the first check that fails, or 0. Each call has to
    return that memory was refused, or what it returns undisturbed, to give back all it took, and to
    make a request on some text. The texts are those below and those of
-   crates/wgsl_test_memory/data/texts.txt. It is run at the top of the repository, and linked with
-   --wrap of malloc, realloc and free. */
+   crates/wgsl_test_memory/data/texts.txt; wgsl_print has their text forms and those of
+   library_forms.h. It is run at the top of the repository, and linked with --wrap of malloc,
+   realloc and free. */
 #include <stdio.h>
 #include <stdlib.h>
 #include <string.h>
 
+#include "library_forms.h"
 #include "wgsl.h"
 
 #define CHECK(holds) \
@@ -50,9 +52,10 @@ struct said {
 };
 
 enum { FORMAT, CHECKED, RECOGNIZED, TOKENS, LISTS, BEGINS, NESTING, TREES };
-enum { CALLS = TREES + WGSL_EXPRESSION + 1 };
+enum { PRINTS = TREES + WGSL_EXPRESSION + 1, CALLS = PRINTS + WGSL_TYPE_CONSTRAINT + 1 };
 
-/* Makes a call; those from TREES on ask for the kinds of trees, one after another. */
+/* Makes a call; those from TREES on ask for the kinds of trees, one after another, and those from
+   PRINTS on print the kinds of nodes. */
 static uint32_t make(int call, const char *text, size_t size, struct said *said) {
     char *room = (char *)said->room;
     size_t room_size = sizeof said->room;
@@ -74,8 +77,12 @@ static uint32_t make(int call, const char *text, size_t size, struct said *said)
     case NESTING:
         return wgsl_nesting(text, size, &said->answer);
     default:
+        break;
+    }
+    if (call < PRINTS) {
         return wgsl_tree((uint32_t)(call - TREES), text, size, room, room_size, &said->answer);
     }
+    return wgsl_print((uint32_t)(call - PRINTS), text, size, room, room_size, &said->answer);
 }
 
 /* Makes a call with one request refused, and counts the requests. */
@@ -108,33 +115,60 @@ static const char *const texts[] = {
 /* How many requests of each call were refused. */
 static size_t refusals[CALLS];
 
-/* Makes each call on a text with each of its requests refused. */
-static int check(const char *text) {
+/* Makes a call on a text with each of its requests refused. */
+static int check_call(int call, const char *text) {
     static struct said undisturbed, said;
     static const struct wgsl_answer nothing;
     size_t which, count;
-    int call;
-    for (call = 0; call < CALLS; call++) {
-        ask(call, text, SIZE_MAX, &undisturbed);
-        CHECK(undisturbed.status <= WGSL_REFUSED && blocks == 0);
-        count = requests;
-        refusals[call] += count;
-        for (which = 0; which < count; which++) {
-            ask(call, text, which, &said);
-            CHECK(blocks == 0);
-            if (said.status == WGSL_OUT_OF_MEMORY) {
-                CHECK(memcmp(&said.answer, &nothing, sizeof nothing) == 0);
-            } else {
-                CHECK(is_same(&said, &undisturbed));
-            }
+    ask(call, text, SIZE_MAX, &undisturbed);
+    CHECK(undisturbed.status <= WGSL_REFUSED && blocks == 0);
+    count = requests;
+    refusals[call] += count;
+    for (which = 0; which < count; which++) {
+        ask(call, text, which, &said);
+        CHECK(blocks == 0);
+        if (said.status == WGSL_OUT_OF_MEMORY) {
+            CHECK(memcmp(&said.answer, &nothing, sizeof nothing) == 0);
+        } else {
+            CHECK(is_same(&said, &undisturbed));
         }
     }
     return 0;
 }
 
+/* Makes each call on a text, and prints each of its trees. */
+static int check(const char *text) {
+    static struct said tree;
+    char *form = (char *)tree.room;
+    int call, failed = 0;
+    for (call = 0; failed == 0 && call < PRINTS; call++) {
+        failed = check_call(call, text);
+        if (failed != 0 || call < TREES) continue;
+        ask(call, text, SIZE_MAX, &tree);
+        if (tree.status != WGSL_DONE) continue;
+        CHECK(tree.answer.size < sizeof tree.room);
+        form[tree.answer.size] = 0;
+        failed = check_call(call - TREES + PRINTS, form);
+    }
+    return failed;
+}
+
+/* Prints each form of library_forms.h. */
+static int check_forms(void) {
+    size_t at;
+    int failed = 0;
+    for (at = 0; failed == 0 && at < sizeof printed_forms / sizeof *printed_forms; at++) {
+        failed = check_call(PRINTS + (int)printed_forms[at].kind, printed_forms[at].form);
+    }
+    for (at = 0; failed == 0 && at < sizeof refused_forms / sizeof *refused_forms; at++) {
+        failed = check_call(PRINTS + (int)refused_forms[at].kind, refused_forms[at].form);
+    }
+    return failed;
+}
+
 int main(void) {
     char line[512];
-    int failed = 0, read = 0;
+    int failed = check_forms(), read = 0;
     size_t at;
     FILE *file = fopen("crates/wgsl_test_memory/data/texts.txt", "r");
     CHECK(file != NULL);

@@ -10,6 +10,7 @@ TREES = ["expression", "attribute", "simple", "statement", "unit"]
 WORDS = "words"
 
 KIND = re.compile(r"(spanned )?(struct|enum|words) (\w+): (.*) -- (.*)")
+EXAMPLES = re.compile(r"examples (\w+): (.*)")
 
 
 @dataclass(frozen=True)
@@ -25,16 +26,19 @@ class Kind:
 
 
 class Table:
-    """The kinds in the order of the table, and what it says of fields and variants."""
+    """The kinds in the order of the table, what it says of fields and variants, and the examples of
+    the variants of each enum."""
 
     def __init__(self):
         text = re.sub(r"^(?:#.*|--.*|)\n", "", TABLE.read_text(), flags=re.M)
-        self.kinds, self.docs = [], {}
+        self.kinds, self.docs, self.examples = [], {}, {}
         for line in re.sub(r"\n +", " ", text).splitlines():
-            kind = KIND.fullmatch(line)
+            kind, examples = KIND.fullmatch(line), EXAMPLES.fullmatch(line)
             if kind:
                 spanned, form, name, parts, doc = kind.groups()
                 self.kinds.append(Kind(form, name, bool(spanned), parts_of(form, parts), doc))
+            elif examples:
+                self.examples[examples[1]] = dict(re.findall(r"(\w+) `(.*?)`", examples[2]))
             else:
                 names, doc = line.split(": ", 1)
                 self.docs |= dict.fromkeys(names.split(", "), doc)
@@ -135,8 +139,8 @@ def declared_words():
 
 
 def check(table):
-    """Names each kind that is not the same in the library, and ends if there is one. The fields of
-    a struct may have another order there."""
+    """Names each kind that is not the same in the library, and ends if there is one, or if examples
+    are not those of the variants. The fields of a struct may have another order there."""
     here = {}
     for kind in table.kinds:
         types = str if kind.form == "words" else table.rust
@@ -149,3 +153,6 @@ def check(table):
         print(f"{TABLE}: {form} {name} is not that of the library", file=sys.stderr)
     if wrong:
         sys.exit(1)
+    for kind in table.of_form("enum"):
+        if list(table.examples.get(kind.name, [])) != [name for name, _ in kind.parts]:
+            sys.exit(f"{TABLE}: the examples of {kind.name} are not those of its variants")

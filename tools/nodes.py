@@ -1,17 +1,13 @@
 #!/usr/bin/env python3
-"""Writes what follows from the fields of the nodes alone: the tables of docs/TREE.md, the types of the
-Rust crate, and the variants that tools/library_kinds.c looks for. It also writes the kinds of tokens
-of that crate and of include/wgsl.h.
+"""Writes what follows from the fields of the nodes alone: the tables of docs/TREE.md, the types and
+the lists of nodes of the Rust crate, and the variants that tools/library_kinds.c looks for.
 
 Run it at the top of the repository:
 
     tools/nodes.py
 
 It reads crates/wgsl_model/nodes, and ends with status 1 if a type of the library differs from that.
-The kinds of tokens it reads from the definitions.
 """
-import re
-import sys
 import textwrap
 from pathlib import Path
 
@@ -19,10 +15,17 @@ from node_table import TABLE, Table, check, snake
 
 DOCUMENT = Path("docs/TREE.md")
 RUST = Path("bindings/rust/src")
-HEADER = Path("include/wgsl.h")
 KINDS = Path("tools/library_kinds.c")
-CLASSES = Path("crates/wgsl_model/specs/Tokens/Classes.antt")
 WRITTEN = f"written by tools/nodes.py from {TABLE}."
+# the enums that have no name, although what a variant holds has one
+UNNAMED = ["Statement"]
+# the kinds that the library prints, by their numbers in enum wgsl_tree_kind of include/wgsl.h
+PRINTED = ["TranslationUnit", "GlobalDirective", "GlobalDeclaration", "Statement", "Expression",
+           "Attribute", "StructMember", "FormalParameter", "DeclarationKind", "CaseSelector",
+           "IfClause", "ElseIfClause", "ElseClause", "SwitchClause", "ContinuingStatement",
+           "BreakIfStatement", "TypeConstraint"]
+# the enums of these of which each variant has the print of what it holds
+PLAIN = ["GlobalDirective", "GlobalDeclaration", "Statement", "Expression"]
 
 
 def fill(path, begin, text, end):
@@ -80,15 +83,128 @@ def declared(table, form, part_doc, shown):
     return "\n".join(lines)
 
 
+def named(table, held):
+    """The type of a node; one with a span by the name that the Rust crate gives to that."""
+    kind = table.by_name.get(held)
+    return f"{held}Node" if kind and kind.is_spanned else table.rust(held)
+
+
+def variants(table):
+    """The calls for the variants of each enum. A variant is made from what it holds if no other one
+    holds the same, and if that is not left out."""
+    lines = []
+    for kind in table.of_form("enum"):
+        types = [held for _, held in kind.parts]
+        lines.append(f"    {kind.name} {{")
+        for name, held in kind.parts:
+            is_made = held and types.count(held) == 1 and not held.endswith("?")
+            front = f"        {name}({named(table, held)})" if held else f"        {name}"
+            calls = (f'is_{snake(name)} unwrap_{snake(name)} = "{table.examples[kind.name][name]}"'
+                     f"{' => From' if is_made else ''},")
+            fits = len(f"{front} {calls}") <= 100
+            lines += [f"{front} {calls}"] if fits else [front, f"            {calls}"]
+        lines.append("    }")
+    return "\n".join(lines)
+
+
+def attributes(table):
+    """The variants of enums that hold a node with attributes, those with a name, and the others."""
+    lines = []
+    for kind in table.of_form("enum"):
+        fields = {name: held_fields(table, held) for name, held in kind.parts}
+        found = {"attributes": [name for name in fields if "attributes" in fields[name]],
+                 "ident": [name for name in fields if "ident" in fields[name]],
+                 "others": [name for name in fields if "attributes" not in fields[name]]}
+        if kind.name in UNNAMED:
+            found["ident"] = []
+        if found["attributes"]:
+            lists = [filled(8, f"{what}:", names) for what, names in found.items() if names]
+            lines += [f"    {kind.name} {{", *lists, "    }"]
+    return "\n".join(lines)
+
+
+def filled(indent, head, names):
+    """A list of names after a head, in lines of less than 100 columns."""
+    first, others = " " * indent, " " * (indent + 4)
+    return textwrap.fill(f"{head} {' '.join(names)},", 98, initial_indent=first,
+                         subsequent_indent=others)
+
+
+def held_fields(table, held):
+    """The fields of what a variant holds."""
+    kind = table.by_name.get(held)
+    return dict(kind.parts) if kind and kind.form == "struct" else {}
+
+
+def nodes(table):
+    """The structs, then the enums."""
+    return table.of_form("struct") + table.of_form("enum")
+
+
+def visited(table):
+    """The nodes with the methods of visitors; a node with a span has two."""
+    names = []
+    for kind in nodes(table):
+        names += [f"{kind.name}Node", kind.name] if kind.is_spanned else [kind.name]
+    lines = [f"    {it} visit_{snake(it)} visit_{snake(it)}_mut," for it in [*names, "Ident"]]
+    return "\n".join(lines)
+
+
+def unvisited(table):
+    """What nodes hold that is no node."""
+    names = {"", "Ident", *(kind.name for kind in nodes(table))}
+    held = dict.fromkeys(held.rstrip("?*") for kind in nodes(table) for _, held in kind.parts)
+    return "\n".join(f"    {table.rust(it)}," for it in held if it not in names)
+
+
+def parts_in(kind, names):
+    """The fields or variants of a kind that hold one of some kinds, or a list of it."""
+    return [name for name, held in kind.parts if held.rstrip("?*") in names]
+
+
+def blocks(table, form):
+    """The fields or variants in which blocks are, of each kind of a form that is not a block."""
+    before, found = set(), {"CompoundStatement"}
+    while found != before:
+        before, found = found, found | {it.name for it in nodes(table) if parts_in(it, found)}
+    parts = {it.name: parts_in(it, found) for it in table.of_form(form)}
+    return "\n".join(filled(4, f"{name}:", names) for name, names in parts.items()
+                     if names and name != "CompoundStatement")
+
+
+def printed():
+    """The kinds that the library prints, with their numbers."""
+    return "\n".join(f"    {name} = {number}," for number, name in enumerate(PRINTED))
+
+
+def printed_variants(table):
+    """What is printed as a variant of one of these kinds, each with one such variant."""
+    found = {held: f"{enum}::{variant}" for enum in PLAIN
+             for variant, held in table.by_name[enum].parts if held}
+    return "\n".join(f"    {held} = {variant}," for held, variant in found.items())
+
+
+def write_list(path, what, *macros):
+    """A file of the Rust crate in which macros are given lists."""
+    calls = "".join(f"\n{macro}! {{\n{text}\n}}\n" for macro, text in macros)
+    (RUST / f"{path}.rs").write_text(f"//! {what}, {WRITTEN}\n\nuse super::*;\n{calls}")
+
+
 def write_rust(table):
-    """The types of the Rust crate."""
-    forms = {
-        "structs": declared(table, "struct", field_doc, table.field),
-        "enums": declared(table, "enum", variant_doc, table.variant),
-    }
-    for form, text in forms.items():
-        head = f"//! The {form} of the trees, {WRITTEN}\n\nuse super::*;\n"
-        (RUST / f"syntax/node_{form}.rs").write_text(f"{head}\n{form}! {{\n{text}\n}}\n")
+    """The types of the Rust crate, and its lists of nodes."""
+    structs = declared(table, "struct", field_doc, table.field)
+    enums = declared(table, "enum", variant_doc, table.variant)
+    write_list("syntax/node_structs", "The structs of the trees", ("structs", structs))
+    write_list("syntax/node_enums", "The enums of the trees", ("enums", enums))
+    write_list("syntax/node_variants", "The calls for variants", ("variants", variants(table)))
+    write_list("syntax/node_attributes", "The variants with attributes or a name",
+               ("held_attributes", attributes(table)))
+    write_list("syntax/prints/node_prints", "The nodes that are printed",
+               ("prints", printed()), ("variant_prints", printed_variants(table)))
+    write_list("visit/node_visits", "The nodes that are visited",
+               ("unvisited", unvisited(table)), ("visitors", visited(table)))
+    write_list("syntax/voids/node_blocks", "Where blocks are",
+               *((f"{form}_blocks", blocks(table, form)) for form in ("struct", "enum")))
     words = declared(table, "words", lambda table, kind, name, word: f"`{word}`.",
                      lambda name, word: f'{name} = "{word}"')
     fill(RUST / "words.rs", "\nwords! {\n", f"    // {WRITTEN.capitalize()}\n{words}", "\n}\n")
@@ -115,18 +231,6 @@ def write_variants(table):
     fill(KINDS, "\nstatic const struct kinds enums[] = {\n", text, "};\n")
 
 
-def write_tokens():
-    """The kinds of tokens, by their numbers."""
-    classes = re.findall(r"^-- (.*)\nabbrev pub (\w+) : ℕ\n\2 = (\d+)$", CLASSES.read_text(), re.M)
-    if [int(number) for *_, number in classes] != list(range(len(classes))):
-        sys.exit(f"{CLASSES}: the classes are not in the order of their numbers from 0")
-    kinds = [f"    /// {doc[0].upper()}{doc[1:]}.\n    {name}," for doc, name, _ in classes]
-    numbers = [f"    WGSL_{snake(name).upper()} = {number}" for _, name, number in classes]
-    head = f"    // Written by tools/nodes.py from {CLASSES}."
-    fill(RUST / "kind.rs", "\nkinds! {\n", "\n".join([head, *kinds]), "\n}\n")
-    fill(HEADER, "\nenum wgsl_token_kind {\n", ",\n".join(numbers), "\n};\n")
-
-
 def main():
     table = Table()
     check(table)
@@ -134,7 +238,6 @@ def main():
          "<!-- The end of the tables. -->")
     write_rust(table)
     write_variants(table)
-    write_tokens()
 
 
 if __name__ == "__main__":

@@ -14,7 +14,10 @@ import sys
 from dataclasses import dataclass
 from pathlib import Path
 
+import token_table
+
 MODEL = Path("crates/wgsl_model/specs")
+CLASSES = MODEL / "Tokens" / "ClassTable.antt"
 PARTS = ["ExpressionParts", "StatementParts", "UnitParts", "Written"]
 # the language that is parsed, and the smaller one of a text that is recognised and not parsed
 DIALECTS = ["parsed", "recognized"]
@@ -246,9 +249,9 @@ class Rules:
 def rules(theory, dialect):
     """The right side of each symbol in a dialect, in the order of the symbols."""
     factored = theory / "specs/Factored.antt"
-    classes = set(re.findall(r"^(\w+) = \d+$", (MODEL / "Tokens" / "Classes.antt").read_text(), re.M))
-    found = definitions([MODEL / "Grammar" / f"{part}.antt" for part in PARTS] + [factored])
-    reader = Rules(found, classes, dialect)
+    parts = [MODEL / "Grammar" / f"{part}.antt" for part in PARTS]
+    found = definitions([CLASSES, *parts, factored])
+    reader = Rules(found, set(token_table.Table().classes), dialect)
     own = {}
     for pattern, body in reader.clauses("factored"):
         if pattern[2][0][1] not in ("n", "x"):
@@ -435,7 +438,7 @@ class Writer:
             "-- The tables of the factored grammar, written by tools/tables.py.",
             "use Rattle.std.specs.Prelude.{ℕ, Bool, true, false, List, [], ◌∷◌}",
             "use Rattle.grammar.specs.Tables.{Tables}",
-            f"use Rattle.wgsl_model.specs.Tokens.Classes.{{{used}}}",
+            f"use Rattle.wgsl_model.specs.Tokens.ClassTable.{{{used}}}",
             f"use Rattle.wgsl_model.specs.Grammar.Symbols.{{{symbols}}}",
             f"use Rattle.{self.crate}.specs.Factored.{{FactoredSymbol, FactoredSymbol.of, FactoredSymbol.further, {further}}}",
         ]) + "\n" + body
@@ -452,8 +455,7 @@ def main():
         print(f"{n[1]}: derives no list of tokens")
     if found or bare:
         sys.exit(1)
-    classes = re.findall(r"^(\w+) = \d+$", (MODEL / "Tokens" / "Classes.antt").read_text(), re.M)
-    writer = Writer(tables, classes)
+    writer = Writer(tables, token_table.Table().classes)
     writer.crate = theory.name
     (theory / "specs/Tables.antt").write_text(writer.text())
 

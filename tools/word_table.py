@@ -2,18 +2,18 @@
 """Writes the table of keywords and reserved words of the scanner, with their number, and the two
 tables of bytes that lead from a word to the only place in it where the word can stand.
 
-Run it at the top of the repository, and `rt fmt` in crates/wgsl_lex_scanner behind it:
+Run it at the top of the repository, and then `rt fmt` in crates/wgsl_lex_scanner:
 
     tools/word_table.py
 
-It reads the words from the definitions. Nothing rests on it: the prover checks that each word
-stands at its place, and that each entry is what it says.
+It reads the words from crates/wgsl_model/tokens. Nothing rests on it: the prover checks that each
+word is at its place, and that each entry is what it says.
 """
-import re
 from collections import defaultdict
 from pathlib import Path
 
-DEFINED = Path("crates/wgsl_model/specs/Tokens")
+from token_table import Table
+
 WRITTEN = Path("crates/wgsl_lex_scanner/src/word_table.rt")
 
 # what is written begins and ends before these lines
@@ -22,13 +22,6 @@ END = "/// How far the sum is moved."
 
 GROUPS = 64
 SUMS = 256
-
-
-def defined(file, name):
-    """The words of a list, each with what stands behind it."""
-    lines = (DEFINED / file).read_text()
-    text = re.search(rf"^{name} =\n(.*?)\[\]$", lines, re.M | re.S).group(1)
-    return re.findall(r'codes "(\w+)"(?:, (\w+))?', text)
 
 
 def group_of(word):
@@ -87,10 +80,9 @@ static PLACES: [u8; {SUMS}] = [{array(places)}];
 
 
 def main():
-    keywords = defined("Classes.antt", "keywords")
-    reserved = defined("Words.antt", "reserved_words")
-    entries = {word: f"Meaning::Keyword(TokenKind::{kind})" for word, kind in keywords}
-    entries |= {word: "Meaning::Reserved" for word, _ in reserved}
+    table = Table()
+    entries = {it.text: f"Meaning::Keyword(TokenKind::{it.name})" for it in table.keywords}
+    entries |= dict.fromkeys(table.reserved, "Meaning::Reserved")
     entries = dict(sorted(entries.items()))
     text = WRITTEN.read_text()
     begin, end = text.index(BEGIN), text.index(END)

@@ -32,40 +32,55 @@ abbrev items_closed : {A : Type 0} → List A → Token → State → Read (List
 items_closed l t s = done l s
 
 none_behind : {A : Type 0} (l : List A) (m : Read Token) → ((m >>= no_items) >>= put_behind l) ≡ (m >>= items_closed l)
-none_behind l m = bind_associates m no_items (put_behind l) ∙ bind_alike m _ _ (λ t s is. ap (λ x. done x s) (append-nil l))
+none_behind l m = bind_associates m no_items (put_behind l)
+    ∙ bind_alike m _ _ (λ t s is. ap (λ x. done x s) (append-nil l))
 
-one_behind : {A : Type 0} (l : List A) (e : A) (m : Read (List A)) → (((m >>= paired e) >>= item_first) >>= put_behind l) ≡ (m >>= put_behind (l ++ e ∷ []))
+one_behind : {A : Type 0} (l : List A) (e : A) (m : Read (List A))
+    → (((m >>= paired e) >>= item_first) >>= put_behind l) ≡ (m >>= put_behind (l ++ e ∷ []))
 one_behind l e m =
-    bind_associates (m >>= paired e) item_first (put_behind l) ∙ bind_associates m (paired e) _ ∙ bind_alike m _ _ (λ k s is. ap (λ x. done x s) (sym (append_assoc l (e ∷ []) k)))
+    bind_associates (m >>= paired e) item_first (put_behind l) ∙ bind_associates m (paired e) _
+    ∙ bind_alike m _ _ (λ k s is. ap (λ x. done x s) (sym (append_assoc l (e ∷ []) k)))
 
 first_behind : {A : Type 0} (l : List A) (m : Read A) (rest : State → Read (List A))
-    → (((m >>= λ e s. rest s >>= paired e) >>= item_first) >>= put_behind l) ≡ (m >>= λ e s. rest s >>= put_behind (l ++ e ∷ []))
+    → (((m >>= λ e s. rest s >>= paired e) >>= item_first) >>= put_behind l)
+    ≡ (m >>= λ e s. rest s >>= put_behind (l ++ e ∷ []))
 first_behind l (done e s) rest = one_behind l e (rest s)
 first_behind l (stop x) rest = refl
 
 token_behind : {A : Type 0} (l : List A) (m : Read Token) (rest : State → Read (List A))
-    → (((m >>= λ t s. rest s >>= with_token t) >>= token_dropped) >>= put_behind l) ≡ (m >>= λ t s. rest s >>= put_behind l)
-token_behind l (done t s) rest = bind_associates (rest s >>= with_token t) token_dropped (put_behind l) ∙ bind_associates (rest s) (with_token t) _
+    → (((m >>= λ t s. rest s >>= with_token t) >>= token_dropped) >>= put_behind l)
+    ≡ (m >>= λ t s. rest s >>= put_behind l)
+token_behind l (done t s) rest = bind_associates (rest s >>= with_token t) token_dropped (put_behind l)
+    ∙ bind_associates (rest s) (with_token t) _
 token_behind l (stop x) rest = refl
 
 -- ---- the equations
 -- Rest = close / One Rest
 pub until : {A : Type 0} (rest : State → Read (List A)) (one : State → Read A) (close : ℕ)
-    → ((s : State) → rest s ≡ cond (is_at close s) (take close s >>= no_items) ((one s >>= λ e s'. rest s' >>= paired e) >>= item_first))
-    → (l : List A) (s : State) → (rest s >>= put_behind l) ≡ cond (is_at close s) (take close s >>= items_closed l) (one s >>= λ e s'. rest s' >>= put_behind (l ++ e ∷ []))
+    → ((s : State) → rest s ≡ cond (is_at close s) (take close s >>= no_items)
+    ((one s >>= λ e s'. rest s' >>= paired e) >>= item_first))
+    → (l : List A) (s : State) → (rest s >>= put_behind l) ≡ cond (is_at close s)
+    (take close s >>= items_closed l) (one s >>= λ e s'. rest s' >>= put_behind (l ++ e ∷ []))
 until rest one close h l s =
-    ap (λ m. m >>= put_behind l) (h s) ∙ bind_cond (is_at close s) _ _ (put_behind l) ∙ ap₂ (cond (is_at close s)) (none_behind l (take close s)) (first_behind l (one s) rest)
+    ap (λ m. m >>= put_behind l) (h s) ∙ bind_cond (is_at close s) _ _ (put_behind l)
+    ∙ ap₂ (cond (is_at close s)) (none_behind l (take close s)) (first_behind l (one s) rest)
 
 -- Rest = close / One More, More = comma Rest / close
 pub separated : {A : Type 0} (rest more : State → Read (List A)) (one : State → Read A) (comma close : ℕ)
-    → ((s : State) → rest s ≡ cond (is_at close s) (take close s >>= no_items) ((one s >>= λ e s'. more s' >>= paired e) >>= item_first))
-    → ((s : State) → more s ≡ cond (is_at comma s) ((take comma s >>= λ t s'. rest s' >>= with_token t) >>= token_dropped) (take close s >>= no_items))
-    → (l : List A) (s : State) → (rest s >>= put_behind l) ≡ cond (is_at close s) (take close s >>= items_closed l)
-    (one s >>= λ e s'. cond (is_at comma s') (take comma s' >>= λ t s''. rest s'' >>= put_behind (l ++ e ∷ [])) (take close s' >>= items_closed (l ++ e ∷ [])))
+    → ((s : State) → rest s ≡ cond (is_at close s) (take close s >>= no_items)
+    ((one s >>= λ e s'. more s' >>= paired e) >>= item_first))
+    → ((s : State) → more s ≡ cond (is_at comma s)
+    ((take comma s >>= λ t s'. rest s' >>= with_token t) >>= token_dropped) (take close s >>= no_items))
+    → (l : List A) (s : State)
+    → (rest s >>= put_behind l) ≡ cond (is_at close s) (take close s >>= items_closed l)
+    (one s >>= λ e s'. cond (is_at comma s') (take comma s'
+    >>= λ t s''. rest s'' >>= put_behind (l ++ e ∷ [])) (take close s' >>= items_closed (l ++ e ∷ [])))
 separated rest more one comma close h k l s =
-    ap (λ m. m >>= put_behind l) (h s) ∙ bind_cond (is_at close s) _ _ (put_behind l) ∙ ap₂ (cond (is_at close s)) (none_behind l (take close s))
+    ap (λ m. m >>= put_behind l) (h s) ∙ bind_cond (is_at close s) _ _ (put_behind l)
+    ∙ ap₂ (cond (is_at close s)) (none_behind l (take close s))
     (first_behind l (one s) more ∙ bind_alike (one s) _ _ (λ e s' is.
-    ap (λ m. m >>= put_behind (l ++ e ∷ [])) (k s') ∙ bind_cond (is_at comma s') _ _ _ ∙ ap₂ (cond (is_at comma s')) (token_behind _ (take comma s') rest) (none_behind _ (take close s'))))
+    ap (λ m. m >>= put_behind (l ++ e ∷ [])) (k s') ∙ bind_cond (is_at comma s') _ _ _
+    ∙ ap₂ (cond (is_at comma s')) (token_behind _ (take comma s') rest) (none_behind _ (take close s'))))
 
 -- from no items on
 pub behind_none : {A : Type 0} (m : Read (List A)) → m ≡ (m >>= put_behind [])

@@ -1,4 +1,5 @@
--- A small grammar whose tables pass: it shows that tests and readings are computed, and how a grammar is put to use.
+-- A small grammar whose tables pass: it shows that tests and readings are computed, and how a
+-- grammar is put to use.
 use Rattle.std.proofs.Common.{◌≡◌, ℕ, ◌+◌, Bool, true, false, cond, eqb, List, [], ◌∷◌, ◌++◌, inl, inr, refl, sym, subst, arith}
 use Rattle.std.specs.Prelude.{Option, Some, None}
 use Rattle.grammar.specs.Tokens.{Payload.nothing, Token, Span, Fault, span_between}
@@ -79,9 +80,11 @@ unreserved t s = cond (eqb t.class Reserved) (Some (reserved_fault s)) None
 abbrev body : (n : Symbol) → Rule (Value n)
 body unit = many (symbol declaration)
 body declaration =
-    (Alias ▹ symbol name then Equal ▹ symbol name ◃ Semicolon makes λ (p : Token × Token) s. record { names = p.0 ∷ (p.1 ∷ []); span = s })
+    (Alias ▹ symbol name then Equal ▹ symbol name ◃ Semicolon
+    makes λ (p : Token × Token) s. record { names = p.0 ∷ (p.1 ∷ []); span = s })
     or (Enumerate ▹ Open ▹ symbol names ◃ Semicolon makes λ ns s. record { names = ns; span = s })
-body names = (one_token Close gives λ t. []) or (symbol name then symbol more_names gives λ (p : Token × List Token). p.0 ∷ p.1)
+body names = (one_token Close gives λ t. [])
+    or (symbol name then symbol more_names gives λ (p : Token × List Token). p.0 ∷ p.1)
 body more_names = Comma ▹ symbol names or (one_token Close gives λ t. [])
 body name = token (Word ∷ Reserved ∷ []) with_check unreserved
 
@@ -117,8 +120,20 @@ passes = record {
   more = elim [ unit ↦ refl | declaration ↦ refl | names ↦ refl | more_names ↦ refl | name ↦ refl ];
   one = elim [ unit ↦ refl | declaration ↦ refl | names ↦ refl | more_names ↦ refl | name ↦ refl ];
   spans = elim [ unit ↦ refl | declaration ↦ refl | names ↦ refl | more_names ↦ refl | name ↦ refl ];
-  rank = elim [ unit ↦ omega arith | declaration ↦ omega arith | names ↦ omega arith | more_names ↦ omega arith | name ↦ omega arith ];
-  ranks = elim [ unit ↦ omega arith | declaration ↦ omega arith | names ↦ omega arith | more_names ↦ omega arith | name ↦ omega arith ];
+  rank = elim [
+    | unit ↦ omega arith
+    | declaration ↦ omega arith
+    | names ↦ omega arith
+    | more_names ↦ omega arith
+    | name ↦ omega arith
+  ];
+  ranks = elim [
+    | unit ↦ omega arith
+    | declaration ↦ omega arith
+    | names ↦ omega arith
+    | more_names ↦ omega arith
+    | name ↦ omega arith
+  ];
 }
 
 -- a reserved word is a fault wherever it stands
@@ -128,22 +143,31 @@ apart n = []
 names_start : (x : Fault) (xs ys : List Token) → IsFaulty body name x xs ys → chooses (Reserved ∷ []) xs ≡ true
 names_start x xs ys (t, d, e) =
     let first = unroll unchecked body name t xs ys d in
-    subst (λ (z : List Token). chooses (Reserved ∷ []) z ≡ true) (sym first.1.1) (elim (cases (eqb t.class Reserved)) [
+    subst (λ (z : List Token). chooses (Reserved ∷ []) z ≡ true) (sym first.1.1)
+    (elim (cases (eqb t.class Reserved)) [
       | inl y ↦ cond_yes (eqb t.class Reserved) true false y
-      | inr n ↦ let none = cond_no {A = Option Fault} (eqb t.class Reserved) (Some (reserved_fault (span_between xs ys))) None n in absurd cc
+      | inr n ↦ let none = cond_no {A = Option Fault} (eqb t.class Reserved)
+          (Some (reserved_fault (span_between xs ys))) None n in absurd cc
     ])
 
 tested : IsTested tables body 2 apart
 tested = record {
   passes = passes;
-  sentences = all_sentences (elim [ unit ↦ 2 | declaration ↦ 1 | names ↦ 0 | more_names ↦ 0 | name ↦ 0 ]) body (elim [ unit ↦ refl | declaration ↦ refl | names ↦ refl | more_names ↦ refl | name ↦ refl ]);
+  sentences = all_sentences (elim [ unit ↦ 2 | declaration ↦ 1 | names ↦ 0 | more_names ↦ 0 | name ↦ 0 ]) body
+      (elim [ unit ↦ refl | declaration ↦ refl | names ↦ refl | more_names ↦ refl | name ↦ refl ]);
   guarded = elim [
     | unit ↦ inl (λ v s. refl)
     | declaration ↦ inl (λ v s. refl)
     | names ↦ inl (λ v s. refl)
     | more_names ↦ inl (λ v s. refl)
     | name ↦ inr (guarded_alone tables body 2 passes apart name refl refl (Reserved ∷ [])
-        (elim [ unit ↦ inl refl | declaration ↦ inl refl | names ↦ inl refl | more_names ↦ inl refl | name ↦ inr (refl, refl) ]) names_start)
+        (elim [
+          | unit ↦ inl refl
+          | declaration ↦ inl refl
+          | names ↦ inl refl
+          | more_names ↦ inl refl
+          | name ↦ inr (refl, refl)
+        ]) names_start)
   ];
   behind = [];
   within = λ n. refl;
@@ -157,21 +181,26 @@ at c place = record { class = c; payload = nothing; start = place; end = place +
 
 -- `alias a = b; list (a, b);`, with the spans of both
 units_are_read : read_all tables checking body 2 unit
-    (at Alias 0 ∷ at Word 1 ∷ at Equal 2 ∷ at Word 3 ∷ at Semicolon 4 ∷ at Enumerate 5 ∷ at Open 6 ∷ at Word 7 ∷ at Comma 8 ∷ at Word 9 ∷ at Close 10 ∷ at Semicolon 11 ∷ [])
-    ≡ ok (record { names = at Word 1 ∷ at Word 3 ∷ []; span = record { start = 0; end = 5 } } ∷ record { names = at Word 7 ∷ at Word 9 ∷ []; span = record { start = 5; end = 12 } } ∷ []) []
+    (at Alias 0 ∷ at Word 1 ∷ at Equal 2 ∷ at Word 3 ∷ at Semicolon 4 ∷ at Enumerate 5 ∷ at Open 6
+    ∷ at Word 7 ∷ at Comma 8 ∷ at Word 9 ∷ at Close 10 ∷ at Semicolon 11 ∷ [])
+    ≡ ok (record { names = at Word 1 ∷ at Word 3 ∷ []; span = record { start = 0; end = 5 } }
+    ∷ record { names = at Word 7 ∷ at Word 9 ∷ []; span = record { start = 5; end = 12 } } ∷ []) []
 units_are_read = refl
 
 -- of `alias a = r = b` the reserved word r is named, which ends before the second `=`
-faults_are_read : read_all tables checking body 2 unit (at Alias 0 ∷ at Word 1 ∷ at Equal 2 ∷ at Reserved 3 ∷ at Equal 4 ∷ at Word 5 ∷ [])
+faults_are_read : read_all tables checking body 2 unit
+    (at Alias 0 ∷ at Word 1 ∷ at Equal 2 ∷ at Reserved 3 ∷ at Equal 4 ∷ at Word 5 ∷ [])
     ≡ bad (reserved_fault (record { start = 3; end = 4 })) (at Equal 4 ∷ at Word 5 ∷ [])
 faults_are_read = refl
 
 -- and of `alias a b r` the b
-tokens_are_refused : read_all tables checking body 2 unit (at Alias 0 ∷ at Word 1 ∷ at Word 2 ∷ at Reserved 3 ∷ []) ≡ stuck (at Word 2 ∷ at Reserved 3 ∷ [])
+tokens_are_refused : read_all tables checking body 2 unit
+    (at Alias 0 ∷ at Word 1 ∷ at Word 2 ∷ at Reserved 3 ∷ []) ≡ stuck (at Word 2 ∷ at Reserved 3 ∷ [])
 tokens_are_refused = refl
 
 -- what is answered is true, however the list ended
-units_are_answered : (wording : Wording) (ts : List Token) (ending : Ending) → Answers body apart wording unit ts ending (answer wording ending (reads tables body 2 unit (start_state ts)))
+units_are_answered : (wording : Wording) (ts : List Token) (ending : Ending) → Answers body apart
+    wording unit ts ending (answer wording ending (reads tables body 2 unit (start_state ts)))
 units_are_answered wording ts ending = answers tables body 2 apart tested wording unit ts ending
 
 -- the names behind those that were read so far
@@ -179,6 +208,11 @@ abbrev names_from : List Token → State → Read (List Token)
 names_from l s = reads tables body 2 names s >>= λ m s'. done (l ++ m) s'
 
 -- one turn of a loop that reads names
-names_turn : (l : List Token) (s : State) → names_from l s ≡ cond (is_at Close s) (take Close s >>= λ c s'. done l s')
-    (reads tables body 2 name s >>= λ t s'. cond (is_at Comma s') (take Comma s' >>= λ c s''. names_from (l ++ t ∷ []) s'') (take Close s' >>= λ c s''. done (l ++ t ∷ []) s''))
-names_turn l s = let step = reads_is tables body 2 passes in separated (reads tables body 2 names) (reads tables body 2 more_names) (reads tables body 2 name) Comma Close (step names) (step more_names) l s
+names_turn : (l : List Token) (s : State)
+    → names_from l s ≡ cond (is_at Close s) (take Close s >>= λ c s'. done l s')
+    (reads tables body 2 name s >>= λ t s'. cond (is_at Comma s') (take Comma s'
+    >>= λ c s''. names_from (l ++ t ∷ []) s'') (take Close s' >>= λ c s''. done (l ++ t ∷ []) s''))
+names_turn l s =
+    let step = reads_is tables body 2 passes in separated (reads tables body 2 names)
+    (reads tables body 2 more_names) (reads tables body 2 name) Comma Close (step names)
+    (step more_names) l s

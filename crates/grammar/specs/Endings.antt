@@ -17,7 +17,8 @@ pub data Answer (A : Type 0) : Type 0 where
   accepted : A → Answer A
   denied : Fault → Answer A
 
--- how the faults are told that no check finds: a token that nothing goes on with, and a token missing behind the place where the last one ended
+-- how the faults are told that no check finds: a token that nothing goes on with, and a token
+-- missing behind the place where the last one ended
 pub record Wording : Type 0 where
   pub unexpected : Token → Fault
   pub missing : ℕ → Fault

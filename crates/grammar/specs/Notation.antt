@@ -13,11 +13,13 @@ abbrev pub one_token : {N : Type 0} {Value : N → Type 0} → ℕ → Grammar N
 one_token c = token (c ∷ [])
 
 -- one part, then another
-abbrev pub ◌then◌ : {N : Type 0} {Value : N → Type 0} {A B : Type 0} → Grammar N Value A → Grammar N Value B → Grammar N Value (A × B)
+abbrev pub ◌then◌ : {N : Type 0} {Value : N → Type 0} {A B : Type 0} → Grammar N Value A
+    → Grammar N Value B → Grammar N Value (A × B)
 ◌then◌ g h = sequence g h
 
 -- one of two
-abbrev pub ◌or◌ : {N : Type 0} {Value : N → Type 0} {A : Type 0} → Grammar N Value A → Grammar N Value A → Grammar N Value A
+abbrev pub ◌or◌ : {N : Type 0} {Value : N → Type 0} {A : Type 0} → Grammar N Value A
+    → Grammar N Value A → Grammar N Value A
 ◌or◌ g h = choice g h
 
 -- a part, with its value turned into another
@@ -25,11 +27,13 @@ abbrev pub ◌gives◌ : {N : Type 0} {Value : N → Type 0} {A B : Type 0} → 
 ◌gives◌ g f = mapped f g
 
 -- a part of one token at least, with its value and span turned into another value
-abbrev pub ◌makes◌ : {N : Type 0} {Value : N → Type 0} {A B : Type 0} → Grammar N Value A → (A → Span → B) → Grammar N Value B
+abbrev pub ◌makes◌ : {N : Type 0} {Value : N → Type 0} {A B : Type 0} → Grammar N Value A
+    → (A → Span → B) → Grammar N Value B
 ◌makes◌ g f = node f g
 
 -- a part of one token at least, whose value and span are checked
-abbrev pub ◌with_check◌ : {N : Type 0} {Value : N → Type 0} {A : Type 0} → Grammar N Value A → (A → Span → Option Fault) → Grammar N Value A
+abbrev pub ◌with_check◌ : {N : Type 0} {Value : N → Type 0} {A : Type 0} → Grammar N Value A
+    → (A → Span → Option Fault) → Grammar N Value A
 ◌with_check◌ g f = checked f g
 
 -- a token of a class, then a part
@@ -65,5 +69,6 @@ abbrev pub list : {N : Type 0} {Value : N → Type 0} {A : Type 0} → ℕ → G
 list c g = separated c g or separated c g ◃ c
 
 -- such a list or nothing
-abbrev pub list_or_none : {N : Type 0} {Value : N → Type 0} {A : Type 0} → ℕ → Grammar N Value A → Grammar N Value (List A)
+abbrev pub list_or_none : {N : Type 0} {Value : N → Type 0} {A : Type 0} → ℕ → Grammar N Value A
+    → Grammar N Value (List A)
 list_or_none c g = list c g or empty []

@@ -1,4 +1,5 @@
--- The reader over states, in which the code reads: each state knows where the last token ended, so that no span needs a list.
+-- The reader over states, in which the code reads: each state knows where the last token ended, so
+-- that no span needs a list.
 use Rattle.std.specs.Prelude.{ℕ, zero, suc, Bool, true, false, cond, eqb, List, [], ◌∷◌, length, Option, Some, None}
 use Rattle.grammar.specs.Tokens.{Payload.nothing, Token, Span, Fault, last_end, tokens_between}
 use Rattle.grammar.specs.Grammar.{Grammar, Grammar.empty, Grammar.token, Grammar.sequence, Grammar.choice, Grammar.mapped, Grammar.node, Grammar.checked, Grammar.symbol, Grammar.left_chain, Mode.checking}
@@ -15,7 +16,8 @@ pub record State : Type 0 where
 abbrev pub start_state : List Token → State
 start_state ts = record { end = 0; rest = ts }
 
--- why reading stopped: at a token, at the end, where the last token that was taken ended at a place, by a check's fault, or never, as fuel is enough
+-- why reading stopped: at a token, at the end, where the last token that was taken ended at a
+-- place, by a check's fault, or never, as fuel is enough
 pub data Stop : Type 0 where
   unexpected : Token → Stop
   ended : ℕ → Stop
@@ -33,7 +35,8 @@ abbrev pub ◌>>=◌ : {A B : Type 0} → Read A → (A → State → Read B) �
 (done a s) >>= f = f a s
 (stop e) >>= f = stop e
 
--- what stands first of the tokens that are left is refused, where the last one that was taken ended at a place
+-- what stands first of the tokens that are left is refused, where the last one that was taken ended
+-- at a place
 abbrev pub refused_at : {A : Type 0} → ℕ → List Token → Read A
 refused_at e [] = stop (ended e)
 refused_at e (t ∷ ts) = stop (unexpected t)
@@ -106,14 +109,18 @@ span_from start s = record { start = start; end = s.end }
 -- so many further items of a left-recursive rule at most, each begun by one of the classes
 abbrev pub turns_in : {A B : Type 0} → ℕ → (A → B → Span → A) → List ℕ → (State → Read B) → ℕ → A → State → Read A
 turns_in {A} zero f c r start a s = elim (is_any c s) as (λ b. Read A) [ true ↦ stop never | false ↦ done a s ]
-turns_in {A} (suc k) f c r start a s = elim (is_any c s) as (λ b. Read A) [ true ↦ r s >>= λ b s'. turns_in k f c r start (f a b (span_from start s')) s' | false ↦ done a s ]
+turns_in {A} (suc k) f c r start a s = elim (is_any c s) as (λ b. Read A) [
+  | true ↦ r s >>= λ b s'. turns_in k f c r start (f a b (span_from start s')) s'
+  | false ↦ done a s
+]
 
 -- the further items; each takes a token, so as many turns as there are tokens are enough
 abbrev pub turns : {A B : Type 0} → (A → B → Span → A) → List ℕ → (State → Read B) → ℕ → A → State → Read A
 turns f c r start a s = turns_in (length s.rest) f c r start a s
 
 -- a right side, where the symbols are read by another reader
-abbrev pub go : {N : Type 0} {Value : N → Type 0} (T : Tables N) (rec : (n : N) → State → Read (Value n)) {A : Type 0} → Grammar N Value A → State → Read A
+abbrev pub go : {N : Type 0} {Value : N → Type 0} (T : Tables N)
+    (rec : (n : N) → State → Read (Value n)) {A : Type 0} → Grammar N Value A → State → Read A
 go T rec (empty a) s = done a s
 go T rec (token cs) s = take_any cs s
 go T rec (sequence g h) s = go T rec g s >>= λ a s'. go T rec h s' >>= λ b s''. done (a, b) s''
@@ -136,7 +143,8 @@ tag s (bad x us) = stop (faulty x)
 tag s out = stop never
 
 -- what a symbol reads
-unfoldable pub reads : {N : Type 0} {Value : N → Type 0} (T : Tables N) (body : (n : N) → Grammar N Value (Value n)) (R : ℕ) (n : N) → State → Read (Value n)
+unfoldable pub reads : {N : Type 0} {Value : N → Type 0} (T : Tables N)
+    (body : (n : N) → Grammar N Value (Value n)) (R : ℕ) (n : N) → State → Read (Value n)
 reads T body R n s = tag s (read_all T checking body R n s.rest)
 
 -- what is answered at the end of a list: what the list carried goes first

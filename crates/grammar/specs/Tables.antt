@@ -70,7 +70,8 @@ decides T (mapped f g) = decides T g
 decides T (node f g) = decides T g
 decides T (checked f g) = decides T g
 decides T (symbol n) = true
-decides T (left_chain f g h) = (decides T g && decides T h) && (not (nullable T h) && (disjoint (continuations T g) (first T h) && disjoint (continuations T h) (first T h)))
+decides T (left_chain f g h) = (decides T g && decides T h) && (not (nullable T h)
+    && (disjoint (continuations T g) (first T h) && disjoint (continuations T h) (first T h)))
 
 -- no span is of a part that can be empty
 abbrev pub spans_tokens : {N : Type 0} {Value : N → Type 0} (T : Tables N) {A : Type 0} → Grammar N Value A → Bool
@@ -109,7 +110,8 @@ all_ranks T (symbol n) = suc (T.rank n)
 all_ranks T (left_chain f g h) = max (all_ranks T g) (all_ranks T h)
 
 -- the tables are those of the right sides, which one token decides, and whose ranks are at most R
-pub record Passes {N : Type 0} {Value : N → Type 0} (T : Tables N) (body : (n : N) → Grammar N Value (Value n)) (R : ℕ) : Type 0 where
+pub record Passes {N : Type 0} {Value : N → Type 0} (T : Tables N)
+    (body : (n : N) → Grammar N Value (Value n)) (R : ℕ) : Type 0 where
   pub begins : (n : N) → subset (first T (body n)) (T.first n) ≡ true
   pub empty : (n : N) → nullable T (body n) ≡ T.empty n
   pub more : (n : N) → subset (continuations T (body n)) (T.more n) ≡ true

@@ -7,7 +7,8 @@ use Rattle.wgsl_command.specs.declared.options.OptionName.TheVariants as option
 use Rattle.wgsl_command.specs.Options.{options, option_text}
 use Rattle.wgsl_command.specs.Nearest.{edits, IsNearest}
 
-pub each_option : (P : OptionName → Type 0) → ((k : ℕ) → k < 9 → P (get_or options k (option.Flag Check))) → (name : OptionName) → P name
+pub each_option : (P : OptionName → Type 0)
+    → ((k : ℕ) → k < 9 → P (get_or options k (option.Flag Check))) → (name : OptionName) → P name
 each_option P listed (option.Flag Check) = listed 0 (lit< tt)
 each_option P listed (option.Flag Diff) = listed 1 (lit< tt)
 each_option P listed (option.Flag Quiet) = listed 2 (lit< tt)
@@ -36,11 +37,13 @@ pub record IsBest (word : List ℕ) (found : Option OptionName) (least i : ℕ) 
 -- the next option is no nearer
 pub best_stays : (word : List ℕ) (found : Option OptionName) (least i : ℕ) → IsBest word found least i
     → least ≤ edits word (option_text (option_at i)) → IsBest word found least (i + 1)
-best_stays word found least i best far = record { small = best.small; reached = best.reached; below = below_more _ _ best.below far }
+best_stays word found least i best far =
+    record { small = best.small; reached = best.reached; below = below_more _ _ best.below far }
 
 -- the next option is nearer
 pub best_is : (word : List ℕ) (found : Option OptionName) (least i : ℕ) → IsBest word found least i
-    → edits word (option_text (option_at i)) < least → IsBest word (Some (option_at i)) (edits word (option_text (option_at i))) (i + 1)
+    → edits word (option_text (option_at i)) < least
+    → IsBest word (Some (option_at i)) (edits word (option_text (option_at i))) (i + 1)
 best_is word found least i best near = record {
   small = omega (arith, best.small);
   reached = (refl, omega (arith, best.small));
@@ -48,7 +51,8 @@ best_is word found least i best near = record {
 }
 
 -- after all options
-pub best_nearest : (word : List ℕ) (found : Option OptionName) (least : ℕ) → IsBest word found least 9 → IsNearest word found
+pub best_nearest : (word : List ℕ) (found : Option OptionName) (least : ℕ)
+    → IsBest word found least 9 → IsNearest word found
 best_nearest word None least best = λ name.
     let far = each_option (λ it. least ≤ edits word (option_text it)) best.below name in
     omega (arith, best.reached)

@@ -8,8 +8,10 @@ use Rattle.wgsl_command.specs.declared.options.OptionName.{OptionName}
 use Rattle.wgsl_command.specs.declared.options.OptionName.TheVariants as option
 use Rattle.wgsl_command.specs.Options.{option_of}
 
--- what an argument is: `--`; a file, a folder or `-`; a flag; a setting whose value is the next argument; a setting with
--- its value, as `--stdin-path=NAME`; a flag with a value, which it does not take; what begins with `-` and is no option
+-- what an argument is: `--`; a file, a folder or `-`; a flag; a setting whose value is the next
+-- argument; a setting with
+-- its value, as `--stdin-path=NAME`; a flag with a value, which it does not take; what begins with
+-- `-` and is no option
 pub data Argument : Type 0 where
   end_of_options : Argument
   source : Argument
@@ -29,7 +31,8 @@ is_equals c = c == 61
 
 -- the value in an argument: what follows its first `=`
 abbrev pub value_in : List ℕ → Option (List ℕ)
-value_in text = if nat_lt (position_or_len is_equals text) (length text) then Some (after_first is_equals text) else None
+value_in text = if nat_lt (position_or_len is_equals text) (length text)
+    then Some (after_first is_equals text) else None
 
 -- a file, a folder or `-`: what does not begin with `-`, or has nothing else
 abbrev pub is_source : List ℕ → Bool

@@ -37,7 +37,16 @@ pub record Asked : Type 0 where
 
 -- what is asked for by no arguments
 abbrev pub nothing : Asked
-nothing = record { help = false; version = false; check = false; diff = false; quiet = false; stdin_path = None; choices = choices_of.nothing; sources = [] }
+nothing = record {
+  help = false;
+  version = false;
+  check = false;
+  diff = false;
+  quiet = false;
+  stdin_path = None;
+  choices = choices_of.nothing;
+  sources = [];
+}
 
 -- what a flag asks for
 abbrev pub with_flag : Asked → Flag → Asked
@@ -51,7 +60,8 @@ with_flag asked Version = record asked { version = true }
 abbrev pub with_source : Asked → List ℕ → Asked
 with_source asked text = record asked { sources = asked.sources ++ source_of text ∷ [] }
 
--- why arguments are no command: one begins with `-` and is no option; a setting is the last and has no value; a flag has a
+-- why arguments are no command: one begins with `-` and is no option; a setting is the last and has
+-- no value; a flag has a
 -- value; a setting does not take its value
 pub data UsageError : Type 0 where
   unknown_option : List ℕ → UsageError
@@ -65,7 +75,8 @@ abbrev pub ◌>>=◌ : {A B E : Type 0} → Result A E → (A → Result B E) �
 (Ok x) >>= f = f x
 (Err e) >>= f = Err e
 
--- what is asked for with these choices, which are those of a setting with a value, if it takes the value
+-- what is asked for with these choices, which are those of a setting with a value, if it takes the
+-- value
 abbrev pub with_choices : Asked → Setting → List ℕ → Option Choices → Result Asked UsageError
 with_choices asked setting value None = Err (invalid_value setting value)
 with_choices asked setting value (Some choices) = Ok (record asked { choices = choices })
@@ -125,7 +136,8 @@ pub data Command : Type 0 where
   version : Command
   format : Request → Command
 
--- files are written in place, listed where they would change, or shown with what would change: a diff lists them too
+-- files are written in place, listed where they would change, or shown with what would change: a
+-- diff lists them too
 abbrev pub mode_of : Bool → Bool → Mode
 mode_of check true = mode.Diff
 mode_of true false = mode.Check

@@ -13,4 +13,5 @@ print_usage_error (unknown_option text) = codes "unknown option " ++ quoted text
 print_usage_error (missing_value setting) = codes "option " ++ quoted (setting_text setting) ++ codes " needs a value"
 print_usage_error (unexpected_value flag) = codes "option " ++ quoted (flag_text flag) ++ codes " takes no value"
 print_usage_error (invalid_value setting value) =
-    codes "option " ++ quoted (setting_text setting) ++ codes " takes " ++ values_text setting ++ codes ", not " ++ quoted value
+    codes "option " ++ quoted (setting_text setting) ++ codes " takes " ++ values_text setting
+    ++ codes ", not " ++ quoted value

@@ -48,7 +48,8 @@ newlines_value CrLf = codes "crlf"
 -- the arguments that ask for choices
 abbrev pub choices_words : Choices → List (List ℕ)
 choices_words choices =
-    setting_words setting.Width (option_map decimal choices.width) ++ (setting_words setting.Indent (indent_value choices.style choices.size)
+    setting_words setting.Width (option_map decimal choices.width)
+    ++ (setting_words setting.Indent (indent_value choices.style choices.size)
     ++ setting_words setting.Newlines (option_map newlines_value choices.newlines))
 
 -- the argument of a source
@@ -59,7 +60,8 @@ source_word (path text) = text
 -- the options, `--`, and the sources
 abbrev pub arguments_of : Request → List (List ℕ)
 arguments_of request =
-    mode_words request.mode ++ (flag_words flag.Quiet request.quiet ++ (setting_words setting.StdinPath request.stdin_path
+    mode_words request.mode
+    ++ (flag_words flag.Quiet request.quiet ++ (setting_words setting.StdinPath request.stdin_path
     ++ (choices_words request.choices ++ codes "--" ∷ map source_word request.sources)))
 
 -- a file that is named `-` is said as `./-`

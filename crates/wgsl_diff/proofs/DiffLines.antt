@@ -42,12 +42,14 @@ front_kept (suc n) (removed text ∷ lines) all = absurd all
 front_kept (suc n) (added text ∷ lines) all = absurd all
 
 -- one line more
-pub old_step : (line : Line) (lines : List Line) → length (old_lines (line ∷ lines)) ≡ from_bool (in_old line) + length (old_lines lines)
+pub old_step : (line : Line) (lines : List Line)
+    → length (old_lines (line ∷ lines)) ≡ from_bool (in_old line) + length (old_lines lines)
 old_step (kept text) lines = omega arith
 old_step (removed text) lines = omega arith
 old_step (added text) lines = omega arith
 
-pub new_step : (line : Line) (lines : List Line) → length (new_lines (line ∷ lines)) ≡ from_bool (in_new line) + length (new_lines lines)
+pub new_step : (line : Line) (lines : List Line)
+    → length (new_lines (line ∷ lines)) ≡ from_bool (in_new line) + length (new_lines lines)
 new_step (kept text) lines = omega arith
 new_step (removed text) lines = omega arith
 new_step (added text) lines = omega arith
@@ -62,18 +64,22 @@ all_kept_push (removed text ∷ lines) line all one = absurd all
 all_kept_push (added text ∷ lines) line all one = absurd all
 
 -- so is a front with one line more
-pub front_more : (lines : List code.Line) (i : ℕ) (d : code.Line) → i < length lines → is_kept (line_view (get_or lines i d)) ≡ true
+pub front_more : (lines : List code.Line) (i : ℕ) (d : code.Line) → i < length lines
+    → is_kept (line_view (get_or lines i d)) ≡ true
     → AllKept (map line_view (take i lines)) → AllKept (map line_view (take (i + 1) lines))
 front_more lines i d within one all =
-    subst AllKept (sym (map_more line_view lines i d within)) (all_kept_push (map line_view (take i lines)) (line_view (get_or lines i d)) all one)
+    subst AllKept (sym (map_more line_view lines i d within))
+    (all_kept_push (map line_view (take i lines)) (line_view (get_or lines i d)) all one)
 
 -- lines of the code, with one more at the end
 pub old_lines-push : (lines made : List code.Line) (line : code.Line) → made ≡ lines ++ line ∷ []
     → old_lines (map line_view made) ≡ old_lines (map line_view lines) ++ old_lines (line_view line ∷ [])
 old_lines-push lines made line pushed =
-    ap (λ ls. old_lines (map line_view ls)) pushed ∙ ap old_lines (map_push line_view lines line) ∙ old_lines-append (map line_view lines) (line_view line ∷ [])
+    ap (λ ls. old_lines (map line_view ls)) pushed ∙ ap old_lines (map_push line_view lines line)
+    ∙ old_lines-append (map line_view lines) (line_view line ∷ [])
 
 pub new_lines-push : (lines made : List code.Line) (line : code.Line) → made ≡ lines ++ line ∷ []
     → new_lines (map line_view made) ≡ new_lines (map line_view lines) ++ new_lines (line_view line ∷ [])
 new_lines-push lines made line pushed =
-    ap (λ ls. new_lines (map line_view ls)) pushed ∙ ap new_lines (map_push line_view lines line) ∙ new_lines-append (map line_view lines) (line_view line ∷ [])
+    ap (λ ls. new_lines (map line_view ls)) pushed ∙ ap new_lines (map_push line_view lines line)
+    ∙ new_lines-append (map line_view lines) (line_view line ∷ [])

@@ -11,12 +11,14 @@ before_all [] lines = lines
 before_all (c ∷ cs) lines = before_lines c (before_all cs lines)
 
 -- one more byte
-pub before_all-push : (front : List ℕ) (b : ℕ) (lines : List (List ℕ)) → before_all (front ++ b ∷ []) lines ≡ before_all front (before_lines b lines)
+pub before_all-push : (front : List ℕ) (b : ℕ) (lines : List (List ℕ))
+    → before_all (front ++ b ∷ []) lines ≡ before_all front (before_lines b lines)
 before_all-push [] b lines = refl
 before_all-push (c ∷ cs) b lines = ap (before_lines c) (before_all-push cs b lines)
 
 -- before a line
-pub before_all-line : (front line : List ℕ) (lines : List (List ℕ)) → before_all front (line ∷ lines) ≡ (front ++ line) ∷ lines
+pub before_all-line : (front line : List ℕ) (lines : List (List ℕ))
+    → before_all front (line ∷ lines) ≡ (front ++ line) ∷ lines
 before_all-line [] line lines = refl
 before_all-line (c ∷ cs) line lines = ap (before_lines c) (before_all-line cs line lines)
 
@@ -63,7 +65,8 @@ module _ (text : List ℕ) (s i : ℕ) (low : s ≤ i) (high : i < length text) 
       let rest = drop (i + 1) text in
       let b = get_or text i 0 in
       ap (λ pending. texts ++ before_all pending (lines_of rest)) taken_more
-      ∙ ap (λ lines. texts ++ lines) (before_all-push front b (lines_of rest) ∙ ap (before_all front) (sym (other_byte b rest other)))
+      ∙ ap (λ lines. texts ++ lines)
+      (before_all-push front b (lines_of rest) ∙ ap (before_all front) (sym (other_byte b rest other)))
       ∙ ap (λ t. texts ++ before_all front (lines_of t)) (sym (drop_more text i 0 high))
       ∙ before
 
@@ -82,7 +85,8 @@ module _ (text : List ℕ) (s i : ℕ) (texts : List (List ℕ)) (end : length t
 
   pub last_line : s < length text → texts ++ take (length text - s) (drop s text) ∷ [] ≡ lines_of text
   last_line some =
-      let all : take (length text - s) (drop s text) ≡ drop s text = take_all (length text - s) (drop s text) (omega (arith, length-drop s text)) in
+      let all : take (length text - s) (drop s text) ≡ drop s text = take_all (length text - s)
+      (drop s text) (omega (arith, length-drop s text)) in
       let long : 0 < length (take (length text - s) (drop s text)) = rw all (omega (arith, length-drop s text)) in
       ap (λ lines. texts ++ lines) (sym (before_all-end (take (length text - s) (drop s text)) long)) ∙ whole
 

@@ -45,7 +45,8 @@ pub record Hunk : Type 0 where
   pub new_start : ℕ
   pub lines : List Line
 
--- After these numbers of lines of the two texts, the hunks make the new lines of the old ones: between hunks both texts are
+-- After these numbers of lines of the two texts, the hunks make the new lines of the old ones:
+-- between hunks both texts are
 -- the same, and a hunk replaces its old lines by its new ones.
 abbrev pub Turns : ℕ → ℕ → List Hunk → List (List ℕ) → List (List ℕ) → Type 0
 Turns old_before new_before [] old new = new ≡ old
@@ -53,7 +54,8 @@ Turns old_before new_before (hunk ∷ hunks) old new =
     (same : List (List ℕ)) × (old_rest : List (List ℕ)) × (new_rest : List (List ℕ))
     × (hunk.old_start ≡ old_before + length same) × (old ≡ same ++ (old_lines hunk.lines ++ old_rest))
     × (hunk.new_start ≡ new_before + length same) × (new ≡ same ++ (new_lines hunk.lines ++ new_rest))
-    × Turns (hunk.old_start + length (old_lines hunk.lines)) (hunk.new_start + length (new_lines hunk.lines)) hunks old_rest new_rest
+    × Turns (hunk.old_start + length (old_lines hunk.lines))
+    (hunk.new_start + length (new_lines hunk.lines)) hunks old_rest new_rest
 
 -- both texts have these lines
 abbrev pub AllKept : List Line → Type 0

@@ -48,7 +48,8 @@ print_hunk hunk = print_head hunk ++ flat_map print_line hunk.lines
 abbrev pub space : ℕ
 space = 32
 
--- a name: one with a space is followed by a tab, since `patch` reads a name up to its first space where there is no tab
+-- a name: one with a space is followed by a tab, since `patch` reads a name up to its first space
+-- where there is no tab
 abbrev pub print_name : List ℕ → List ℕ
 print_name name = if list_any (λ c. c == space) name then name ++ codes "\t" else name
 

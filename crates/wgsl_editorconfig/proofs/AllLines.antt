@@ -47,7 +47,8 @@ at where_now so_far = record so_far { place = where_now }
 
 -- in a section
 section_begins : (applies : Bool) (so_far : Reading) (rest : List Line)
-    → with_all so_far.root so_far (applying applies rest) ≡ with_rest (at (if applies then place.Applies else place.Skipped) so_far) rest
+    → with_all so_far.root so_far (applying applies rest)
+    ≡ with_rest (at (if applies then place.Applies else place.Skipped) so_far) rest
 unfolding with_rest with_all root_from is_here at
 section_begins true so_far rest = refl
 section_begins false so_far rest = refl
@@ -80,10 +81,13 @@ no_lines place.Skipped so_far = refl
 
 -- all lines are read
 all_lines : (so_far : Reading) (parts : List (List ℕ))
-    → with_rest so_far (map (λ line. line_of (trim line)) parts) ≡ properties (fold (λ it line. after it (line_of (trim line))) so_far parts)
+    → with_rest so_far (map (λ line. line_of (trim line)) parts)
+    ≡ properties (fold (λ it line. after it (line_of (trim line))) so_far parts)
 unfolding at
 all_lines so_far [] = no_lines so_far.place so_far
-all_lines so_far (part ∷ parts) = one_line so_far.place so_far (line_of (trim part)) (map (λ line. line_of (trim line)) parts) ∙ all_lines (after so_far (line_of (trim part))) parts
+all_lines so_far (part ∷ parts) =
+    one_line so_far.place so_far (line_of (trim part)) (map (λ line. line_of (trim line)) parts)
+    ∙ all_lines (after so_far (line_of (trim part))) parts
 
 pub properties_read : (text : List ℕ) → properties (read_all text) ≡ properties_of text
 unfolding with_rest with_all root_from is_here

@@ -52,12 +52,16 @@ no_end (c ∷ cs) apart =
     let last : ℕ = length (c ∷ cs) - 1 in
     let within : last < length (c ∷ cs) = omega arith in
     let next : length (c ∷ cs) ≤ last + 1 = omega arith in
-    let parts : take (last + 1) (c ∷ cs) ≡ take last (c ∷ cs) ++ get_or (c ∷ cs) last 0 ∷ [] = take_more (c ∷ cs) last 0 within in
-    let whole : c ∷ cs ≡ take last (c ∷ cs) ++ get_or (c ∷ cs) last 0 ∷ [] = sym (take_all (last + 1) (c ∷ cs) next) ∙ parts in
-    let other : get_or (c ∷ cs) last 0 ≢ 93 = λ e. apart (take last (c ∷ cs)) (whole ∙ ap (λ d. take last (c ∷ cs) ++ d ∷ []) e) in
+    let parts : take (last + 1) (c ∷ cs) ≡ take last (c ∷ cs) ++ get_or (c ∷ cs) last 0 ∷ [] =
+    take_more (c ∷ cs) last 0 within in
+    let whole : c ∷ cs ≡ take last (c ∷ cs) ++ get_or (c ∷ cs) last 0 ∷ [] =
+    sym (take_all (last + 1) (c ∷ cs) next) ∙ parts in
+    let other : get_or (c ∷ cs) last 0 ≢ 93 =
+    λ e. apart (take last (c ∷ cs)) (whole ∙ ap (λ d. take last (c ∷ cs) ++ d ∷ []) e) in
     grind (arith, other)
 
-before_bracket_is : (text : List ℕ) (r : Option (Bor (List ℕ))) → StripsEnd 93 text r → option_copied r ≡ before_bracket text
+before_bracket_is : (text : List ℕ) (r : Option (Bor (List ℕ))) → StripsEnd 93 text r
+    → option_copied r ≡ before_bracket text
 before_bracket_is text None apart = sym (no_end text apart)
 before_bracket_is text (Some x) is = sym (ends x.now) ∙ ap before_bracket (sym is)
 

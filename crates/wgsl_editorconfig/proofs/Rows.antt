@@ -43,19 +43,25 @@ pub a_root_taken_back : properties_of (codes "root = true\nroot = unset\n") ≡ 
 unfolding chars trim_start trim_end encode_utf8
 a_root_taken_back = refl
 
-pub a_root_that_is_not_understood : properties_of (codes "root = true\nroot = yes\n") ≡ record { root = true; choices = nothing }
+pub a_root_that_is_not_understood : properties_of (codes "root = true\nroot = yes\n")
+    ≡ record { root = true; choices = nothing }
 unfolding chars trim_start trim_end encode_utf8
 a_root_that_is_not_understood = refl
 
-pub a_section : properties_of (codes "[*]\nindent_style = space\nindent_size = 2\nmax_line_length = 80\nend_of_line = lf\n") ≡ says (record nothing { width = Some 80; style = Some Spaces; size = Some 2; newlines = Some Lf })
+pub a_section : properties_of
+    (codes "[*]\nindent_style = space\nindent_size = 2\nmax_line_length = 80\nend_of_line = lf\n")
+    ≡ says (record nothing { width = Some 80; style = Some Spaces; size = Some 2; newlines = Some Lf })
 unfolding chars trim_start trim_end encode_utf8
 a_section = refl
 
-pub line_breaks_of_windows : properties_of (codes "[*.wgsl]\r\nEnd_Of_Line = CRLF\r\n") ≡ says (record nothing { newlines = Some CrLf })
+pub line_breaks_of_windows : properties_of (codes "[*.wgsl]\r\nEnd_Of_Line = CRLF\r\n")
+    ≡ says (record nothing { newlines = Some CrLf })
 unfolding chars trim_start trim_end encode_utf8
 line_breaks_of_windows = refl
 
-pub comments_and_empty_lines : properties_of (codes "# indent\n; of all\n\n[*]\n#indent_size = 2\n\tindent_style\t=\ttab\t") ≡ says (record nothing { style = Some Tab })
+pub comments_and_empty_lines :
+    properties_of (codes "# indent\n; of all\n\n[*]\n#indent_size = 2\n\tindent_style\t=\ttab\t")
+    ≡ says (record nothing { style = Some Tab })
 unfolding chars trim_start trim_end encode_utf8
 comments_and_empty_lines = refl
 
@@ -67,23 +73,33 @@ pub another_section : properties_of (codes "[*.rs]\nindent_size = 2\n") ≡ says
 unfolding chars trim_start trim_end encode_utf8
 another_section = refl
 
-pub a_section_after_another : properties_of (codes "[*.rs]\nindent_size = 2\n[*.wgsl]\nindent_size = 3\n[*.md]\nindent_size = 4\n") ≡ says (record nothing { size = Some 3 })
+pub a_section_after_another :
+    properties_of (codes "[*.rs]\nindent_size = 2\n[*.wgsl]\nindent_size = 3\n[*.md]\nindent_size = 4\n")
+    ≡ says (record nothing { size = Some 3 })
 unfolding chars trim_start trim_end encode_utf8
 a_section_after_another = refl
 
-pub later_lines : properties_of (codes "[*]\nindent_size = 2\nindent_size = 8\n[*.wgsl]\nmax_line_length = 60\nindent_size = 4\n") ≡ says (record nothing { width = Some 60; size = Some 4 })
+pub later_lines : properties_of
+    (codes "[*]\nindent_size = 2\nindent_size = 8\n[*.wgsl]\nmax_line_length = 60\nindent_size = 4\n")
+    ≡ says (record nothing { width = Some 60; size = Some 4 })
 unfolding chars trim_start trim_end encode_utf8
 later_lines = refl
 
-pub a_value_taken_back : properties_of (codes "[*]\nindent_size = 2\nindent_style = tab\n[*.wgsl]\nindent_size = unset\n") ≡ says (record nothing { style = Some Tab })
+pub a_value_taken_back :
+    properties_of (codes "[*]\nindent_size = 2\nindent_style = tab\n[*.wgsl]\nindent_size = unset\n")
+    ≡ says (record nothing { style = Some Tab })
 unfolding chars trim_start trim_end encode_utf8
 a_value_taken_back = refl
 
-pub values_out_of_range : properties_of (codes "[*]\nindent_size = 2\nindent_size = 0\nindent_size = 17\ntab_width = 16\ntab_width = 99\nmax_line_length = 9999\nmax_line_length = 10000\n") ≡ says (record nothing { width = Some 9999; size = Some 2; tab_width = Some 16 })
+pub values_out_of_range : properties_of (codes
+    "[*]\nindent_size = 2\nindent_size = 0\nindent_size = 17\ntab_width = 16\ntab_width = 99\nmax_line_length = 9999\nmax_line_length = 10000\n")
+    ≡ says (record nothing { width = Some 9999; size = Some 2; tab_width = Some 16 })
 unfolding chars trim_start trim_end encode_utf8
 values_out_of_range = refl
 
-pub values_that_are_not_understood : properties_of (codes "[*]\nindent_size = two\nindent_style = tabs\nend_of_line = cr\nmax_line_length =\n") ≡ says nothing
+pub values_that_are_not_understood : properties_of
+    (codes "[*]\nindent_size = two\nindent_style = tabs\nend_of_line = cr\nmax_line_length =\n")
+    ≡ says nothing
 unfolding chars trim_start trim_end encode_utf8
 values_that_are_not_understood = refl
 
@@ -91,7 +107,8 @@ pub no_limit : properties_of (codes "[*]\nmax_line_length = off\n") ≡ says (re
 unfolding chars trim_start trim_end encode_utf8
 no_limit = refl
 
-pub as_many_as_a_tab : properties_of (codes "[*]\nindent_size = tab\ntab_width = 8\n") ≡ says (record nothing { size = Some 8; tab_width = Some 8 })
+pub as_many_as_a_tab : properties_of (codes "[*]\nindent_size = tab\ntab_width = 8\n")
+    ≡ says (record nothing { size = Some 8; tab_width = Some 8 })
 unfolding chars trim_start trim_end encode_utf8
 as_many_as_a_tab = refl
 

@@ -16,7 +16,8 @@ is_closing c = c == 125
 -- what is in the braces of a text that is a list: it begins with `{`, and its first `}` ends it
 abbrev pub list_in : List ℕ → Option (List ℕ)
 list_in [] = None
-list_in (c ∷ cs) = if (c == 123) && (position_or_len is_closing cs + 1 == length cs) then Some (before_first is_closing cs) else None
+list_in (c ∷ cs) = if (c == 123) && (position_or_len is_closing cs + 1 == length cs)
+    then Some (before_first is_closing cs) else None
 
 -- one of the parts in braces passes a test
 abbrev pub lists : (List ℕ → Bool) → Option (List ℕ) → Bool

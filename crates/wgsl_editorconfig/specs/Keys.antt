@@ -20,4 +20,5 @@ key_text EndOfLine = codes "end_of_line"
 
 -- the key with a name
 abbrev pub key_of : List ℕ → Option Key
-key_of name = find (λ key. is_word (key_text key) name) (Root ∷ IndentStyle ∷ IndentSize ∷ TabWidth ∷ MaxLineLength ∷ EndOfLine ∷ [])
+key_of name = find (λ key. is_word (key_text key) name)
+    (Root ∷ IndentStyle ∷ IndentSize ∷ TabWidth ∷ MaxLineLength ∷ EndOfLine ∷ [])

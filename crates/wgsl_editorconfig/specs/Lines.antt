@@ -10,7 +10,8 @@ pub record Property : Type 0 where
   pub key : Key
   pub value : List ℕ
 
--- what a line is: the head of a section with its glob; a property; or empty, a comment or something else
+-- what a line is: the head of a section with its glob; a property; or empty, a comment or something
+-- else
 pub data Line : Type 0 where
   section : List ℕ → Line
   property : Property → Line

@@ -14,7 +14,15 @@ use Rattle.wgsl_editorconfig.specs.Properties.{says_root, says_style, says_size,
 
 -- before the first line
 abbrev pub nothing : Reading
-nothing = record { place = place.Preamble; root = None; style = None; size = None; tab_width = None; width = None; newlines = None }
+nothing = record {
+  place = place.Preamble;
+  root = None;
+  style = None;
+  size = None;
+  tab_width = None;
+  width = None;
+  newlines = None;
+}
 
 -- after a property before the first section
 abbrev pub with_root : Reading → Key → List ℕ → Reading
@@ -51,7 +59,8 @@ after so_far other = so_far
 
 -- after all lines of a text
 abbrev pub read_all : List ℕ → Reading
-read_all text = fold (λ so_far line. after so_far (line_of (trim line))) nothing (slice_split is_newline (without_mark text))
+read_all text = fold (λ so_far line. after so_far (line_of (trim line))) nothing
+    (slice_split is_newline (without_mark text))
 
 -- what all lines say
 abbrev pub properties : Reading → Properties

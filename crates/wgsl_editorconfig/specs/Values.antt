@@ -30,7 +30,8 @@ style_of value =
 
 -- how many columns an indentation has: as many as a tab, or so many
 abbrev pub indent_size_of : List ℕ → Option IndentSize
-indent_size_of value = if is_word (codes "tab") value then Some indent.Tab else option_map indent.Columns (size_of value)
+indent_size_of value = if is_word (codes "tab") value then Some indent.Tab
+    else option_map indent.Columns (size_of value)
 
 -- how many columns a tab has
 abbrev pub tab_width_of : List ℕ → Option ℕ

@@ -20,9 +20,11 @@ none_at p (c ∷ cs) none (suc k) lt = none_at p cs none.1 k (omega (arith, lt))
 -- what stands before the first element that passes, and after the last: all where none passes
 before_first_none : (p : ℕ → Bool) (cs : List ℕ) → NonePass p cs → before_first p cs ≡ cs
 before_first_none p cs none =
-    ap (λ n. take n cs) (position_or_len_is p cs (length cs) 0 (omega arith) (none_at p cs none) (λ lt. absurd (omega (arith, lt)))) ∙ take-length cs
+    ap (λ n. take n cs) (position_or_len_is p cs (length cs) 0 (omega arith) (none_at p cs none)
+    (λ lt. absurd (omega (arith, lt)))) ∙ take-length cs
 
-before_first_at : (p : ℕ → Bool) (xs : List ℕ) (x : ℕ) (ys : List ℕ) → NonePass p xs → p x ≡ true → before_first p (xs ++ (x ∷ ys)) ≡ xs
+before_first_at : (p : ℕ → Bool) (xs : List ℕ) (x : ℕ) (ys : List ℕ) → NonePass p xs → p x ≡ true
+    → before_first p (xs ++ (x ∷ ys)) ≡ xs
 before_first_at p xs x ys none passes =
     let whole = xs ++ (x ∷ ys) in
     let fits : length xs ≤ length whole = omega (arith, length-append xs (x ∷ ys)) in
@@ -33,11 +35,13 @@ before_first_at p xs x ys none passes =
 
 after_last_none : (p : ℕ → Bool) (cs : List ℕ) → NonePass p cs → after_last p cs ≡ cs
 after_last_none p cs none =
-    let whole : suffix_len (λ c. not (p c)) cs ≡ length cs - 0 = suffix_len_is (λ c. not (p c)) cs 0 0 (omega arith) (λ k from lt. ap not (none_at p cs none k lt)) (λ lt. absurd (omega (arith, lt))) in
+    let whole : suffix_len (λ c. not (p c)) cs ≡ length cs - 0 = suffix_len_is (λ c. not (p c)) cs 0 0
+    (omega arith) (λ k from lt. ap not (none_at p cs none k lt)) (λ lt. absurd (omega (arith, lt))) in
     let start : length cs - suffix_len (λ c. not (p c)) cs ≡ 0 = omega (arith, whole) in
     ap (λ n. drop n cs) start
 
-after_last_at : (p : ℕ → Bool) (xs : List ℕ) (x : ℕ) (ys : List ℕ) → p x ≡ true → NonePass p ys → after_last p (xs ++ (x ∷ ys)) ≡ ys
+after_last_at : (p : ℕ → Bool) (xs : List ℕ) (x : ℕ) (ys : List ℕ) → p x ≡ true → NonePass p ys
+    → after_last p (xs ++ (x ∷ ys)) ≡ ys
 after_last_at p xs x ys passes none =
     let whole = xs ++ (x ∷ ys) in
     let n = length xs + 1 in
@@ -46,10 +50,12 @@ after_last_at p xs x ys passes none =
     (λ k from lt.
     let further : k - length xs ≡ suc (k - n) = omega (arith, from) in
     let inside : k - n < length ys = omega (arith, from, lt, sizes) in
-    ap p (get_or-append_right xs (x ∷ ys) k 0 (omega (arith, from)) ∙ ap (λ i. get_or (x ∷ ys) i 0) further) ∙ none_at p ys none (k - n) inside) in
+    ap p (get_or-append_right xs (x ∷ ys) k 0 (omega (arith, from))
+    ∙ ap (λ i. get_or (x ∷ ys) i 0) further) ∙ none_at p ys none (k - n) inside) in
     let back : suffix_len (λ c. not (p c)) whole ≡ length whole - n =
     suffix_len_is (λ c. not (p c)) whole n 0 (omega (arith, sizes)) (λ k from lt. ap not (behind k from lt))
-    (λ lt. let at : n - 1 ≡ length xs = omega arith in ap (λ i. not (p (get_or whole i 0))) at ∙ ap (λ c. not (p c)) (get_or-append_seam xs x ys 0) ∙ ap not passes) in
+    (λ lt. let at : n - 1 ≡ length xs = omega arith in ap (λ i. not (p (get_or whole i 0))) at
+    ∙ ap (λ c. not (p c)) (get_or-append_seam xs x ys 0) ∙ ap not passes) in
     let start : length whole - suffix_len (λ c. not (p c)) whole ≡ n = omega (arith, back, sizes) in
     ap (λ i. drop i whole) start ∙ drop-append-add xs (x ∷ ys) 1
 
@@ -82,21 +88,25 @@ line_feed_at bs i j utf8 at =
 pub line_front_none : (bs : List ℕ) → IsUtf8 bs → RFindsChar 10 bs None → chars bs ≡ after_last is_line_feed (chars bs)
 line_front_none bs utf8 none = sym (after_last_none is_line_feed (chars bs) (none_of_text is_line_feed bs utf8 none))
 
-pub line_front_at : (bs front back : List ℕ) → IsUtf8 bs → SplitsAroundMatch (RFindsChar 10) bs front back → chars back ≡ after_last is_line_feed (chars bs)
+pub line_front_at : (bs front back : List ℕ) → IsUtf8 bs
+    → SplitsAroundMatch (RFindsChar 10) bs front back → chars back ≡ after_last is_line_feed (chars bs)
 line_front_at bs front back utf8 split =
     let i = split.0 in
     let j = split.1 in
     let at = line_feed_at bs i j utf8 split.2.1 in
     let none = none_of_text is_line_feed (drop j bs) at.back split.2.0 in
-    ap chars split.4 ∙ sym (ap (after_last is_line_feed) at.characters ∙ after_last_at is_line_feed (chars (take i bs)) 10 (chars (drop j bs)) refl none)
+    ap chars split.4 ∙ sym (ap (after_last is_line_feed) at.characters
+    ∙ after_last_at is_line_feed (chars (take i bs)) 10 (chars (drop j bs)) refl none)
 
 pub line_back_none : (bs : List ℕ) → IsUtf8 bs → FindsChar 10 bs None → chars bs ≡ before_first is_line_feed (chars bs)
 line_back_none bs utf8 none = sym (before_first_none is_line_feed (chars bs) (none_of_text is_line_feed bs utf8 none))
 
-pub line_back_at : (bs front back : List ℕ) → IsUtf8 bs → SplitsAroundMatch (FindsChar 10) bs front back → chars front ≡ before_first is_line_feed (chars bs)
+pub line_back_at : (bs front back : List ℕ) → IsUtf8 bs → SplitsAroundMatch (FindsChar 10) bs front back
+    → chars front ≡ before_first is_line_feed (chars bs)
 line_back_at bs front back utf8 split =
     let i = split.0 in
     let j = split.1 in
     let at = line_feed_at bs i j utf8 split.2.1 in
     let none = none_of_text is_line_feed (take i bs) at.front split.2.0 in
-    ap chars split.3 ∙ sym (ap (before_first is_line_feed) at.characters ∙ before_first_at is_line_feed (chars (take i bs)) 10 (chars (drop j bs)) none refl)
+    ap chars split.3 ∙ sym (ap (before_first is_line_feed) at.characters
+    ∙ before_first_at is_line_feed (chars (take i bs)) 10 (chars (drop j bs)) none refl)

@@ -13,8 +13,10 @@ column_number source span = 1 + length (line_front source span)
 abbrev pub marked_line : List ℕ → Span → List ℕ
 marked_line source span = encode_utf8_all (line_text source span) ++ codes "\n" ++ marker_line source span
 
--- a message at the start of a span in a named file: `NAME:LINE:COLUMN: error: MESSAGE`, and below it the marked line
+-- a message at the start of a span in a named file: `NAME:LINE:COLUMN: error: MESSAGE`, and below
+-- it the marked line
 abbrev pub message_in_file : List ℕ → List ℕ → List ℕ → Span → List ℕ
 message_in_file name message source span =
-    name ++ codes ":" ++ decimal (line_number source span) ++ codes ":" ++ decimal (column_number source span) ++ codes ": error: " ++ message
+    name ++ codes ":" ++ decimal (line_number source span) ++ codes ":"
+    ++ decimal (column_number source span) ++ codes ": error: " ++ message
     ++ codes "\n" ++ marked_line source span

@@ -26,13 +26,17 @@ print_expected texts = codes ", expected " ++ quoted (joined (codes ", ") texts)
 
 -- the message of a kind, and for an unexpected token or end what was expected
 abbrev pub print_error_kind : ErrorKind → List ℕ
-print_error_kind (error.UnexpectedToken token expected) = print_message (error.UnexpectedToken token expected) ++ print_expected (expected_texts (error.UnexpectedToken token expected))
-print_error_kind (error.UnexpectedEof expected) = print_message (error.UnexpectedEof expected) ++ print_expected (expected_texts (error.UnexpectedEof expected))
+print_error_kind (error.UnexpectedToken token expected) =
+    print_message (error.UnexpectedToken token expected)
+    ++ print_expected (expected_texts (error.UnexpectedToken token expected))
+print_error_kind (error.UnexpectedEof expected) = print_message (error.UnexpectedEof expected)
+    ++ print_expected (expected_texts (error.UnexpectedEof expected))
 print_error_kind kind = print_message kind
 
 -- the place, then the kind
 abbrev pub print_error : Error → List ℕ
-print_error e = codes "chars " ++ decimal e.span.start ++ codes ".." ++ decimal e.span.end ++ codes ": " ++ print_error_kind e.error
+print_error e = codes "chars " ++ decimal e.span.start ++ codes ".." ++ decimal e.span.end
+    ++ codes ": " ++ print_error_kind e.error
 
 -- the error that is shown without what was expected
 abbrev pub shown_error : WithoutExpected → Error
@@ -40,8 +44,10 @@ shown_error shown = shown.error.now
 
 -- the error with its source: the snippet of its message at its span
 abbrev pub print_error_with_source : ErrorWithSource → List ℕ
-print_error_with_source e = snippet (print_error_kind e.error.error) (chars (cow_str_bytes e.source)) (span_view e.error.span)
+print_error_with_source e = snippet (print_error_kind e.error.error)
+    (chars (cow_str_bytes e.source)) (span_view e.error.span)
 
 -- the error in a named file: its message without what was expected
 abbrev pub print_error_in_file : ErrorInFile → List ℕ
-print_error_in_file e = message_in_file e.name.now (print_message e.error.now.error) (chars e.source.now) (span_view e.error.now.span)
+print_error_in_file e = message_in_file e.name.now (print_message e.error.now.error)
+    (chars e.source.now) (span_view e.error.now.span)

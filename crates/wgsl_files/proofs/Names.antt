@@ -11,7 +11,8 @@ hidden_here [] here = absurd (false≢true here)
 hidden_here (c ∷ cs) here = ap (λ b. b || is_hidden cs) here
 
 -- none begins at the front
-not_first : (c : ℕ) (cs names : List ℕ) → names ≡ c ∷ cs → starts_with nat_eq names (codes "/.") ≡ false → is_hidden cs ≡ is_hidden names
+not_first : (c : ℕ) (cs names : List ℕ) → names ≡ c ∷ cs
+    → starts_with nat_eq names (codes "/.") ≡ false → is_hidden cs ≡ is_hidden names
 not_first c cs names is other =
     let here = ap (λ xs. starts_with nat_eq xs (codes "/.")) (sym is) ∙ other in
     sym (ap is_hidden is ∙ ap (λ b. b || is_hidden cs) here)
@@ -19,4 +20,5 @@ not_first c cs names is other =
 -- none begins at this place
 pub hidden_later : (names : List ℕ) (i : ℕ) → i < length names → starts_with nat_eq (drop i names) (codes "/.") ≡ false
     → is_hidden (drop (i + 1) names) ≡ is_hidden (drop i names)
-hidden_later names i within other = not_first (get_or names i 0) (drop (i + 1) names) (drop i names) (drop_more names i 0 within) other
+hidden_later names i within other = not_first (get_or names i 0) (drop (i + 1) names) (drop i names)
+    (drop_more names i 0 within) other

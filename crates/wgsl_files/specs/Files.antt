@@ -18,7 +18,8 @@ Holds files path bytes = files.known ≡ true → files.at path ≡ Some bytes
 abbrev pub HasNone : Files → List ℕ → Type 0
 HasNone files path = files.known ≡ true → files.at path ≡ None
 
--- this path leads to the same file as another: where it is known what a store holds, it is that path
+-- this path leads to the same file as another: where it is known what a store holds, it is that
+-- path
 abbrev pub IsAbsolute : Files → List ℕ → List ℕ → Type 0
 IsAbsolute files path found = files.known ≡ true → found ≡ path
 

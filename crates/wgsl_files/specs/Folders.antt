@@ -19,12 +19,14 @@ is_hidden (c ∷ cs) = starts_with nat_eq (c ∷ cs) (codes "/.") || is_hidden c
 abbrev pub is_below : List ℕ → List ℕ → Bool
 is_below folder path = starts_with nat_eq path folder && starts_with nat_eq (drop (length folder) path) (codes "/")
 
--- a path is that of a WGSL file of a folder: it ends with `.wgsl`, and no name in the folder begins with `.`
+-- a path is that of a WGSL file of a folder: it ends with `.wgsl`, and no name in the folder begins
+-- with `.`
 abbrev pub is_wgsl_below : List ℕ → List ℕ → Bool
 is_wgsl_below folder path =
     is_below folder path && (ends_with nat_eq path (codes ".wgsl") && not (is_hidden (drop (length folder) path)))
 
--- a path is listed for a folder: it is that of a WGSL file, or ends with `/`, as that of a folder that cannot be read
+-- a path is listed for a folder: it is that of a WGSL file, or ends with `/`, as that of a folder
+-- that cannot be read
 abbrev pub is_listed_below : List ℕ → List ℕ → Bool
 is_listed_below folder path = is_wgsl_below folder path || (is_below folder path && ends_with nat_eq path (codes "/"))
 

@@ -53,7 +53,8 @@ IsRewritten becomes mode old new path (rewritten.Changed before after) =
 abbrev pub IsRefused : (List ℕ → List ℕ → Type 0) → Files → List ℕ → List ℕ → Type 0
 IsRefused refuses files path message = (text : List ℕ) × Holds files path text × refuses text message
 
--- why the file at the path was not rewritten: there is none, or its text is refused, or an allocation failed
+-- why the file at the path was not rewritten: there is none, or its text is refused, or an
+-- allocation failed
 abbrev pub IsFileError : (List ℕ → List ℕ → Type 0) → Files → List ℕ → FileError → Type 0
 IsFileError refuses files path error.OutOfMemory = Unit {0}
 IsFileError refuses files path (error.Failed e) = HasNone files path

@@ -20,21 +20,28 @@ pub no_text : (bytes : List ℕ) → (IsUtf8 bytes → ⊥) → is_utf8 bytes �
 no_text bytes invalid = false_from_ne_true (is_utf8 bytes) (λ valid. invalid (IsUtf8-from_is_utf8 bytes valid))
 
 -- an error that is no want of memory is the fault that is named
-is_fault : (IsFault : Fault → Type 0) (e : Error) → (e ≡ error_at parse.OutOfMemory 0 0) ⊎ IsFault (fault_view e) → ¬ (e.error ≡ kinds.OutOfMemory) → IsFault (fault_view e)
+is_fault : (IsFault : Fault → Type 0) (e : Error)
+    → (e ≡ error_at parse.OutOfMemory 0 0) ⊎ IsFault (fault_view e)
+    → ¬ (e.error ≡ kinds.OutOfMemory) → IsFault (fault_view e)
 is_fault IsFault e (inl memory) other = absurd (other (ap (λ (x : Error). x.error) memory))
 is_fault IsFault e (inr fault) other = fault
 
 -- A report of an error is what a program writes of bytes for which this fault is named.
-pub refused_writes : {K : Type 0} (Writes : List ℕ → ProcessOutput → Type 0) (IsFault : Fault → Type 0) (bytes : List ℕ) (e : Error) (made : Result (Report K) AllocError)
+pub refused_writes : {K : Type 0} (Writes : List ℕ → ProcessOutput → Type 0)
+    (IsFault : Fault → Type 0) (bytes : List ℕ) (e : Error) (made : Result (Report K) AllocError)
     → ((x : Fault) → IsFault x → Writes bytes (complaint 1 (shown_fault x ++ codes "\n")))
     → (e ≡ error_at parse.OutOfMemory 0 0) ⊎ IsFault (fault_view e)
-    → IfOk made (λ report. outcome_of report ≡ complaint 1 (shown_fault (fault_view e) ++ codes "\n")) → IfOk made (λ _. ¬ (e.error ≡ kinds.OutOfMemory))
+    → IfOk made (λ report. outcome_of report ≡ complaint 1 (shown_fault (fault_view e) ++ codes "\n"))
+    → IfOk made (λ _. ¬ (e.error ≡ kinds.OutOfMemory))
     → IfOk made (λ report. Writes bytes (outcome_of report))
-refused_writes Writes IsFault bytes e (Ok report) writes named told other = subst (Writes bytes) (sym told) (writes (fault_view e) (is_fault IsFault e named other))
+refused_writes Writes IsFault bytes e (Ok report) writes named told other = subst (Writes bytes)
+    (sym told) (writes (fault_view e) (is_fault IsFault e named other))
 refused_writes Writes IsFault bytes e (Err memory) writes named told other = told
 
 -- and no text is made of these bytes
 pub refused_makes : {K : Type 0} (IsMade : List ℕ → Type 0) (line : List ℕ) (made : Result (Report K) AllocError)
-    → IfOk made (λ report. outcome_of report ≡ complaint 1 line) → IfOk made (λ report. (outcome_of report).status ≡ 0 → IsMade (outcome_of report).output)
-refused_makes IsMade line (Ok report) named = λ zero. absurd (omega (arith, zero, ap (λ (o : ProcessOutput). o.status) named))
+    → IfOk made (λ report. outcome_of report ≡ complaint 1 line)
+    → IfOk made (λ report. (outcome_of report).status ≡ 0 → IsMade (outcome_of report).output)
+refused_makes IsMade line (Ok report) named =
+    λ zero. absurd (omega (arith, zero, ap (λ (o : ProcessOutput). o.status) named))
 refused_makes IsMade line (Err memory) named = named

@@ -8,14 +8,16 @@ use Rattle.wgsl_theory_printed.proofs.RoundTrip.{printed_parse}
 use Rattle.wgsl_format.specs.RunOutput.{IsReprinted}
 
 -- the text is the printed unit
-pub formats_unit : (bytes text : List ℕ) (unit : TranslationUnit) → is_utf8 bytes ≡ true → IsUnit (chars bytes) unit → text ≡ print_unit unit
+pub formats_unit : (bytes text : List ℕ) (unit : TranslationUnit) → is_utf8 bytes ≡ true
+    → IsUnit (chars bytes) unit → text ≡ print_unit unit
     → Formats bytes (record { status = 0; output = text; errors = [] })
 formats_unit bytes text unit valid derived same =
     let P : List ℕ → Type 0 = λ output. Formats bytes (record { status = 0; output = output; errors = [] }) in
     subst P (sym same) (printed unit valid derived)
 
 -- and it reads as that unit
-pub reprinted : (bytes text : List ℕ) (unit : TranslationUnit) → IsUnit (chars bytes) unit → text ≡ print_unit unit → is_utf8 text ≡ true → IsReprinted bytes text
+pub reprinted : (bytes text : List ℕ) (unit : TranslationUnit) → IsUnit (chars bytes) unit
+    → text ≡ print_unit unit → is_utf8 text ≡ true → IsReprinted bytes text
 reprinted bytes text unit derived same valid = record {
   unit = unit;
   derived = derived;

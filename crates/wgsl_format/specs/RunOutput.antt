@@ -9,7 +9,8 @@ use Rattle.wgsl_model_tidy.specs.Kept.{IsFormatted, Keeps}
 use Rattle.wgsl_model_tidy.specs.Layout.{Layout, standard}
 use Rattle.wgsl_model_tidy.specs.Syntax.{IsModuleInSyntax}
 
--- The text is the printed unit of these bytes, and reads as that unit without its empty items, spans aside.
+-- The text is the printed unit of these bytes, and reads as that unit without its empty items,
+-- spans aside.
 pub record IsReprinted (bytes text : List ℕ) : Type 0 where
   pub unit : TranslationUnit
   pub derived : IsUnit (chars bytes) unit
@@ -17,7 +18,8 @@ pub record IsReprinted (bytes text : List ℕ) : Type 0 where
   pub valid : is_utf8 text ≡ true
   pub reads_back : ReadsBack text unit
 
--- The bytes are a module by its syntax, after a byte order mark or without one, and the text is its formatted text by a layout, and keeps what the bytes have.
+-- The bytes are a module by its syntax, after a byte order mark or without one, and the text is its
+-- formatted text by a layout, and keeps what the bytes have.
 pub record IsTidiedBy (layout : Layout) (bytes text : List ℕ) : Type 0 where
   pub valid : is_utf8 text ≡ true
   pub accepted : IsModuleInSyntax (unmarked (chars bytes))

@@ -11,7 +11,8 @@ use Rattle.wgsl_files.specs.Files.{Files, IsAbsolute}
 use Rattle.wgsl_format.specs.RunOutput.{IsTidiedBy}
 use Rattle.wgsl_format_files.specs.Layouts.{layout_of}
 
--- the `.editorconfig` files in a folder and in those that names lead to from there, of which the last is that of a file
+-- the `.editorconfig` files in a folder and in those that names lead to from there, of which the
+-- last is that of a file
 abbrev pub paths_from : List ℕ → List (List ℕ) → List (List ℕ)
 paths_from folder [] = []
 paths_from folder (name ∷ names) = (folder ++ codes ".editorconfig") ∷ paths_from (folder ++ (name ++ codes "/")) names
@@ -23,9 +24,11 @@ is_slash c = c == 47
 abbrev pub paths_below : List ℕ → List ℕ → List (List ℕ)
 paths_below folder names = reverse (paths_from folder (slice_split is_slash names))
 
--- those in the folder of a file and in the folders above it, the nearest first: up to the root of the file system, or to where the path begins
+-- those in the folder of a file and in the folders above it, the nearest first: up to the root of
+-- the file system, or to where the path begins
 abbrev pub config_paths : List ℕ → List (List ℕ)
-config_paths file = if starts_with nat_eq file (codes "/") then paths_below (codes "/") (drop 1 file) else paths_below [] file
+config_paths file = if starts_with nat_eq file (codes "/")
+    then paths_below (codes "/") (drop 1 file) else paths_below [] file
 
 -- no root, and no choice
 abbrev pub nothing_said : Properties
@@ -49,7 +52,8 @@ abbrev pub IfRoot : Bool → Type 0 → Type 0 → Type 0
 IfRoot true this other = this
 IfRoot false this other = other
 
--- what is chosen where the files at these paths say what is left open, each before those after it, and none after a root
+-- what is chosen where the files at these paths say what is left open, each before those after it,
+-- and none after a root
 abbrev pub AreChosenBy : Files → Choices → List (List ℕ) → Choices → Type 0
 AreChosenBy files so_far [] chosen = chosen ≡ so_far
 AreChosenBy files so_far (at ∷ others) chosen = (said : Properties) × IsSaidAt files at said
@@ -57,7 +61,8 @@ AreChosenBy files so_far (at ∷ others) chosen = (said : Properties) × IsSaidA
 
 -- what is chosen for a file: what is left open is as the nearest `.editorconfig` file says
 abbrev pub AreChoicesFor : Files → Choices → List ℕ → Choices → Type 0
-AreChoicesFor files choices file chosen = (found : List ℕ) × IsAbsolute files file found × AreChosenBy files choices (config_paths found) chosen
+AreChoicesFor files choices file chosen = (found : List ℕ) × IsAbsolute files file found
+    × AreChosenBy files choices (config_paths found) chosen
 
 -- what is chosen for a text with this path, or with none
 abbrev pub AreChosenAt : Files → Choices → Option (List ℕ) → Choices → Type 0

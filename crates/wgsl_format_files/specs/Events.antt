@@ -72,7 +72,8 @@ pair_copied (Some pair) = Some (pair.0.now, pair.1.now)
 abbrev pub line_of : List ℕ → List ℕ
 line_of name = name ++ codes "\n"
 
--- the text is a unified diff of the file of this name, whose hunks make the lines of the one text of those of the other
+-- the text is a unified diff of the file of this name, whose hunks make the lines of the one text
+-- of those of the other
 pub record IsDiff (name before after text : List ℕ) : Type 0 where
   pub hunks : List Hunk
   pub turns : Turns 0 0 hunks (lines_of before) (lines_of after)
@@ -84,7 +85,8 @@ IsShown Write name before after text = ⊥
 IsShown Check name before after text = text ≡ line_of name
 IsShown Diff name before after text = IsDiff name before after text
 
--- what comes of a text that changes: the file has the new one, or what tells of the change, unless an allocation failed
+-- what comes of a text that changes: the file has the new one, or what tells of the change, unless
+-- an allocation failed
 abbrev pub IsToldOfChange : Mode → List ℕ → List ℕ → List ℕ → Event → Type 0
 IsToldOfChange mode name before after event.Unchanged = ⊥
 IsToldOfChange mode name before after event.Formatted = mode ≡ Write

@@ -17,7 +17,8 @@ name_in stdin_name (path text) = text
 
 -- these follow what there was: the files that are listed for a named path, or that path itself
 abbrev pub AreFilesOf : Files → List ℕ → List Source → List Source → Type 0
-AreFilesOf files named old new = (paths : List (List ℕ)) × (IsListing files named paths ⊎ (paths ≡ named ∷ [])) × (new ≡ old ++ map path paths)
+AreFilesOf files named old new = (paths : List (List ℕ))
+    × (IsListing files named paths ⊎ (paths ≡ named ∷ [])) × (new ≡ old ++ map path paths)
 
 -- the next source of the arguments is this, and these follow what there was
 abbrev pub IsInputOf : Files → Source → List Source → List Source → Type 0
@@ -27,7 +28,8 @@ IsInputOf files (path named) old new = AreFilesOf files named old new
 -- after these inputs, those for the sources that follow make all inputs
 abbrev pub FollowFor : Files → List Source → List Source → List Source → Type 0
 FollowFor files so_far [] all = all ≡ so_far
-FollowFor files so_far (source ∷ sources) all = (more : List Source) × IsInputOf files source so_far more × FollowFor files more sources all
+FollowFor files so_far (source ∷ sources) all = (more : List Source)
+    × IsInputOf files source so_far more × FollowFor files more sources all
 
 -- the inputs for the sources of the arguments, in order
 abbrev pub AreInputsOf : Files → List Source → List Source → Type 0

@@ -11,7 +11,8 @@ use Rattle.wgsl_model_tidy.specs.Layout.{Layout, standard}
 
 -- nothing is chosen
 abbrev pub is_nothing : Choices → Bool
-is_nothing choices = is_none choices.width && (is_none choices.style && (is_none choices.size && (is_none choices.tab_width && is_none choices.newlines)))
+is_nothing choices = is_none choices.width
+    && (is_none choices.style && (is_none choices.size && (is_none choices.tab_width && is_none choices.newlines)))
 
 -- lines are indented with tabs
 abbrev pub has_tabs : Option IndentStyle → Bool

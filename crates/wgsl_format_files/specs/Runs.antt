@@ -21,8 +21,10 @@ pub record State : Type 0 where
 abbrev pub state : Files → Option (List ℕ) → State
 state files left = record { files = files; left = left }
 
--- what comes of one input, whose text becomes another by the files that there are: of the standard input, which changes no file; of a file, for which nothing is read of the standard input
-abbrev pub ComesOf : (Files → Source → List ℕ → List ℕ → Type 0) → (List ℕ → List ℕ → Type 0) → Mode → List ℕ → State → State → Source → Event → Type 0
+-- what comes of one input, whose text becomes another by the files that there are: of the standard
+-- input, which changes no file; of a file, for which nothing is read of the standard input
+abbrev pub ComesOf : (Files → Source → List ℕ → List ℕ → Type 0) → (List ℕ → List ℕ → Type 0) → Mode
+    → List ℕ → State → State → Source → Event → Type 0
 ComesOf becomes refuses mode stdin_name old new standard_input event =
     ComesOfInput (becomes old.files standard_input) refuses mode old.left stdin_name event × (new.files ≡ old.files)
 ComesOf becomes refuses mode stdin_name old new (path name) event =
@@ -39,10 +41,12 @@ WroteMore true more text old new = Wrote more text old new
 WroteMore false more text old new = (more ≡ false) × (new ≡ old)
 
 -- what came of each input, in order, one after another
-abbrev pub ComesOfAll : (Files → Source → List ℕ → List ℕ → Type 0) → (List ℕ → List ℕ → Type 0) → Mode → List ℕ → State → State → List Source → List Came → Type 0
+abbrev pub ComesOfAll : (Files → Source → List ℕ → List ℕ → Type 0) → (List ℕ → List ℕ → Type 0)
+    → Mode → List ℕ → State → State → List Source → List Came → Type 0
 ComesOfAll becomes refuses mode stdin_name old new [] came = (came ≡ []) × (new ≡ old)
 ComesOfAll becomes refuses mode stdin_name old new (source ∷ sources) came =
-    (between : State) × (event : Event) × (rest : List Came) × (came ≡ record { name = name_in stdin_name source; event = event } ∷ rest)
+    (between : State) × (event : Event) × (rest : List Came)
+    × (came ≡ record { name = name_in stdin_name source; event = event } ∷ rest)
     × ComesOf becomes refuses mode stdin_name old between source event
     × ComesOfAll becomes refuses mode stdin_name between new sources rest
 
@@ -72,7 +76,8 @@ changed_words Diff = codes " would change, "
 
 -- how many files there are, how many of them change, and how many have errors
 abbrev pub counts_of : Mode → ℕ → ℕ → ℕ → List ℕ
-counts_of mode count changed failed = decimal count ++ (codes " files, " ++ (decimal changed ++ (changed_words mode ++ (decimal failed ++ codes " with errors\n"))))
+counts_of mode count changed failed = decimal count
+    ++ (codes " files, " ++ (decimal changed ++ (changed_words mode ++ (decimal failed ++ codes " with errors\n"))))
 
 -- there is a summary for more than one file, unless it is not wanted
 abbrev pub has_summary : Bool → ℕ → Bool
@@ -81,18 +86,22 @@ has_summary quiet count = not quiet && nat_lt 1 count
 abbrev pub summary : Mode → Bool → ℕ → ℕ → ℕ → List ℕ
 summary mode quiet count changed failed = if has_summary quiet count then counts_of mode count changed failed else []
 
--- the status is the one that is called for, unless something could not be written, or an allocation failed for the summary: then it is 4 at least
+-- the status is the one that is called for, unless something could not be written, or an allocation
+-- failed for the summary: then it is 4 at least
 pub record IsStatus (whole : Bool) (called status : ℕ) : Type 0 where
   pub least : called ≤ status
   pub called_for : whole ≡ true → status ≡ called
   pub not_written : whole ≡ false → 4 ≤ status
 
--- a run over inputs from one state to another, with what the output and the errors hold before and after it, and its status
-pub record Runs (becomes : Files → Source → List ℕ → List ℕ → Type 0) (refuses : List ℕ → List ℕ → Type 0) (mode : Mode) (quiet : Bool) (stdin_name : List ℕ) (inputs : List Source) (old new : State)
+-- a run over inputs from one state to another, with what the output and the errors hold before and
+-- after it, and its status
+pub record Runs (becomes : Files → Source → List ℕ → List ℕ → Type 0) (refuses : List ℕ → List ℕ → Type 0)
+    (mode : Mode) (quiet : Bool) (stdin_name : List ℕ) (inputs : List Source) (old new : State)
     (output written errors told : Option (List ℕ)) (status : ℕ) : Type 0 where
   pub came : List Came
   pub each : ComesOfAll becomes refuses mode stdin_name old new inputs came
   pub whole : Bool
   pub shown : Wrote whole (shown_all came) output written
-  pub messages : Wrote whole (told_all came ++ summary mode quiet (length came) (count_of is_changed came) (count_of is_failed came)) errors told
+  pub messages : Wrote whole (told_all came ++ summary mode quiet (length came)
+      (count_of is_changed came) (count_of is_failed came)) errors told
   pub ended : IsStatus whole (highest came) status

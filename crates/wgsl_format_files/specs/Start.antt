@@ -19,7 +19,8 @@ use Rattle.wgsl_format_files.specs.Runs.{state, Runs}
 use Rattle.wgsl_format_files.specs.Tidy.{Refuses}
 use Rattle.wgsl_format_files.specs.Written.{Wrote}
 
--- the files, what the standard input has to give, and what the output and the errors hold, where it is known
+-- the files, what the standard input has to give, and what the output and the errors hold, where it
+-- is known
 pub record World : Type 0 where
   pub files : Files
   pub left : Option (List ℕ)
@@ -69,7 +70,8 @@ IsHint (invalid_value setting value) hint = hint ≡ None
 
 -- what is told of arguments that are no command
 abbrev pub usage_text : UsageError → Option OptionName → List ℕ
-usage_text e (Some name) = codes "wgsltidy: error: " ++ (print_usage_error e ++ (codes ", did you mean `" ++ (option_text name ++ codes "`?\n")))
+usage_text e (Some name) = codes "wgsltidy: error: "
+    ++ (print_usage_error e ++ (codes ", did you mean `" ++ (option_text name ++ codes "`?\n")))
 usage_text e None = codes "wgsltidy: error: " ++ (print_usage_error e ++ codes ", see `wgsltidy --help`\n")
 
 -- whether files are written
@@ -91,7 +93,8 @@ is_unnamed (Some name) = false
 
 -- only the standard input is to be formatted, without options
 abbrev pub is_filter : Request → Bool
-is_filter request = is_write request.mode && (is_unnamed request.stdin_path && (is_input_alone request.sources && is_nothing request.choices))
+is_filter request = is_write request.mode
+    && (is_unnamed request.stdin_path && (is_input_alone request.sources && is_nothing request.choices))
 
 -- the name of the standard input in messages
 abbrev pub name_of : Request → List ℕ
@@ -99,14 +102,16 @@ name_of request = unwrap_or request.stdin_path (codes "<stdin>")
 
 -- the standard input is formatted to the output, or the fault is told; no file changes
 pub record IsFilterRun (old new : World) (status : ℕ) : Type 0 where
-  pub runs : filter.Runs Tidies IsTidied old.left new.left (λ contents. contents) old.output new.output old.errors new.errors status
+  pub runs : filter.Runs Tidies IsTidied old.left new.left
+      (λ contents. contents) old.output new.output old.errors new.errors status
   pub files : new.files ≡ old.files
 
 -- the files for the sources are formatted in order, each by the layout that is chosen for it
 pub record IsFilesRun (request : Request) (old new : World) (status : ℕ) : Type 0 where
   pub inputs : List Source
   pub named : AreInputsOf old.files request.sources inputs
-  pub runs : Runs (BecomesBy request.choices request.stdin_path) Refuses request.mode request.quiet (name_of request) inputs (state old.files old.left) (state new.files new.left)
+  pub runs : Runs (BecomesBy request.choices request.stdin_path) Refuses request.mode request.quiet
+      (name_of request) inputs (state old.files old.left) (state new.files new.left)
       old.output new.output old.errors new.errors status
 
 -- the standard input is formatted as a filter, or the files for the sources are formatted
@@ -116,11 +121,16 @@ IsRunOf false request old new status = IsFilesRun request old new status
 
 -- what is done for a request, unless an allocation failed
 abbrev pub IsRequestRun : Request → World → World → ℕ → Type 0
-IsRequestRun request old new status = IsRunOf (is_filter request) request old new status ⊎ Tells memory_text 5 old new status
+IsRequestRun request old new status = IsRunOf (is_filter request) request old new status
+    ⊎ Tells memory_text 5 old new status
 
--- What the program does where its arguments mean this: it writes how it is used, or its version, or what is wrong with the arguments; or it formats. Or an allocation failed.
+-- What the program does where its arguments mean this: it writes how it is used, or its version, or
+-- what is wrong with the arguments; or it formats. Or an allocation failed.
 abbrev pub IsStart : Result Command UsageError → World → World → ℕ → Type 0
 IsStart (Ok help) old new status = ((text : List ℕ) × Shows text 0 old new status) ⊎ Tells memory_text 5 old new status
-IsStart (Ok version) old new status = ((text : List ℕ) × Shows text 0 old new status) ⊎ Tells memory_text 5 old new status
+IsStart (Ok version) old new status = ((text : List ℕ) × Shows text 0 old new status)
+    ⊎ Tells memory_text 5 old new status
 IsStart (Ok (format request)) old new status = IsRequestRun request old new status
-IsStart (Err e) old new status = ((hint : Option OptionName) × IsHint e hint × Tells (usage_text e hint) 2 old new status) ⊎ Tells memory_text 5 old new status
+IsStart (Err e) old new status =
+    ((hint : Option OptionName) × IsHint e hint × Tells (usage_text e hint) 2 old new status)
+    ⊎ Tells memory_text 5 old new status

@@ -25,23 +25,30 @@ none_flagged (suc n) = none_flagged n
 abbrev pub breaks_behind : Bool → Bool → ℕ → List Piece → Bool
 breaks_behind closes opens depth ps = has_break (cond closes depth (cond opens (suc (suc depth)) (suc depth))) ps
 
-pub first_parts : (depth : ℕ) (p : Piece) (ps : List Piece) → has_break (suc depth) (p ∷ ps) ≡ (breaks p || breaks_behind (closes_one p.class) (opens_one p.class) depth ps)
+pub first_parts : (depth : ℕ) (p : Piece) (ps : List Piece) → has_break (suc depth) (p ∷ ps)
+    ≡ (breaks p || breaks_behind (closes_one p.class) (opens_one p.class) depth ps)
 first_parts depth p ps = refl
 
-step : (closes opens here : Bool) (flags : List Bool) (ps : List Piece) → ((depth : ℕ) → has_break (suc depth) ps ≡ any_flag depth flags) → (depth : ℕ)
+step : (closes opens here : Bool) (flags : List Bool) (ps : List Piece)
+    → ((depth : ℕ) → has_break (suc depth) ps ≡ any_flag depth flags) → (depth : ℕ)
     → (here || breaks_behind closes opens depth ps)
-    ≡ any_flag depth (cond closes (here ∷ flags) (cond opens (((here || first_flag flags) || first_flag (drop 1 flags)) ∷ drop 1 (drop 1 flags)) ((here || first_flag flags) ∷ drop 1 flags)))
+    ≡ any_flag depth (cond closes (here ∷ flags) (cond opens (((here || first_flag flags)
+    || first_flag (drop 1 flags)) ∷ drop 1 (drop 1 flags)) ((here || first_flag flags) ∷ drop 1 flags)))
 step true opens here flags ps h zero = or_false here
 step true opens here flags ps h (suc depth) = ap (λ b. here || b) (h depth)
-step false true here flags ps h zero = ap (λ b. here || b) (h 1) ∙ or_assoc here (first_flag flags) (first_flag (drop 1 flags))
+step false true here flags ps h zero = ap (λ b. here || b) (h 1)
+    ∙ or_assoc here (first_flag flags) (first_flag (drop 1 flags))
 step false true here flags ps h (suc depth) =
     let others = any_flag depth (drop 1 (drop 1 flags)) in
     ap (λ b. here || b) (h (suc (suc depth))) ∙ or_assoc here (first_flag flags) (first_flag (drop 1 flags) || others)
     ∙ or_assoc (here || first_flag flags) (first_flag (drop 1 flags)) others
 step false false here flags ps h zero = ap (λ b. here || b) (h 0)
-step false false here flags ps h (suc depth) = ap (λ b. here || b) (h (suc depth)) ∙ or_assoc here (first_flag flags) (any_flag depth (drop 1 flags))
+step false false here flags ps h (suc depth) = ap (λ b. here || b) (h (suc depth))
+    ∙ or_assoc here (first_flag flags) (any_flag depth (drop 1 flags))
 
 -- before a piece of a class
-pub flags_step : (here : Bool) (class : ℕ) (flags : List Bool) (ps : List Piece) → ((depth : ℕ) → has_break (suc depth) ps ≡ any_flag depth flags) → (depth : ℕ)
-    → (here || breaks_behind (closes_one class) (opens_one class) depth ps) ≡ any_flag depth (flags_before here class flags)
+pub flags_step : (here : Bool) (class : ℕ) (flags : List Bool) (ps : List Piece)
+    → ((depth : ℕ) → has_break (suc depth) ps ≡ any_flag depth flags) → (depth : ℕ)
+    → (here || breaks_behind (closes_one class) (opens_one class) depth ps)
+    ≡ any_flag depth (flags_before here class flags)
 flags_step here class flags ps h depth = step (closes_one class) (opens_one class) here flags ps h depth

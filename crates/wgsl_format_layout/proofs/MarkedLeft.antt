@@ -14,24 +14,31 @@ use Rattle.wgsl_format_layout.specs.Left.{AreLeftFrom}
 use Rattle.wgsl_format_layout.proofs.TokensCut.{StandsNext, stands_next}
 
 -- an operand begins with the first of them
-operand_right : (source : List ℕ) (n : ℕ) (ts : List Token) (ms : List MarkedToken) → AreLeftFrom source n ts → AreMarked (chars source) ts ms → operand_follows (pieces_from (chars source) n ts) ≡ operand_first ms
+operand_right : (source : List ℕ) (n : ℕ) (ts : List Token) (ms : List MarkedToken)
+    → AreLeftFrom source n ts → AreMarked (chars source) ts ms
+    → operand_follows (pieces_from (chars source) n ts) ≡ operand_first ms
 operand_right source n [] [] l h = operand_behind false (λ k. []) (λ k. refl) outside 0 _
 operand_right source n [] (m ∷ ms) l h = absurd h
 operand_right source n (t ∷ ts) [] l h = absurd h
 operand_right source n (t ∷ ts) (m ∷ ms) l h =
-    let first : (k : ℕ) → operand_follows (piece_of (chars source) t k ∷ pieces_from (chars source) t.end ts) ≡ operand_first (m ∷ ms) = λ k.
+    let first : (k : ℕ) → operand_follows (piece_of (chars source) t k
+    ∷ pieces_from (chars source) t.end ts) ≡ operand_first (m ∷ ms) = λ k.
     rw l.cut.1.plain (ap (λ class. begins_operand (role_of false class)) (sym h.0)) in
-    operand_behind (operand_first (m ∷ ms)) (λ k. piece_of (chars source) t k ∷ pieces_from (chars source) t.end ts) first outside 0 _
+    operand_behind (operand_first (m ∷ ms))
+    (λ k. piece_of (chars source) t k ∷ pieces_from (chars source) t.end ts) first outside 0 _
 
 -- what is known of the first of them
-pub record MarkedNext (source : List ℕ) (n : ℕ) (ts : List Token) (m : MarkedToken) (ms : List MarkedToken) : Type 0 where
+pub record MarkedNext (source : List ℕ) (n : ℕ) (ts : List Token) (m : MarkedToken)
+    (ms : List MarkedToken) : Type 0 where
   pub stands : StandsNext source n ts m.kind m.span
   pub lines : m.lines ≡ has_lines (pieces_from (chars source) m.span.end stands.others)
   pub several : m.several ≡ has_several (pieces_from (chars source) m.span.end stands.others)
   pub operand : operand_follows (pieces_from (chars source) m.span.end stands.others) ≡ operand_first ms
   pub marked : AreMarked (chars source) stands.others ms
 
-pub marked_next : (source : List ℕ) (n : ℕ) (ts : List Token) (m : MarkedToken) (ms : List MarkedToken) → IsUtf8 source → AreLeftFrom source n ts → AreMarked (chars source) ts (m ∷ ms) → MarkedNext source n ts m ms
+pub marked_next : (source : List ℕ) (n : ℕ) (ts : List Token) (m : MarkedToken) (ms : List MarkedToken)
+    → IsUtf8 source → AreLeftFrom source n ts → AreMarked (chars source) ts (m ∷ ms)
+    → MarkedNext source n ts m ms
 marked_next source n [] m ms u l h = absurd h
 marked_next source n (t ∷ ts) m ms u l h =
     let s = stands_next source n (t ∷ ts) m.kind m.span u l (sym h.0) (sym h.1, sym h.2) in
@@ -48,9 +55,12 @@ marked_next source n (t ∷ ts) m ms u l h =
     }
 
 -- the first of those from an index on
-pub marked_at : (source : List ℕ) (n : ℕ) (ts : List Token) (all : List MarkedToken) (i : ℕ) (m other : MarkedToken) → IsUtf8 source → AreLeftFrom source n ts → i < length all → m ≡ get_or all i other → AreMarked (chars source) ts (drop i all) → MarkedNext source n ts m (drop (suc i) all)
+pub marked_at : (source : List ℕ) (n : ℕ) (ts : List Token) (all : List MarkedToken) (i : ℕ) (m other : MarkedToken)
+    → IsUtf8 source → AreLeftFrom source n ts → i < length all → m ≡ get_or all i other
+    → AreMarked (chars source) ts (drop i all) → MarkedNext source n ts m (drop (suc i) all)
 marked_at source n ts all i m other u l within is h =
-    let here : drop i all ≡ m ∷ drop (suc i) all = drop-cons all i other within ∙ ap (λ x. x ∷ drop (suc i) all) (sym is) in
+    let here : drop i all ≡ m ∷ drop (suc i) all = drop-cons all i other within
+    ∙ ap (λ x. x ∷ drop (suc i) all) (sym is) in
     marked_next source n ts m (drop (suc i) all) u l (subst (AreMarked (chars source) ts) here h)
 
 -- none are left where no tokens are

@@ -7,7 +7,8 @@ use Rattle.wgsl_theory_tidy.proofs.Comments.{piece}
 use Rattle.wgsl_theory_tidy.proofs.NextRoles.{PassesComments, known_behind}
 
 -- a token that is no comment is the first in the bracket
-pub first_there : (class : ℕ) (text : List ℕ) (n : ℕ) (ps : List Piece) → is_comment class ≡ false → has_several (piece class text n ∷ ps) ≡ (not (closes_one class) && not (ends_bracket ps))
+pub first_there : (class : ℕ) (text : List ℕ) (n : ℕ) (ps : List Piece) → is_comment class ≡ false
+    → has_several (piece class text n ∷ ps) ≡ (not (closes_one class) && not (ends_bracket ps))
 first_there class text n ps plain = rw plain refl
 
 several_put : (c : ℕ) (ps : List Piece) → has_several (put c ps) ≡ has_several ps
@@ -18,5 +19,7 @@ several_passes : PassesComments has_several
 several_passes = record { over_character = several_put; over_comment = λ class n ps h. rw h refl }
 
 -- what is so after however many line ends is so after the comments
-pub several_behind : (several : Bool) (behind : ℕ → List Piece) → ((m : ℕ) → has_several (behind m) ≡ several) → (p : Place) (n : ℕ) (text : List ℕ) → has_several (comments behind p n text) ≡ several
+pub several_behind : (several : Bool) (behind : ℕ → List Piece)
+    → ((m : ℕ) → has_several (behind m) ≡ several) → (p : Place) (n : ℕ) (text : List ℕ)
+    → has_several (comments behind p n text) ≡ several
 several_behind several behind h p n text = known_behind has_several several_passes several behind h p n text

@@ -13,44 +13,74 @@ use Rattle.wgsl_theory_templates.specs.Rest.Left.{LeftOf, left_nothing, left_fau
 use Rattle.wgsl_theory_templates.proofs.Rest.LeftTokens.{stream}
 use Rattle.wgsl_model_tidy.specs.LaidOut.{is_comment}
 use Rattle.wgsl_span.specs.declared.Span.{Span}
-use Rattle.wgsl_lex_token.specs.declared.kind.TokenKind.{TokenKind}
+use Rattle.wgsl_lex_token.specs.declared.kind_table.TokenKind.{TokenKind}
 use Rattle.wgsl_lex_token.specs.View.{class_of_kind}
 use Rattle.wgsl_lexer.specs.TextTokens.{StartWithKind, BeginAt}
 use Rattle.wgsl_format_layout.specs.Left.{AreCutOff, AreLeftFrom}
 use Rattle.wgsl_format_layout.proofs.TokenClasses.{raw_class}
 
 -- so do those that are left of a text
-left_cut : (total : ℕ) (ends : List ℕ) (word : Bool) (text : List ℕ) (ts : List Token) (e : Ending) → LeftOf total ends word text ts e → AreCutOff total text ts
+left_cut : (total : ℕ) (ends : List ℕ) (word : Bool) (text : List ℕ) (ts : List Token) (e : Ending)
+    → LeftOf total ends word text ts e → AreCutOff total text ts
 left_cut total ends word text ts e (left_nothing x w s r) = tt
 left_cut total ends word text ts e (left_fault x w s from after r) = tt
 left_cut total ends word text ts e (left_end x w s from after kind us f r h) =
-    let cut = cut_at text from after kind r in
-    (drop 1 from, record { from = from; ends = cut.0; goes_on = behind_first from; starts = refl; stops = refl; plain = refl }, left_cut total x false (drop 1 from) us e h)
+    let cut = cut_at text from after kind r in (
+      drop 1 from,
+      record { from = from; ends = cut.0; goes_on = behind_first from; starts = refl; stops = refl; plain = refl },
+      left_cut total x false (drop 1 from) us e h,
+    )
 left_cut total ends word text ts e (left_start x s from after end kind us f r b c k h) =
-    let cut = cut_at text from after kind r in
-    (after, record { from = from; ends = cut.0; goes_on = (cut.1.0 ∷ cut.1.1, cut.1.2); starts = refl; stops = refl; plain = refl }, left_cut total (place total end ∷ ends) false after us e h)
+    let cut = cut_at text from after kind r in (
+      after,
+      record {
+        from = from;
+        ends = cut.0;
+        goes_on = (cut.1.0 ∷ cut.1.1, cut.1.2);
+        starts = refl;
+        stops = refl;
+        plain = refl;
+      },
+      left_cut total (place total end ∷ ends) false after us e h,
+    )
 left_cut total ends word text ts e (left_token x w s from after kind us f r b n h) =
-    let cut = cut_at text from after kind r in
-    (after, record { from = from; ends = cut.0; goes_on = (cut.1.0 ∷ cut.1.1, cut.1.2); starts = refl; stops = refl; plain = raw_class text from after kind r }, left_cut total ends (is_word kind.class) after us e h)
+    let cut = cut_at text from after kind r in (
+      after,
+      record {
+        from = from;
+        ends = cut.0;
+        goes_on = (cut.1.0 ∷ cut.1.1, cut.1.2);
+        starts = refl;
+        stops = refl;
+        plain = raw_class text from after kind r;
+      },
+      left_cut total ends (is_word kind.class) after us e h,
+    )
 
 -- and those of a source
-source_cut : (source : List ℕ) (ts : List Token) (e : Ending) → IsTokenList source ts e → AreCutOff (width source) source ts
-source_cut source ts e h = left_cut (width source) [] false source ts e (stream (width source) source ts e (omega arith) h)
+source_cut : (source : List ℕ) (ts : List Token) (e : Ending) → IsTokenList source ts e
+    → AreCutOff (width source) source ts
+source_cut source ts e h = left_cut (width source) [] false source ts e
+    (stream (width source) source ts e (omega arith) h)
 
 -- ---- the tokens that are left of a source, from a place on
 
 -- at first they are all left
-pub all_left : (source : List ℕ) (ts : List Token) (e : Ending) → IsTokenList (chars source) ts e → AreLeftFrom source 0 ts
-all_left source ts e h = record { rest = chars source; ends = ([], refl); stands = omega arith; cut = source_cut (chars source) ts e h }
+pub all_left : (source : List ℕ) (ts : List Token) (e : Ending) → IsTokenList (chars source) ts e
+    → AreLeftFrom source 0 ts
+all_left source ts e h =
+    record { rest = chars source; ends = ([], refl); stands = omega arith; cut = source_cut (chars source) ts e h }
 
 -- a text may be cut where an end of it begins
-end_boundary : (source rest : List ℕ) (n : ℕ) → IsUtf8 source → EndsWith (chars source) rest → n ≡ place (width (chars source)) rest → IsCharBoundary source n
+end_boundary : (source rest : List ℕ) (n : ℕ) → IsUtf8 source → EndsWith (chars source) rest
+    → n ≡ place (width (chars source)) rest → IsCharBoundary source n
 end_boundary source rest n u h at =
     let cut = cut_end source h.0 rest u h.1 in
     let here : width h.0 ≡ n = omega (arith, at, cut.3, bytes_width source u) in
     subst (IsCharBoundary source) here cut.2
 
-pub left_boundary : (source : List ℕ) (n : ℕ) (ts : List Token) → IsUtf8 source → AreLeftFrom source n ts → IsCharBoundary source n
+pub left_boundary : (source : List ℕ) (n : ℕ) (ts : List Token) → IsUtf8 source
+    → AreLeftFrom source n ts → IsCharBoundary source n
 left_boundary source n ts u l = end_boundary source l.rest n u l.ends l.stands
 
 -- what is known of the first of them, of which the kind and the place are known
@@ -68,7 +98,9 @@ pub record StandsNext (source : List ℕ) (n : ℕ) (ts : List Token) (kind : To
   pub stop_boundary : IsCharBoundary source span.end
   pub left : AreLeftFrom source span.end others
 
-pub stands_next : (source : List ℕ) (n : ℕ) (ts : List Token) (kind : TokenKind) (span : Span) → IsUtf8 source → AreLeftFrom source n ts → StartWithKind ts kind → BeginAt ts span → StandsNext source n ts kind span
+pub stands_next : (source : List ℕ) (n : ℕ) (ts : List Token) (kind : TokenKind) (span : Span)
+    → IsUtf8 source → AreLeftFrom source n ts → StartWithKind ts kind → BeginAt ts span
+    → StandsNext source n ts kind span
 stands_next source n [] kind span u l k s = absurd k
 stands_next source n (t ∷ ts) kind span u l k s =
     let cut = l.cut.1 in

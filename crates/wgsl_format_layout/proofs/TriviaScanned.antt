@@ -2,7 +2,7 @@
 use Rattle.std.proofs.Common.{◌≡◌, ℕ, suc, ◌+◌, ◌==◌, ◌&&◌, ◌||◌, nat_lt, Bool, true, false, not, refl, sym, ap, ◌∙◌, List, [], ◌∷◌, arith}
 use Rattle.std.proofs.lemmas.Grind.{common_steps}
 use Rattle.grammar.specs.Grammar.{is_among}
-use Rattle.wgsl_model.specs.Tokens.Classes.{LineComment, SymBraceLeft, SymBraceRight}
+use Rattle.wgsl_model.specs.Tokens.ClassTable.{LineComment, SymBraceLeft, SymBraceRight}
 use Rattle.wgsl_model.specs.Tokens.Trivia.{outside}
 use Rattle.wgsl_model_tidy.specs.Pieces.{Piece, comments, line_ends_at}
 use Rattle.wgsl_model_tidy.specs.LaidOut.{opens_one, closes_one, has_break, ends_bracket}
@@ -22,8 +22,10 @@ class_breaks class = is_among class (LineComment ∷ SymBraceLeft ∷ SymBraceRi
 pub record Scanned (text rest : List ℕ) (has_comment has_end : Bool) : Type 0 where
   pub n : ℕ
   pub ends : has_end ≡ not (n == 0)
-  pub breaks_so : (behind : ℕ → List Piece) (depth : ℕ) → has_break (suc depth) (comments behind outside 0 text) ≡ has_break (suc depth) (comments behind outside n rest)
-  pub ends_so : (behind : ℕ → List Piece) → ends_bracket (comments behind outside 0 text) ≡ (not has_comment && ends_bracket (comments behind outside n rest))
+  pub breaks_so : (behind : ℕ → List Piece) (depth : ℕ) → has_break (suc depth)
+      (comments behind outside 0 text) ≡ has_break (suc depth) (comments behind outside n rest)
+  pub ends_so : (behind : ℕ → List Piece) → ends_bracket (comments behind outside 0 text)
+      ≡ (not has_comment && ends_bracket (comments behind outside n rest))
 
 pub nothing_scanned : (text : List ℕ) → Scanned text text false false
 nothing_scanned text = record { n = 0; ends = refl; breaks_so = λ behind depth. refl; ends_so = λ behind. refl }
@@ -33,7 +35,9 @@ nothing_scanned text = record { n = 0; ends = refl; breaks_so = λ behind depth.
 more_ends : (n k : ℕ) → (not (n == 0) || nat_lt 0 k) ≡ not (n + k == 0)
 more_ends n k = grind (arith, common_steps)
 
-pub scanned_blank : (text rest cs : List ℕ) (c : ℕ) (has_comment has_end after : Bool) → IsNone rest → rest ≡ c ∷ cs → after ≡ (has_end || nat_lt 0 (line_ends_at c cs)) → Scanned text rest has_comment has_end → Scanned text cs has_comment after
+pub scanned_blank : (text rest cs : List ℕ) (c : ℕ) (has_comment has_end after : Bool) → IsNone rest
+    → rest ≡ c ∷ cs → after ≡ (has_end || nat_lt 0 (line_ends_at c cs))
+    → Scanned text rest has_comment has_end → Scanned text cs has_comment after
 scanned_blank text rest cs c has_comment has_end after none e ends s = record {
   n = s.n + line_ends_at c cs;
   ends = ends ∙ ap (λ b. b || nat_lt 0 (line_ends_at c cs)) s.ends ∙ more_ends s.n (line_ends_at c cs);
@@ -54,8 +58,10 @@ closes_no_bracket comment.Block = refl
 closes_no_bracket comment.Open = refl
 
 -- the pieces from a comment on
-comment_parts : (kind : CommentKind) (text : List ℕ) (n depth : ℕ) (has_end : Bool) (ps : List Piece) → has_end ≡ not (n == 0)
-    → has_break (suc depth) (piece (comment_class kind) text n ∷ ps) ≡ ((has_end || class_breaks (comment_class kind)) || has_break (suc depth) ps)
+comment_parts : (kind : CommentKind) (text : List ℕ) (n depth : ℕ) (has_end : Bool) (ps : List Piece)
+    → has_end ≡ not (n == 0)
+    → has_break (suc depth) (piece (comment_class kind) text n ∷ ps)
+    ≡ ((has_end || class_breaks (comment_class kind)) || has_break (suc depth) ps)
 comment_parts kind text n depth has_end ps e =
     let class = comment_class kind in
     let here = not (n == 0) || class_breaks class in
@@ -65,46 +71,62 @@ comment_parts kind text n depth has_end ps e =
     ∙ ap (λ b. (b || class_breaks class) || has_break (suc depth) ps) (sym e)
 
 -- after a comment the pieces neither end nor begin with a closing bracket
-comment_ends : (kind : CommentKind) (text : List ℕ) (n : ℕ) (ps : List Piece) (has_comment : Bool) → (not has_comment && ends_bracket (piece (comment_class kind) text n ∷ ps)) ≡ false
-comment_ends kind text n ps has_comment = ap (λ b. not has_comment && b) (closes_no_bracket kind) ∙ and_false (not has_comment)
+comment_ends : (kind : CommentKind) (text : List ℕ) (n : ℕ) (ps : List Piece) (has_comment : Bool)
+    → (not has_comment && ends_bracket (piece (comment_class kind) text n ∷ ps)) ≡ false
+comment_ends kind text n ps has_comment = ap (λ b. not has_comment && b) (closes_no_bracket kind)
+    ∙ and_false (not has_comment)
 
 -- a text begins with a comment, and another stands after it
 abbrev pub HasComment : List ℕ → CommentKind → List ℕ → List ℕ → Type 0
-HasComment rest kind text after = (b : ℕ → List Piece) (n : ℕ) → comments b outside n rest ≡ piece (comment_class kind) text n ∷ comments b outside 0 after
+HasComment rest kind text after = (b : ℕ → List Piece) (n : ℕ)
+    → comments b outside n rest ≡ piece (comment_class kind) text n ∷ comments b outside 0 after
 
 -- no line ends before it or after it
-pub scanned_comment : (text rest words after : List ℕ) (kind : CommentKind) (has_comment : Bool) → HasComment rest kind words after → class_breaks (comment_class kind) ≡ false → Scanned text rest has_comment false → Scanned text after true false
+pub scanned_comment : (text rest words after : List ℕ) (kind : CommentKind) (has_comment : Bool)
+    → HasComment rest kind words after → class_breaks (comment_class kind) ≡ false
+    → Scanned text rest has_comment false → Scanned text after true false
 scanned_comment text rest words after kind has_comment is e s = record {
   n = 0;
   ends = refl;
   breaks_so = λ behind depth.
       let ps = comments behind outside 0 after in
-      s.breaks_so behind depth ∙ ap (has_break (suc depth)) (is behind s.n) ∙ comment_parts kind words s.n depth false ps s.ends ∙ ap (λ b. b || has_break (suc depth) ps) e;
+      s.breaks_so behind depth ∙ ap (has_break (suc depth)) (is behind s.n)
+      ∙ comment_parts kind words s.n depth false ps s.ends ∙ ap (λ b. b || has_break (suc depth) ps) e;
   ends_so = λ behind.
       let ps = comments behind outside 0 after in
-      s.ends_so behind ∙ ap (λ qs. not has_comment && ends_bracket qs) (is behind s.n) ∙ comment_ends kind words s.n ps has_comment;
+      s.ends_so behind ∙ ap (λ qs. not has_comment && ends_bracket qs) (is behind s.n)
+      ∙ comment_ends kind words s.n ps has_comment;
 }
 
 -- one does
-pub scanned_break : (text rest words after : List ℕ) (kind : CommentKind) (has_comment has_end has_next : Bool) → HasComment rest kind words after → (has_end || class_breaks (comment_class kind)) ≡ true → Scanned text rest has_comment has_end
+pub scanned_break : (text rest words after : List ℕ) (kind : CommentKind) (has_comment has_end has_next : Bool)
+    → HasComment rest kind words after → (has_end || class_breaks (comment_class kind)) ≡ true
+    → Scanned text rest has_comment has_end
     → IsTrivia text has_next (record { breaks = true; has_comment = true })
 scanned_break text rest words after kind has_comment has_end has_next is e s = (
   λ behind depth counts.
       let ps = comments behind outside 0 after in
-      s.breaks_so behind depth ∙ ap (has_break (suc depth)) (is behind s.n) ∙ comment_parts kind words s.n depth has_end ps s.ends ∙ ap (λ b. b || has_break (suc depth) ps) e,
+      s.breaks_so behind depth ∙ ap (has_break (suc depth)) (is behind s.n)
+      ∙ comment_parts kind words s.n depth has_end ps s.ends ∙ ap (λ b. b || has_break (suc depth) ps) e,
   λ behind same.
       let ps = comments behind outside 0 after in
-      s.ends_so behind ∙ ap (λ qs. not has_comment && ends_bracket qs) (is behind s.n) ∙ comment_ends kind words s.n ps has_comment,
+      s.ends_so behind ∙ ap (λ qs. not has_comment && ends_bracket qs) (is behind s.n)
+      ∙ comment_ends kind words s.n ps has_comment,
 )
 
 -- ---- the whole text
 
-pub scanned_all : (text rest : List ℕ) (has_comment has_end has_next here : Bool) → rest ≡ [] → here ≡ (has_end && has_next) → Scanned text rest has_comment has_end → IsTrivia text has_next (record { breaks = here; has_comment = has_comment })
+pub scanned_all : (text rest : List ℕ) (has_comment has_end has_next here : Bool) → rest ≡ []
+    → here ≡ (has_end && has_next) → Scanned text rest has_comment has_end
+    → IsTrivia text has_next (record { breaks = here; has_comment = has_comment })
 scanned_all text rest has_comment has_end has_next here none e s = (
   λ behind depth counts.
-      s.breaks_so behind depth ∙ ap (λ xs. has_break (suc depth) (comments behind outside s.n xs)) none ∙ ap (has_break (suc depth)) (nothing_left behind s.n) ∙ counts s.n
-      ∙ ap (λ b. (b && has_next) || has_break (suc depth) (behind 0)) (sym s.ends) ∙ ap (λ b. b || has_break (suc depth) (behind 0)) (sym e),
+      s.breaks_so behind depth ∙ ap (λ xs. has_break (suc depth) (comments behind outside s.n xs)) none
+      ∙ ap (has_break (suc depth)) (nothing_left behind s.n) ∙ counts s.n
+      ∙ ap (λ b. (b && has_next) || has_break (suc depth) (behind 0)) (sym s.ends)
+      ∙ ap (λ b. b || has_break (suc depth) (behind 0)) (sym e),
   λ behind same.
       s.ends_so behind ∙ ap (λ xs. not has_comment && ends_bracket (comments behind outside s.n xs)) none
-      ∙ ap (λ ps. not has_comment && ends_bracket ps) (nothing_left behind s.n) ∙ ap (λ b. not has_comment && b) (same s.n),
+      ∙ ap (λ ps. not has_comment && ends_bracket ps) (nothing_left behind s.n)
+      ∙ ap (λ b. not has_comment && b) (same s.n),
 )

@@ -10,8 +10,10 @@ pub record IsOneLine (text : List ℕ) : Type 0 where
 -- the first line of a text, without CR at its end, and what follows its line end
 pub record IsFirstLine (text line after : List ℕ) : Type 0 where
   pub plain : without_returns text ≡ line ++ (10 ∷ without_returns after)
-  pub moved : (front rest : List ℕ) → with_front front false (line ++ (10 ∷ rest)) ≡ line ++ (10 ∷ (front ++ with_front front true rest))
+  pub moved : (front rest : List ℕ)
+      → with_front front false (line ++ (10 ∷ rest)) ≡ line ++ (10 ∷ (front ++ with_front front true rest))
 
 -- a text at which a line begins is another after its spaces and tabs
 abbrev pub HasFront : List ℕ → List ℕ → Type 0
-HasFront text rest = (front : List ℕ) → with_front front true (without_returns text) ≡ with_front front false (without_returns rest)
+HasFront text rest = (front : List ℕ)
+    → with_front front true (without_returns text) ≡ with_front front false (without_returns rest)

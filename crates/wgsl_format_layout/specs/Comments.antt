@@ -9,16 +9,21 @@ use Rattle.wgsl_format_layout.specs.declared.comment.Comment.{Comment}
 
 -- a text begins with a comment
 abbrev pub IsComment : List ℕ → Comment → Type 0
-IsComment text comment = (b : ℕ → List Piece) (n : ℕ) → comments b outside n text ≡ piece (comment_class comment.kind) (chars comment.text.now) n ∷ comments b outside 0 (chars comment.rest.now)
+IsComment text comment = (b : ℕ → List Piece) (n : ℕ)
+    → comments b outside n text ≡ piece (comment_class comment.kind) (chars comment.text.now) n
+    ∷ comments b outside 0 (chars comment.rest.now)
 
 -- it begins with none
 abbrev pub IsNone : List ℕ → Type 0
-IsNone text = (b : ℕ → List Piece) (n c : ℕ) (cs : List ℕ) → text ≡ c ∷ cs → comments b outside n text ≡ comments b outside (n + line_ends_at c cs) cs
+IsNone text = (b : ℕ → List Piece) (n c : ℕ) (cs : List ℕ) → text ≡ c ∷ cs
+    → comments b outside n text ≡ comments b outside (n + line_ends_at c cs) cs
 
--- pieces after m line ends: a token follows in the line exactly where m is 0 and there is a next token
+-- pieces after m line ends: a token follows in the line exactly where m is 0 and there is a next
+-- token
 abbrev pub MayFollow : (ℕ → List Piece) → Bool → Type 0
 MayFollow behind has_next = (m : ℕ) → is_followed (behind m) ≡ (m == 0 && has_next)
 
 -- whether a token follows in the line, after a text of blank space and comments
 abbrev pub Follows : List ℕ → Bool → Bool → Type 0
-Follows text has_next result = (behind : ℕ → List Piece) → MayFollow behind has_next → is_followed (comments behind outside 0 text) ≡ result
+Follows text has_next result = (behind : ℕ → List Piece) → MayFollow behind has_next
+    → is_followed (comments behind outside 0 text) ≡ result

@@ -1,4 +1,5 @@
--- Of each open bracket whether a line ends in it after the next bracket in it that is open too: the innermost first.
+-- Of each open bracket whether a line ends in it after the next bracket in it that is open too: the
+-- innermost first.
 use Rattle.std.specs.Prelude.{ℕ, Bool, false, ◌||◌, if◌then◌else◌, List, [], ◌∷◌, drop}
 use Rattle.wgsl_model_tidy.specs.LaidOut.{opens_one, closes_one}
 

@@ -1,6 +1,6 @@
 -- What is written before a piece, as the definitions see it.
 use Rattle.std.specs.Prelude.{ℕ}
-use Rattle.wgsl_model.specs.Tokens.Classes.{LineComment, BlockComment}
+use Rattle.wgsl_model.specs.Tokens.ClassTable.{LineComment, BlockComment}
 use Rattle.wgsl_model_tidy.specs.Pieces.{OpenComment}
 use Rattle.wgsl_model_tidy.specs.LaidOut as plain
 use Rattle.wgsl_format_layout.specs.declared.comment.CommentKind.{CommentKind}

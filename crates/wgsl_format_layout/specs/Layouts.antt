@@ -21,4 +21,9 @@ newlines_view Lf = plain.lf
 newlines_view CrLf = plain.crlf
 
 abbrev pub layout_view : Layout → plain.Layout
-layout_view l = record { width = l.width; tabs = has_tabs l.indent; indent = level_columns l.indent; newlines = newlines_view l.newlines }
+layout_view l = record {
+  width = l.width;
+  tabs = has_tabs l.indent;
+  indent = level_columns l.indent;
+  newlines = newlines_view l.newlines;
+}

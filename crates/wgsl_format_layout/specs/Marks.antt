@@ -2,7 +2,7 @@
 use Rattle.std.specs.Prelude.{◌≡◌, ℕ, suc, Bool, true, false, not, ◌&&◌, ◌||◌, ◌==◌, List, [], ◌∷◌}
 use Rattle.grammar.specs.Grammar.{is_among}
 use Rattle.grammar.specs.Tokens.{Token}
-use Rattle.wgsl_model.specs.Tokens.Classes.{LineComment, SymBraceLeft, SymBraceRight}
+use Rattle.wgsl_model.specs.Tokens.ClassTable.{LineComment, SymBraceLeft, SymBraceRight}
 use Rattle.wgsl_model.specs.Tokens.Places.{width}
 use Rattle.wgsl_model.specs.Tokens.Trivia.{outside}
 use Rattle.wgsl_model_tidy.specs.Pieces.{Piece, comments, between, pieces_from}
@@ -18,26 +18,34 @@ abbrev pub AreMarked : List ℕ → List Token → List MarkedToken → Type 0
 AreMarked source [] [] = Unit {0}
 AreMarked source (t ∷ ts) (m ∷ ms) =
     let behind = pieces_from source t.end ts in
-    (class_of_kind m.kind ≡ t.class) × (m.span.start ≡ t.start) × (m.span.end ≡ t.end) × (m.lines ≡ has_lines behind) × (m.several ≡ has_several behind) × AreMarked source ts ms
+    (class_of_kind m.kind ≡ t.class) × (m.span.start ≡ t.start) × (m.span.end ≡ t.end)
+    × (m.lines ≡ has_lines behind) × (m.several ≡ has_several behind) × AreMarked source ts ms
 AreMarked source ts ms = ⊥
 
 -- ---- what is between two tokens
 
 -- of pieces after m line ends these count as a line end, where a token is next
 abbrev pub CountsEnds : (ℕ → List Piece) → Bool → ℕ → Type 0
-CountsEnds behind has_next depth = (m : ℕ) → has_break (suc depth) (behind m) ≡ ((not (m == 0) && has_next) || has_break (suc depth) (behind 0))
+CountsEnds behind has_next depth = (m : ℕ)
+    → has_break (suc depth) (behind m) ≡ ((not (m == 0) && has_next) || has_break (suc depth) (behind 0))
 
--- a text of blank space and comments before a token, or at the end of a source: whether a line ends there, and whether a comment is there
+-- a text of blank space and comments before a token, or at the end of a source: whether a line ends
+-- there, and whether a comment is there
 abbrev pub IsTrivia : List ℕ → Bool → Trivia → Type 0
 IsTrivia text has_next trivia =
-    ((behind : ℕ → List Piece) (depth : ℕ) → CountsEnds behind has_next depth → has_break (suc depth) (comments behind outside 0 text) ≡ (trivia.breaks || has_break (suc depth) (behind 0)))
-    × ((behind : ℕ → List Piece) → ((m : ℕ) → ends_bracket (behind m) ≡ ends_bracket (behind 0)) → ends_bracket (comments behind outside 0 text) ≡ (not trivia.has_comment && ends_bracket (behind 0)))
+    ((behind : ℕ → List Piece) (depth : ℕ) → CountsEnds behind has_next depth → has_break (suc depth)
+    (comments behind outside 0 text) ≡ (trivia.breaks || has_break (suc depth) (behind 0)))
+    × ((behind : ℕ → List Piece) → ((m : ℕ) → ends_bracket (behind m) ≡ ends_bracket (behind 0))
+    → ends_bracket (comments behind outside 0 text) ≡ (not trivia.has_comment && ends_bracket (behind 0)))
 
--- the tokens of a source from a place on, none of which is a comment, and what is before each and after the last
+-- the tokens of a source from a place on, none of which is a comment, and what is before each and
+-- after the last
 abbrev pub AreFound : List ℕ → ℕ → List Token → List MarkedToken → Trivia → Type 0
 AreFound source from [] [] last = IsTrivia (between source from (width source)) false last
 AreFound source from (t ∷ ts) (f ∷ fs) last =
-    (class_of_kind f.kind ≡ t.class) × (f.span.start ≡ t.start) × (f.span.end ≡ t.end) × (is_comment t.class ≡ false) × IsTrivia (between source from t.start) true f.before × AreFound source t.end ts fs last
+    (class_of_kind f.kind ≡ t.class) × (f.span.start ≡ t.start) × (f.span.end ≡ t.end)
+    × (is_comment t.class ≡ false) × IsTrivia (between source from t.start) true f.before
+    × AreFound source t.end ts fs last
 AreFound source from ts fs last = ⊥
 
 -- an operand begins with the first of these tokens
@@ -76,7 +84,8 @@ several_of (f ∷ fs) last = not (closes_one (class_of_kind f.kind)) && not (end
 
 -- a token with these marks
 abbrev pub with_marks : MarkedToken → Bool → Bool → MarkedToken
-with_marks f lines several = record { kind = f.kind; span = f.span; before = f.before; lines = lines; several = several }
+with_marks f lines several =
+    record { kind = f.kind; span = f.span; before = f.before; lines = lines; several = several }
 
 -- each with its marks
 abbrev pub marks : List MarkedToken → Trivia → List MarkedToken

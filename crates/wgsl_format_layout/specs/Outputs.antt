@@ -42,9 +42,11 @@ seen o rest = (chars (string_bytes o.text.string) ++ rest, fits_before o.text.li
 abbrev pub seen_with : Output → List Piece → List ℕ × Bool
 seen_with o ps = seen o (laid_from (layout_of o) (spot_of o) ps)
 
--- these pieces after a bracket in one line, which stays so if the line fits, and is written item by item else
+-- these pieces after a bracket in one line, which stays so if the line fits, and is written item by
+-- item else
 abbrev pub chosen : plain.Layout → Spot → List Piece → List ℕ
-chosen layout spot ps = if line_fits layout spot.column (laid_from layout spot ps) then laid_from layout spot ps else laid_from layout (parted spot) ps
+chosen layout spot ps = if line_fits layout spot.column (laid_from layout spot ps)
+    then laid_from layout spot ps else laid_from layout (parted spot) ps
 
 -- with these pieces after it, where the last token may be such a bracket
 abbrev pub seen_by : Output → Bool → List Piece → List ℕ × Bool
@@ -54,18 +56,23 @@ seen_by o true ps = seen o (chosen (layout_of o) (spot_of o) ps)
 -- a token that comes next is a bracket in one line that may be written item by item
 abbrev pub can_part : Output → MarkedToken → Bool
 can_part o token =
-    not token.lines && ((not (o.text.line.layout.width == 0) && opens_one (class_of_kind token.kind)) && (may_break (enclosing (state_view o.state).opened) && token.several))
+    not token.lines && ((not (o.text.line.layout.width == 0) && opens_one (class_of_kind token.kind))
+    && (may_break (enclosing (state_view o.state).opened) && token.several))
 
 -- ---- one piece more
 
--- a comment is written, before pieces of which the first token is of this role and owns it or does not
+-- a comment is written, before pieces of which the first token is of this role and owns it or does
+-- not
 abbrev pub Writes : Output → Piece → Role → Bool → Output → Type 0
-Writes old p right own new = (ps : List Piece) → next_role (state_view old.state) ps ≡ right → owned (spot_of old) right ps ≡ own → seen_with old (p ∷ ps) ≡ seen_with new ps
+Writes old p right own new = (ps : List Piece) → next_role (state_view old.state) ps ≡ right
+    → owned (spot_of old) right ps ≡ own → seen_with old (p ∷ ps) ≡ seen_with new ps
 
--- the comments of a text are written, with so many line ends after the last one, before pieces of which the first token is of this role, or before none
+-- the comments of a text are written, with so many line ends after the last one, before pieces of
+-- which the first token is of this role, or before none
 abbrev pub WritesComments : Output → List ℕ → Role → Bool → ℕ → Output → Type 0
 WritesComments old text right has_next n new =
-    (behind : ℕ → List Piece) → ((m : ℕ) → next_role (state_view old.state) (behind m) ≡ right) → MayFollow behind has_next → seen_with old (comments behind outside 0 text) ≡ seen_with new (behind n)
+    (behind : ℕ → List Piece) → ((m : ℕ) → next_role (state_view old.state) (behind m) ≡ right)
+    → MayFollow behind has_next → seen_with old (comments behind outside 0 text) ≡ seen_with new (behind n)
 
 -- a token that does so comes next, before these pieces, by which it is marked
 pub record FitsBefore (o : Output) (token : MarkedToken) (right : Role) (ps : List Piece) : Type 0 where
@@ -73,9 +80,11 @@ pub record FitsBefore (o : Output) (token : MarkedToken) (right : Role) (ps : Li
   pub lines : token.lines ≡ has_lines ps
   pub several : token.several ≡ has_several ps
 
--- a token that does so is written with its characters after so many line ends, before pieces that fit
+-- a token that does so is written with its characters after so many line ends, before pieces that
+-- fit
 abbrev pub WritesToken : Output → MarkedToken → Role → List ℕ → ℕ → Output → Type 0
-WritesToken old token right text n new = (ps : List Piece) → FitsBefore old token right ps → seen_with old (piece (class_of_kind token.kind) text n ∷ ps) ≡ seen_by new (can_part old token) ps
+WritesToken old token right text n new = (ps : List Piece) → FitsBefore old token right ps
+    → seen_with old (piece (class_of_kind token.kind) text n ∷ ps) ≡ seen_by new (can_part old token) ps
 
 -- of the state only the depth of the line changed
 abbrev pub StaysBehind : Output → Output → Type 0
@@ -101,14 +110,16 @@ abbrev pub left_at : List ℕ → Place → List Token → List Piece
 left_at source at left = pieces_from (chars source) at.byte left
 
 -- the next token and the comments before it are written
-pub record WritesNext (source : List ℕ) (tokens : List MarkedToken) (old : Output) (at : Place) (left : List Token) (new : Output) (step : Step) : Type 0 where
+pub record WritesNext (source : List ℕ) (tokens : List MarkedToken) (old : Output) (at : Place)
+    (left : List Token) (new : Output) (step : Step) : Type 0 where
   pub others : List Token
   pub is_at : IsAt source tokens step.at others
   pub laid : seen_with old (left_at source at left) ≡ seen_by new step.undecided (left_at source step.at others)
   pub parts : step.undecided ≡ true → Parts new (left_at source step.at others)
 
 -- a bracket in one line is decided, and what follows is written up to a place
-pub record Decides (source : List ℕ) (tokens : List MarkedToken) (old : Output) (after : Place) (left : List Token) (new : Output) (at : Place) : Type 0 where
+pub record Decides (source : List ℕ) (tokens : List MarkedToken) (old : Output) (after : Place)
+    (left : List Token) (new : Output) (at : Place) : Type 0 where
   pub others : List Token
   pub is_at : IsAt source tokens at others
   pub laid : chars (string_bytes old.text.string) ++ chosen (layout_of old) (spot_of old) (left_at source after left)
@@ -116,7 +127,8 @@ pub record Decides (source : List ℕ) (tokens : List MarkedToken) (old : Output
 
 -- ---- going back
 
--- what is needed to go back is saved: the place, how much is written, and the state with the last bracket written item by item
+-- what is needed to go back is saved: the place, how much is written, and the state with the last
+-- bracket written item by item
 pub record Saves (o : Output) (place : Place) (saved : Saved) : Type 0 where
   pub at : saved.at ≡ place
   pub bytes : saved.bytes ≡ length (string_bytes o.text.string)
@@ -126,7 +138,14 @@ pub record Saves (o : Output) (place : Place) (saved : Saved) : Type 0 where
 
 -- the end of the last line is looked for
 abbrev pub looking : Output → Output
-looking o = record { text = record { string = o.text.string; line = record { layout = o.text.line.layout; column = o.text.line.column; wanted = Open } }; state = o.state; last = o.last }
+looking o = record {
+  text = record {
+    string = o.text.string;
+    line = record { layout = o.text.line.layout; column = o.text.line.column; wanted = Open };
+  };
+  state = o.state;
+  last = o.last;
+}
 
 -- what is written is as it was, but the last bracket is written item by item
 pub record GoesBack (old : Output) (saved : Saved) (new : Output) : Type 0 where

@@ -13,7 +13,13 @@ parted_opened [] = []
 parted_opened ((kind, depth) ∷ outer) = (parted_open kind, depth) ∷ outer
 
 abbrev pub parted_state : LayoutState → LayoutState
-parted_state s = record { opened = parted_opened s.opened; line = s.line; last = s.last; leading = s.leading; structure = s.structure }
+parted_state s = record {
+  opened = parted_opened s.opened;
+  line = s.line;
+  last = s.last;
+  leading = s.leading;
+  structure = s.structure;
+}
 
 abbrev pub parted : Spot → Spot
 parted spot = record { state = parted_state spot.state; last = spot.last; column = spot.column }

@@ -1,7 +1,7 @@
 //! What is written before a piece.
 
 ghost use Rattle.std.specs.Prelude.{◌≡◌, ◌==◌};
-ghost use Rattle.wgsl_model.specs.Tokens.Classes.{LineComment};
+ghost use Rattle.wgsl_model.specs.Tokens.ClassTable.{LineComment};
 ghost use Rattle.wgsl_model_tidy.specs.LaidOut as plain;
 ghost use Rattle.wgsl_model_tidy.specs.Roles.{closes};
 ghost use Rattle.wgsl_model_tidy.specs.Joints.{joint};

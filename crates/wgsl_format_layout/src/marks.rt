@@ -2,7 +2,7 @@
 
 ghost use Rattle.std.specs.Prelude.{◌≡◌, [], ◌∷◌, chars, IfOk};
 ghost use Rattle.grammar.specs.Grammar.{is_among};
-ghost use Rattle.wgsl_model.specs.Tokens.Classes.{LineComment, SymBraceLeft, SymBraceRight};
+ghost use Rattle.wgsl_model.specs.Tokens.ClassTable.{LineComment, SymBraceLeft, SymBraceRight};
 ghost use Rattle.wgsl_model.specs.Tokens.TokenList.{IsTokenList};
 ghost use Rattle.wgsl_lexer.specs.TextTokens.{tokens_left, ending_left};
 ghost use Rattle.wgsl_format_layout.specs.Gaps.{comment_class};

@@ -1,7 +1,7 @@
 //! What is known after a token.
 
 ghost use Rattle.std.specs.Prelude.{◌≡◌, ◌&&◌, ◌==◌, IfOk};
-ghost use Rattle.wgsl_model.specs.Tokens.Classes.{SymMinusMinus};
+ghost use Rattle.wgsl_model.specs.Tokens.ClassTable.{SymMinusMinus};
 ghost use Rattle.wgsl_model_tidy.specs.Open as plain;
 ghost use Rattle.wgsl_lex_token.specs.View.{class_of_kind};
 ghost use Rattle.wgsl_format_layout.specs.View.{role_view};

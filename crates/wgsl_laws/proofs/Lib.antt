@@ -1,1 +1,2 @@
 mod Hints
+mod LawNodes

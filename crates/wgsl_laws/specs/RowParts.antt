@@ -1,7 +1,7 @@
 -- Short ways to write the tokens and the trees of rows.
 use Rattle.std.specs.Prelude.{ℕ, pos, List, [], Option, None}
 use Rattle.grammar.specs.Tokens.{Payload.nothing, Payload.name, Payload.number, Token, Span, Fault}
-use Rattle.wgsl_model.specs.Tokens.Classes.{Ident, ReservedWord, AbstractInt}
+use Rattle.wgsl_model.specs.Tokens.ClassTable.{Ident, ReservedWord, AbstractInt}
 use Rattle.wgsl_model.specs.Faults.Kinds.{out_of_memory_kind}
 use Rattle.wgsl_model.specs.Trees.Spanned.{Spanned, spanned}
 use Rattle.wgsl_model.specs.Trees.Expressions.{LiteralExpression, ExpressionNode, ExpressionNode.expression_node, Expression, FunctionCall, FunctionCall.call, TypeExpression.type_expression, expressions_of, template_of}

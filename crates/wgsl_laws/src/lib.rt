@@ -2,19 +2,19 @@
 //! and does nothing.
 #![tactic(auto)]
 
-pub mod attribute_equality;
-pub mod attributes;
+pub mod attribute_equality_nodes;
+pub mod attributes_nodes;
 pub mod canonical_rows;
 pub mod derived_rows;
-pub mod equality;
+pub mod equality_nodes;
 pub mod expression_equality;
 pub mod grammar_laws;
 pub mod laid_out;
 pub mod name_equality;
 pub mod paths;
 pub mod printed;
-pub mod simple_equality;
+pub mod simple_equality_nodes;
 pub mod spelling;
 pub mod tokens;
 pub mod trees;
-pub mod unit_equality;
+pub mod unit_equality_nodes;

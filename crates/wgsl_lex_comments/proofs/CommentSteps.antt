@@ -18,7 +18,8 @@ pub after_two : (source text cs : List ℕ) (c d : ℕ) → EndsWith source text
 after_two source text cs c d h e = joined source text cs h (c ∷ (d ∷ []), e)
 
 -- and what follows a blank or a sign
-pub after_begun : (source text : List ℕ) (p : Piece) → EndsWith source text → BeginsWith text p → EndsWith source (chars (piece_rest p))
+pub after_begun : (source text : List ℕ) (p : Piece) → EndsWith source text → BeginsWith text p
+    → EndsWith source (chars (piece_rest p))
 after_begun source text (piece.Blank after) h begins = after_one source text (chars after.now) begins.0 h begins.1
 after_begun source text (piece.LineComment body) h begins = after_two source text (chars body.now) 47 47 h begins
 after_begun source text (piece.BlockComment body) h begins = after_two source text (chars body.now) 47 42 h begins
@@ -32,26 +33,33 @@ pub at_end : (text : List ℕ) → after_line text ≡ text → after_trivia out
 at_end text e = ap (after_trivia outside) (sym e) ∙ after_line-left text
 
 -- what is found of a line comment in another
-pub over_line : (text body : List ℕ) (r : Option (Bor (List ℕ))) → text ≡ 47 ∷ (47 ∷ body) → MatchOption r ⊤ (λ over. Leaves text (chars over.now)) → MatchOption r ⊤ (λ over. after_trivia outside (chars over.now) ≡ after_trivia in_line text)
+pub over_line : (text body : List ℕ) (r : Option (Bor (List ℕ))) → text ≡ 47 ∷ (47 ∷ body)
+    → MatchOption r ⊤ (λ over. Leaves text (chars over.now))
+    → MatchOption r ⊤ (λ over. after_trivia outside (chars over.now) ≡ after_trivia in_line text)
 unfolding after_trivia
 over_line text body None e l = l
 over_line text body (Some over) e l = l.line body e ∙ ap (after_trivia in_line) (sym e)
 
 -- ---- in a block comment
-pub goes : (n c : ℕ) (text cs : List ℕ) → text ≡ c ∷ cs → (c == 47 && first_or_zero cs == 42) ≡ false → (c == 42 && first_or_zero cs == 47) ≡ false → after_trivia (in_block n) cs ≡ after_trivia (in_block n) text
+pub goes : (n c : ℕ) (text cs : List ℕ) → text ≡ c ∷ cs
+    → (c == 47 && first_or_zero cs == 42) ≡ false → (c == 42 && first_or_zero cs == 47) ≡ false
+    → after_trivia (in_block n) cs ≡ after_trivia (in_block n) text
 unfolding after_trivia
 goes n c text cs e h k = rw (e, h, k) refl
 
-pub goes_in : (n : ℕ) (text body : List ℕ) → text ≡ 47 ∷ (42 ∷ body) → after_trivia (in_block (suc n)) body ≡ after_trivia (in_block n) text
+pub goes_in : (n : ℕ) (text body : List ℕ) → text ≡ 47 ∷ (42 ∷ body)
+    → after_trivia (in_block (suc n)) body ≡ after_trivia (in_block n) text
 unfolding after_trivia
 goes_in n text body e = rw e refl
 
-pub goes_out : (n : ℕ) (text outer : List ℕ) → text ≡ 42 ∷ (47 ∷ outer) → after_trivia (out_of_block n) outer ≡ after_trivia (in_block n) text
+pub goes_out : (n : ℕ) (text outer : List ℕ) → text ≡ 42 ∷ (47 ∷ outer)
+    → after_trivia (out_of_block n) outer ≡ after_trivia (in_block n) text
 unfolding after_trivia
 goes_out n text outer e = rw e refl
 
 -- over a known block comment in another
-pub goes_over : (n : ℕ) (text body over : List ℕ) → text ≡ 47 ∷ (42 ∷ body) → Leaves text over → after_trivia (in_block n) over ≡ after_trivia (in_block n) text
+pub goes_over : (n : ℕ) (text body over : List ℕ) → text ≡ 47 ∷ (42 ∷ body) → Leaves text over
+    → after_trivia (in_block n) over ≡ after_trivia (in_block n) text
 goes_over n text body over e l = l.block body (suc n) e ∙ goes_in n text body e
 
 -- where nothing is left it is the same wherever one stands

@@ -22,50 +22,65 @@ left_at source place text (xs, e, p) = omega (arith, p, ap width e, width-append
 
 -- what begins at the same place is the same
 pub one_text : (source : List ℕ) (p q : ℕ) (t u : List ℕ) → BeginsAt source p t → BeginsAt source q u → p ≡ q → t ≡ u
-one_text source p q t u b (ys, f, r) same = same_end b.0 ys t u (sym b.1 ∙ f) (omega (arith, same, left_at source p t b, left_at source q u (ys, f, r)))
+one_text source p q t u b (ys, f, r) same = same_end b.0 ys t u (sym b.1 ∙ f)
+    (omega (arith, same, left_at source p t b, left_at source q u (ys, f, r)))
 
 -- the place of a text
-pub text_begins : (bs ts : List ℕ) → IsUtf8 bs → IsUtf8 ts → EndsWith (chars bs) (chars ts) → (length ts ≤ length bs) × BeginsAt (chars bs) (length bs - length ts) (chars ts)
+pub text_begins : (bs ts : List ℕ) → IsUtf8 bs → IsUtf8 ts → EndsWith (chars bs) (chars ts)
+    → (length ts ≤ length bs) × BeginsAt (chars bs) (length bs - length ts) (chars ts)
 text_begins bs ts u v (before, e) =
     let size = (cut_end bs before (chars ts) u e).3 in
     (omega (arith, size, bytes_width ts v), (before, e, omega (arith, size, bytes_width ts v)))
 
 -- a text can be cut there
-pub text_cut : (bs : List ℕ) (place : ℕ) (ts : List ℕ) → IsUtf8 bs → BeginsAt (chars bs) place ts → IsCharBoundary bs place × (chars (drop place bs) ≡ ts)
+pub text_cut : (bs : List ℕ) (place : ℕ) (ts : List ℕ) → IsUtf8 bs → BeginsAt (chars bs) place ts
+    → IsCharBoundary bs place × (chars (drop place bs) ≡ ts)
 text_cut bs place ts u (before, e, p) =
     let cut = cut_end bs before ts u e in
     (subst (IsCharBoundary bs) (sym p) cut.2, ap (λ n. chars (drop n bs)) p ∙ ap chars cut.0 ∙ cut.1)
 
 -- a text that begins further right is shorter
-pub shorter_at : (source bs cs : List ℕ) (p q : ℕ) → IsUtf8 bs → IsUtf8 cs → BeginsAt source p (chars bs) → BeginsAt source q (chars cs) → p < q → length cs < length bs
-shorter_at source bs cs p q u v b d less = omega (arith, less, left_at source p (chars bs) b, left_at source q (chars cs) d, bytes_width bs u, bytes_width cs v)
+pub shorter_at : (source bs cs : List ℕ) (p q : ℕ) → IsUtf8 bs → IsUtf8 cs
+    → BeginsAt source p (chars bs) → BeginsAt source q (chars cs) → p < q → length cs < length bs
+shorter_at source bs cs p q u v b d less = omega
+    (arith, less, left_at source p (chars bs) b, left_at source q (chars cs) d, bytes_width bs u, bytes_width cs v)
 
 -- ---- lists of comments
-pub comment_in : (source : List ℕ) (found : List Known) (i : ℕ) (d : Known) → AreComments source found → i < length found → IsKnown source (get_or found i d)
+pub comment_in : (source : List ℕ) (found : List Known) (i : ℕ) (d : Known)
+    → AreComments source found → i < length found → IsKnown source (get_or found i d)
 comment_in source [] i d all l = absurd (omega arith)
 comment_in source (known ∷ found) zero d all l = all.0
 comment_in source (known ∷ found) (suc i) d all l = comment_in source found i d all.1 (omega arith)
 
-pub comment_more : (source : List ℕ) (found : List Known) (known : Known) → AreComments source found → IsKnown source known → AreComments source (found ++ known ∷ [])
+pub comment_more : (source : List ℕ) (found : List Known) (known : Known) → AreComments source found
+    → IsKnown source known → AreComments source (found ++ known ∷ [])
 comment_more source [] known all is = (is, all)
 comment_more source (first ∷ found) known all is = (all.0, comment_more source found known all.1 is)
 
-pub left_more : (source rest : List ℕ) (run : List Comment) (comment : Comment) → AreLeft source rest run → (text : List ℕ) × IsCommentOf source text rest comment → AreLeft source rest (run ++ comment ∷ [])
+pub left_more : (source rest : List ℕ) (run : List Comment) (comment : Comment)
+    → AreLeft source rest run → (text : List ℕ) × IsCommentOf source text rest comment
+    → AreLeft source rest (run ++ comment ∷ [])
 left_more source rest [] comment all is = (is, all)
 left_more source rest (first ∷ run) comment all is = (all.0, left_more source rest run comment all.1 is)
 
 -- and taken from the back
-pub left_last : (source rest : List ℕ) (run : List Comment) (comment : Comment) → AreLeft source rest (run ++ comment ∷ []) → AreLeft source rest run × ((text : List ℕ) × IsCommentOf source text rest comment)
+pub left_last : (source rest : List ℕ) (run : List Comment) (comment : Comment)
+    → AreLeft source rest (run ++ comment ∷ [])
+    → AreLeft source rest run × ((text : List ℕ) × IsCommentOf source text rest comment)
 left_last source rest [] comment all = (all.1, all.0)
-left_last source rest (first ∷ run) comment all = let others = left_last source rest run comment all.1 in ((all.0, others.0), others.1)
+left_last source rest (first ∷ run) comment all =
+    let others = left_last source rest run comment all.1 in ((all.0, others.0), others.1)
 
 -- what a search found, by the place where a text begins
-pub found_at : (source text : List ℕ) (found : List Known) (start at : ℕ) (d : Known) → AreComments source found → BeginsAt source start text → at < length found → nat_cmp start (get_or found at d).comment.start ≡ Equal → IsKnownOf source text (get_or found at d)
+pub found_at : (source text : List ℕ) (found : List Known) (start at : ℕ) (d : Known)
+    → AreComments source found → BeginsAt source start text → at < length found
+    → nat_cmp start (get_or found at d).comment.start ≡ Equal → IsKnownOf source text (get_or found at d)
 found_at source text found start at d all b l same =
     let known = get_or found at d in
     let is = comment_in source found at d all l in
     let other = is.1.2 in
-    subst (λ t. IsKnownOf source t known) (one_text source known.comment.start start is.0 text other.start b (sym (ranked start known.comment.start _ (sym same)))) is.1
+    subst (λ t. IsKnownOf source t known) (one_text source known.comment.start start is.0 text
+    other.start b (sym (ranked start known.comment.start _ (sym same)))) is.1
 
 -- ---- what is after a blank or a comment
 blank_is_no_slash : (c : ℕ) → is_blank c ≡ true → c ≡ 47 → ⊥
@@ -81,7 +96,8 @@ leaves_blank c text over e h = record {
 other_sign : (xs ys : List ℕ) → 47 ∷ (47 ∷ xs) ≡ 47 ∷ (42 ∷ ys) → ⊥
 other_sign xs ys e = absurd cc
 
-pub leaves_block : (text body over : List ℕ) → text ≡ 47 ∷ (42 ∷ body) → ((n : ℕ) → after_trivia (out_of_block n) over ≡ after_trivia (in_block n) body) → Leaves text over
+pub leaves_block : (text body over : List ℕ) → text ≡ 47 ∷ (42 ∷ body)
+    → ((n : ℕ) → after_trivia (out_of_block n) over ≡ after_trivia (in_block n) body) → Leaves text over
 unfolding after_trivia
 leaves_block text body over e h = record {
   line = λ other f. absurd (other_sign other body (sym f ∙ e));
@@ -91,7 +107,8 @@ leaves_block text body over e h = record {
   tail : (other : List ℕ) → text ≡ 47 ∷ (42 ∷ other) → body ≡ other
   tail other f = cc
 
-pub leaves_line : (text body over : List ℕ) → text ≡ 47 ∷ (47 ∷ body) → after_trivia outside over ≡ after_trivia in_line body → Leaves text over
+pub leaves_line : (text body over : List ℕ) → text ≡ 47 ∷ (47 ∷ body)
+    → after_trivia outside over ≡ after_trivia in_line body → Leaves text over
 unfolding after_trivia
 leaves_line text body over e h = record {
   line = λ other f. h ∙ ap (after_trivia in_line) (tail other f);
@@ -102,7 +119,9 @@ leaves_line text body over e h = record {
   tail other f = cc
 
 -- a comment that was walked
-pub walked : (source text over rest : List ℕ) (comment : Comment) → BeginsAt source comment.start text → BeginsAt source comment.end over → Leaves text over → width over < width text → after_trivia outside over ≡ rest → IsCommentOf source text rest comment
+pub walked : (source text over rest : List ℕ) (comment : Comment) → BeginsAt source comment.start text
+    → BeginsAt source comment.end over → Leaves text over → width over < width text
+    → after_trivia outside over ≡ rest → IsCommentOf source text rest comment
 walked source text over rest comment s e leaves less left = record {
   over = over;
   start = s;
@@ -113,7 +132,8 @@ walked source text over rest comment s e leaves less left = record {
 }
 
 -- what is no longer than what is after a first character is narrower than the text
-pub narrower : (text bs cs : List ℕ) → IsUtf8 bs → IsUtf8 cs → EndsPast text (chars bs) → length cs ≤ length bs → width (chars cs) < width text
+pub narrower : (text bs cs : List ℕ) → IsUtf8 bs → IsUtf8 cs → EndsPast text (chars bs)
+    → length cs ≤ length bs → width (chars cs) < width text
 narrower text bs cs u v h less = omega (arith, less, past text (chars bs) h, bytes_width bs u, bytes_width cs v)
 
 -- in bytes

@@ -39,11 +39,13 @@ word_byte_bound c h = grind (arith, common_steps)
 
 -- ---- the bytes of a word
 
-pub word_goes_on : (c : ℕ) (cs : List ℕ) → (is_ascii_alphanumeric c || c == 95) ≡ true → after_word (c ∷ cs) ≡ after_word cs
+pub word_goes_on : (c : ℕ) (cs : List ℕ) → (is_ascii_alphanumeric c || c == 95) ≡ true
+    → after_word (c ∷ cs) ≡ after_word cs
 unfolding skip_while
 word_goes_on c cs h = rw (ascii_continue c (word_byte_bound c h), h) refl
 
-pub word_ends_at : (c : ℕ) (cs : List ℕ) → c < 128 → (is_ascii_alphanumeric c || c == 95) ≡ false → after_word (c ∷ cs) ≡ c ∷ cs
+pub word_ends_at : (c : ℕ) (cs : List ℕ) → c < 128 → (is_ascii_alphanumeric c || c == 95) ≡ false
+    → after_word (c ∷ cs) ≡ c ∷ cs
 unfolding skip_while
 word_ends_at c cs low h = rw (ascii_continue c low, h) refl
 
@@ -53,7 +55,8 @@ word_of_nothing = refl
 
 -- ---- digits
 
-pub skip_digits-is : (p : ℕ → Bool) (radix : ℕ) → ((c : ℕ) → is_digit c radix ≡ p c) → (s : List ℕ) → skip_digits radix s ≡ skip_while p s
+pub skip_digits-is : (p : ℕ → Bool) (radix : ℕ) → ((c : ℕ) → is_digit c radix ≡ p c) → (s : List ℕ)
+    → skip_digits radix s ≡ skip_while p s
 skip_digits-is p radix same s = ap (λ (q : ℕ → Bool). skip_while q s) (fun_ext same)
 
 -- ---- one digit more
@@ -61,11 +64,13 @@ skip_digits-is p radix same s = ap (λ (q : ℕ → Bool). skip_while q s) (fun_
 digit_below : (c radix : ℕ) → digit_value c < radix → is_digit c radix ≡ true
 digit_below c radix h = grind (arith, common_steps)
 
-pub read_digits-step : (radix n c : ℕ) (cs : List ℕ) → digit_value c < radix → read_digits radix n (c ∷ cs) ≡ read_digits radix (n * radix + digit_value c) cs
+pub read_digits-step : (radix n c : ℕ) (cs : List ℕ) → digit_value c < radix
+    → read_digits radix n (c ∷ cs) ≡ read_digits radix (n * radix + digit_value c) cs
 unfolding read_digits
 read_digits-step radix n c cs h = rw (digit_below c radix h) refl
 
-pub skip_digits-step : (radix c : ℕ) (cs : List ℕ) → digit_value c < radix → skip_digits radix (c ∷ cs) ≡ skip_digits radix cs
+pub skip_digits-step : (radix c : ℕ) (cs : List ℕ) → digit_value c < radix
+    → skip_digits radix (c ∷ cs) ≡ skip_digits radix cs
 unfolding skip_while
 skip_digits-step radix c cs h = rw (digit_below c radix h) refl
 

@@ -11,10 +11,13 @@ pub front-whole : (xs text rest : List ℕ) → text ≡ xs ++ rest → text ≡
 front-whole xs text rest e = e ∙ ap (λ zs. zs ++ rest) (sym (ap (λ t. front t rest) e ∙ front-append xs rest))
 
 -- the token of a spelling that is known
-pub found : (c : ℕ) (cs rest : List ℕ) (kind : Option Kind) → after_spelling spelling ((c ∷ cs) ++ rest) ≡ Some rest → kind_of_spelling (c ∷ cs) ≡ kind → raw_at ((c ∷ cs) ++ rest) ≡ valued ((c ∷ cs) ++ rest) rest kind
+pub found : (c : ℕ) (cs rest : List ℕ) (kind : Option Kind)
+    → after_spelling spelling ((c ∷ cs) ++ rest) ≡ Some rest → kind_of_spelling (c ∷ cs) ≡ kind
+    → raw_at ((c ∷ cs) ++ rest) ≡ valued ((c ∷ cs) ++ rest) rest kind
 found c cs rest kind e v =
     let text : List ℕ = (c ∷ cs) ++ rest in
-    ap (spelled text (cs ++ rest)) e ∙ ap (λ w. valued text rest (kind_of_spelling w)) (front-append (c ∷ cs) rest) ∙ ap (valued text rest) v
+    ap (spelled text (cs ++ rest)) e
+    ∙ ap (λ w. valued text rest (kind_of_spelling w)) (front-append (c ∷ cs) rest) ∙ ap (valued text rest) v
 
 -- a character that begins no spelling
 pub missed : (c : ℕ) (cs : List ℕ) → after_spelling spelling (c ∷ cs) ≡ None → raw_at (c ∷ cs) ≡ invalid (c ∷ cs) cs

@@ -3,7 +3,7 @@ use Rattle.std.proofs.Common.{◌≡◌, ℕ, Bool, true, false, ◌==◌, ◌||
 use Rattle.std.specs.Char.{is_ascii_digit}
 use Rattle.std.specs.Str.{encode_utf8_all}
 use Rattle.unicode_ident.specs.Ident.{is_xid_start}
-use Rattle.wgsl_model.specs.Tokens.Classes.{SymPeriod}
+use Rattle.wgsl_model.specs.Tokens.ClassTable.{SymPeriod}
 use Rattle.wgsl_model.specs.Tokens.Raw.{raw_at, kind_of_spelling, token, front, kind_of_word}
 use Rattle.wgsl_lex_token.specs.View.{view_of_class}
 use Rattle.wgsl_lex_scanner.specs.ScannedNumbers.{NumericLiteral, as_optional_float, point, number}
@@ -27,8 +27,10 @@ point_or_none : (o : Option (ℕ × List ℕ)) (cs : List ℕ) → point cs ≡ 
 point_or_none None cs e h = found 46 [] cs (Some (view_of_class SymPeriod)) (point_alone cs e) value-period
 point_or_none (Some float) cs e h = absurd (cc)
 
-digit_or_not : (b : Bool) (c : ℕ) (cs : List ℕ) → is_ascii_digit c ≡ b → is_xid_start c ≡ false → (c == 95) ≡ false → (c == 46) ≡ false → (c == 48) ≡ false → number c cs ≡ None → IsRead c cs
-digit_or_not true c cs d h n no_point no_zero e = let known = rw (no_point, no_zero, is_digit-decimal c ∙ d) at e in absurd (cc)
+digit_or_not : (b : Bool) (c : ℕ) (cs : List ℕ) → is_ascii_digit c ≡ b → is_xid_start c ≡ false
+    → (c == 95) ≡ false → (c == 46) ≡ false → (c == 48) ≡ false → number c cs ≡ None → IsRead c cs
+digit_or_not true c cs d h n no_point no_zero e =
+    let known = rw (no_point, no_zero, is_digit-decimal c ∙ d) at e in absurd (cc)
 digit_or_not false c cs d h n no_point no_zero e = symbol-read c cs h d n no_point
 
 no_number : (c : ℕ) (cs : List ℕ) → is_xid_start c ≡ false → (c == 95) ≡ false → number c cs ≡ None → IsRead c cs
@@ -40,7 +42,8 @@ no_number c cs h n e =
 
 -- ---- any character
 
-number_or_not : (o : Option (NumericLiteral × List ℕ)) (c : ℕ) (cs : List ℕ) → number c cs ≡ o → is_xid_start c ≡ false → (c == 95) ≡ false → raw_at (c ∷ cs) ≡ number_or_symbol o c cs
+number_or_not : (o : Option (NumericLiteral × List ℕ)) (c : ℕ) (cs : List ℕ) → number c cs ≡ o
+    → is_xid_start c ≡ false → (c == 95) ≡ false → raw_at (c ∷ cs) ≡ number_or_symbol o c cs
 number_or_not None c cs e h n = no_number c cs h n e
 number_or_not (Some found) c cs e h n = (number-read c cs found e).0
 
@@ -56,5 +59,7 @@ pub raw_at-scanned : (text : List ℕ) → raw_at text ≡ scan_at text
 raw_at-scanned [] = refl
 raw_at-scanned (c ∷ cs) = start_or_not (is_xid_start c) c cs refl
 
-pub scan_at-word : (c : ℕ) (cs : List ℕ) → (is_xid_start c || c == 95) ≡ true → token (kind_of_word (encode_utf8_all (front (c ∷ cs) (after_word cs)))) (c ∷ cs) (after_word cs) ≡ scan_at (c ∷ cs)
+pub scan_at-word : (c : ℕ) (cs : List ℕ) → (is_xid_start c || c == 95) ≡ true
+    → token (kind_of_word (encode_utf8_all (front (c ∷ cs) (after_word cs)))) (c ∷ cs) (after_word cs)
+    ≡ scan_at (c ∷ cs)
 scan_at-word c cs h = rw h refl

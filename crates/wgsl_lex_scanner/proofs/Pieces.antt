@@ -26,7 +26,8 @@ low_and_other c h = (grind (arith, common_steps), grind (arith, common_steps))
 pub no_comment_bound : (c : ℕ) → (nat_lt c 128 && not (c == 47)) ≡ true → c < 128
 no_comment_bound c h = (low_and_other c h).0
 
-pub no_piece : (c : ℕ) (cs : List ℕ) → ((nat_lt 8 c && nat_lt c 14) || c == 32) ≡ false → (nat_lt c 128 && not (c == 47)) ≡ true → BeginsWithNone (c ∷ cs)
+pub no_piece : (c : ℕ) (cs : List ℕ) → ((nat_lt 8 c && nat_lt c 14) || c == 32) ≡ false
+    → (nat_lt c 128 && not (c == 47)) ≡ true → BeginsWithNone (c ∷ cs)
 no_piece c cs blank h = let both = low_and_other c h in (blank_byte c both.0 ∙ blank, rw both.1 refl, rw both.1 refl)
 
 pub line_byte_bound : (c : ℕ) → (nat_lt c 128 && not (nat_lt 9 c && nat_lt c 14)) ≡ true → c < 128
@@ -37,7 +38,8 @@ line_byte c h = grind (arith, common_steps)
 
 -- ---- blanks, and where nothing is passed over
 
-pub over_blank : (c : ℕ) (text cs : List ℕ) → text ≡ c ∷ cs → is_blank c ≡ true → after_trivia outside text ≡ after_trivia outside cs
+pub over_blank : (c : ℕ) (text cs : List ℕ) → text ≡ c ∷ cs → is_blank c ≡ true
+    → after_trivia outside text ≡ after_trivia outside cs
 unfolding after_trivia
 over_blank c text cs e b = rw (e, b) refl
 
@@ -68,18 +70,21 @@ unfolding after_trivia skip_while
 after_line-left [] = refl
 after_line-left (c ∷ cs) = go (is_line_break c) refl (after_line-left cs)
   where
-    go : (b : Bool) → is_line_break c ≡ b → after_trivia outside (after_line cs) ≡ after_trivia in_line cs → after_trivia outside (after_line (c ∷ cs)) ≡ after_trivia in_line (c ∷ cs)
+    go : (b : Bool) → is_line_break c ≡ b → after_trivia outside (after_line cs) ≡ after_trivia in_line cs
+        → after_trivia outside (after_line (c ∷ cs)) ≡ after_trivia in_line (c ∷ cs)
     go true e h = rw (e, break_is_blank c e) refl
     go false e h = rw e h
 
 -- a line comment
-pub over_line : (text body : List ℕ) → text ≡ 47 ∷ (47 ∷ body) → after_trivia outside text ≡ after_trivia outside (after_line body)
+pub over_line : (text body : List ℕ) → text ≡ 47 ∷ (47 ∷ body)
+    → after_trivia outside text ≡ after_trivia outside (after_line body)
 unfolding after_trivia
 over_line text body e = rw e (sym (after_line-left body))
 
 -- ---- block comments
 
-pub block_goes : (n c : ℕ) (cs : List ℕ) → (c == 47 && first_or_zero cs == 42) ≡ false → (c == 42 && first_or_zero cs == 47) ≡ false → after_block n (c ∷ cs) ≡ after_block n cs
+pub block_goes : (n c : ℕ) (cs : List ℕ) → (c == 47 && first_or_zero cs == 42) ≡ false
+    → (c == 42 && first_or_zero cs == 47) ≡ false → after_block n (c ∷ cs) ≡ after_block n cs
 unfolding after_block
 block_goes n c [] h k = refl
 block_goes zero c (d ∷ cs) h k = rw (h, k) refl
@@ -103,7 +108,8 @@ unfolding after_block
 no_block zero = refl
 no_block (suc n) = refl
 
--- after it what is after the blank space and the comments inside it, and nothing if it is not closed
+-- after it what is after the blank space and the comments inside it, and nothing if it is not
+-- closed
 abbrev BlockLeft : ℕ → List ℕ → Type 0
 BlockLeft n text = after_trivia outside (unwrap_or (after_block n text) []) ≡ after_trivia (in_block n) text
 
@@ -118,7 +124,8 @@ last_left n c true b e f = rw e refl
 last_left n c false true e f = rw (e, f) refl
 last_left n c false false e f = rw (e, f) refl
 
-two_left : (n c d : ℕ) (cs : List ℕ) (a b : Bool) → (c == 47 && d == 42) ≡ a → (c == 42 && d == 47) ≡ b → BlockLeft (suc n) cs → ClosedLeft n cs → BlockLeft n (d ∷ cs) → BlockLeft n (c ∷ (d ∷ cs))
+two_left : (n c d : ℕ) (cs : List ℕ) (a b : Bool) → (c == 47 && d == 42) ≡ a → (c == 42 && d == 47) ≡ b
+    → BlockLeft (suc n) cs → ClosedLeft n cs → BlockLeft n (d ∷ cs) → BlockLeft n (c ∷ (d ∷ cs))
 unfolding after_trivia after_block
 two_left zero c d cs true b e f opened closed other = rw e opened
 two_left zero c d cs false true e f opened closed other = rw (e, f) refl
@@ -131,16 +138,22 @@ block_left : (n : ℕ) (text : List ℕ) → BlockLeft n text
 unfolding after_trivia after_block
 block_left n [] = refl
 block_left n (c ∷ []) = last_left n c (c == 47 && false) (c == 42 && false) refl refl
-block_left zero (c ∷ (d ∷ cs)) = two_left zero c d cs (c == 47 && d == 42) (c == 42 && d == 47) refl refl (block_left 1 cs) tt (block_left zero (d ∷ cs))
-block_left (suc n) (c ∷ (d ∷ cs)) = two_left (suc n) c d cs (c == 47 && d == 42) (c == 42 && d == 47) refl refl (block_left (suc (suc n)) cs) (block_left n cs) (block_left (suc n) (d ∷ cs))
+block_left zero (c ∷ (d ∷ cs)) = two_left zero c d cs (c == 47 && d == 42)
+    (c == 42 && d == 47) refl refl (block_left 1 cs) tt (block_left zero (d ∷ cs))
+block_left (suc n) (c ∷ (d ∷ cs)) = two_left (suc n) c d cs (c == 47 && d == 42) (c == 42 && d == 47)
+    refl refl (block_left (suc (suc n)) cs) (block_left n cs) (block_left (suc n) (d ∷ cs))
 
-left_chars : (r : Option (Bor (List ℕ))) (nothing : Bor (List ℕ)) → chars nothing.now ≡ [] → unwrap_or (option_map (λ rest. chars rest.now) r) [] ≡ chars (unwrap_or r nothing).now
+left_chars : (r : Option (Bor (List ℕ))) (nothing : Bor (List ℕ)) → chars nothing.now ≡ []
+    → unwrap_or (option_map (λ rest. chars rest.now) r) [] ≡ chars (unwrap_or r nothing).now
 left_chars None nothing e = sym e
 left_chars (Some rest) nothing e = refl
 
 -- a block comment
-pub over_block : (text body : List ℕ) (r : Option (Bor (List ℕ))) (nothing : Bor (List ℕ)) → text ≡ 47 ∷ (42 ∷ body) → option_map (λ rest. chars rest.now) r ≡ after_block 0 body → chars nothing.now ≡ []
+pub over_block : (text body : List ℕ) (r : Option (Bor (List ℕ))) (nothing : Bor (List ℕ))
+    → text ≡ 47 ∷ (42 ∷ body) → option_map (λ rest. chars rest.now) r ≡ after_block 0 body
+    → chars nothing.now ≡ []
     → after_trivia outside text ≡ after_trivia outside (chars (unwrap_or r nothing).now)
 unfolding after_trivia
 over_block text body r nothing e is n =
-    rw e (sym (block_left 0 body)) ∙ ap (λ o. after_trivia outside (unwrap_or o [])) (sym is) ∙ ap (after_trivia outside) (left_chars r nothing n)
+    rw e (sym (block_left 0 body)) ∙ ap (λ o. after_trivia outside (unwrap_or o [])) (sym is)
+    ∙ ap (after_trivia outside) (left_chars r nothing n)

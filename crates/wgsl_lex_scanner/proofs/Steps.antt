@@ -18,7 +18,8 @@ false-or : (b : Bool) → b ≡ (b || false)
 false-or true = refl
 false-or false = refl
 
-begins-either_more : (a b : Pattern) (k : List ℕ → Bool) (s : List ℕ) → begins (either_more a b) k s ≡ (begins a k s || begins b k s)
+begins-either_more : (a b : Pattern) (k : List ℕ → Bool) (s : List ℕ)
+    → begins (either_more a b) k s ≡ (begins a k s || begins b k s)
 unfolding begins
 begins-either_more a nothing k s = false-or (begins a k s)
 begins-either_more a empty k s = refl
@@ -27,7 +28,8 @@ begins-either_more a (any p) k s = refl
 begins-either_more a (both b c) k s = refl
 begins-either_more a (either b c) k s = refl
 
-begins-either_of : (a b : Pattern) (k : List ℕ → Bool) (s : List ℕ) → begins (either_of a b) k s ≡ (begins a k s || begins b k s)
+begins-either_of : (a b : Pattern) (k : List ℕ → Bool) (s : List ℕ)
+    → begins (either_of a b) k s ≡ (begins a k s || begins b k s)
 unfolding begins
 begins-either_of nothing b k s = refl
 begins-either_of empty b k s = begins-either_more empty b k s
@@ -36,7 +38,8 @@ begins-either_of (any p) b k s = begins-either_more (any p) b k s
 begins-either_of (both a c) b k s = begins-either_more (both a c) b k s
 begins-either_of (either a c) b k s = begins-either_more (either a c) b k s
 
-begins-cond : (b : Bool) (a : Pattern) (k : List ℕ → Bool) (s : List ℕ) → begins (cond b a nothing) k s ≡ (b && begins a k s)
+begins-cond : (b : Bool) (a : Pattern) (k : List ℕ → Bool) (s : List ℕ)
+    → begins (cond b a nothing) k s ≡ (b && begins a k s)
 unfolding begins
 begins-cond true a k s = refl
 begins-cond false a k s = refl
@@ -66,12 +69,14 @@ or-comm false true = refl
 or-comm false false = refl
 
 -- A spelling of the pattern at the front begins with the character and goes on, or it is empty.
-pub begins-after : (r : Pattern) (k : List ℕ → Bool) (c : ℕ) (s : List ℕ) → begins r k (c ∷ s) ≡ (begins (after c r) k s || (nullable r && k (c ∷ s)))
+pub begins-after : (r : Pattern) (k : List ℕ → Bool) (c : ℕ) (s : List ℕ)
+    → begins r k (c ∷ s) ≡ (begins (after c r) k s || (nullable r && k (c ∷ s)))
 unfolding begins begins_any
 begins-after nothing k c s = refl
 begins-after empty k c s = refl
 begins-after (one p) k c s = false-or (p c && k s) ∙ ap (λ x. x || false) (sym (begins-cond (p c) empty k s))
-begins-after (any p) k c s = or-comm (k (c ∷ s)) (p c && begins_any p k s) ∙ ap (λ x. x || k (c ∷ s)) (sym (begins-cond (p c) (any p) k s))
+begins-after (any p) k c s = or-comm (k (c ∷ s)) (p c && begins_any p k s)
+    ∙ ap (λ x. x || k (c ∷ s)) (sym (begins-cond (p c) (any p) k s))
 begins-after (both a b) k c s =
     begins-after a (begins b k) c s
     ∙ ap (λ x. begins (after c a) (begins b k) s || (nullable a && x)) (begins-after b k c s)
@@ -103,8 +108,10 @@ begins-empty nothing k = refl
 begins-empty empty k = refl
 begins-empty (one p) k = refl
 begins-empty (any p) k = refl
-begins-empty (both a b) k = begins-empty a (begins b k) ∙ ap (λ x. nullable a && x) (begins-empty b k) ∙ and-assoc (nullable a) (nullable b) (k [])
-begins-empty (either a b) k = ap (λ x. x || begins b k []) (begins-empty a k) ∙ ap (λ x. (nullable a && k []) || x) (begins-empty b k) ∙ and-or (nullable a) (nullable b) (k [])
+begins-empty (both a b) k = begins-empty a (begins b k)
+    ∙ ap (λ x. nullable a && x) (begins-empty b k) ∙ and-assoc (nullable a) (nullable b) (k [])
+begins-empty (either a b) k = ap (λ x. x || begins b k []) (begins-empty a k)
+    ∙ ap (λ x. (nullable a && k []) || x) (begins-empty b k) ∙ and-or (nullable a) (nullable b) (k [])
 
 and-true : (b : Bool) → (b && true) ≡ b
 and-true true = refl
@@ -121,15 +128,18 @@ none_left false false = refl
 pub spells-cons : (r : Pattern) (c : ℕ) (s : List ℕ) → spells r (c ∷ s) ≡ spells (after c r) s
 spells-cons r c s = begins-after r is_empty c s ∙ none_left (begins (after c r) is_empty s) (nullable r)
 
-pub same_tests : (p q : List ℕ → Bool) → ((w : List ℕ) → p w ≡ q w) → (text : List ℕ) → after_longest p text ≡ after_longest q text
+pub same_tests : (p q : List ℕ → Bool) → ((w : List ℕ) → p w ≡ q w) → (text : List ℕ)
+    → after_longest p text ≡ after_longest q text
 same_tests p q same text = ap (λ (f : List ℕ → Bool). after_longest f text) (fun_ext same)
 
 pub after_spelling-nil : (r : Pattern) → after_spelling r [] ≡ cond (nullable r) (Some []) None
 unfolding after_spelling after_longest
 after_spelling-nil r = ap (λ b. cond b (Some []) None) (spells-nil r)
 
-pub after_spelling-cons : (r : Pattern) (c : ℕ) (cs : List ℕ) → after_spelling r (c ∷ cs) ≡ or_else (after_spelling (after c r) cs) (cond (nullable r) (Some (c ∷ cs)) None)
+pub after_spelling-cons : (r : Pattern) (c : ℕ) (cs : List ℕ) → after_spelling r (c ∷ cs)
+    ≡ or_else (after_spelling (after c r) cs) (cond (nullable r) (Some (c ∷ cs)) None)
 unfolding after_spelling after_longest
 after_spelling-cons r c cs =
-    ap (λ x. or_else x (cond (spells r []) (Some (c ∷ cs)) None)) (same_tests (λ w. spells r (c ∷ w)) (spells (after c r)) (spells-cons r c) cs)
+    ap (λ x. or_else x (cond (spells r []) (Some (c ∷ cs)) None))
+    (same_tests (λ w. spells r (c ∷ w)) (spells (after c r)) (spells-cons r c) cs)
     ∙ ap (λ b. or_else (after_spelling (after c r) cs) (cond b (Some (c ∷ cs)) None)) (spells-nil r)

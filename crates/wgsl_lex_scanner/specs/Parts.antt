@@ -2,9 +2,9 @@
 use Rattle.std.specs.Prelude.{ℕ, ℤ, pos, List, chars, Option, Some, None, option_map}
 use denote.Bor.{Bor}
 use Rattle.grammar.specs.Tokens.{Payload.number}
-use Rattle.wgsl_model.specs.Tokens.Classes as class
+use Rattle.wgsl_model.specs.Tokens.ClassTable as class
 use Rattle.wgsl_model.specs.Tokens.Kind.{Kind}
-use Rattle.wgsl_lex_token.specs.declared.kind.TokenKind.{TokenKind}
+use Rattle.wgsl_lex_token.specs.declared.kind_table.TokenKind.{TokenKind}
 use Rattle.wgsl_lex_token.specs.View.{class_of_kind}
 use Rattle.wgsl_lex_scanner.specs.declared.float.FloatType.{FloatType}
 use Rattle.wgsl_lex_scanner.specs.declared.float.FloatType.TheVariants as float_type
@@ -24,7 +24,8 @@ float_class (float_type.F16) = class.F16
 
 -- a number that was read
 abbrev pub number_view : NumericLiteral → scanned.NumericLiteral
-number_view (read.AbstractInt value) = scanned.integer class.AbstractInt (option_map (whole_kind class.AbstractInt) value)
+number_view (read.AbstractInt value) = scanned.integer class.AbstractInt
+    (option_map (whole_kind class.AbstractInt) value)
 number_view (read.I32 value) = scanned.integer class.I32 (option_map (whole_kind class.I32) value)
 number_view (read.U32 value) = scanned.integer class.U32 (option_map (λ n. whole_kind class.U32 (pos n)) value)
 number_view (read.Float float_type) = scanned.float (float_class float_type)

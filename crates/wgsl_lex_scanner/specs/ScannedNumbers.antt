@@ -1,7 +1,8 @@
--- How the scanner goes over a number, a character at a time: what its own functions promise one another.
+-- How the scanner goes over a number, a character at a time: what its own functions promise one
+-- another.
 use Rattle.std.specs.Prelude.{ℕ, ◌^◌, ◌==◌, if◌then◌else◌, List, [], ◌∷◌, Option, Some, None, unwrap_or}
 use Rattle.std.specs.Char.{digit_value, is_digit}
-use Rattle.wgsl_model.specs.Tokens.Classes.{AbstractInt, I32, U32, AbstractFloat, F32, F16}
+use Rattle.wgsl_model.specs.Tokens.ClassTable.{AbstractInt, I32, U32, AbstractFloat, F32, F16}
 use Rattle.wgsl_model.specs.Tokens.Kind.{Kind}
 use Rattle.wgsl_model.specs.Tokens.Numbers.{is_x, is_e, is_p, is_sign, number_value, number_below, float_of, without_last}
 use Rattle.wgsl_lex_scanner.specs.Digits.{skip_digits, read_digits}
@@ -77,7 +78,8 @@ point (c ∷ cs) = if is_digit c 10 then Some (fraction cs) else None
 -- behind the hexadecimal digits behind a point
 abbrev pub hexadecimal_fraction_end : List ℕ → ℕ × List ℕ
 hexadecimal_fraction_end [] = (AbstractFloat, [])
-hexadecimal_fraction_end (c ∷ cs) = if is_p c then unwrap_or (scan_exponent cs) (AbstractFloat, c ∷ cs) else (AbstractFloat, c ∷ cs)
+hexadecimal_fraction_end (c ∷ cs) = if is_p c
+    then unwrap_or (scan_exponent cs) (AbstractFloat, c ∷ cs) else (AbstractFloat, c ∷ cs)
 
 -- behind a point among hexadecimal digits
 abbrev pub hexadecimal_fraction : List ℕ → ℕ × List ℕ
@@ -86,7 +88,8 @@ hexadecimal_fraction text = hexadecimal_fraction_end (skip_digits 16 text)
 -- behind the hexadecimal digits that begin a float
 abbrev pub hexadecimal_float : List ℕ → Option (ℕ × List ℕ)
 hexadecimal_float [] = None
-hexadecimal_float (c ∷ cs) = if c == 46 then Some (hexadecimal_fraction cs) else if is_p c then scan_exponent cs else None
+hexadecimal_float (c ∷ cs) = if c == 46 then Some (hexadecimal_fraction cs) else if is_p c
+    then scan_exponent cs else None
 
 -- behind a point with no hexadecimal digit before it
 abbrev pub hexadecimal_point : List ℕ → Option (ℕ × List ℕ)
@@ -140,5 +143,6 @@ abbrev pub number : ℕ → List ℕ → Option (NumericLiteral × List ℕ)
 number c cs =
     if c == 46 then as_optional_float (point cs)
     else if c == 48 then Some (after_zero cs)
-    else if is_digit c 10 then Some (decimal (skip_digits 10 cs) (read_digits 10 (digit_value c) cs) (skip_digits 10 cs))
+    else if is_digit c 10
+    then Some (decimal (skip_digits 10 cs) (read_digits 10 (digit_value c) cs) (skip_digits 10 cs))
     else None

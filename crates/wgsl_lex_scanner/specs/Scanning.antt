@@ -1,8 +1,9 @@
--- How the scanner goes over a text, a character at a time: what its own functions promise one another.
+-- How the scanner goes over a text, a character at a time: what its own functions promise one
+-- another.
 use Rattle.std.specs.Prelude.{ℕ, ◌==◌, ◌||◌, if◌then◌else◌, List, [], ◌∷◌, Option, Some, None}
 use Rattle.std.specs.Str.{encode_utf8_all}
 use Rattle.unicode_ident.specs.Ident.{is_xid_start, is_xid_continue}
-use Rattle.wgsl_model.specs.Tokens.Classes.{SymAnd, SymAndAnd, SymArrow, SymAttr, SymForwardSlash, SymBang, SymBracketLeft, SymBracketRight, SymBraceLeft, SymBraceRight, SymColon, SymComma, SymEqual, SymEqualEqual, SymNotEqual, SymGreaterThan, SymGreaterThanEqual, SymShiftRight, SymLessThan, SymLessThanEqual, SymShiftLeft, SymModulo, SymMinus, SymMinusMinus, SymPeriod, SymPlus, SymPlusPlus, SymOr, SymOrOr, SymParenLeft, SymParenRight, SymSemicolon, SymStar, SymTilde, SymXor, SymPlusEqual, SymMinusEqual, SymTimesEqual, SymDivisionEqual, SymModuloEqual, SymAndEqual, SymOrEqual, SymXorEqual, SymShiftRightAssign, SymShiftLeftAssign}
+use Rattle.wgsl_model.specs.Tokens.ClassTable.{SymAnd, SymAndAnd, SymArrow, SymAttr, SymForwardSlash, SymBang, SymBracketLeft, SymBracketRight, SymBraceLeft, SymBraceRight, SymColon, SymComma, SymEqual, SymEqualEqual, SymNotEqual, SymGreaterThan, SymGreaterThanEqual, SymShiftRight, SymLessThan, SymLessThanEqual, SymShiftLeft, SymModulo, SymMinus, SymMinusMinus, SymPeriod, SymPlus, SymPlusPlus, SymOr, SymOrOr, SymParenLeft, SymParenRight, SymSemicolon, SymStar, SymTilde, SymXor, SymPlusEqual, SymMinusEqual, SymTimesEqual, SymDivisionEqual, SymModuloEqual, SymAndEqual, SymOrEqual, SymXorEqual, SymShiftRightAssign, SymShiftLeftAssign}
 use Rattle.wgsl_model.specs.Tokens.Raw.{Raw, none_left, invalid, token, front, kind_of_word, valued}
 use Rattle.wgsl_lex_token.specs.View.{view_of_class}
 use Rattle.wgsl_lex_scanner.specs.Digits.{skip_while}
@@ -23,7 +24,8 @@ with_equal equal alone (c ∷ cs) = if c == 61 then (equal, cs) else (alone, c �
 -- the same character or `=` may follow
 abbrev pub doubled : ℕ → ℕ → ℕ → ℕ → List ℕ → ℕ × List ℕ
 doubled own twice equal alone [] = (alone, [])
-doubled own twice equal alone (c ∷ cs) = if c == own then (twice, cs) else if c == 61 then (equal, cs) else (alone, c ∷ cs)
+doubled own twice equal alone (c ∷ cs) = if c == own then (twice, cs) else if c == 61
+    then (equal, cs) else (alone, c ∷ cs)
 
 -- behind `-`
 abbrev pub minus : List ℕ → ℕ × List ℕ
@@ -88,5 +90,6 @@ number_or_symbol (Some found) c cs = numbered (c ∷ cs) found
 abbrev pub scan_at : List ℕ → Raw
 scan_at [] = none_left
 scan_at (c ∷ cs) =
-    if is_xid_start c || c == 95 then token (kind_of_word (encode_utf8_all (front (c ∷ cs) (after_word cs)))) (c ∷ cs) (after_word cs)
+    if is_xid_start c || c == 95
+    then token (kind_of_word (encode_utf8_all (front (c ∷ cs) (after_word cs)))) (c ∷ cs) (after_word cs)
     else number_or_symbol (number c cs) c cs

@@ -19,7 +19,8 @@ BeginsWith text (piece.BlockComment body) = text ≡ 47 ∷ (42 ∷ chars body.n
 -- neither
 abbrev pub BeginsWithNone : List ℕ → Type 0
 BeginsWithNone [] = ⊤
-BeginsWithNone (c ∷ cs) = (is_blank c ≡ false) × ((c == 47 && first_or_zero cs == 47) ≡ false) × ((c == 47 && first_or_zero cs == 42) ≡ false)
+BeginsWithNone (c ∷ cs) = (is_blank c ≡ false) × ((c == 47 && first_or_zero cs == 47) ≡ false)
+    × ((c == 47 && first_or_zero cs == 42) ≡ false)
 
 -- the bytes after it
 abbrev pub piece_rest : Piece → List ℕ
@@ -43,7 +44,8 @@ after_line text = skip_while (λ c. not (is_line_break c)) text
 abbrev pub IsStep : List ℕ → Step → Type 0
 IsStep text (step.Ends) = text ≡ []
 IsStep text (step.Goes after) =
-    (c : ℕ) × (text ≡ c ∷ chars after.now) × ((c == 47 && first_or_zero (chars after.now) == 42) ≡ false) × ((c == 42 && first_or_zero (chars after.now) == 47) ≡ false)
+    (c : ℕ) × (text ≡ c ∷ chars after.now) × ((c == 47 && first_or_zero (chars after.now) == 42) ≡ false)
+    × ((c == 42 && first_or_zero (chars after.now) == 47) ≡ false)
 IsStep text (step.Opens body) = text ≡ 47 ∷ (42 ∷ chars body.now)
 IsStep text (step.Closes outer) = text ≡ 42 ∷ (47 ∷ chars outer.now)
 
@@ -54,7 +56,8 @@ IsShorterStep n (step.Goes rest) = length rest.now < n
 IsShorterStep n (step.Opens rest) = length rest.now < n
 IsShorterStep n (step.Closes rest) = length rest.now < n
 
--- what follows the end of a block comment that is open in so many others, or none where it is not closed
+-- what follows the end of a block comment that is open in so many others, or none where it is not
+-- closed
 unfoldable pub after_block : ℕ → List ℕ → Option (List ℕ)
 after_block n [] = None
 after_block n (c ∷ []) = None

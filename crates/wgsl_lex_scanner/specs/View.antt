@@ -1,7 +1,7 @@
 -- What the scanner gives, as the definitions see it.
 use Rattle.std.specs.Prelude.{ℕ, ◌<◌, ◌≤◌, ⊤, chars, length, pos}
 use Rattle.grammar.specs.Tokens.{Payload.number}
-use Rattle.wgsl_model.specs.Tokens.Classes as class
+use Rattle.wgsl_model.specs.Tokens.ClassTable as class
 use Rattle.wgsl_model.specs.Tokens.Kind.{Kind, named}
 use Rattle.wgsl_model.specs.Tokens.Raw.{Raw, none_left, invalid, token}
 use Rattle.wgsl_lex_token.specs.View.{class_of_kind, view_of_class}

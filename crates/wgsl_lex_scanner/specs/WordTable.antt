@@ -1,12 +1,13 @@
--- The table of keywords and reserved words: what its entries say, and where a word stands in it if it is one of them.
+-- The table of keywords and reserved words: what its entries say, and where a word stands in it if
+-- it is one of them.
 use Rattle.std.specs.Prelude.{ℕ, Bool, true, false, ◌==◌, ◌&&◌, List, ◌≡◌, ◌+◌, ◌*◌, ◌-◌, ◌/◌, ◌%◌, length, slice_index, slice_index_or, Option, Some, None, is_none, bytes_eq}
 use Rattle.std.specs.List.{list_all}
 use denote.Bor.{Bor}
-use Rattle.wgsl_model.specs.Tokens.Classes as class
+use Rattle.wgsl_model.specs.Tokens.ClassTable as class
 use Rattle.wgsl_model.specs.Tokens.Kind.{Kind, named}
 use Rattle.wgsl_model.specs.Tokens.Raw.{keyword_or_name}
 use Rattle.wgsl_model.specs.Tokens.Words.{look_up, is_word_among, reserved_words}
-use Rattle.wgsl_model.specs.Tokens.Classes.{keywords}
+use Rattle.wgsl_model.specs.Tokens.ClassTable.{keywords}
 use Rattle.wgsl_lex_token.specs.View.{class_of_kind, view_of_class}
 use Rattle.wgsl_lex_scanner.specs.declared.word_table.Meaning.{Meaning}
 use Rattle.wgsl_lex_scanner.specs.declared.word_table.Meaning.TheVariants as meaning
@@ -24,7 +25,8 @@ meant (Some (meaning.Reserved)) word = named class.ReservedWord word
 
 -- ---- places
 
--- how far the sum of its length and its other characters is moved, by its length and its first character
+-- how far the sum of its length and its other characters is moved, by its length and its first
+-- character
 unfoldable pub moved : ℕ → ℕ → ℕ
 moved first size = slice_index MOVES ((first + 2 * size) % 64)
 
@@ -33,7 +35,8 @@ unfoldable pub slot_by : ℕ → ℕ → ℕ → ℕ → ℕ
 slot_by size first middle last = slice_index PLACES ((((moved first size + size) + 2 * middle) + 8 * last) % 256)
 
 abbrev pub slot_of : List ℕ → ℕ
-slot_of word = slot_by (length word % 64) (slice_index word 0) (slice_index word (length word / 2)) (slice_index word (length word - 1))
+slot_of word = slot_by (length word % 64) (slice_index word 0) (slice_index word (length word / 2))
+    (slice_index word (length word - 1))
 
 -- ---- entries
 
@@ -59,4 +62,5 @@ stands table d word = bytes_eq (slice_index_or table (slot_of word) d).0.now wor
 
 -- each keyword and each reserved word stands at its place
 unfoldable pub HoldsAllWords : List Entry → Type 0
-HoldsAllWords table = (d : Entry) → (list_all (λ (e : List ℕ × ℕ). stands table d e.0) keywords && list_all (λ word. stands table d word) reserved_words) ≡ true
+HoldsAllWords table = (d : Entry) → (list_all (λ (e : List ℕ × ℕ). stands table d e.0) keywords
+    && list_all (λ word. stands table d word) reserved_words) ≡ true

@@ -1,7 +1,7 @@
 //! A token whose name or spelling is still a part of the source.
 
 ghost use Rattle.std.specs.Prelude.{◌≡◌, IfOk, IfSome};
-ghost use Rattle.wgsl_model.specs.Tokens.Classes.{Ident};
+ghost use Rattle.wgsl_model.specs.Tokens.ClassTable.{Ident};
 ghost use Rattle.wgsl_model.specs.Tokens.Kind.{named};
 ghost use Rattle.wgsl_lex_token.specs.View.{class_of_kind, kind_view};
 ghost use Rattle.wgsl_lex_scanner.specs.View.{lexeme_view};

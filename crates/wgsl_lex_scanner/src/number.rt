@@ -1,7 +1,7 @@
 //! Numbers.
 
 ghost use Rattle.std.specs.Prelude.{◌≡◌, ◌≤◌, ◌<◌, ◌^◌, ℕ, chars, length, IfSome, option_map, pos};
-ghost use Rattle.wgsl_model.specs.Tokens.Classes.{AbstractInt, I32, U32};
+ghost use Rattle.wgsl_model.specs.Tokens.ClassTable.{AbstractInt, I32, U32};
 ghost use Rattle.wgsl_model.specs.Tokens.Numbers.{number_below};
 ghost use Rattle.wgsl_lex_scanner.specs.Digits.{Fits};
 ghost use Rattle.wgsl_lex_scanner.specs.ScannedNumbers.{number_kind, suffixed, decimal, after_zero, scan_hexadecimal, number};

@@ -4,8 +4,8 @@ use Rattle.std.proofs.lemmas.Bool.Decides.{eqb_tells}
 use Rattle.std.specs.List.{list_any}
 use denote.Enum.Bare.{sameb}
 use Rattle.grammar.specs.Grammar.{is_among}
-use Rattle.wgsl_lex_token.specs.declared.kind.TokenKind.{TokenKind}
-use Rattle.wgsl_lex_token.specs.contracts.kind.TokenKind.{the_type}
+use Rattle.wgsl_lex_token.specs.declared.kind_table.TokenKind.{TokenKind}
+use Rattle.wgsl_lex_token.specs.contracts.kind_table.TokenKind.{the_type}
 use Rattle.wgsl_lex_token.specs.View.{class_of_kind, classes}
 
 flipped : (a b : ℕ) → eqb a b ≡ eqb b a
@@ -19,7 +19,8 @@ or_is : (a b : Bool) → (a || b) ≡ cond a true b
 or_is true b = refl
 or_is false b = refl
 
-pub among : (k : TokenKind) (ks : List TokenKind) → list_any (λ y. sameb the_type y k) ks ≡ is_among (class_of_kind k) (classes ks)
+pub among : (k : TokenKind) (ks : List TokenKind)
+    → list_any (λ y. sameb the_type y k) ks ≡ is_among (class_of_kind k) (classes ks)
 among k [] = refl
 among k (y ∷ ks) =
     ap (λ (b : Bool). b || list_any (λ x. sameb the_type x k) ks) (flipped (class_of_kind y) (class_of_kind k))

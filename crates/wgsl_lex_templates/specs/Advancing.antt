@@ -5,10 +5,10 @@ use Rattle.grammar.specs.Tokens.{Payload.nothing, Token}
 use Rattle.grammar.specs.Grammar.{Mode.checking, is_among}
 use Rattle.grammar.specs.Reading.{Outcome, Outcome.ok, Outcome.stuck, Outcome.bad, Outcome.out, read_all}
 use Rattle.wgsl_model.specs.Grammar.Symbols.{Symbol.relational_expression, Symbol.unary_expression}
-use Rattle.wgsl_model.specs.Tokens.Classes.{SymParenLeft, TemplateArgsStart}
+use Rattle.wgsl_model.specs.Tokens.ClassTable.{SymParenLeft, TemplateArgsStart}
 use Rattle.wgsl_theory_grammar.specs.Factored.{FactoredSymbol, FactoredSymbol.of, FactoredSymbol.further, Further.argument_rest, Further.template_items, body}
 use Rattle.wgsl_theory_grammar.specs.Tables.{rank_limit, tables}
-use Rattle.wgsl_lex_token.specs.declared.kind.TokenKind.{TokenKind}
+use Rattle.wgsl_lex_token.specs.declared.kind_table.TokenKind.{TokenKind}
 use Rattle.wgsl_lex_token.specs.View.{classes}
 use Rattle.wgsl_lex_templates.specs.ExpressionLists.{classes_of}
 
@@ -64,7 +64,8 @@ turns s part cs = turns_in (length cs) s part cs
 
 -- further operands of a bitwise operator
 unfoldable pub bitwise_more : ℕ → List ℕ → Option (List ℕ)
-bitwise_more operator cs = turns (operator ∷ []) (λ cs. take_any (operator ∷ []) cs >>= advances (of unary_expression)) cs
+bitwise_more operator cs = turns (operator ∷ [])
+    (λ cs. take_any (operator ∷ []) cs >>= advances (of unary_expression)) cs
 
 -- operands of a bitwise operator, one at least
 unfoldable pub bitwise_operands : ℕ → List ℕ → Option (List ℕ)
@@ -72,7 +73,8 @@ bitwise_operands operator cs = advances (of unary_expression) cs >>= bitwise_mor
 
 -- further operands of a short-circuit operator
 unfoldable pub relations_more : ℕ → List ℕ → Option (List ℕ)
-relations_more operator cs = turns (operator ∷ []) (λ cs. take_any (operator ∷ []) cs >>= advances (of relational_expression)) cs
+relations_more operator cs = turns (operator ∷ [])
+    (λ cs. take_any (operator ∷ []) cs >>= advances (of relational_expression)) cs
 
 -- operands of a short-circuit operator, one at least
 unfoldable pub relations : ℕ → List ℕ → Option (List ℕ)

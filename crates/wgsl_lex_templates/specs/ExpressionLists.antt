@@ -1,11 +1,12 @@
--- Token lists that are a list of expressions, which decides whether a `<` begins a template list (WGSL, "Template Lists").
+-- Token lists that are a list of expressions, which decides whether a `<` begins a template list
+-- (WGSL, "Template Lists").
 use Rattle.std.specs.Prelude.{◌≡◌, ℕ, List, map}
 use Rattle.grammar.specs.Tokens.{Token}
 use Rattle.grammar.specs.Grammar.{Mode.checking, Derives}
 use Rattle.wgsl_model.specs.Trees.Expressions.{ExpressionNode}
 use Rattle.wgsl_model.specs.Grammar.Symbols.{Symbol.expressions}
 use Rattle.wgsl_model.specs.Grammar.Written.{written}
-use Rattle.wgsl_lex_token.specs.declared.kind.TokenKind.{TokenKind}
+use Rattle.wgsl_lex_token.specs.declared.kind_table.TokenKind.{TokenKind}
 use Rattle.wgsl_lex_token.specs.View.{classes}
 
 -- the classes of tokens

@@ -1,6 +1,6 @@
 -- Kinds that may stand in place of others in a list of expressions.
 use Rattle.std.specs.Prelude.{ℕ, List, [], ◌∷◌, ◌++◌, map}
-use Rattle.wgsl_model.specs.Tokens.Classes.{SymParenLeft, SymParenRight}
+use Rattle.wgsl_model.specs.Tokens.ClassTable.{SymParenLeft, SymParenRight}
 use Rattle.wgsl_theory_templates.specs.Exchanged.{Exchanged}
 use Rattle.wgsl_lex_templates.specs.Advancing.{token_of_class}
 

@@ -2,7 +2,7 @@
 use Rattle.std.specs.Prelude.{◌≡◌, ℕ, Bool, true, List, chars, Option, Some, None}
 use Rattle.std.specs.Borrow.{Bor}
 use Rattle.grammar.specs.Tokens.{Token}
-use Rattle.wgsl_model.specs.Tokens.Classes.{SymLessThan}
+use Rattle.wgsl_model.specs.Tokens.ClassTable.{SymLessThan}
 use Rattle.wgsl_model.specs.Tokens.Templates.{NoTemplate, Template}
 
 -- a list begins the text, and this text stands behind it; or none does
@@ -10,7 +10,8 @@ abbrev pub SkipsList : ℕ → List ℕ → Option (Bor (List ℕ)) → Type 0
 SkipsList total text None = NoTemplate (Template total) text
 SkipsList total text (Some rest) = (ts : List Token) × Template total text ts (chars rest.now)
 
--- the same where a token of a class begins the text, which begins a list only if it is a `<` behind a word
+-- the same where a token of a class begins the text, which begins a list only if it is a `<` behind
+-- a word
 abbrev pub SkipsBehind : Bool → ℕ → ℕ → List ℕ → Option (Bor (List ℕ)) → Type 0
 SkipsBehind word class total text None = word ≡ true → class ≡ SymLessThan → NoTemplate (Template total) text
 SkipsBehind word class total text (Some rest) = (word ≡ true) × (class ≡ SymLessThan) × SkipsList total text (Some rest)

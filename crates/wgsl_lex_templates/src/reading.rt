@@ -1,12 +1,12 @@
 //! The tokens behind a `<`, up to where it shows whether a list could begin at it.
 
 ghost use Rattle.std.specs.Prelude.{◌≡◌, ◌+◌, ◌<◌, ◌≤◌, ◌^◌, ⊤, ℕ, List, [], ◌∷◌, ◌++◌, chars, length, IfOk, MatchOption};
-ghost use Rattle.wgsl_model.specs.Tokens.Classes.{SymLessThan};
+ghost use Rattle.wgsl_model.specs.Tokens.ClassTable.{SymLessThan};
 ghost use Rattle.wgsl_model.specs.Tokens.Raw.{raw};
 ghost use Rattle.wgsl_lex_token.specs.View.{class_of_kind};
 ghost use Rattle.wgsl_lex_scanner.specs.View.{scanned_view, IsShorter};
 ghost use Rattle.wgsl_theory_grammar.proofs.Tokens.Cuts.{EndsWith};
-ghost use Rattle.wgsl_lex_token.specs.declared.kind.TokenKind.TheVariants.{TemplateArgsStart, TemplateArgsEnd, Ident};
+ghost use Rattle.wgsl_lex_token.specs.declared.kind_table.TokenKind.TheVariants.{TemplateArgsStart, TemplateArgsEnd, Ident};
 ghost use Rattle.wgsl_lex_templates.specs.declared.kept.Piece.{Piece};
 ghost use Rattle.wgsl_lex_templates.specs.declared.kept.Piece.TheVariants.{Token};
 ghost use Rattle.wgsl_lex_comments.specs.Comments.{AreComments};

@@ -2,7 +2,7 @@
 
 ghost use Rattle.std.specs.Prelude.{◌≡◌, ◌<◌, ◌+◌, ◌==◌, ◌^◌};
 ghost use Rattle.grammar.specs.Grammar.{is_among};
-ghost use Rattle.wgsl_model.specs.Tokens.Classes.{SymLessThan};
+ghost use Rattle.wgsl_model.specs.Tokens.ClassTable.{SymLessThan};
 ghost use Rattle.wgsl_model.specs.Tokens.Templates.{is_word};
 ghost use Rattle.wgsl_theory_templates.specs.Attempts.{less_signs};
 ghost use Rattle.wgsl_lex_token.specs.View.{class_of_kind};

@@ -1,7 +1,7 @@
 //! A list of expressions in fewer kinds, which may stand in its place.
 
 ghost use Rattle.std.specs.Prelude.{◌≡◌, ◌≤◌, ⊤, ◌∷◌, ◌++◌, length, IfOk, IfSome, IsTrue, MatchOption};
-ghost use Rattle.wgsl_model.specs.Tokens.Classes.{SymParenLeft, SymParenRight};
+ghost use Rattle.wgsl_model.specs.Tokens.ClassTable.{SymParenLeft, SymParenRight};
 ghost use Rattle.wgsl_lex_token.specs.View.{classes};
 ghost use Rattle.wgsl_lex_templates.specs.Shortened.{in_parentheses, MayReplace};
 

@@ -1,6 +1,6 @@
 -- Which classes are symbols, numbers and comments, and the words that stand for a class.
 use Rattle.std.specs.Prelude.{ℕ, Bool, ◌&&◌, ◌||◌, ◌==◌, nat_le, List, ◌++◌}
-use Rattle.wgsl_model.specs.Tokens.Classes.{SymShiftLeftAssign, AbstractInt, F16, LineComment, BlockComment, symbols, keywords}
+use Rattle.wgsl_model.specs.Tokens.ClassTable.{SymShiftLeftAssign, AbstractInt, F16, LineComment, BlockComment, symbols, keywords}
 use Rattle.wgsl_model.specs.Tokens.Texts.{word_in, special_texts}
 
 -- a symbol: the first classes, up to `<<=`

@@ -1,3 +1,4 @@
+pub mod TokenTable
 pub mod Groups
 pub mod View
 pub mod Placed

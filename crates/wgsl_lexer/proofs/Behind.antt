@@ -10,15 +10,24 @@ use Rattle.wgsl_theory_templates.proofs.Rest.LeftTokens.{left_unique}
 use Rattle.wgsl_lexer.specs.TextTokens.{AreBehind, has_left, from_next, end_from_next, IsToken}
 
 -- these tokens are the ones that are behind it
-pub behind_is : (t : TextTokens) (ts : List Token) (e : Ending) → AreBehind t ts e → (ts ≡ (has_left t).0) × (e ≡ (has_left t).1)
-behind_is t ts e h = left_unique t.total (reverse t.ends.items) t.behind_word (chars t.rest.now) ts (has_left t).0 e (has_left t).1 h (has_left t).2
+pub behind_is : (t : TextTokens) (ts : List Token) (e : Ending) → AreBehind t ts e
+    → (ts ≡ (has_left t).0) × (e ≡ (has_left t).1)
+behind_is t ts e h = left_unique t.total (reverse t.ends.items) t.behind_word (chars t.rest.now) ts
+    (has_left t).0 e (has_left t).1 h (has_left t).2
 
-pub found_behind : (old new : TextTokens) (n : Next) → ((ts : List Token) (e : Ending) → AreBehind new ts e → AreBehind old (from_next n ts) e) → IsToken n → (from_next n (has_left new).0 ≡ (has_left old).0) × (end_from_next n (has_left new).1 ≡ (has_left old).1)
-found_behind old new (next.Token lexeme span) h is = behind_is old _ _ (h (has_left new).0 (has_left new).1 (has_left new).2)
+pub found_behind : (old new : TextTokens) (n : Next)
+    → ((ts : List Token) (e : Ending) → AreBehind new ts e → AreBehind old (from_next n ts) e) → IsToken n
+    → (from_next n (has_left new).0 ≡ (has_left old).0) × (end_from_next n (has_left new).1 ≡ (has_left old).1)
+found_behind old new (next.Token lexeme span) h is = behind_is old _ _
+    (h (has_left new).0 (has_left new).1 (has_left new).2)
 found_behind old new (next.Invalid span) h is = absurd is
 found_behind old new next.NoneLeft h is = absurd is
 
 -- what is behind it is the token list of a source, where any tokens that are behind it are
-pub whole_behind : (source : List ℕ) (t : TextTokens) (ts : List Token) (e : Ending) → ((us : List Token) (f : Ending) → AreBehind t us f → IsTokenList source us f) → ts ≡ (has_left t).0 → e ≡ (has_left t).1 → IsTokenList source ts e
+pub whole_behind : (source : List ℕ) (t : TextTokens) (ts : List Token) (e : Ending)
+    → ((us : List Token) (f : Ending) → AreBehind t us f → IsTokenList source us f)
+    → ts ≡ (has_left t).0 → e ≡ (has_left t).1 → IsTokenList source ts e
 whole_behind source t ts e whole same ending =
-    subst (λ f. IsTokenList source ts f) (sym ending) (subst (λ (us : List Token). IsTokenList source us (has_left t).1) (sym same) (whole (has_left t).0 (has_left t).1 (has_left t).2))
+    subst (λ f. IsTokenList source ts f) (sym ending)
+    (subst (λ (us : List Token). IsTokenList source us (has_left t).1) (sym same)
+    (whole (has_left t).0 (has_left t).1 (has_left t).2))

@@ -25,37 +25,51 @@ EndsSo total (token kind from after) e = ⊥
 
 -- the end of a text from a place on, and how tokens end behind which it stands
 abbrev EndsBehind : ℕ → List ℕ → ℕ → Ending → Type 0
-EndsBehind total text end e = (rest : List ℕ) × EndsWith text rest × (place total rest ≡ end) × EndsSo total (raw rest) e
+EndsBehind total text end e = (rest : List ℕ) × EndsWith text rest × (place total rest ≡ end)
+    × EndsSo total (raw rest) e
 
 -- the same of a text that ends with that one
-longer : (total : ℕ) (text after : List ℕ) (end : ℕ) (e : Ending) → EndsWith text after → EndsBehind total after end e → EndsBehind total text end e
+longer : (total : ℕ) (text after : List ℕ) (end : ℕ) (e : Ending) → EndsWith text after
+    → EndsBehind total after end e → EndsBehind total text end e
 longer total text after end e h k = (k.0, joined text after k.0 h k.1, k.2, k.3)
 
-ends_behind : (total : ℕ) (ends : List ℕ) (word : Bool) (text : List ℕ) (ts : List Token) (e : Ending) → LeftOf total ends word text ts e → EndsBehind total text (last_end (place total text) ts) e
-ends_behind total ends word text ts e (left_nothing x w t r) = (text, ([], refl), refl, subst (λ m. EndsSo total m finished) (sym r) refl)
-ends_behind total ends word text ts e (left_fault x w t from after r) = (text, ([], refl), refl, subst (λ m. EndsSo total m (fault_at total from after)) (sym r) refl)
+ends_behind : (total : ℕ) (ends : List ℕ) (word : Bool) (text : List ℕ) (ts : List Token) (e : Ending)
+    → LeftOf total ends word text ts e → EndsBehind total text (last_end (place total text) ts) e
+ends_behind total ends word text ts e (left_nothing x w t r) =
+    (text, ([], refl), refl, subst (λ m. EndsSo total m finished) (sym r) refl)
+ends_behind total ends word text ts e (left_fault x w t from after r) =
+    (text, ([], refl), refl, subst (λ m. EndsSo total m (fault_at total from after)) (sym r) refl)
 ends_behind total ends word text ts e (left_end x w t from after kind us f r h) =
-    longer total text (drop 1 from) _ f (joined text from (drop 1 from) (cut_at text from after kind r).0 (behind_first from)) (ends_behind total x false (drop 1 from) us f h)
+    longer total text (drop 1 from) _ f
+    (joined text from (drop 1 from) (cut_at text from after kind r).0 (behind_first from))
+    (ends_behind total x false (drop 1 from) us f h)
 ends_behind total ends word text ts e (left_start x t from after end kind us f r b c k h) =
-    longer total text after _ f (behind_token text from after kind r) (ends_behind total (place total end ∷ ends) false after us f h)
+    longer total text after _ f (behind_token text from after kind r)
+    (ends_behind total (place total end ∷ ends) false after us f h)
 ends_behind total ends word text ts e (left_token x w t from after kind us f r b n h) =
-    longer total text after _ f (behind_token text from after kind r) (ends_behind total ends (is_word kind.class) after us f h)
+    longer total text after _ f (behind_token text from after kind r)
+    (ends_behind total ends (is_word kind.class) after us f h)
 
 -- of a source
-source_ends : (source : List ℕ) (ts : List Token) (e : Ending) → IsTokenList source ts e → EndsBehind (width source) source (last_end 0 ts) e
+source_ends : (source : List ℕ) (ts : List Token) (e : Ending) → IsTokenList source ts e
+    → EndsBehind (width source) source (last_end 0 ts) e
 source_ends source ts e h =
     let start : place (width source) source ≡ 0 = omega arith in
-    subst (λ p. EndsBehind (width source) source (last_end p ts) e) start (ends_behind (width source) [] false source ts e (stream (width source) source ts e (omega arith) h))
+    subst (λ p. EndsBehind (width source) source (last_end p ts) e) start
+    (ends_behind (width source) [] false source ts e (stream (width source) source ts e (omega arith) h))
 
 -- what is found there tells how they end
-told : (total : ℕ) (r : Raw) (found : Option Span) (e : Ending) → EndsSo total r e → IsInvalidAt total r found → e ≡ ending_with found
+told : (total : ℕ) (r : Raw) (found : Option Span) (e : Ending) → EndsSo total r e
+    → IsInvalidAt total r found → e ≡ ending_with found
 told total none_left found e h k = h ∙ ap ending_with (sym k)
 told total (invalid from after) found e h k = h ∙ ap ending_with (sym k)
 told total (token kind from after) found e h k = absurd h
 
 -- the text from the end of the last token on
-pub found_behind : (bs : List ℕ) (at : ℕ) (rest : Bor (List ℕ)) (found : Option Span) → IsUtf8 bs → GetsRange bs at (length bs) (Some rest) → IsInvalidAt (length bs) (raw (chars rest.now)) found
-    → (ts : List Token) (e : Ending) → IsTokenList (chars bs) ts e → at ≡ last_end 0 ts → e ≡ ending_with found
+pub found_behind : (bs : List ℕ) (at : ℕ) (rest : Bor (List ℕ)) (found : Option Span) → IsUtf8 bs
+    → GetsRange bs at (length bs) (Some rest) → IsInvalidAt (length bs) (raw (chars rest.now)) found
+    → (ts : List Token) (e : Ending) → IsTokenList (chars bs) ts e → at ≡ last_end 0 ts
+    → e ≡ ending_with found
 found_behind bs at rest found u gets front ts e h place_is =
     let size = bytes_width bs u in
     let k = subst (λ n. EndsBehind n (chars bs) (last_end 0 ts) e) size (source_ends (chars bs) ts e h) in
@@ -63,7 +77,9 @@ found_behind bs at rest found u gets front ts e h place_is =
     told (length bs) (raw k.0) found e k.3 (subst (λ x. IsInvalidAt (length bs) (raw x) found) same front)
 
 -- which there always is
-pub always_behind : (bs : List ℕ) (at : ℕ) → IsUtf8 bs → GetsRange bs at (length bs) None → (ts : List Token) (e : Ending) → IsTokenList (chars bs) ts e → at ≡ last_end 0 ts → e ≡ ending_with None
+pub always_behind : (bs : List ℕ) (at : ℕ) → IsUtf8 bs → GetsRange bs at (length bs) None
+    → (ts : List Token) (e : Ending) → IsTokenList (chars bs) ts e → at ≡ last_end 0 ts
+    → e ≡ ending_with None
 always_behind bs at u gets ts e h place_is =
     let size = bytes_width bs u in
     let k = subst (λ n. EndsBehind n (chars bs) (last_end 0 ts) e) size (source_ends (chars bs) ts e h) in

@@ -14,18 +14,22 @@ use Rattle.wgsl_theory_templates.proofs.Rest.LeftTokens.{stream}
 -- where a token stands in a source of so many bytes that a text ends
 abbrev Stands : ℕ → List ℕ → List ℕ → List ℕ → Type 0
 Stands total text from after =
-    (place total text ≤ place total from) × (place total from < place total after) × (place total after ≤ total) × (width after ≤ total)
+    (place total text ≤ place total from) × (place total from < place total after)
+    × (place total after ≤ total) × (width after ≤ total)
 
 -- what a token is cut from and what follows it stand in order in the source
-stands : (total : ℕ) (text from after : List ℕ) → width text ≤ total → CutsIn text from after → Stands total text from after
+stands : (total : ℕ) (text from after : List ℕ) → width text ≤ total → CutsIn text from after
+    → Stands total text from after
 stands total text from after fits cut =
     let w = within text from cut.0 in
     let p = past from after cut.1 in
     (omega arith, omega arith, omega arith, omega arith)
 
 -- the same of whatever a text begins with
-stands_at : (total : ℕ) (text from after : List ℕ) (r : Raw) → raw text ≡ r → width text ≤ total → (IsCut text r → CutsIn text from after) → Stands total text from after
-stands_at total text from after r is fits cut = stands total text from after fits (cut (subst (IsCut text) is (raw-cuts text)))
+stands_at : (total : ℕ) (text from after : List ℕ) (r : Raw) → raw text ≡ r → width text ≤ total
+    → (IsCut text r → CutsIn text from after) → Stands total text from after
+stands_at total text from after r is fits cut = stands total text from after fits
+    (cut (subst (IsCut text) is (raw-cuts text)))
 
 -- a fault stands behind a place, is not empty, and ends at a place or before it
 abbrev FaultFrom : ℕ → List Token → Ending → ℕ → Type 0
@@ -33,14 +37,17 @@ FaultFrom from ts finished to = Unit {0}
 FaultFrom from ts (carried x) to = (last_end from ts ≤ x.span.start) × (x.span.start < x.span.end) × (x.span.end ≤ to)
 
 -- what ends a list is one character
-ends_one : (total : ℕ) (text from after : List ℕ) → width text ≤ total → CutsIn text from after → (place total text ≤ place total from) × (place total from < place total (drop 1 from)) × (width (drop 1 from) ≤ total)
+ends_one : (total : ℕ) (text from after : List ℕ) → width text ≤ total → CutsIn text from after
+    → (place total text ≤ place total from) × (place total from < place total (drop 1 from))
+    × (width (drop 1 from) ≤ total)
 ends_one total text from after fits cut =
     let w = within text from cut.0 in
     let p = past from (drop 1 from) (past_first from after cut.1) in
     (omega arith, omega arith, omega arith)
 
 -- the tokens that are left of a text stand in order behind its place
-tokens-order : (total : ℕ) (ends : List ℕ) (word : Bool) (text : List ℕ) (ts : List Token) (e : Ending) → width text ≤ total → LeftOf total ends word text ts e → AreInOrder (place total text) ts total
+tokens-order : (total : ℕ) (ends : List ℕ) (word : Bool) (text : List ℕ) (ts : List Token) (e : Ending)
+    → width text ≤ total → LeftOf total ends word text ts e → AreInOrder (place total text) ts total
 tokens-order total ends word text ts e fits (left_nothing x w s r) = omega arith
 tokens-order total ends word text ts e fits (left_fault x w s from after r) = omega arith
 tokens-order total ends word text ts e fits (left_end x w s from after kind us f r h) =
@@ -54,7 +61,8 @@ tokens-order total ends word text ts e fits (left_token x w s from after kind us
     (p.0, p.1, tokens-order total ends (is_word kind.class) after us e p.3 h)
 
 -- the fault that ends them stands behind them
-fault-behind : (total : ℕ) (ends : List ℕ) (word : Bool) (text : List ℕ) (ts : List Token) (e : Ending) → width text ≤ total → LeftOf total ends word text ts e → FaultFrom (place total text) ts e total
+fault-behind : (total : ℕ) (ends : List ℕ) (word : Bool) (text : List ℕ) (ts : List Token) (e : Ending)
+    → width text ≤ total → LeftOf total ends word text ts e → FaultFrom (place total text) ts e total
 fault-behind total ends word text ts e fits (left_nothing x w s r) = tt
 fault-behind total ends word text ts e fits (left_fault x w s from after r) =
     let p = stands_at total text from after (invalid from after) r fits (λ c. c) in
@@ -74,17 +82,23 @@ at_zero : (source : List ℕ) → place (width source) source ≡ 0
 at_zero source = omega arith
 
 -- the tokens of a source stand in order in it
-pub tokens_in_order : (source : List ℕ) (ts : List Token) (e : Ending) → IsTokenList source ts e → AreInOrder 0 ts (width source)
-tokens_in_order source ts e h = subst (λ p. AreInOrder p ts (width source)) (at_zero source) (tokens-order (width source) [] false source ts e (omega arith) (stream (width source) source ts e (omega arith) h))
+pub tokens_in_order : (source : List ℕ) (ts : List Token) (e : Ending) → IsTokenList source ts e
+    → AreInOrder 0 ts (width source)
+tokens_in_order source ts e h = subst (λ p. AreInOrder p ts (width source)) (at_zero source)
+    (tokens-order (width source) [] false source ts e (omega arith) (stream (width source) source ts e (omega arith) h))
 
 -- the invalid token that ends them stands behind them
-pub fault_behind : (source : List ℕ) (ts : List Token) (e : Ending) → IsTokenList source ts e → IsFaultBehind ts e (width source)
+pub fault_behind : (source : List ℕ) (ts : List Token) (e : Ending) → IsTokenList source ts e
+    → IsFaultBehind ts e (width source)
 fault_behind source ts finished h = tt
 fault_behind source ts (carried x) h =
-    subst (λ p. FaultFrom p ts (carried x) (width source)) (at_zero source) (fault-behind (width source) [] false source ts (carried x) (omega arith) (stream (width source) source ts (carried x) (omega arith) h))
+    subst (λ p. FaultFrom p ts (carried x) (width source)) (at_zero source)
+    (fault-behind (width source) [] false source ts (carried x) (omega arith)
+    (stream (width source) source ts (carried x) (omega arith) h))
 
 -- a token that stands among tokens in order is not empty and ends at the last place or before it
-pub one_in_order : (from to : ℕ) (before after : List Token) (t : Token) → AreInOrder from (before ++ (t ∷ after)) to → (from ≤ t.start) × (t.start < t.end) × (t.end ≤ to)
+pub one_in_order : (from to : ℕ) (before after : List Token) (t : Token)
+    → AreInOrder from (before ++ (t ∷ after)) to → (from ≤ t.start) × (t.start < t.end) × (t.end ≤ to)
 one_in_order from to [] after t h = (h.0, h.1, ends t.end to after h.2) where
   ends : (from to : ℕ) (ts : List Token) → AreInOrder from ts to → from ≤ to
   ends from to [] h = h
@@ -93,6 +107,7 @@ one_in_order from to (b ∷ before) after t h =
     let k = one_in_order b.end to before after t h.2 in (omega (arith, h.0, h.1, k.0), k.1, k.2)
 
 -- the last of tokens in order ends at the last place or before it
-pub last_in_order : (from to : ℕ) (ts : List Token) → AreInOrder from ts to → (from ≤ last_end from ts) × (last_end from ts ≤ to)
+pub last_in_order : (from to : ℕ) (ts : List Token) → AreInOrder from ts to
+    → (from ≤ last_end from ts) × (last_end from ts ≤ to)
 last_in_order from to [] h = (omega arith, h)
 last_in_order from to (t ∷ ts) h = let k = last_in_order t.end to ts h.2 in (omega (arith, h.0, h.1, k.0), k.1)

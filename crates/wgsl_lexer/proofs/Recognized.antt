@@ -16,7 +16,9 @@ use Rattle.wgsl_theory_templates.proofs.Swaps.Attempts.{list_front, front_list}
 use Rattle.wgsl_lexer.specs.Left.{BeginsWithList}
 
 -- a list that starts where the first token does
-found_list : (source from after : List ℕ) (kind : Kind) (spans : List Span) (start end : ℕ) → raw source ≡ token kind from after → AreLists (width source) spans source → start ≡ place (width source) from → end_from spans start ≡ Some end → BeginsWithList source
+found_list : (source from after : List ℕ) (kind : Kind) (spans : List Span) (start end : ℕ)
+    → raw source ≡ token kind from after → AreLists (width source) spans source
+    → start ≡ place (width source) from → end_from spans start ≡ Some end → BeginsWithList source
 found_list source from after kind spans start end r are s e =
     let total = width source in
     let h = (are start end).0 e in
@@ -27,7 +29,9 @@ found_list source from after kind spans start end r are s e =
     (marked total from after f.2.0 f.1, drop 1 f.1, front_list total source from after f.1 kind r f.0 f.2)
 
 -- and the list at the front is one
-list_found : (source from after : List ℕ) (kind : Kind) (spans : List Span) (start : ℕ) → raw source ≡ token kind from after → AreLists (width source) spans source → start ≡ place (width source) from → BeginsWithList source
+list_found : (source from after : List ℕ) (kind : Kind) (spans : List Span) (start : ℕ)
+    → raw source ≡ token kind from after → AreLists (width source) spans source
+    → start ≡ place (width source) from → BeginsWithList source
     → (end : ℕ) × (end_from spans start ≡ Some end)
 list_found source from after kind spans start r are s (ts, rest, q) =
     let total = width source in
@@ -41,15 +45,25 @@ list_found source from after kind spans start r are s (ts, rest, q) =
         less.0,
         cut.0.1 ∙ ap (λ x. cut.0.0 ++ x) less.1,
         s ∙ ap (place total) less.1,
-        (marked total from after f.2.0 f.1, drop 1 f.1, subst (λ x. Template total x (marked total from after f.2.0 f.1) (drop 1 f.1)) less.1 list, refl),
+        (
+          marked total from after f.2.0 f.1,
+          drop 1 f.1,
+          subst (λ x. Template total x (marked total from after f.2.0 f.1) (drop 1 f.1)) less.1 list,
+          refl,
+        ),
       ),
     )
 
-by_found : (A : Type 0) (found : Option ℕ) → ((end : ℕ) → found ≡ Some end → A) → (A → (end : ℕ) × (found ≡ Some end)) → IsTrue (is_some found) ↔ A
+by_found : (A : Type 0) (found : Option ℕ) → ((end : ℕ) → found ≡ Some end → A)
+    → (A → (end : ℕ) × (found ≡ Some end)) → IsTrue (is_some found) ↔ A
 by_found A None f g = ((λ x. absurd cc), (λ a. let h = g a in let no = h.1 in absurd cc))
 by_found A (Some end) f g = ((λ x. f end refl), (λ a. refl))
 
-pub recognized : (source from after : List ℕ) (kind : Kind) (spans : List Span) (start : ℕ) → raw source ≡ token kind from after → AreLists (width source) spans source → start ≡ place (width source) from
+pub recognized : (source from after : List ℕ) (kind : Kind) (spans : List Span) (start : ℕ)
+    → raw source ≡ token kind from after → AreLists (width source) spans source
+    → start ≡ place (width source) from
     → IsTrue (is_some (end_from spans start)) ↔ BeginsWithList source
 recognized source from after kind spans start r are s =
-    by_found (BeginsWithList source) (end_from spans start) (λ end e. found_list source from after kind spans start end r are s e) (list_found source from after kind spans start r are s)
+    by_found (BeginsWithList source) (end_from spans start)
+    (λ end e. found_list source from after kind spans start end r are s e)
+    (list_found source from after kind spans start r are s)

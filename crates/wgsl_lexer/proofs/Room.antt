@@ -24,19 +24,30 @@ at_most_all p [] = omega arith
 at_most_all p (s ∷ spans) = let more = at_most_all p spans in grind (arith, nat_tests, more)
 
 -- one fewer behind one of them
-pub one_fewer : (p q start end : ℕ) (spans : List Span) → end_from spans start ≡ Some end → p ≤ start → start < q → starts_from q spans < starts_from p spans
+pub one_fewer : (p q start end : ℕ) (spans : List Span) → end_from spans start ≡ Some end
+    → p ≤ start → start < q → starts_from q spans < starts_from p spans
 one_fewer p q start end [] e low high = absurd cc
 one_fewer p q start end (s ∷ spans) e low high = by_test (s.start == start) refl e (one_fewer p q start end spans)
   where
-    by_test : (b : Bool) → (s.start == start) ≡ b → (if b then Some s.end else end_from spans start) ≡ Some end → (end_from spans start ≡ Some end → p ≤ start → start < q → starts_from q spans < starts_from p spans) → starts_from q (s ∷ spans) < starts_from p (s ∷ spans)
-    by_test true same f again = let more = fewer p q spans (omega (arith, low, high)) in grind (arith, nat_tests, same, more, low, high)
+    by_test : (b : Bool) → (s.start == start) ≡ b
+        → (if b then Some s.end else end_from spans start) ≡ Some end
+        → (end_from spans start ≡ Some end → p ≤ start → start < q → starts_from q spans < starts_from p spans)
+        → starts_from q (s ∷ spans) < starts_from p (s ∷ spans)
+    by_test true same f again =
+        let more = fewer p q spans (omega (arith, low, high)) in
+        grind (arith, nat_tests, same, more, low, high)
     by_test false other f again = let more = again f low high in grind (arith, nat_tests, more, low, high)
 
 -- one fewer behind the `<` of a list
-pub entered : (total : ℕ) (spans : List Span) (rest from after : List ℕ) (kind : Kind) (start end : ℕ) → IsUtf8 from → IsUtf8 after → raw (chars rest) ≡ token kind (chars from) (chars after) → length from ≤ length rest → length rest ≤ total
-    → start ≡ place total (chars from) → end_from spans start ≡ Some end → starts_from (total - length after) spans < starts_from (total - length rest) spans
+pub entered : (total : ℕ) (spans : List Span) (rest from after : List ℕ) (kind : Kind) (start end : ℕ)
+    → IsUtf8 from → IsUtf8 after → raw (chars rest) ≡ token kind (chars from) (chars after)
+    → length from ≤ length rest → length rest ≤ total
+    → start ≡ place total (chars from) → end_from spans start ≡ Some end
+    → starts_from (total - length after) spans < starts_from (total - length rest) spans
 entered total spans rest from after kind start end uf ua r within fits s e =
     let wf = bytes_width from uf in
     let wa = bytes_width after ua in
-    let less : width (chars after) < width (chars from) = past (chars from) (chars after) (cut_at (chars rest) (chars from) (chars after) kind r).1 in
-    one_fewer (total - length rest) (total - length after) start end spans e (omega (arith, s, wf, within, fits)) (omega (arith, s, wf, wa, less, within, fits))
+    let less : width (chars after) < width (chars from) = past (chars from) (chars after)
+    (cut_at (chars rest) (chars from) (chars after) kind r).1 in
+    one_fewer (total - length rest) (total - length after) start end spans e
+    (omega (arith, s, wf, within, fits)) (omega (arith, s, wf, wa, less, within, fits))

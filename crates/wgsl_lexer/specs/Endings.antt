@@ -15,5 +15,6 @@ ending_with (Some span) = carried (invalid_token (span_view span))
 -- the invalid token that stands at the front of a text, where no other token does
 abbrev pub IsInvalidAt : ℕ → Raw → Option Span → Type 0
 IsInvalidAt total none_left found = found ≡ None
-IsInvalidAt total (invalid from after) found = found ≡ Some (record { start = place total from; end = place total after })
+IsInvalidAt total (invalid from after) found = found
+    ≡ Some (record { start = place total from; end = place total after })
 IsInvalidAt total (token kind from after) found = ⊤

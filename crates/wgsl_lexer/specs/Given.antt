@@ -1,7 +1,7 @@
 -- What an iterator of tokens gave.
 use Rattle.std.specs.Prelude.{ℕ, map, Option, Some, None, Result, Ok, Err}
 use Rattle.std.specs.Iterator.{YieldsThen}
-use Rattle.wgsl_lex_token.specs.declared.token.Token.{Token}
+use Rattle.wgsl_lex_token.specs.declared.token_table.Token.{Token}
 use Rattle.wgsl_lex_token.specs.declared.placed.PlacedToken.{PlacedToken}
 use Rattle.wgsl_lexer.specs.declared.collect.Collected.{Collected}
 use Rattle.wgsl_lexer.specs.Placed.{PlacedError}

@@ -23,11 +23,15 @@ HasEnded l = IsLeft l [] finished
 abbrev pub HasToken : Lexer → Type 0
 HasToken l = (t : Token) × (ts : List Token) × (e : Ending) × IsLeft l (t ∷ ts) e
 
--- What a call of `next` gives: nothing where nothing is left; the first of the tokens that are left; the fault that is left, or that memory was refused for a token. Behind these last two nothing is left.
+-- What a call of `next` gives: nothing where nothing is left; the first of the tokens that are
+-- left; the fault that is left, or that memory was refused for a token. Behind these last two
+-- nothing is left.
 abbrev pub GivesItem : Lexer → Option TokenItem → Lexer → Type 0
 GivesItem old None new = HasEnded old × HasEnded new
-GivesItem old (Some (Ok given)) new = (ts : List Token) (e : Ending) → IsLeft new ts e → IsLeft old (token_view given.0 given.1 given.2 ∷ ts) e
-GivesItem old (Some (Err x)) new = (IsLeft old [] (carried (placed_fault x)) ⊎ ((x.1 ≡ parse.OutOfMemory) × HasToken old)) × HasEnded new
+GivesItem old (Some (Ok given)) new = (ts : List Token) (e : Ending) → IsLeft new ts e
+    → IsLeft old (token_view given.0 given.1 given.2 ∷ ts) e
+GivesItem old (Some (Err x)) new =
+    (IsLeft old [] (carried (placed_fault x)) ⊎ ((x.1 ≡ parse.OutOfMemory) × HasToken old)) × HasEnded new
 
 -- how many faults end tokens that end so
 abbrev pub faults_in : Ending → ℕ

@@ -5,4 +5,5 @@ use Rattle.wgsl_span.specs.declared.Span.{Span}
 -- how many of the spans start at a place or behind it
 abbrev pub starts_from : ℕ → List Span → ℕ
 starts_from place [] = 0
-starts_from place (span ∷ spans) = if nat_le place span.start then suc (starts_from place spans) else starts_from place spans
+starts_from place (span ∷ spans) = if nat_le place span.start then suc (starts_from place spans)
+    else starts_from place spans

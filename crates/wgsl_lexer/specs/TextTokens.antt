@@ -2,12 +2,12 @@
 use Rattle.std.specs.Prelude.{◌≡◌, ℕ, List, [], ◌∷◌, chars, reverse, Option, Some, None}
 use Rattle.grammar.specs.Tokens.{Token}
 use Rattle.grammar.specs.Endings.{Ending, Ending.finished, Ending.carried}
-use Rattle.wgsl_model.specs.Tokens.Classes.{Ident}
+use Rattle.wgsl_model.specs.Tokens.ClassTable.{Ident}
 use Rattle.wgsl_model.specs.Tokens.Kind.{named, placed}
 use Rattle.wgsl_model.specs.Faults.Kinds.{invalid_token}
 use Rattle.wgsl_span.specs.declared.Span.{Span}
 use Rattle.wgsl_span.specs.View.{span_view}
-use Rattle.wgsl_lex_token.specs.declared.kind.TokenKind.{TokenKind}
+use Rattle.wgsl_lex_token.specs.declared.kind_table.TokenKind.{TokenKind}
 use Rattle.wgsl_lex_token.specs.declared.placed.PlacedToken.{PlacedToken}
 use Rattle.wgsl_lex_token.specs.Placed.{placed_view}
 use Rattle.wgsl_lex_token.specs.View.{class_of_kind}

@@ -51,7 +51,7 @@ impl<'s> TextTokens<'s> {
     ghost use Rattle.std.specs.Prelude.{◌≡◌, ◌<◌, List, [], drop, true, IfOk, IfSome, MatchOption, Some, None};
     ghost use Rattle.grammar.specs.Tokens as grammar;
     ghost use Rattle.grammar.specs.Endings.{Ending, Ending.finished};
-    ghost use Rattle.wgsl_model.specs.Tokens.Classes.{SymLessThan};
+    ghost use Rattle.wgsl_model.specs.Tokens.ClassTable.{SymLessThan};
     ghost use Rattle.wgsl_model.specs.Tokens.Raw.{raw, Raw.token};
     ghost use Rattle.wgsl_model.specs.Tokens.TokenList.{IsTokenList, place};
     ghost use Rattle.wgsl_lex_token.specs.View.{class_of_kind};

@@ -26,18 +26,25 @@ right_filled (x ∷ xs) ys h = tt
 pub statement_filled : (s : Statement) → is_void s ≡ false → IsFilled (print_statement s)
 statement_filled (statement a void) h = absurd (true≢false h)
 statement_filled (statement a (compound ss)) h = left_filled _ [] (right_filled (print_attribute_line a) _ tt)
-statement_filled (statement a (if_statement (if_else (if_clause e block) others last))) h = left_filled _ [] (right_filled (print_attribute_line a) _ tt)
-statement_filled (statement a (switch_statement (switch e b cs))) h = left_filled _ [] (right_filled (print_attribute_line a) _ tt)
-statement_filled (statement a (loop_statement (repeat b c))) h = left_filled _ [] (right_filled (print_attribute_line a) _ tt)
-statement_filled (statement a (for_statement (repeat_for i c u b))) h = left_filled _ [] (right_filled (print_attribute_line a) _ tt)
-statement_filled (statement a (while_statement (repeat_while e b))) h = left_filled _ [] (right_filled (print_attribute_line a) _ tt)
+statement_filled (statement a (if_statement (if_else (if_clause e block) others last))) h =
+    left_filled _ [] (right_filled (print_attribute_line a) _ tt)
+statement_filled (statement a (switch_statement (switch e b cs))) h = left_filled _ []
+    (right_filled (print_attribute_line a) _ tt)
+statement_filled (statement a (loop_statement (repeat b c))) h = left_filled _ []
+    (right_filled (print_attribute_line a) _ tt)
+statement_filled (statement a (for_statement (repeat_for i c u b))) h = left_filled _ []
+    (right_filled (print_attribute_line a) _ tt)
+statement_filled (statement a (while_statement (repeat_while e b))) h = left_filled _ []
+    (right_filled (print_attribute_line a) _ tt)
 statement_filled s h = right_filled (unended s) (codes ";") tt
 
 pub continuing_filled : (c : ContinuingStatement) → IsFilled (print_continuing c)
-continuing_filled (continuing a body condition) = left_filled _ _ (left_filled _ _ (left_filled _ _ (right_filled (print_attribute_line a) (codes "continuing ") tt)))
+continuing_filled (continuing a body condition) = left_filled _ _
+    (left_filled _ _ (left_filled _ _ (right_filled (print_attribute_line a) (codes "continuing ") tt)))
 
 pub clause_filled : (c : SwitchClause) → IsFilled (print_switch_clause c)
-clause_filled (switch_clause a selectors block) = left_filled _ _ (left_filled _ _ (left_filled _ _ (right_filled (print_attribute_line a) (codes "case ") tt)))
+clause_filled (switch_clause a selectors block) = left_filled _ _
+    (left_filled _ _ (left_filled _ _ (right_filled (print_attribute_line a) (codes "case ") tt)))
 
 pub member_filled : (m : StructMember) → IsFilled (print_member m)
 member_filled m =

@@ -23,7 +23,8 @@ complaint status text = record { status = status; output = []; errors = text }
 
 -- a fault with its place, as the program tells it
 abbrev pub shown_fault : Fault → List ℕ
-shown_fault x = codes "chars " ++ decimal x.span.start ++ codes ".." ++ decimal x.span.end ++ codes ": " ++ message x.kind x.texts
+shown_fault x = codes "chars " ++ decimal x.span.start ++ codes ".." ++ decimal x.span.end
+    ++ codes ": " ++ message x.kind x.texts
 
 -- the source derives the unit
 abbrev pub IsUnit : List ℕ → TranslationUnit → Type 0
@@ -33,10 +34,13 @@ IsUnit source u = IsTreeOf unit source u
 abbrev pub IsFaultOf : List ℕ → Fault → Type 0
 IsFaultOf source x = IsFaultIn unit source x
 
--- What the program writes of these bytes: the printed unit, the fault that is named, or that they are no text.
+-- What the program writes of these bytes: the printed unit, the fault that is named, or that they
+-- are no text.
 pub data Formats (bytes : List ℕ) : ProcessOutput → Type 0 where
-  printed : (u : TranslationUnit) → is_utf8 bytes ≡ true → IsUnit (chars bytes) u → Formats bytes (record { status = 0; output = print_unit u; errors = [] })
-  refused : (x : Fault) → is_utf8 bytes ≡ true → IsFaultOf (chars bytes) x → Formats bytes (complaint 1 (shown_fault x ++ codes "\n"))
+  printed : (u : TranslationUnit) → is_utf8 bytes ≡ true → IsUnit (chars bytes) u
+      → Formats bytes (record { status = 0; output = print_unit u; errors = [] })
+  refused : (x : Fault) → is_utf8 bytes ≡ true → IsFaultOf (chars bytes) x
+      → Formats bytes (complaint 1 (shown_fault x ++ codes "\n"))
   not_utf8 : is_utf8 bytes ≡ false → Formats bytes (complaint 2 (codes "input is not UTF-8\n"))
 
 -- what is written where memory was refused

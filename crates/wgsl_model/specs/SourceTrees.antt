@@ -1,4 +1,5 @@
--- What a source is where a symbol of the grammar is wanted: the tree that its tokens derive, or the fault that is named.
+-- What a source is where a symbol of the grammar is wanted: the tree that its tokens derive, or the
+-- fault that is named.
 use Rattle.std.specs.Prelude.{ℕ, List}
 use Rattle.grammar.specs.Tokens.{Token, Fault}
 use Rattle.grammar.specs.Grammar.{Mode.checking, Derives}

@@ -1,5 +1,5 @@
 -- From the text to its tokens.
-pub mod Classes
+pub mod ClassTable
 pub mod Kind
 pub mod Words
 pub mod Characters

@@ -6,7 +6,8 @@ use Rattle.wgsl_model_tidy.specs.Lines.{next_place, place_of, in_block_comment}
 
 -- ---- lines
 
--- a line up to a place: blank space alone, or more after that, or a line that begins inside a block comment
+-- a line up to a place: blank space alone, or more after that, or a line that begins inside a block
+-- comment
 pub data Line : Type 0 where
   blank begun : List ℕ → Line
   in_comment : Line
@@ -45,10 +46,12 @@ closes_at p c = false
 abbrev pub next_depth : Place → ℕ → ℕ → ℕ
 next_depth p n c = if opens_at p c then suc n else if closes_at p c then n - 1 else n
 
--- so many brackets are open before a front that begins at such a place: these and those that open in it close in it, and no others do
+-- so many brackets are open before a front that begins at such a place: these and those that open
+-- in it close in it, and no others do
 abbrev pub are_paired : Place → ℕ → List ℕ → List ℕ → Bool
 are_paired p n [] rest = n == 0
-are_paired p n (c ∷ front) rest = not (closes_at p c && n == 0) && are_paired (next_place p c (front ++ rest)) (next_depth p n c) front rest
+are_paired p n (c ∷ front) rest = not (closes_at p c && n == 0)
+    && are_paired (next_place p c (front ++ rest)) (next_depth p n c) front rest
 
 -- an opening bracket and the closing one that belongs to it: between them each bracket has its own
 pub record BracketPair (text : List ℕ) : Type 0 where
@@ -62,8 +65,11 @@ pub record BracketPair (text : List ℕ) : Type 0 where
   pub paired : are_paired outside 0 inside (closing ∷ rest) ≡ true
   pub closes : closes_at (place_of (before ++ (opening ∷ inside)) (closing ∷ rest)) closing ≡ true
 
--- A closing bracket that begins a line has the same blank space before it as the line of its opening bracket, if neither line begins inside a block comment.
+-- A closing bracket that begins a line has the same blank space before it as the line of its
+-- opening bracket, if neither line begins inside a block comment.
 abbrev pub AlignsClosingBrackets : List ℕ → Type 0
 AlignsClosingBrackets text =
-    (pair : BracketPair text) (start space : List ℕ) → line_of (pair.before ++ (pair.opening ∷ [])) (pair.inside ++ (pair.closing ∷ pair.rest)) ≡ begun start
-    → line_of (pair.before ++ (pair.opening ∷ pair.inside)) (pair.closing ∷ pair.rest) ≡ blank space → space ≡ start
+    (pair : BracketPair text) (start space : List ℕ)
+    → line_of (pair.before ++ (pair.opening ∷ [])) (pair.inside ++ (pair.closing ∷ pair.rest)) ≡ begun start
+    → line_of (pair.before ++ (pair.opening ∷ pair.inside)) (pair.closing ∷ pair.rest) ≡ blank space
+    → space ≡ start

@@ -1,4 +1,5 @@
--- The formatted text of a source: its byte order mark, if it has one, and the laid-out text of what is after it, with the line ends that the layout asks for.
+-- The formatted text of a source: its byte order mark, if it has one, and the laid-out text of what
+-- is after it, with the line ends that the layout asks for.
 use Rattle.std.specs.Prelude.{ℕ, Bool, true, false, ◌&&◌, ◌==◌, if◌then◌else◌, List, [], ◌∷◌, ◌++◌}
 use Rattle.grammar.specs.Tokens.{Token}
 use Rattle.wgsl_model.specs.Tokens.Trivia.{first_or_zero}
@@ -44,4 +45,5 @@ with_line_ends ends text = if ends then with_crlf text else text
 
 -- the formatted text of a source whose text after the mark has these tokens
 abbrev pub formatted : Layout → List ℕ → List Token → List ℕ
-formatted layout source ts = mark_of source ++ with_line_ends (ends_crlf layout.newlines (unmarked source)) (laid_out layout (pieces (unmarked source) ts))
+formatted layout source ts = mark_of source
+    ++ with_line_ends (ends_crlf layout.newlines (unmarked source)) (laid_out layout (pieces (unmarked source) ts))

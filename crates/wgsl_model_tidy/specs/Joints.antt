@@ -18,7 +18,8 @@ stay_apart left right = (is left minus && is right minus) || (is left ampersand 
 -- nothing stands after `(`, `[` and `@`, between `.` and a name, and where an operand comes next
 abbrev pub tight_behind : Role → Role → Bool
 tight_behind left right =
-    (is left opening || is left at) || ((is left period && is right name) || (wants_operand left && (begins_operand right && not (stay_apart left right))))
+    (is left opening || is left at) || ((is left period && is right name)
+    || (wants_operand left && (begins_operand right && not (stay_apart left right))))
 
 -- nothing stands before the `(` of arguments and the `[` of an index
 abbrev pub is_applied : Role → Role → Bool
@@ -26,29 +27,36 @@ is_applied left right = is right opening && (ends_operand left || is left attrib
 
 -- nor before the brackets of a template list
 abbrev pub is_template : Role → Role → Bool
-is_template left right = (is right template_start && (is left name || is left word)) || (is right template_end && (ends_operand left || is left comma))
+is_template left right = (is right template_start && (is left name || is left word))
+    || (is right template_end && (ends_operand left || is left comma))
 
--- nor before `.`, but after a whole number without a suffix, which would go on with it; nor before `++` and `--`, but after a number
+-- nor before `.`, but after a whole number without a suffix, which would go on with it; nor before
+-- `++` and `--`, but after a number
 abbrev pub is_continued : Role → Role → Bool
-is_continued left right = ends_operand left && ((is right period && not (is left unsuffixed)) || (is right step && not (is left number || is left unsuffixed)))
+is_continued left right = ends_operand left && ((is right period && not (is left unsuffixed))
+    || (is right step && not (is left number || is left unsuffixed)))
 
 -- two neighbours are closed up
 abbrev pub closed_up : Role → Role → Bool
-closed_up left right = (is_tight right || tight_behind left right) || (is_applied left right || (is_template left right || is_continued left right))
+closed_up left right = (is_tight right || tight_behind left right)
+    || (is_applied left right || (is_template left right || is_continued left right))
 
--- elsewhere a line end of the author's stays around an operator between operands, after `,` and after an attribute
+-- elsewhere a line end of the author's stays around an operator between operands, after `,` and
+-- after an attribute
 abbrev pub continues_line : Role → Role → Bool
 continues_line left right = (is left binary || is right binary) || (is left comma || is left attribute)
 
 -- after `}`; a `;` of the author's may be in a line of its own
 abbrev pub behind_block : Role → Joint
-behind_block right = if is right else_word then space else if is_tight right then (if is right semicolon then nothing_or_line else nothing) else line
+behind_block right = if is right else_word then space else if is_tight right
+    then (if is right semicolon then nothing_or_line else nothing) else line
 
 -- what is between two neighbours in a bracket in one line
 abbrev pub joint_in_line : Role → Role → Joint
 joint_in_line left right = if closed_up left right then nothing else space
 
--- what is between them where a line may end, in brackets or not; `{` is in the line of what it belongs to
+-- what is between them where a line may end, in brackets or not; `{` is in the line of what it
+-- belongs to
 abbrev pub joint_in_lines : Bool → Role → Role → Joint
 joint_in_lines in_brackets left right =
     if is left block_start then (if is right block_end then nothing else line)
@@ -64,9 +72,11 @@ abbrev pub ended : Bool → Joint → Joint
 ended true space_or_line = line
 ended after_item joint = joint
 
--- what is between two neighbours; in a bracket in lines of its own a line ends after the opening and before the closing bracket, and where each item is in a line, after each `,` and `;`
+-- what is between two neighbours; in a bracket in lines of its own a line ends after the opening
+-- and before the closing bracket, and where each item is in a line, after each `,` and `;`
 abbrev pub joint : Enclosing → Role → Role → Joint
 joint no_bracket left right = joint_in_lines false left right
 joint one_line left right = joint_in_line left right
 joint own_lines left right = if opens_bracket left || closes_bracket right then line else joint_in_lines true left right
-joint item_lines left right = if opens_bracket left || closes_bracket right then line else ended (is left comma || is left semicolon) (joint_in_lines true left right)
+joint item_lines left right = if opens_bracket left || closes_bracket right then line
+    else ended (is left comma || is left semicolon) (joint_in_lines true left right)

@@ -1,7 +1,8 @@
--- The laid-out text of pieces: each piece as `Shown` has it, and before it nothing, a space, or a line end, an empty line at most, and the blank space of the line's depth.
+-- The laid-out text of pieces: each piece as `Shown` has it, and before it nothing, a space, or a
+-- line end, an empty line at most, and the blank space of the line's depth.
 use Rattle.std.specs.Prelude.{ℕ, zero, suc, Bool, true, false, not, ◌&&◌, ◌||◌, ◌==◌, nat_lt, if◌then◌else◌, List, [], ◌∷◌, ◌++◌, codes}
 use Rattle.grammar.specs.Grammar.{is_among}
-use Rattle.wgsl_model.specs.Tokens.Classes.{LineComment, BlockComment, SymBraceLeft, SymBraceRight}
+use Rattle.wgsl_model.specs.Tokens.ClassTable.{LineComment, BlockComment, SymBraceLeft, SymBraceRight}
 use Rattle.wgsl_model_tidy.specs.Pieces.{Piece, OpenComment}
 use Rattle.wgsl_model_tidy.specs.Shown.{shown}
 use Rattle.wgsl_model_tidy.specs.Roles.{Role, beginning, opening, template_start, template_end, block_end, is, is_tight, opens, opens_bracket, closes_bracket, closes, role_of, begins_operand}
@@ -9,12 +10,15 @@ use Rattle.wgsl_model_tidy.specs.Joints.{Joint, line, nothing, space, nothing_or
 use Rattle.wgsl_model_tidy.specs.Layout.{Layout, level, column_after, line_fits}
 use Rattle.wgsl_model_tidy.specs.Open.{Style, together, as_written, item_by_item, LayoutState, Enclosing, one_line, start, enclosing, between_items, depth_of, comment_depth, role_in, behind_token}
 
--- nothing, a space, or a line end, with an empty line or without, and the blank space of a line so deep
+-- nothing, a space, or a line end, with an empty line or without, and the blank space of a line so
+-- deep
 pub data Gap : Type 0 where
   closed blank : Gap
   broken : Bool → ℕ → Gap
 
--- the last piece is a token, a line comment, a block comment, one that leads (nothing but such comments stands before it in its line), or one that is not closed; where there is none, it counts as a token
+-- the last piece is a token, a line comment, a block comment, one that leads (nothing but such
+-- comments stands before it in its line), or one that is not closed; where there is none, it counts
+-- as a token
 pub data Last : Type 0 where
   token line_comment block_comment leading_comment open_comment : Last
 
@@ -24,7 +28,8 @@ pub record Spot : Type 0 where
   pub last : Last
   pub column : ℕ
 
--- ---- which gap stands before a piece; n is how many line ends stand there, and break what a line end is there
+-- ---- which gap stands before a piece; n is how many line ends stand there, and break what a line
+-- end is there
 
 -- a line end of the author's stays
 abbrev pub kept_gap : ℕ → Gap → Gap → Gap
@@ -62,18 +67,24 @@ abbrev pub behind_comment : Joint → Role → Joint
 behind_comment line right = line
 behind_comment joint right = loose_joint right
 
--- between a comment that leads and a token: `}` begins a line, and so does a closing bracket before which a line has to end
+-- between a comment that leads and a token: `}` begins a line, and so does a closing bracket before
+-- which a line has to end
 abbrev pub behind_leading : Joint → Role → Joint
-behind_leading between right = if is right block_end || (is_line between && closes_bracket right) then line else loose_joint right
+behind_leading between right = if is right block_end || (is_line between && closes_bracket right)
+    then line else loose_joint right
 
 -- before a token: what stands between it and the token before, by what they do
 abbrev pub token_gap : Enclosing → Last → Role → Role → ℕ → Gap → Gap
-token_gap enclosing token left right n break = if is left beginning then closed else joint_gap (joint enclosing left right) n break
+token_gap enclosing token left right n break = if is left beginning then closed
+    else joint_gap (joint enclosing left right) n break
 token_gap enclosing line_comment left right n break = break
-token_gap enclosing leading_comment left right n break = joint_gap (behind_leading (joint enclosing left right) right) n break
+token_gap enclosing leading_comment left right n break =
+    joint_gap (behind_leading (joint enclosing left right) right) n break
 token_gap enclosing last left right n break = joint_gap (behind_comment (joint enclosing left right) right) n break
 
--- before a comment after a token: a line end where it belongs to the next token; else nothing before a block comment after an opening bracket, and a space elsewhere, or a line end of the author's
+-- before a comment after a token: a line end where it belongs to the next token; else nothing
+-- before a block comment after an opening bracket, and a space elsewhere, or a line end of the
+-- author's
 abbrev pub comment_behind : ℕ → Role → Bool → ℕ → Gap → Gap
 comment_behind class left owned n break =
     if is left beginning then closed
@@ -92,9 +103,11 @@ abbrev pub is_behind_opening : Last → Role → Bool
 is_behind_opening token left = opens left
 is_behind_opening last left = false
 
--- a line end before a token of the role on the right: an empty line of the author's stays between items, but neither after an opening bracket nor before a closing one
+-- a line end before a token of the role on the right: an empty line of the author's stays between
+-- items, but neither after an opening bracket nor before a closing one
 abbrev pub line_end : Bool → Last → Role → Role → ℕ → ℕ → Gap
-line_end items last left right n depth = broken (nat_lt 1 n && (items && not (is_behind_opening last left || closes right))) depth
+line_end items last left right n depth =
+    broken (nat_lt 1 n && (items && not (is_behind_opening last left || closes right))) depth
 
 -- a comment
 abbrev pub is_comment : ℕ → Bool
@@ -110,16 +123,21 @@ abbrev pub next_role : LayoutState → List Piece → Role
 next_role state [] = beginning
 next_role state (p ∷ ps) = if is_comment p.class then next_role state ps else role_in state p.class (operand_follows ps)
 
--- a token comes after the comments at the front of these pieces, with no line end before any of them or before it
+-- a token comes after the comments at the front of these pieces, with no line end before any of
+-- them or before it
 abbrev pub is_followed : List Piece → Bool
 is_followed [] = false
 is_followed (p ∷ ps) = p.line_ends == 0 && (if is_comment p.class then is_followed ps else true)
 
--- The first comment after a token belongs to the next token, of the role on the right: that follows in the line of the comment, and begins a line after the token before. A closing bracket owns none. Later comments go by the gap before them.
+-- The first comment after a token belongs to the next token, of the role on the right: that follows
+-- in the line of the comment, and begins a line after the token before. A closing bracket owns
+-- none. Later comments go by the gap before them.
 abbrev pub owned : Spot → Role → List Piece → Bool
-owned spot right ps = is_token spot.last && ((is_line (joint (enclosing spot.state.opened) spot.state.last right) && not (closes right)) && is_followed ps)
+owned spot right ps = is_token spot.last
+    && ((is_line (joint (enclosing spot.state.opened) spot.state.last right) && not (closes right)) && is_followed ps)
 
--- the gap before a comment of a class, after so many line ends; the next token is of the role on the right, and owns it or does not
+-- the gap before a comment of a class, after so many line ends; the next token is of the role on
+-- the right, and owns it or does not
 abbrev pub gap_before_comment : Spot → Role → ℕ → Bool → ℕ → Gap
 gap_before_comment spot right class owned n =
     comment_gap class spot.last spot.state.last owned n
@@ -128,11 +146,15 @@ gap_before_comment spot right class owned n =
 -- the gap before a token of the role on the right
 abbrev pub gap_before_token : Spot → Role → ℕ → Gap
 gap_before_token spot right n =
-    token_gap (enclosing spot.state.opened) spot.last spot.state.last right n (line_end (between_items spot.state right) spot.last spot.state.last right n (depth_of spot.state right))
+    token_gap (enclosing spot.state.opened) spot.last spot.state.last right n
+    (line_end (between_items spot.state right) spot.last spot.state.last right n (depth_of spot.state right))
 
--- the gap before a piece, with others after it; the first token from there on is of the role on the right
+-- the gap before a piece, with others after it; the first token from there on is of the role on the
+-- right
 abbrev pub gap_before : Spot → Role → Piece → List Piece → Gap
-gap_before spot right p ps = if is_comment p.class then gap_before_comment spot right p.class (owned spot right ps) p.line_ends else gap_before_token spot right p.line_ends
+gap_before spot right p ps = if is_comment p.class
+    then gap_before_comment spot right p.class (owned spot right ps) p.line_ends
+    else gap_before_token spot right p.line_ends
 
 -- ---- brackets in lines of their own
 
@@ -151,7 +173,8 @@ closes_one class = closes_bracket (role_of false class)
 abbrev pub has_break : ℕ → List Piece → Bool
 has_break zero ps = false
 has_break (suc n) [] = false
-has_break (suc n) (p ∷ ps) = breaks p || has_break (if closes_one p.class then n else if opens_one p.class then suc (suc n) else suc n) ps
+has_break (suc n) (p ∷ ps) = breaks p
+    || has_break (if closes_one p.class then n else if opens_one p.class then suc (suc n) else suc n) ps
 
 -- a bracket before these pieces is in lines of its own: something is in it, and a line ends there
 abbrev pub has_lines : List Piece → Bool
@@ -177,9 +200,12 @@ has_several (p ∷ ps) = if is_comment p.class then has_several ps else not (clo
 
 -- a line may be added in a bracket of a class before these pieces
 abbrev pub may_part : Layout → Enclosing → ℕ → List Piece → Bool
-may_part layout enclosing class ps = (not (layout.width == 0) && opens_one class) && (may_break enclosing && has_several ps)
+may_part layout enclosing class ps = (not (layout.width == 0) && opens_one class)
+    && (may_break enclosing && has_several ps)
 
--- How a bracket of a class is written, with these pieces after it: it keeps the author's lines; without any it is in one line, unless the line is too long then, by the column after the bracket and what follows if it is in one line.
+-- How a bracket of a class is written, with these pieces after it: it keeps the author's lines;
+-- without any it is in one line, unless the line is too long then, by the column after the bracket
+-- and what follows if it is in one line.
 abbrev pub style_of : Layout → Enclosing → ℕ → ℕ → List Piece → List ℕ → Style
 style_of layout enclosing class column ps in_one_line =
     if has_lines ps then as_written
@@ -210,13 +236,21 @@ begins_line (broken empty depth) last left = true
 begins_line gap token left = is left beginning
 begins_line gap last left = false
 
--- the characters of a piece after this gap; lines that have a front of their own have the blank space of this line and a space
+-- the characters of a piece after this gap; lines that have a front of their own have the blank
+-- space of this line and a space
 abbrev pub piece_text : Layout → Spot → Gap → Piece → List ℕ
-piece_text layout spot gap p = shown (indentation layout (depth_behind gap spot.state.line) ++ codes " ") (begins_line gap spot.last spot.state.last) p
+piece_text layout spot gap p = shown (indentation layout (depth_behind gap spot.state.line) ++ codes " ")
+    (begins_line gap spot.last spot.state.last) p
 
 -- the state in a line of another depth
 abbrev pub in_line_of : LayoutState → ℕ → LayoutState
-in_line_of state depth = record { opened = state.opened; line = depth; last = state.last; leading = state.leading; structure = state.structure }
+in_line_of state depth = record {
+  opened = state.opened;
+  line = depth;
+  last = state.last;
+  leading = state.leading;
+  structure = state.structure;
+}
 
 -- a comment after this gap leads: it begins a line or the text, or stands after one that leads
 abbrev pub leads : Gap → Last → Role → Bool
@@ -227,14 +261,19 @@ leads gap last left = false
 
 -- which comment stands last after a comment of a class, that leads or does not
 abbrev pub comment_last : ℕ → Bool → Last
-comment_last class leading = if class == LineComment then line_comment else if class == BlockComment then (if leading then leading_comment else block_comment) else open_comment
+comment_last class leading = if class == LineComment then line_comment else if class == BlockComment
+    then (if leading then leading_comment else block_comment) else open_comment
 
 -- after a piece after this gap; a bracket that it opens is of the style
 abbrev pub behind_piece : Layout → Spot → Gap → Role → Piece → Style → Spot
 behind_piece layout spot gap right p style =
     let depth = depth_behind gap spot.state.line in
     let column = column_after layout spot.column (gap_text layout gap ++ piece_text layout spot gap p) in
-    if is_comment p.class then record { state = in_line_of spot.state depth; last = comment_last p.class (leads gap spot.last spot.state.last); column = column }
+    if is_comment p.class then record {
+      state = in_line_of spot.state depth;
+      last = comment_last p.class (leads gap spot.last spot.state.last);
+      column = column;
+    }
     else record { state = behind_token spot.state depth p.class right style; last = token; column = column }
 
 -- the same by the pieces after it
@@ -243,7 +282,8 @@ behind_first layout spot p ps style =
     let right = next_role spot.state (p ∷ ps) in
     behind_piece layout spot (gap_before spot right p ps) right p style
 
--- what stands after the last piece: a line end, but not where a comment would go on with it, nor where there is no piece
+-- what stands after the last piece: a line end, but not where a comment would go on with it, nor
+-- where there is no piece
 abbrev pub ending : Last → Role → List ℕ
 ending open_comment left = []
 ending token left = if is left beginning then [] else codes "\n"
@@ -254,7 +294,8 @@ abbrev pub laid_from : Layout → Spot → List Piece → List ℕ
 laid_from layout spot [] = ending spot.last spot.state.last
 laid_from layout spot (p ∷ ps) =
     let after = behind_first layout spot p ps in
-    let style = style_of layout (enclosing spot.state.opened) p.class (after together).column ps (laid_from layout (after together) ps) in
+    let style = style_of layout (enclosing spot.state.opened) p.class (after together).column ps
+    (laid_from layout (after together) ps) in
     let gap = gap_before spot (next_role spot.state (p ∷ ps)) p ps in
     gap_text layout gap ++ (piece_text layout spot gap p ++ laid_from layout (after style) ps)
 

@@ -1,11 +1,13 @@
 -- What a user chooses of the layout.
 use Rattle.std.specs.Prelude.{ℕ, Bool, false, ◌+◌, ◌==◌, nat_le, if◌then◌else◌, List, [], ◌∷◌, codes, replicate}
 
--- with what lines end: CR LF if the first line end of the source is CR LF, else LF; always LF; always CR LF
+-- with what lines end: CR LF if the first line end of the source is CR LF, else LF; always LF;
+-- always CR LF
 pub data Newlines : Type 0 where
   auto lf crlf : Newlines
 
--- how long a line may be, in columns, or 0 where none is too long; what a level is: a tab, or spaces, and how many columns; and with what lines end
+-- how long a line may be, in columns, or 0 where none is too long; what a level is: a tab, or
+-- spaces, and how many columns; and with what lines end
 pub record Layout : Type 0 where
   pub width : ℕ
   pub tabs : Bool

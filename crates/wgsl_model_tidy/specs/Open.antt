@@ -1,9 +1,10 @@
 -- What is open at a place, how deep a line there stands, and what a token does to it.
 use Rattle.std.specs.Prelude.{ℕ, suc, Bool, true, false, ◌&&◌, ◌||◌, not, ◌==◌, if◌then◌else◌, List, [], ◌∷◌, drop}
-use Rattle.wgsl_model.specs.Tokens.Classes.{SymMinusMinus, KwStruct}
+use Rattle.wgsl_model.specs.Tokens.ClassTable.{SymMinusMinus, KwStruct}
 use Rattle.wgsl_model_tidy.specs.Roles.{Role, else_word, opening, closing, template_start, block_start, block_end, comma, semicolon, at, binary, item_end, attribute, beginning, is, opens_bracket, closes, ends_operand, begins_item, role_of}
 
--- how a bracket is written: in one line; in lines of its own, those inside as the author has them; or in lines of its own, with each item in a line
+-- how a bracket is written: in one line; in lines of its own, those inside as the author has them;
+-- or in lines of its own, with each item in a line
 pub data Style : Type 0 where
   together as_written item_by_item : Style
 
@@ -16,7 +17,9 @@ pub data Open : Type 0 where
 abbrev pub Opened : Type 0
 Opened = List (Open × ℕ)
 
--- what is open, the depth of the line, what the last token is to what follows, whether the last attribute is one of a statement, a declaration or a member, and whether the next `{` opens a structure
+-- what is open, the depth of the line, what the last token is to what follows, whether the last
+-- attribute is one of a statement, a declaration or a member, and whether the next `{` opens a
+-- structure
 pub record LayoutState : Type 0 where
   pub opened : Opened
   pub line : ℕ
@@ -72,13 +75,16 @@ outer_depth ((kind, depth) ∷ outer) = depth
 abbrev pub begins : LayoutState → Bool
 begins state = if is state.last attribute then state.leading else begins_item state.last
 
--- before a token of this role: the last one has ended, or a list of them begins or ends; an `else` goes on with its statement
+-- before a token of this role: the last one has ended, or a list of them begins or ends; an `else`
+-- goes on with its statement
 abbrev pub between_items : LayoutState → Role → Bool
-between_items state right = not (in_brackets state.opened) && (is right block_end || (begins_item state.last && not (is state.last attribute || is right else_word)))
+between_items state right = not (in_brackets state.opened)
+    && (is right block_end || (begins_item state.last && not (is state.last attribute || is right else_word)))
 
 -- ---- depths
 
--- a line begins as deep as what stands in the innermost: in brackets, where a statement, a declaration, a member or a clause begins, and before `{`
+-- a line begins as deep as what stands in the innermost: in brackets, where a statement, a
+-- declaration, a member or a clause begins, and before `{`
 abbrev pub is_at_depth : LayoutState → Role → Bool
 is_at_depth state right = in_brackets state.opened || (begins state || is right block_start)
 
@@ -90,17 +96,22 @@ depth_within state right = if is_at_depth state right then inner_depth state.ope
 abbrev pub depth_of : LayoutState → Role → ℕ
 depth_of state right = if closes right then outer_depth state.opened else depth_within state right
 
--- a comment on a line of its own stands as deep as what follows, but before a closing bracket as deep as what stands inside
+-- a comment on a line of its own stands as deep as what follows, but before a closing bracket as
+-- deep as what stands inside
 abbrev pub comment_depth : LayoutState → Role → ℕ
 comment_depth state right = if closes right then inner_depth state.opened else depth_within state right
 
 -- ---- after a token
 
--- what a token of a class does after what stands there, before an operand or not: `--` stands between operands where one comes after it
+-- what a token of a class does after what stands there, before an operand or not: `--` stands
+-- between operands where one comes after it
 abbrev pub role_in : LayoutState → ℕ → Bool → Role
-role_in state class before_operand = if class == SymMinusMinus && before_operand then binary else role_of (ends_operand state.last) class
+role_in state class before_operand = if class == SymMinusMinus && before_operand then binary
+    else role_of (ends_operand state.last) class
 
--- What a token is to what follows it. An attribute ends with its name or with the `)` after its arguments, a member with the `,` after it, and a statement or a declaration with its `;`, but not in the header of a `for`.
+-- What a token is to what follows it. An attribute ends with its name or with the `)` after its
+-- arguments, a member with the `,` after it, and a statement or a declaration with its `;`, but not
+-- in the header of a `for`.
 abbrev pub last_behind : LayoutState → Role → Role
 last_behind state right =
     if not (opens_bracket right) && is state.last at then attribute
@@ -117,7 +128,8 @@ block_opened state = if state.structure then members else block
 abbrev pub bracket_opened : LayoutState → Style → Open
 bracket_opened state style = if is state.last attribute then arguments style else bracket style
 
--- a block is as deep as the statement or the declaration that it is part of, a bracket as deep as the line where it opens
+-- a block is as deep as the statement or the declaration that it is part of, a bracket as deep as
+-- the line where it opens
 abbrev pub opened_behind : LayoutState → ℕ → Role → Style → Opened
 opened_behind state line right style =
     if is right block_start then (block_opened state, inner_depth state.opened) ∷ state.opened
@@ -129,13 +141,21 @@ opened_behind state line right style =
 -- `struct` announces a structure, unless it is the name of an attribute, up to the `{`
 abbrev pub structure_behind : LayoutState → ℕ → Role → Bool
 structure_behind state class right =
-    if is right block_start then false else if class == KwStruct && not (is state.last at) then true else state.structure
+    if is right block_start then false else if class == KwStruct && not (is state.last at) then true
+    else state.structure
 
 -- an attribute is one of a statement, a declaration or a member where one of these begins
 abbrev pub leading_behind : LayoutState → Role → Bool
 leading_behind state right = if is right at then begins state else state.leading
 
--- the state after a token of the role on the right, in a line of this depth; a bracket that it opens is of the style
+-- the state after a token of the role on the right, in a line of this depth; a bracket that it
+-- opens is of the style
 abbrev pub behind_token : LayoutState → ℕ → ℕ → Role → Style → LayoutState
 behind_token state line class right style =
-    record { opened = opened_behind state line right style; line = line; last = last_behind state right; leading = leading_behind state right; structure = structure_behind state class right }
+    record {
+      opened = opened_behind state line right style;
+      line = line;
+      last = last_behind state right;
+      leading = leading_behind state right;
+      structure = structure_behind state class right;
+    }

@@ -4,16 +4,18 @@ use Rattle.std.specs.Char.{is_whitespace}
 use Rattle.std.specs.Str.{encode_utf8_all}
 use Rattle.grammar.specs.Tokens.{Token}
 use Rattle.grammar.specs.Tables.{is_empty}
-use Rattle.wgsl_model.specs.Tokens.Classes.{LineComment, BlockComment}
+use Rattle.wgsl_model.specs.Tokens.ClassTable.{LineComment, BlockComment}
 use Rattle.wgsl_model.specs.Tokens.Characters.{is_line_break}
 use Rattle.wgsl_model.specs.Tokens.Places.{width}
 use Rattle.wgsl_model.specs.Tokens.Trivia.{Place, outside, in_line, in_block, second, out_of_block, first_or_zero}
 
--- the class of a block comment that is not closed, after which a text ends; it stands after the classes of tokens
+-- the class of a block comment that is not closed, after which a text ends; it stands after the
+-- classes of tokens
 abbrev pub OpenComment : ℕ
 OpenComment = suc BlockComment
 
--- a token, a bracket of a template list or a comment: its class, its characters, and how many line ends stand before it
+-- a token, a bracket of a template list or a comment: its class, its characters, and how many line
+-- ends stand before it
 pub record Piece : Type 0 where
   pub class : ℕ
   pub text : List ℕ
@@ -39,7 +41,9 @@ abbrev pub put_in_line : ℕ → List Piece → List Piece
 put_in_line c [] = []
 put_in_line c (p ∷ ps) = if is_whitespace c && is_empty p.text then p ∷ ps else put c (p ∷ ps)
 
--- The comments in a text of blank space and comments, which begins at such a place, so many line ends after the last piece; and after them what stands after so many line ends. A line comment ends before a line break; block comments nest.
+-- The comments in a text of blank space and comments, which begins at such a place, so many line
+-- ends after the last piece; and after them what stands after so many line ends. A line comment
+-- ends before a line break; block comments nest.
 unfoldable pub comments : (ℕ → List Piece) → Place → ℕ → List ℕ → List Piece
 comments behind outside n [] = behind n
 comments behind outside n (c ∷ cs) =
@@ -72,7 +76,8 @@ piece_of source t n = record { class = t.class; text = between source t.start t.
 -- the pieces of a source from a place on, where these tokens are left
 abbrev pub pieces_from : List ℕ → ℕ → List Token → List Piece
 pieces_from source from [] = comments (λ n. []) outside 0 (between source from (width source))
-pieces_from source from (t ∷ ts) = comments (λ n. piece_of source t n ∷ pieces_from source t.end ts) outside 0 (between source from t.start)
+pieces_from source from (t ∷ ts) = comments (λ n. piece_of source t n ∷ pieces_from source t.end ts)
+    outside 0 (between source from t.start)
 
 -- the pieces of a source with these tokens
 abbrev pub pieces : List ℕ → List Token → List Piece

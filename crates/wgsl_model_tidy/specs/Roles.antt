@@ -1,7 +1,7 @@
 -- What a token does where it stands, by its class and by whether an operand ends before it.
 use Rattle.std.specs.Prelude.{ℕ, Bool, true, false, ◌==◌, if◌then◌else◌, [], ◌∷◌}
 use Rattle.grammar.specs.Grammar.{is_among}
-use Rattle.wgsl_model.specs.Tokens.Classes.{SymAnd, SymAndAnd, SymAttr, SymForwardSlash, SymBang, SymBracketLeft, SymBracketRight, SymBraceLeft, SymBraceRight, SymColon, SymComma, SymEqual, SymEqualEqual, SymNotEqual, SymGreaterThan, SymGreaterThanEqual, SymShiftRight, SymLessThan, SymLessThanEqual, SymShiftLeft, SymModulo, SymMinus, SymMinusMinus, SymPeriod, SymPlus, SymPlusPlus, SymOr, SymOrOr, SymParenLeft, SymParenRight, SymSemicolon, SymStar, SymTilde, SymXor, SymPlusEqual, SymMinusEqual, SymTimesEqual, SymDivisionEqual, SymModuloEqual, SymAndEqual, SymOrEqual, SymXorEqual, SymShiftRightAssign, SymShiftLeftAssign, KwDiagnostic, KwElse, KwFalse, KwTrue, Ident, ReservedWord, AbstractInt, I32, U32, AbstractFloat, F32, F16, TemplateArgsStart, TemplateArgsEnd}
+use Rattle.wgsl_model.specs.Tokens.ClassTable.{SymAnd, SymAndAnd, SymAttr, SymForwardSlash, SymBang, SymBracketLeft, SymBracketRight, SymBraceLeft, SymBraceRight, SymColon, SymComma, SymEqual, SymEqualEqual, SymNotEqual, SymGreaterThan, SymGreaterThanEqual, SymShiftRight, SymLessThan, SymLessThanEqual, SymShiftLeft, SymModulo, SymMinus, SymMinusMinus, SymPeriod, SymPlus, SymPlusPlus, SymOr, SymOrOr, SymParenLeft, SymParenRight, SymSemicolon, SymStar, SymTilde, SymXor, SymPlusEqual, SymMinusEqual, SymTimesEqual, SymDivisionEqual, SymModuloEqual, SymAndEqual, SymOrEqual, SymXorEqual, SymShiftRightAssign, SymShiftLeftAssign, KwDiagnostic, KwElse, KwFalse, KwTrue, Ident, ReservedWord, AbstractInt, I32, U32, AbstractFloat, F32, F16, TemplateArgsStart, TemplateArgsEnd}
 
 pub data Role : Type 0 where
   -- a name; a whole number without a suffix, which would go on with a `.`; every other number
@@ -22,7 +22,8 @@ pub data Role : Type 0 where
   binary : Role
   -- `++` or `--` of an increment or a decrement
   step : Role
-  -- after it only: nothing; the end of a statement, a declaration or a member; the name of an attribute, or its arguments
+  -- after it only: nothing; the end of a statement, a declaration or a member; the name of an
+  -- attribute, or its arguments
   beginning item_end attribute : Role
 
 -- its place among the roles
@@ -130,9 +131,11 @@ begins_item role = false
 -- the operators that stand between operands alone, and those of assignments
 abbrev pub is_operator : ℕ → Bool
 is_operator class =
-    is_among class (SymAndAnd ∷ SymOrOr ∷ SymOr ∷ SymXor ∷ SymPlus ∷ SymForwardSlash ∷ SymModulo ∷ SymShiftLeft ∷ SymShiftRight ∷
+    is_among class (SymAndAnd ∷ SymOrOr ∷ SymOr ∷ SymXor ∷ SymPlus ∷ SymForwardSlash ∷ SymModulo
+    ∷ SymShiftLeft ∷ SymShiftRight ∷
     SymLessThan ∷ SymLessThanEqual ∷ SymGreaterThan ∷ SymGreaterThanEqual ∷ SymEqualEqual ∷ SymNotEqual ∷ SymEqual ∷
-    SymPlusEqual ∷ SymMinusEqual ∷ SymTimesEqual ∷ SymDivisionEqual ∷ SymModuloEqual ∷ SymAndEqual ∷ SymOrEqual ∷ SymXorEqual ∷
+    SymPlusEqual ∷ SymMinusEqual ∷ SymTimesEqual ∷ SymDivisionEqual ∷ SymModuloEqual ∷ SymAndEqual
+    ∷ SymOrEqual ∷ SymXorEqual ∷
     SymShiftRightAssign ∷ SymShiftLeftAssign ∷ [])
 
 -- `-`, `&` and `*` stand between operands after an operand, else before one
@@ -140,7 +143,8 @@ abbrev pub sign_role : Bool → ℕ → Role
 sign_role true class = binary
 sign_role false class = if class == SymMinus then minus else if class == SymAnd then ampersand else prefix
 
--- what a token of a class does, after an operand or not, `--` as in a decrement; `diagnostic` has its arguments after it, as a name has
+-- what a token of a class does, after an operand or not, `--` as in a decrement; `diagnostic` has
+-- its arguments after it, as a name has
 abbrev pub role_of : Bool → ℕ → Role
 role_of behind_operand class =
     if is_among class (Ident ∷ ReservedWord ∷ KwTrue ∷ KwFalse ∷ KwDiagnostic ∷ []) then name

@@ -6,7 +6,7 @@ pub use Rattle.grammar.specs.Grammar
 pub use Rattle.grammar.specs.Notation
 pub use Rattle.grammar.specs.Endings
 -- the definitions
-pub use Rattle.wgsl_model.specs.Tokens.Classes
+pub use Rattle.wgsl_model.specs.Tokens.ClassTable as Classes
 pub use Rattle.wgsl_model.specs.Tokens.Kind
 pub use Rattle.wgsl_model.specs.Tokens.Words
 pub use Rattle.wgsl_model.specs.Tokens.Characters
@@ -72,11 +72,11 @@ pub use Rattle.wgsl_tree_statement.specs.View as StatementView
 pub use Rattle.wgsl_tree_unit.specs.View as UnitView
 -- which variant a value is
 pub use Rattle.wgsl_lex_token.specs.Groups as TokenGroups
-pub use Rattle.wgsl_tree_expression.specs.Variants as ExpressionVariants
-pub use Rattle.wgsl_tree_attribute.specs.Variants as AttributeVariants
-pub use Rattle.wgsl_tree_simple.specs.Variants as SimpleStatementVariants
+pub use Rattle.wgsl_tree_expression.specs.VariantsNodes as ExpressionVariants
+pub use Rattle.wgsl_tree_attribute.specs.VariantsNodes as AttributeVariants
+pub use Rattle.wgsl_tree_simple.specs.VariantsNodes as SimpleStatementVariants
 pub use Rattle.wgsl_tree_simple.specs.Kinds as KindWords
-pub use Rattle.wgsl_tree_unit.specs.Variants as UnitVariants
+pub use Rattle.wgsl_tree_unit.specs.VariantsNodes as UnitVariants
 -- errors, and what is answered of texts and of the tokens of iterators
 pub use Rattle.wgsl_error.specs.Kinds as ErrorKinds
 pub use Rattle.wgsl_error.specs.Places as MarkedLines
@@ -98,14 +98,14 @@ pub use Rattle.wgsl_lex_templates.specs.Spans as FoundSpans
 pub use Rattle.wgsl_tree_node.specs.Parts as NodeParts
 pub use Rattle.wgsl_span.specs.Keeps
 pub use Rattle.wgsl_tree_node.specs.Lending as AttributeLending
-pub use Rattle.wgsl_tree_node.specs.DeclaredNames
+pub use Rattle.wgsl_tree_node.specs.NamedNodes as DeclaredNames
 pub use Rattle.wgsl_tree_node.specs.PlainAttributes
 -- equality
-pub use Rattle.wgsl_tree_equality.specs.Code as EqualityCode
-pub use Rattle.wgsl_tree_equality.specs.Expressions as ExpressionCodes
-pub use Rattle.wgsl_tree_equality.specs.Declarations as DeclarationCodes
-pub use Rattle.wgsl_tree_equality.specs.Statements as StatementCodes
-pub use Rattle.wgsl_tree_equality.specs.Units as UnitCodes
+pub use Rattle.wgsl_tree_code.specs.Same as EqualityCode
+pub use Rattle.wgsl_tree_code.specs.Code as TreeCode
+pub use Rattle.wgsl_tree_code.specs.ExpressionNodes as ExpressionCodes
+pub use Rattle.wgsl_tree_code.specs.StatementNodes as StatementCodes
+pub use Rattle.wgsl_tree_code.specs.UnitNodes as UnitCodes
 pub use Rattle.wgsl_tree_expression.specs.Equality as ExpressionEquality
 pub use Rattle.wgsl_tree_attribute.specs.Equality as AttributeEquality
 pub use Rattle.wgsl_tree_simple.specs.Equality as SimpleStatementEquality

@@ -92,7 +92,7 @@ pub mod tidy {
 
 /// What holds of all texts and trees, as contracts of functions that do nothing.
 pub mod laws {
-    pub use wgsl_laws::attributes::statement_attributes;
+    pub use wgsl_laws::attributes_nodes::statement_attributes;
     pub use wgsl_laws::grammar_laws::{
         checked_is_full, no_less_derived, one_fault, one_name, one_tree, syntax_fault,
     };
@@ -114,7 +114,7 @@ pub mod laws {
     /// their spans set aside. The laws that stand here speak of plain trees; those of the nodes
     /// themselves stand in the modules below.
     pub mod equality {
-        pub use wgsl_laws::equality::{
+        pub use wgsl_laws::equality_nodes::{
             branches, calls, declarations, directives, equivalence, expressions,
             global_declarations, literals, loops, nodes, simple_statements, statements, types,
             units,
@@ -128,7 +128,7 @@ pub mod laws {
 
         /// Of attributes and what they hold.
         pub mod attribute {
-            pub use wgsl_laws::attribute_equality::{
+            pub use wgsl_laws::attribute_equality_nodes::{
                 attributes, customs, diagnostics, equivalence, interpolations, type_constraints,
                 workgroup_sizes,
             };
@@ -136,12 +136,12 @@ pub mod laws {
 
         /// Of the statements that hold no others.
         pub mod statement {
-            pub use wgsl_laws::simple_equality::{declarations, simple_statements};
+            pub use wgsl_laws::simple_equality_nodes::{declarations, simple_statements};
         }
 
         /// Of modules, directives and declarations.
         pub mod unit {
-            pub use wgsl_laws::unit_equality::{
+            pub use wgsl_laws::unit_equality_nodes::{
                 directives, equivalence, global_declarations, units,
             };
         }

@@ -7,8 +7,10 @@ use Rattle.wgsl_error.specs.View.{fault_view}
 use Rattle.wgsl_read_cursor.specs.Answers.{IsOutOfMemory}
 use Rattle.wgsl_read_cursor.specs.Places.{StandsWithin}
 
--- What is answered of a source: Ok only with what it is; else that memory was refused, or the fault that is named; either stands in the text or ends one byte past it.
-pub record IsRead {X : Type 0} (n : Symbol) (accepts : X → Type 0) (source : List ℕ) (result : Result X Error) : Type 0 where
+-- What is answered of a source: Ok only with what it is; else that memory was refused, or the fault
+-- that is named; either stands in the text or ends one byte past it.
+pub record IsRead {X : Type 0} (n : Symbol) (accepts : X → Type 0) (source : List ℕ)
+    (result : Result X Error) : Type 0 where
   pub accepted : IfOk result accepts
   pub refused : IfErr result (λ e. IsOutOfMemory e ⊎ IsFaultIn n (chars source) (fault_view e))
   pub placed : IfErr result (λ e. StandsWithin e.span (length source))

@@ -15,7 +15,9 @@ use Rattle.wgsl_read_cursor.specs.Answers.{IsOutOfMemory}
 abbrev pub IsSpanOf : Span → List Token → Type 0
 IsSpanOf span ts = span_view span ≡ span_of ts
 
--- what is answered of tokens that ended so: the span of the template list that they are, or an error, unless memory ran out
+-- what is answered of tokens that ended so: the span of the template list that they are, or an
+-- error, unless memory ran out
 abbrev pub SpanAnswered : Result Span Error → List Token → Ending → Type 0
-SpanAnswered (Ok span) ts ending = (es : List ExpressionNode) × (answer_of template_list ts ending ≡ accepted es) × IsSpanOf span ts
+SpanAnswered (Ok span) ts ending = (es : List ExpressionNode)
+    × (answer_of template_list ts ending ≡ accepted es) × IsSpanOf span ts
 SpanAnswered (Err e) ts ending = IsOutOfMemory e ⊎ (answer_of template_list ts ending ≡ denied (fault_view e))

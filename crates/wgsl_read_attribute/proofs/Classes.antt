@@ -13,17 +13,21 @@ abbrev pub alone : ℕ → State
 alone c = record { end = 0; rest = record { class = c; payload = nothing; start = 0; end = 0 } ∷ [] }
 
 -- a token of another class is none of these
-other_class_in : (cs : List ℕ) (c e : ℕ) (ts : List Token) → is_any cs (alone c) ≡ false → is_at c (record { end = e; rest = ts }) ≡ true → is_any cs (record { end = e; rest = ts }) ≡ false
+other_class_in : (cs : List ℕ) (c e : ℕ) (ts : List Token) → is_any cs (alone c) ≡ false
+    → is_at c (record { end = e; rest = ts }) ≡ true → is_any cs (record { end = e; rest = ts }) ≡ false
 unfolding is_at
 other_class_in cs c e [] apart h = absurd cc
-other_class_in cs c e (u ∷ ts) apart h = first_alike cs e u ts ∙ ap (λ d. is_any cs (alone d)) (eqb-true u.class c h) ∙ apart
+other_class_in cs c e (u ∷ ts) apart h = first_alike cs e u ts
+    ∙ ap (λ d. is_any cs (alone d)) (eqb-true u.class c h) ∙ apart
   where
-    first_alike : (cs : List ℕ) (e : ℕ) (u : Token) (ts : List Token) → is_any cs (record { end = e; rest = u ∷ ts }) ≡ is_any cs (alone u.class)
+    first_alike : (cs : List ℕ) (e : ℕ) (u : Token) (ts : List Token)
+        → is_any cs (record { end = e; rest = u ∷ ts }) ≡ is_any cs (alone u.class)
     first_alike [] e u ts = refl
     first_alike (c ∷ []) e u ts = refl
     first_alike (c ∷ (d ∷ cs)) e u ts = ap (cond (eqb u.class c) true) (first_alike (d ∷ cs) e u ts)
 
-pub other_class : (cs : List ℕ) (c : ℕ) (s : State) → is_any cs (alone c) ≡ false → is_at c s ≡ true → is_any cs s ≡ false
+pub other_class : (cs : List ℕ) (c : ℕ) (s : State) → is_any cs (alone c) ≡ false → is_at c s ≡ true
+    → is_any cs s ≡ false
 other_class cs c s apart h = other_class_in cs c s.end s.rest apart h
 
 neither : (b x : Bool) → cond b true x ≡ false → (b ≡ false) × (x ≡ false)
@@ -52,4 +56,5 @@ none_among [] ds s h k = refl
 none_among (c ∷ []) ds s h k = not_one c ds s (cond_and (is_among c ds) true h).0 k
 none_among (c ∷ (d ∷ cs)) ds s h k =
     let both = cond_and (is_among c ds) (subset (d ∷ cs) ds) h in
-    cond_no {A = Bool} (is_at c s) true (is_any (d ∷ cs) s) (not_one c ds s both.0 k) ∙ none_among (d ∷ cs) ds s both.1 k
+    cond_no {A = Bool} (is_at c s) true (is_any (d ∷ cs) s) (not_one c ds s both.0 k)
+    ∙ none_among (d ∷ cs) ds s both.1 k

@@ -18,4 +18,20 @@ unfoldable pub making : ⊤
 unfolding checked_attribute
 making = tt
 
-pub ruleset lemmas = (told, wrong_told, seen, attribute_list_is, attributes_are, map_push, attribute_node_is, attribute_parts_is, taken_is, with_one_is, builtin_is, diagnostic_is, interpolate_is, workgroup_size_is, type_is)
+pub ruleset lemmas = (
+  told,
+  wrong_told,
+  seen,
+  attribute_list_is,
+  attributes_are,
+  map_push,
+  attribute_node_is,
+  attribute_parts_is,
+  taken_is,
+  with_one_is,
+  builtin_is,
+  diagnostic_is,
+  interpolate_is,
+  workgroup_size_is,
+  type_is,
+)

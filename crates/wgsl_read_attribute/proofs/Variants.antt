@@ -17,12 +17,15 @@ map_reverse f (x ∷ xs) =
 abbrev pub behind : List TypeExpression → Option (List TypeExpression) → Option (List TypeExpression)
 behind ts = option_map (λ front. front ++ reverse ts)
 
-one_more : (t : TypeExpression) (ts : List TypeExpression) (o : Option (List TypeExpression)) → behind ts (option_map (λ front. front ++ (t ∷ [])) o) ≡ behind (ts ++ (t ∷ [])) o
+one_more : (t : TypeExpression) (ts : List TypeExpression) (o : Option (List TypeExpression))
+    → behind ts (option_map (λ front. front ++ (t ∷ [])) o) ≡ behind (ts ++ (t ∷ [])) o
 one_more t ts None = refl
-one_more t ts (Some front) = ap Some (append_assoc front (t ∷ []) (reverse ts) ∙ ap (λ l. front ++ l) (sym (reverse-append ts (t ∷ []))))
+one_more t ts (Some front) = ap Some
+    (append_assoc front (t ∷ []) (reverse ts) ∙ ap (λ l. front ++ l) (sym (reverse-append ts (t ∷ []))))
 
 -- one type more was met
-pub met : (whole : Option (List TypeExpression)) (rest front : Option Expression) (joined : Expression) (t : TypeExpression) (ts us : List TypeExpression)
+pub met : (whole : Option (List TypeExpression)) (rest front : Option Expression)
+    (joined : Expression) (t : TypeExpression) (ts us : List TypeExpression)
     → whole ≡ behind ts (variants_before rest)
     → rest ≡ Some joined
     → variants_in joined ≡ option_map (λ first. first ++ (t ∷ [])) (variants_before front)
@@ -36,7 +39,8 @@ met whole rest front joined t ts us h r j u =
     ∙ ap (λ x. behind x (variants_before front)) (sym u)
 
 -- all were met
-pub all_met : {X : Type 0} (view : X → TypeExpression) (whole : Option (List TypeExpression)) (rest : Option Expression) (types turned : List X)
+pub all_met : {X : Type 0} (view : X → TypeExpression) (whole : Option (List TypeExpression))
+    (rest : Option Expression) (types turned : List X)
     → whole ≡ behind (map view types) (variants_before rest)
     → rest ≡ None
     → turned ≡ reverse types

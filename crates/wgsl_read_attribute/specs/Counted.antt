@@ -31,7 +31,8 @@ abbrev pub only_argument : Arguments → Checked ExpressionNode
 only_argument arguments = only_of (arguments_of arguments)
 
 -- the arguments, where one to three hold two
-abbrev pub two_of : Option (ExpressionNode × Option ExpressionNode × Option ExpressionNode) → Checked (ExpressionNode × ExpressionNode)
+abbrev pub two_of : Option (ExpressionNode × Option ExpressionNode × Option ExpressionNode)
+    → Checked (ExpressionNode × ExpressionNode)
 two_of (Some (e, Some f, None)) = right (e, f)
 two_of _ = wrong (codes "expected 2 arguments")
 
@@ -40,9 +41,13 @@ abbrev pub two_arguments : Arguments → Checked (ExpressionNode × ExpressionNo
 two_arguments arguments = two_of (arguments_of arguments)
 
 -- the interpolation that one or two of these arguments say
-abbrev pub interpolation_of : Option (ExpressionNode × Option ExpressionNode × Option ExpressionNode) → Option InterpolateAttribute
-interpolation_of (Some (e, None, None)) = option_map (λ ty. record { ty = ty; sampling = None }) (untemplated_word interpolation_types e)
-interpolation_of (Some (e, Some s, None)) = option_and_then (λ ty. option_map (λ sampling. record { ty = ty; sampling = Some sampling }) (untemplated_word interpolation_samplings s)) (untemplated_word interpolation_types e)
+abbrev pub interpolation_of : Option (ExpressionNode × Option ExpressionNode × Option ExpressionNode)
+    → Option InterpolateAttribute
+interpolation_of (Some (e, None, None)) = option_map (λ ty. record { ty = ty; sampling = None })
+    (untemplated_word interpolation_types e)
+interpolation_of (Some (e, Some s, None)) =
+    option_and_then (λ ty. option_map (λ sampling. record { ty = ty; sampling = Some sampling })
+    (untemplated_word interpolation_samplings s)) (untemplated_word interpolation_types e)
 interpolation_of _ = None
 
 -- the interpolation of a list of one or two

@@ -4,7 +4,7 @@ use Rattle.grammar.specs.Tokens.{Token}
 use Rattle.grammar.specs.Grammar.{Grammar.token, Grammar.symbol}
 use Rattle.grammar.specs.Notation.{◌then◌, ◌gives◌, ◌▹◌, optional}
 use Rattle.grammar.specs.States.{State, Read, done, ◌>>=◌, is_at, turns, go}
-use Rattle.wgsl_model.specs.Tokens.Classes.{SymAttr, Ident, ReservedWord}
+use Rattle.wgsl_model.specs.Tokens.ClassTable.{SymAttr, Ident, ReservedWord}
 use Rattle.wgsl_model.specs.Trees.Spanned.{Spanned}
 use Rattle.wgsl_model.specs.Trees.Attributes.{Attribute, Attributes}
 use Rattle.wgsl_model.specs.Grammar.Checks.{Arguments, attribute_node}
@@ -20,7 +20,8 @@ optional_arguments_at s = go tables reader (optional (symbol (of arguments))) s
 
 -- `@`, a name and its arguments, which are not checked
 unfoldable pub attribute_parts_at : State → Read (Token × Arguments)
-attribute_parts_at s = go tables reader (SymAttr ▹ token (Ident ∷ ReservedWord ∷ keyword_classes) then optional (symbol (of arguments))) s
+attribute_parts_at s = go tables reader
+    (SymAttr ▹ token (Ident ∷ ReservedWord ∷ keyword_classes) then optional (symbol (of arguments))) s
 
 -- an attribute that is right
 unfoldable pub attribute_node_at : State → Read (Spanned Attribute)
@@ -28,8 +29,11 @@ attribute_node_at s = go tables reader (symbol (of attribute) gives attribute_no
 
 -- further attributes behind some
 unfoldable pub attributes_from : ℕ → Attributes → State → Read Attributes
-attributes_from start attributes s = turns (λ (xs : Attributes) (x : Spanned Attribute) span. xs ++ (x ∷ [])) (SymAttr ∷ []) attribute_node_at start attributes s
+attributes_from start attributes s =
+    turns (λ (xs : Attributes) (x : Spanned Attribute) span. xs ++ (x ∷ []))
+    (SymAttr ∷ []) attribute_node_at start attributes s
 
 -- one more, where the next token is `@`
 unfoldable pub attributes_turn : ℕ → Attributes → State → Read Attributes
-attributes_turn start attributes s = cond (is_at SymAttr s) (attribute_node_at s >>= λ a s'. attributes_from start (attributes ++ (a ∷ [])) s') (done attributes s)
+attributes_turn start attributes s = cond (is_at SymAttr s)
+    (attribute_node_at s >>= λ a s'. attributes_from start (attributes ++ (a ∷ [])) s') (done attributes s)

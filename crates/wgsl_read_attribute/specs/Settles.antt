@@ -12,7 +12,8 @@ abbrev pub settled : {A B : Type 0} → Checked A → (List ℕ → plain.Fault)
 settled (right a) fault made s = done (made a) s
 settled (wrong text) fault made s = stop (faulty (fault text))
 
--- What a function returned, seen by view, is what a check says, or its fault, unless memory ran out.
+-- What a function returned, seen by view, is what a check says, or its fault, unless memory ran
+-- out.
 abbrev pub Settles : {X Y : Type 0} → (X → Y) → Result X Fault → Checked Y → (List ℕ → plain.Fault) → Type 0
 Settles view (Ok x) checked fault = checked ≡ right (view x)
 Settles view (Err fault.OutOfMemory) checked fault = Unit {0}

@@ -13,4 +13,20 @@ unfoldable pub definitions : ⊤
 unfolding refusal_stop is_at next_start after take ident_at first_of token_at rest_of next_class
 definitions = tt
 
-pub ruleset lemmas = (told, kind_known, known_kind, none_known, first_kind, first_none, first_place, first_end, none_end, behind_first, fewer_behind, ident_is, attribute_name_is, no_attribute_name, keyword_text)
+pub ruleset lemmas = (
+  told,
+  kind_known,
+  known_kind,
+  none_known,
+  first_kind,
+  first_none,
+  first_place,
+  first_end,
+  none_end,
+  behind_first,
+  fewer_behind,
+  ident_is,
+  attribute_name_is,
+  no_attribute_name,
+  keyword_text,
+)

@@ -29,12 +29,14 @@ behind_in_order from to [] us h = h
 behind_in_order from to (t ∷ p) us h = behind_in_order t.end to p us h.2
 
 -- what stands before others ends before them
-before_in_order : (from to : ℕ) (p us : List Token) → AreInOrder from (p ++ us) to → (from ≤ last_end from p) × (last_end from p ≤ to)
+before_in_order : (from to : ℕ) (p us : List Token) → AreInOrder from (p ++ us) to
+    → (from ≤ last_end from p) × (last_end from p ≤ to)
 before_in_order from to [] us h = let k = last_in_order from to us h in (omega arith, omega (arith, k.0, k.1))
 before_in_order from to (t ∷ p) us h = let k = before_in_order t.end to p us h.2 in (omega (arith, h.0, h.1, k.0), k.1)
 
 -- a slice of tokens in order
-slice_within : (to : ℕ) (before slice ys : List Token) → AreInOrder 0 (before ++ (slice ++ ys)) to → Within (span_of slice) to
+slice_within : (to : ℕ) (before slice ys : List Token) → AreInOrder 0 (before ++ (slice ++ ys)) to
+    → Within (span_of slice) to
 slice_within to before [] ys h = (omega arith, omega arith)
 slice_within to before (t ∷ slice) ys h =
     let from = behind_in_order 0 to before ((t ∷ slice) ++ ys) h in
@@ -42,20 +44,25 @@ slice_within to before (t ∷ slice) ys h =
     (omega (arith, from.1, k.0), omega (arith, k.1))
 
 -- what a check finds has the span that was checked
-span_in : {A : Type 0} (c : Checked A) (f : List ℕ → Fault) (span : Span) (x : Fault) → ((text : List ℕ) → (f text).span ≡ span) → fault_in c f ≡ Some x → x.span ≡ span
+span_in : {A : Type 0} (c : Checked A) (f : List ℕ → Fault) (span : Span) (x : Fault)
+    → ((text : List ℕ) → (f text).span ≡ span) → fault_in c f ≡ Some x → x.span ≡ span
 span_in (right a) f span x h e = absurd cc
 span_in (wrong text) f span x h e = let same : f text ≡ x = cc in sym (ap (λ (y : Fault). y.span) same) ∙ h text
 
 -- a checked fault
-checked_within : (to : ℕ) (ts : List Token) (ending : Ending) (x : Fault) (ys : List Token) → AreInOrder 0 ts to → IsCheckedFault ts ending x ys → Within x.span to
+checked_within : (to : ℕ) (ts : List Token) (ending : Ending) (x : Fault) (ys : List Token)
+    → AreInOrder 0 ts to → IsCheckedFault ts ending x ys → Within x.span to
 checked_within to ts ending x ys h (reserved_fault (before, t, e, n, c, is)) =
     subst (λ (y : Fault). Within y.span to) (sym is) (token_within to before ys t (subst (λ z. AreInOrder 0 z to) e h))
 checked_within to ts ending x ys h (severity_fault_at (before, d, p, t, e, n, dc, pc, tc, l, is)) =
-    subst (λ (y : Fault). Within y.span to) (sym is) (token_within to (before ++ (d ∷ (p ∷ []))) ys t (subst (λ z. AreInOrder 0 z to) (e ∙ sym (append_assoc before (d ∷ (p ∷ [])) (t ∷ ys))) h))
+    subst (λ (y : Fault). Within y.span to) (sym is) (token_within to (before ++ (d ∷ (p ∷ []))) ys t
+    (subst (λ z. AreInOrder 0 z to) (e ∙ sym (append_assoc before (d ∷ (p ∷ [])) (t ∷ ys))) h))
 checked_within to ts ending x ys h (attribute_fault_at (before, slice, a, e, d, w, is)) =
-    subst (λ (s : Span). Within s to) (sym (span_in _ _ (span_of slice) x (λ text. refl) is)) (slice_within to before slice ys (subst (λ z. AreInOrder 0 z to) e h))
+    subst (λ (s : Span). Within s to) (sym (span_in _ _ (span_of slice) x (λ text. refl) is))
+    (slice_within to before slice ys (subst (λ z. AreInOrder 0 z to) e h))
 checked_within to ts ending x ys h (var_template_fault (before, slice, es, e, n, d, is)) =
-    subst (λ (s : Span). Within s to) (sym (span_in _ _ (span_of slice) x (λ text. refl) is)) (slice_within to before slice ys (subst (λ z. AreInOrder 0 z to) e h))
+    subst (λ (s : Span). Within s to) (sym (span_in _ _ (span_of slice) x (λ text. refl) is))
+    (slice_within to before slice ys (subst (λ z. AreInOrder 0 z to) e h))
 
 -- the place behind a place
 next_is : (p : ℕ) → (p ≤ next_place p) × (next_place p ≤ p + 1)
@@ -66,31 +73,38 @@ next_is p = by_test (nat_lt p last_place)
     by_test false = (omega arith, omega arith)
 
 -- a token that can't stand where it stands
-unexpected_within : (source : List ℕ) (ts : List Token) (e : Ending) (p us : List Token) (t : Token) → IsTokenList source ts e → ts ≡ p ++ (t ∷ us) → Within (span_of_token t) (width source)
-unexpected_within source ts e p us t l h = token_within (width source) p us t (subst (λ (z : List Token). AreInOrder 0 z (width source)) h (tokens_in_order source ts e l))
+unexpected_within : (source : List ℕ) (ts : List Token) (e : Ending) (p us : List Token) (t : Token)
+    → IsTokenList source ts e → ts ≡ p ++ (t ∷ us) → Within (span_of_token t) (width source)
+unexpected_within source ts e p us t l h = token_within (width source) p us t
+    (subst (λ (z : List Token). AreInOrder 0 z (width source)) h (tokens_in_order source ts e l))
 
 -- what ended the tokens
-carried_within : (source : List ℕ) (ts : List Token) (e : Ending) (y : Fault) → IsTokenList source ts e → e ≡ carried y → Within y.span (width source)
+carried_within : (source : List ℕ) (ts : List Token) (e : Ending) (y : Fault)
+    → IsTokenList source ts e → e ≡ carried y → Within y.span (width source)
 carried_within source ts e y l q =
     let b = subst (λ (z : Ending). IsFaultBehind ts z (width source)) q (fault_behind source ts e l) in
     (omega (arith, b.1), omega (arith, b.2))
 
 -- an end behind which a token is missing
-missing_within : (source : List ℕ) (ts : List Token) (e : Ending) → IsTokenList source ts e → Within (unexpected_end (last_end 0 ts)).span (width source)
+missing_within : (source : List ℕ) (ts : List Token) (e : Ending) → IsTokenList source ts e
+    → Within (unexpected_end (last_end 0 ts)).span (width source)
 missing_within source ts e l =
     let o = last_in_order 0 (width source) ts (tokens_in_order source ts e l) in
     let w = next_is (last_end 0 ts) in
     (w.0, omega (arith, o.1, w.1))
 
 -- the fault that is named
-pub named_within : (n : Symbol) (source : List ℕ) (ts : List Token) (e : Ending) (x : Fault) → IsTokenList source ts e → IsNamed n ts e x → Within x.span (width source)
-named_within n source ts e x l (checked_first p us y h v f m) = checked_within (width source) ts e x us (tokens_in_order source ts e l) f
+pub named_within : (n : Symbol) (source : List ℕ) (ts : List Token) (e : Ending) (x : Fault)
+    → IsTokenList source ts e → IsNamed n ts e x → Within x.span (width source)
+named_within n source ts e x l (checked_first p us y h v f m) =
+    checked_within (width source) ts e x us (tokens_in_order source ts e l) f
 named_within n source ts e x l (unexpected_first p us t h v r m) = unexpected_within source ts e p us t l h
 named_within n source ts e x l (carried_last y v m q) = carried_within source ts e y l q
 named_within n source ts e x l (missing_last v r m q) = missing_within source ts e l
 
 -- the same where nothing is checked
-pub unchecked_within : (L : Dialect) (n : Symbol) (source : List ℕ) (ts : List Token) (e : Ending) (x : Fault) → IsTokenList source ts e → IsNamedUnchecked L n ts e x → Within x.span (width source)
+pub unchecked_within : (L : Dialect) (n : Symbol) (source : List ℕ) (ts : List Token) (e : Ending) (x : Fault)
+    → IsTokenList source ts e → IsNamedUnchecked L n ts e x → Within x.span (width source)
 unchecked_within L n source ts e x l (unchecked_unexpected p us t h v r) = unexpected_within source ts e p us t l h
 unchecked_within L n source ts e x l (unchecked_carried y v q) = carried_within source ts e y l q
 unchecked_within L n source ts e x l (unchecked_missing v r q) = missing_within source ts e l

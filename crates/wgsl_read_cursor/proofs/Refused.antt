@@ -16,12 +16,16 @@ stops : (A : Type 0) (x : Fault) (s : Stop) → Fails {Y = A} x (stop s) → Fai
 stops A (fault.Refused refusal) s h = let same : s ≡ refusal_stop refusal.value = cc in ap stop same
 stops A fault.OutOfMemory s h = tt
 
-refuses : (A : Type 0) (x : Fault) (end : ℕ) (ts : List Token) → Fails x (refused_at {A = A} end ts) → Fails x (refused_at {A = Token} end ts)
+refuses : (A : Type 0) (x : Fault) (end : ℕ) (ts : List Token) → Fails x (refused_at {A = A} end ts)
+    → Fails x (refused_at {A = Token} end ts)
 refuses A x end [] h = stops A x (ended end) h
 refuses A x end (t ∷ ts) h = stops A x (unexpected t) h
 
-pub refused_is : (A : Type 0) (class : ℕ) (old left : State) (taken : Bool) (x : Fault) → taken ≡ is_at class old → taken ≡ false → left ≡ (if taken then after old else old) → Fails x (refused {A = A} left) → Fails x (take class old)
+pub refused_is : (A : Type 0) (class : ℕ) (old left : State) (taken : Bool) (x : Fault)
+    → taken ≡ is_at class old → taken ≡ false → left ≡ (if taken then after old else old)
+    → Fails x (refused {A = A} left) → Fails x (take class old)
 unfolding take
 refused_is A class old left true x a f r h = absurd cc
 refused_is A class old left false x a f r h =
-    subst (λ b. Fails x (cond b (done (first_of old) (after old)) (refused old))) a (refuses A x old.end old.rest (subst (λ (s : State). Fails x (refused {A = A} s)) r h))
+    subst (λ b. Fails x (cond b (done (first_of old) (after old)) (refused old))) a
+    (refuses A x old.end old.rest (subst (λ (s : State). Fails x (refused {A = A} s)) r h))

@@ -33,21 +33,27 @@ use Rattle.wgsl_read_cursor.specs.Origins.{AreOf, IsSourceOf, IsReadTo}
 use Rattle.wgsl_read_cursor.proofs.Origins.{all_taken}
 
 -- ---- tokens that did not end because memory was refused
-behind_said : {Y : Type 0} (ts us : List Token) (ending : Ending) (a : Y) (e : Error) → IsToldBehind us ending e → answer_said ts ending (ok a us) ≡ denied (fault_view e)
+behind_said : {Y : Type 0} (ts us : List Token) (ending : Ending) (a : Y) (e : Error)
+    → IsToldBehind us ending e → answer_said ts ending (ok a us) ≡ denied (fault_view e)
 behind_said ts [] finished a e told = absurd told
 behind_said ts [] (carried x) a e told = ap denied (sym told)
 behind_said ts (t ∷ us) ending a e told = ap denied (sym told.1)
 
-refusal_said : {Y : Type 0} (ts : List Token) (ending : Ending) (o : Outcome Y) (r : Refusal) (e : Error) → tag (start_state ts) o ≡ stop (refusal_stop r) → IsToldOfRefusal r ending e → answer_said ts ending o ≡ denied (fault_view e)
+refusal_said : {Y : Type 0} (ts : List Token) (ending : Ending) (o : Outcome Y) (r : Refusal) (e : Error)
+    → tag (start_state ts) o ≡ stop (refusal_stop r) → IsToldOfRefusal r ending e
+    → answer_said ts ending o ≡ denied (fault_view e)
 unfolding refusal_stop
 refusal_said ts ending (ok a us) (refusal.UnexpectedToken p expected) e fails told = absurd cc
 refusal_said ts ending (stuck []) (refusal.UnexpectedToken p expected) e fails told = absurd cc
-refusal_said ts ending (stuck (t ∷ us)) (refusal.UnexpectedToken p expected) e fails told = let same : t ≡ placed_view p = cc in ap (λ u. denied (unexpected_token u)) same ∙ ap denied (sym told.1)
+refusal_said ts ending (stuck (t ∷ us)) (refusal.UnexpectedToken p expected) e fails told =
+    let same : t ≡ placed_view p = cc in ap (λ u. denied (unexpected_token u)) same ∙ ap denied (sym told.1)
 refusal_said ts ending (bad y us) (refusal.UnexpectedToken p expected) e fails told = absurd cc
 refusal_said ts ending out (refusal.UnexpectedToken p expected) e fails told = absurd cc
 refusal_said ts ending (ok a us) (refusal.UnexpectedEnd place expected) e fails told = absurd cc
 refusal_said ts finished (stuck []) (refusal.UnexpectedEnd place expected) e fails told =
-    let same : last_end 0 (tokens_between ts []) ≡ place = cc in ap (λ p. denied (unexpected_end p)) (ap (last_end 0) (sym (tokens_all ts)) ∙ same) ∙ ap denied (sym told)
+    let same : last_end 0 (tokens_between ts []) ≡ place = cc in
+    ap (λ p. denied (unexpected_end p)) (ap (last_end 0) (sym (tokens_all ts)) ∙ same)
+    ∙ ap denied (sym told)
 refusal_said ts (carried x) (stuck []) (refusal.UnexpectedEnd place expected) e fails told = ap denied (sym told)
 refusal_said ts ending (stuck (t ∷ us)) (refusal.UnexpectedEnd place expected) e fails told = absurd cc
 refusal_said ts ending (bad y us) (refusal.UnexpectedEnd place expected) e fails told = absurd cc
@@ -55,24 +61,33 @@ refusal_said ts ending out (refusal.UnexpectedEnd place expected) e fails told =
 refusal_said ts ending (ok a us) (refusal.Checked x) e fails told = absurd cc
 refusal_said ts ending (stuck []) (refusal.Checked x) e fails told = absurd cc
 refusal_said ts ending (stuck (t ∷ us)) (refusal.Checked x) e fails told = absurd cc
-refusal_said ts ending (bad y us) (refusal.Checked x) e fails told = let same : y ≡ fault_view x = cc in ap denied (same ∙ ap fault_view (sym told))
+refusal_said ts ending (bad y us) (refusal.Checked x) e fails told =
+    let same : y ≡ fault_view x = cc in ap denied (same ∙ ap fault_view (sym told))
 refusal_said ts ending out (refusal.Checked x) e fails told = absurd cc
 
-stop_said : {Y : Type 0} (ts : List Token) (ending : Ending) (o : Outcome Y) (x : declared.Fault) (e : Error) → Fails x (tag (start_state ts) o) → IsToldOf x ending e → answer_said ts ending o ≡ denied (fault_view e)
+stop_said : {Y : Type 0} (ts : List Token) (ending : Ending) (o : Outcome Y) (x : declared.Fault) (e : Error)
+    → Fails x (tag (start_state ts) o) → IsToldOf x ending e
+    → answer_said ts ending o ≡ denied (fault_view e)
 stop_said ts ending o (fault.Refused refusal) e fails told = refusal_said ts ending o refusal.value e fails told
 stop_said ts ending o fault.OutOfMemory e fails told = absurd told
 
-pub said_seen : {X Y : Type 0} (view : X → Y) (ts : List Token) (ending : Ending) (o : Outcome Y) (read : Result X declared.Fault) (left : State) (result : Result X Error)
-    → Gives view read left (tag (start_state ts) o) → IsAnsweredOf read left ending result → Answered view result (answer_said ts ending o)
+pub said_seen : {X Y : Type 0} (view : X → Y) (ts : List Token) (ending : Ending) (o : Outcome Y)
+    (read : Result X declared.Fault) (left : State) (result : Result X Error)
+    → Gives view read left (tag (start_state ts) o) → IsAnsweredOf read left ending result
+    → Answered view result (answer_said ts ending o)
 said_seen view ts ending (ok a us) (Ok v) left (Ok w) gives told =
     let same : a ≡ view v = cc in let rest : us ≡ left.rest = cc in
-    ap (λ (e : Ending). answer_said ts e (ok a us)) told.2 ∙ ap (λ us. answer_said ts finished (ok a us)) (rest ∙ told.1) ∙ ap (λ a. answer_said ts finished (ok a [])) (same ∙ ap view (sym told.0))
+    ap (λ (e : Ending). answer_said ts e (ok a us)) told.2
+    ∙ ap (λ us. answer_said ts finished (ok a us)) (rest ∙ told.1)
+    ∙ ap (λ a. answer_said ts finished (ok a [])) (same ∙ ap view (sym told.0))
 said_seen view ts ending (stuck []) (Ok v) left result gives told = absurd cc
 said_seen view ts ending (stuck (t ∷ us)) (Ok v) left result gives told = absurd cc
 said_seen view ts ending (bad y us) (Ok v) left result gives told = absurd cc
 said_seen view ts ending out (Ok v) left result gives told = absurd cc
 said_seen view ts ending (ok a us) (Ok v) left (Err e) gives (inl m) = inl m
-said_seen view ts ending (ok a us) (Ok v) left (Err e) gives (inr told) = let rest : left.rest ≡ us = cc in inr (behind_said ts us ending a e (subst (λ us. IsToldBehind us ending e) rest told))
+said_seen view ts ending (ok a us) (Ok v) left (Err e) gives (inr told) =
+    let rest : left.rest ≡ us = cc in
+    inr (behind_said ts us ending a e (subst (λ us. IsToldBehind us ending e) rest told))
 said_seen view ts ending o (Err x) left (Ok w) gives told = absurd told
 said_seen view ts ending o (Err x) left (Err e) gives (inl m) = inl m
 said_seen view ts ending o (Err x) left (Err e) gives (inr told) = inr (stop_said ts ending o x e gives told)
@@ -92,7 +107,8 @@ last_of (s ∷ []) [] t u e = absurd cc
 last_of (s ∷ (r ∷ ts)) [] t u e = absurd cc
 last_of (s ∷ ts) (q ∷ p) t u e = let rest : ts ++ (u ∷ []) ≡ p ++ (t ∷ []) = cc in last_of ts p t u rest
 
-is_opened : (n : Symbol) (ts : List Token) (o : Outcome (Value n)) → Says body apart (of n) (ts ++ (opening ∷ [])) o → IsOpened o
+is_opened : (n : Symbol) (ts : List Token) (o : Outcome (Value n))
+    → Says body apart (of n) (ts ++ (opening ∷ [])) o → IsOpened o
 is_opened n ts (ok a []) h = tt
 is_opened n ts (ok a (t ∷ [])) h = last_of ts h.0 t opening h.1
 is_opened n ts (ok a (t ∷ (u ∷ us))) h = tt
@@ -102,18 +118,24 @@ is_opened n ts (stuck (t ∷ (u ∷ us))) h = tt
 is_opened n ts (bad x us) h = tt
 is_opened n ts out h = tt
 
-behind_in_want : {Y : Type 0} (us : List Token) (x : Fault) (a : Y) (e : Error) → wants_memory (carried x) ≡ true → IsOpened (ok a us) → IsToldBehind us (carried x) e → answer_in_want x (ok a us) ≡ denied (fault_view e)
+behind_in_want : {Y : Type 0} (us : List Token) (x : Fault) (a : Y) (e : Error)
+    → wants_memory (carried x) ≡ true → IsOpened (ok a us) → IsToldBehind us (carried x) e
+    → answer_in_want x (ok a us) ≡ denied (fault_view e)
 behind_in_want [] x a e m opened told = ap denied (sym told)
 behind_in_want (t ∷ []) x a e m opened told = let no = told.0 opened in absurd cc
 behind_in_want (t ∷ (u ∷ us)) x a e m opened told = ap denied (sym told.1)
 
-refusal_in_want : {Y : Type 0} (x : Fault) (s : State) (o : Outcome Y) (r : Refusal) (e : Error) → wants_memory (carried x) ≡ true → IsOpened o → tag s o ≡ stop (refusal_stop r) → IsToldOfRefusal r (carried x) e
+refusal_in_want : {Y : Type 0} (x : Fault) (s : State) (o : Outcome Y) (r : Refusal) (e : Error)
+    → wants_memory (carried x) ≡ true → IsOpened o → tag s o ≡ stop (refusal_stop r)
+    → IsToldOfRefusal r (carried x) e
     → answer_in_want x o ≡ denied (fault_view e)
 unfolding refusal_stop
 refusal_in_want x s (ok a us) (refusal.UnexpectedToken p expected) e m opened fails told = absurd cc
 refusal_in_want x s (stuck []) (refusal.UnexpectedToken p expected) e m opened fails told = absurd cc
-refusal_in_want x s (stuck (t ∷ [])) (refusal.UnexpectedToken p expected) e m opened fails told = let same : placed_view p ≡ t = cc in let no = told.0 (same ∙ opened) in absurd cc
-refusal_in_want x s (stuck (t ∷ (u ∷ us))) (refusal.UnexpectedToken p expected) e m opened fails told = let same : t ≡ placed_view p = cc in ap (λ u. denied (unexpected_token u)) same ∙ ap denied (sym told.1)
+refusal_in_want x s (stuck (t ∷ [])) (refusal.UnexpectedToken p expected) e m opened fails told =
+    let same : placed_view p ≡ t = cc in let no = told.0 (same ∙ opened) in absurd cc
+refusal_in_want x s (stuck (t ∷ (u ∷ us))) (refusal.UnexpectedToken p expected) e m opened fails told =
+    let same : t ≡ placed_view p = cc in ap (λ u. denied (unexpected_token u)) same ∙ ap denied (sym told.1)
 refusal_in_want x s (bad z us) (refusal.UnexpectedToken p expected) e m opened fails told = absurd cc
 refusal_in_want x s out (refusal.UnexpectedToken p expected) e m opened fails told = absurd cc
 refusal_in_want x s (ok a us) (refusal.UnexpectedEnd place expected) e m opened fails told = absurd cc
@@ -124,51 +146,72 @@ refusal_in_want x s out (refusal.UnexpectedEnd place expected) e m opened fails 
 refusal_in_want x s (ok a us) (refusal.Checked y) e m opened fails told = absurd cc
 refusal_in_want x s (stuck []) (refusal.Checked y) e m opened fails told = absurd cc
 refusal_in_want x s (stuck (t ∷ us)) (refusal.Checked y) e m opened fails told = absurd cc
-refusal_in_want x s (bad z us) (refusal.Checked y) e m opened fails told = let same : z ≡ fault_view y = cc in ap denied (same ∙ ap fault_view (sym told))
+refusal_in_want x s (bad z us) (refusal.Checked y) e m opened fails told =
+    let same : z ≡ fault_view y = cc in ap denied (same ∙ ap fault_view (sym told))
 refusal_in_want x s out (refusal.Checked y) e m opened fails told = absurd cc
 
-stop_in_want : {Y : Type 0} (x : Fault) (s : State) (o : Outcome Y) (y : declared.Fault) (e : Error) → wants_memory (carried x) ≡ true → IsOpened o → Fails y (tag s o) → IsToldOf y (carried x) e
+stop_in_want : {Y : Type 0} (x : Fault) (s : State) (o : Outcome Y) (y : declared.Fault) (e : Error)
+    → wants_memory (carried x) ≡ true → IsOpened o → Fails y (tag s o) → IsToldOf y (carried x) e
     → answer_in_want x o ≡ denied (fault_view e)
-stop_in_want x s o (fault.Refused refusal) e m opened fails told = refusal_in_want x s o refusal.value e m opened fails told
+stop_in_want x s o (fault.Refused refusal) e m opened fails told =
+    refusal_in_want x s o refusal.value e m opened fails told
 stop_in_want x s o fault.OutOfMemory e m opened fails told = absurd told
 
-want_seen : {X Y : Type 0} (view : X → Y) (x : Fault) (s : State) (o : Outcome Y) (read : Result X declared.Fault) (left : State) (result : Result X Error) → wants_memory (carried x) ≡ true → IsOpened o
-    → Gives view read left (tag s o) → IsAnsweredOf read left (carried x) result → Answered view result (answer_in_want x o)
+want_seen : {X Y : Type 0} (view : X → Y) (x : Fault) (s : State) (o : Outcome Y)
+    (read : Result X declared.Fault) (left : State) (result : Result X Error)
+    → wants_memory (carried x) ≡ true → IsOpened o
+    → Gives view read left (tag s o) → IsAnsweredOf read left (carried x) result
+    → Answered view result (answer_in_want x o)
 want_seen view x s o (Ok v) left (Ok w) m opened gives told = let ends = told.2 in absurd cc
 want_seen view x s (stuck []) (Ok v) left (Err e) m opened gives told = absurd cc
 want_seen view x s (stuck (t ∷ us)) (Ok v) left (Err e) m opened gives told = absurd cc
 want_seen view x s (bad y us) (Ok v) left (Err e) m opened gives told = absurd cc
 want_seen view x s out (Ok v) left (Err e) m opened gives told = absurd cc
 want_seen view x s (ok a us) (Ok v) left (Err e) m opened gives (inl r) = inl r
-want_seen view x s (ok a us) (Ok v) left (Err e) m opened gives (inr told) = let rest : left.rest ≡ us = cc in inr (behind_in_want us x a e m opened (subst (λ us. IsToldBehind us (carried x) e) rest told))
+want_seen view x s (ok a us) (Ok v) left (Err e) m opened gives (inr told) =
+    let rest : left.rest ≡ us = cc in
+    inr (behind_in_want us x a e m opened (subst (λ us. IsToldBehind us (carried x) e) rest told))
 want_seen view x s o (Err y) left (Ok w) m opened gives told = absurd told
 want_seen view x s o (Err y) left (Err e) m opened gives (inl r) = inl r
 want_seen view x s o (Err y) left (Err e) m opened gives (inr told) = inr (stop_in_want x s o y e m opened gives told)
 
 -- ---- both
 -- what is answered of what a parse function gave
-pub seen : (n : Symbol) {X : Type 0} (view : X → Value n) (ts : List Token) (ending : Ending) (read : Result X declared.Fault) (left : State) (result : Result X Error)
-    → Gives view read left (reader (of n) (start_state (tokens_to_read ts ending))) → IsAnsweredOf read left ending result → Answered view result (answer_of n ts ending)
+pub seen : (n : Symbol) {X : Type 0} (view : X → Value n) (ts : List Token) (ending : Ending)
+    (read : Result X declared.Fault) (left : State) (result : Result X Error)
+    → Gives view read left (reader (of n) (start_state (tokens_to_read ts ending)))
+    → IsAnsweredOf read left ending result → Answered view result (answer_of n ts ending)
 unfolding reader reads
-seen n view ts finished read left result gives told = said_seen view ts finished (read_all tables checking body rank_limit (of n) ts) read left result gives told
+seen n view ts finished read left result gives told =
+    said_seen view ts finished (read_all tables checking body rank_limit (of n) ts) read left result
+    gives told
 seen n view ts (carried x) read left result gives told = by_want (wants_memory (carried x)) refl gives
   where
     reads_of : List Token → Outcome (Value n)
     reads_of us = read_all tables checking body rank_limit (of n) us
 
     by_want : (b : Bool) → wants_memory (carried x) ≡ b
-        → Gives view read left (tag (start_state (if b then ts ++ (opening ∷ []) else ts)) (reads_of (if b then ts ++ (opening ∷ []) else ts)))
-        → Answered view result (if b then answer_in_want x (reads_of (ts ++ (opening ∷ []))) else answer_said ts (carried x) (reads_of ts))
+        → Gives view read left (tag (start_state (if b then ts ++ (opening ∷ []) else ts))
+        (reads_of (if b then ts ++ (opening ∷ []) else ts)))
+        → Answered view result (if b then answer_in_want x (reads_of (ts ++ (opening ∷ [])))
+        else answer_said ts (carried x) (reads_of ts))
     by_want true m given =
-        want_seen view x (start_state (ts ++ (opening ∷ []))) (reads_of (ts ++ (opening ∷ []))) read left result m
-        (is_opened n ts (reads_of (ts ++ (opening ∷ []))) (outcomes tables body rank_limit apart tested (of n) (ts ++ (opening ∷ [])))) given told
+        want_seen view x (start_state (ts ++ (opening ∷ [])))
+        (reads_of (ts ++ (opening ∷ []))) read left result m
+        (is_opened n ts (reads_of (ts ++ (opening ∷ [])))
+        (outcomes tables body rank_limit apart tested (of n) (ts ++ (opening ∷ [])))) given told
     by_want false m given = said_seen view ts (carried x) (reads_of ts) read left result given told
 
 -- what is answered of what a parse function gave of a source
-pub source_seen : (n : Symbol) {X : Type 0} (view : X → Value n) (source : TokenSource) (read : Result X declared.Fault) (left : State) (result : Result X Error) (ts : List Token) (ending : Ending) → IsSourceOf source ts ending
-    → Gives view read left (reader (of n) (state source.tokens)) → ((us : List Token) (e : Ending) → AreOf source.origin us e → IsReadTo source.origin read left us → IsAnsweredOf read left e result) → Answered view result (answer_of n ts ending)
+pub source_seen : (n : Symbol) {X : Type 0} (view : X → Value n) (source : TokenSource) (read : Result X
+    declared.Fault) (left : State) (result : Result X Error) (ts : List Token) (ending : Ending)
+    → IsSourceOf source ts ending
+    → Gives view read left (reader (of n) (state source.tokens))
+    → ((us : List Token) (e : Ending) → AreOf source.origin us e → IsReadTo source.origin read left us
+    → IsAnsweredOf read left e result) → Answered view result (answer_of n ts ending)
 unfolding reader reads
 source_seen n view source read left result ts ending is gives answered =
     let given = subst (λ (s : State). Gives view read left (reader (of n) s)) is.0 gives in
-    let taken = all_taken view source.origin ts ending (read_all tables checking body rank_limit (of n) (tokens_to_read ts ending)) read left is.1 given in
+    let taken = all_taken view source.origin ts ending
+    (read_all tables checking body rank_limit (of n) (tokens_to_read ts ending)) read left is.1 given in
     seen n view ts ending read left result given (answered ts ending is.1 taken)

@@ -46,7 +46,8 @@ IsToldBehind [] finished e = ⊥
 IsToldBehind [] (carried x) e = fault_view e ≡ x
 IsToldBehind (t ∷ ts) ending e = IsRefusalOf t ending e
 
--- what is answered of what was returned: the value, where no token is left behind it and the tokens ended of themselves; else an error that is told of it, unless memory ran out
+-- what is answered of what was returned: the value, where no token is left behind it and the tokens
+-- ended of themselves; else an error that is told of it, unless memory ran out
 abbrev pub IsAnsweredOf : {T : Type 0} → Result T declared.Fault → State → Ending → Result T Error → Type 0
 IsAnsweredOf (Ok v) left ending (Ok w) = (w ≡ v) × (left.rest ≡ []) × (ending ≡ finished)
 IsAnsweredOf (Ok v) left ending (Err e) = IsOutOfMemory e ⊎ IsToldBehind left.rest ending e

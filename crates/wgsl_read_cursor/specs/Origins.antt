@@ -22,7 +22,8 @@ AreOf (origin.Given error) ts ending = ending ≡ ending_view error
 
 -- a source has these tokens, which end so, to be read
 abbrev pub IsSourceOf : TokenSource → List Token → Ending → Type 0
-IsSourceOf source ts ending = (state source.tokens ≡ start_state (tokens_to_read ts ending)) × AreOf source.origin ts ending
+IsSourceOf source ts ending = (state source.tokens ≡ start_state (tokens_to_read ts ending))
+    × AreOf source.origin ts ending
 
 -- the last token of a text ends at a place
 abbrev pub IsLastOf : Origin → ℕ → List Token → Type 0
@@ -40,7 +41,8 @@ abbrev pub IsFaultOf : Origin → Fault → List Token → Type 0
 IsFaultOf origin (fault.Refused refusal) ts = IsRefusedOf origin refusal.value ts
 IsFaultOf origin fault.OutOfMemory ts = ⊤
 
--- where a value was read after which no token is left, or a text ends too early, the last token that was taken is the last token of the text
+-- where a value was read after which no token is left, or a text ends too early, the last token
+-- that was taken is the last token of the text
 abbrev pub IsReadTo : {T : Type 0} → Origin → Result T Fault → State → List Token → Type 0
 IsReadTo origin (Ok v) left ts = left.rest ≡ [] → IsLastOf origin left.end ts
 IsReadTo origin (Err x) left ts = IsFaultOf origin x ts

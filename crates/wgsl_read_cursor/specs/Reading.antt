@@ -50,17 +50,21 @@ abbrev pub Fails : {Y : Type 0} → Fault → Read Y → Type 0
 Fails fault.OutOfMemory read = Unit {0}
 Fails e read = read ≡ stop (stop_of e)
 
--- What a function returned, seen by view, with the state that it left, is what is read, unless memory ran out.
+-- What a function returned, seen by view, with the state that it left, is what is read, unless
+-- memory ran out.
 abbrev pub Gives : {X Y : Type 0} → (X → Y) → Result X Fault → State → Read Y → Type 0
 Gives view (Ok x) left read = read ≡ done (view x) left
 Gives view (Err e) left read = Fails e read
 
--- What a function returned, seen by view, between these places, is what a rule reads there, and is read of one token or more.
-pub record Parses {X Y : Type 0} (view : X → Y) (result : Result X Fault) (before after : Cursor) (read : State → Read Y) : Type 0 where
+-- What a function returned, seen by view, between these places, is what a rule reads there, and is
+-- read of one token or more.
+pub record Parses {X Y : Type 0} (view : X → Y) (result : Result X Fault) (before after : Cursor)
+    (read : State → Read Y) : Type 0 where
   pub value : Gives view result (state after) (read (state before))
   pub shorter : OnOk result (length (state after).rest < length (state before).rest)
 
 -- The same of a rule that may read no token.
-pub record ParsesNullable {X Y : Type 0} (view : X → Y) (result : Result X Fault) (before after : Cursor) (read : State → Read Y) : Type 0 where
+pub record ParsesNullable {X Y : Type 0} (view : X → Y) (result : Result X Fault)
+    (before after : Cursor) (read : State → Read Y) : Type 0 where
   pub value : Gives view result (state after) (read (state before))
   pub shorter : OnOk result (length (state after).rest ≤ length (state before).rest)

@@ -2,7 +2,7 @@
 use Rattle.std.specs.Prelude.{ℕ, List, ◌∷◌, string_bytes}
 use Rattle.grammar.specs.Tokens.{Token}
 use Rattle.grammar.specs.States.{State, Read, take_any}
-use Rattle.wgsl_model.specs.Tokens.Classes.{Ident, ReservedWord}
+use Rattle.wgsl_model.specs.Tokens.ClassTable.{Ident, ReservedWord}
 use Rattle.wgsl_model.specs.Grammar.Written.{keyword_classes}
 use Rattle.wgsl_read_cursor.specs.declared.word.Word.{Word}
 use Rattle.wgsl_read_cursor.specs.declared.word.Word.TheVariants as word

@@ -1,4 +1,5 @@
--- Lists of one item at least whose rule ends with the list itself, read with an accumulator of what was read so far.
+-- Lists of one item at least whose rule ends with the list itself, read with an accumulator of what
+-- was read so far.
 use Rattle.std.proofs.Common.{◌≡◌, ℕ, cond, List, [], ◌∷◌, ◌++◌, refl, sym, ap, ap₂, ◌∙◌, append_assoc, append-nil}
 use Rattle.grammar.specs.Tokens.{Token}
 use Rattle.grammar.specs.States.{State, Read, Read.done, Read.stop, ◌>>=◌, is_at, take}
@@ -25,28 +26,35 @@ none_behind : {A : Type 0} (l : List A) (m : Read Token) → put_behind l (closi
 none_behind l (done t s) = ap (λ x. done x s) (append-nil l)
 none_behind l (stop e) = refl
 
-one_behind : {A : Type 0} (l : List A) (e : A) (m : Read (List A)) → put_behind l ((m >>= λ k s. done (e, k) s) >>= λ (p : A × List A) s. done (p.0 ∷ p.1) s) ≡ put_behind (l ++ (e ∷ [])) m
+one_behind : {A : Type 0} (l : List A) (e : A) (m : Read (List A))
+    → put_behind l ((m >>= λ k s. done (e, k) s) >>= λ (p : A × List A) s. done (p.0 ∷ p.1) s)
+    ≡ put_behind (l ++ (e ∷ [])) m
 one_behind l e (done k s) = ap (λ x. done x s) (sym (append_assoc l (e ∷ []) k))
 one_behind l e (stop x) = refl
 
-item_behind : {A : Type 0} (l : List A) (more : State → Read (List A)) (m : Read A) → put_behind l (item_before more m) ≡ (m >>= λ e s. put_behind (l ++ (e ∷ [])) (more s))
+item_behind : {A : Type 0} (l : List A) (more : State → Read (List A)) (m : Read A)
+    → put_behind l (item_before more m) ≡ (m >>= λ e s. put_behind (l ++ (e ∷ [])) (more s))
 item_behind l more (done e s) = one_behind l e (more s)
 item_behind l more (stop x) = refl
 
-token_behind : {A : Type 0} (l : List A) (t : Token) (m : Read (List A)) → put_behind l ((m >>= λ k s. done (t, k) s) >>= λ (p : Token × List A) s. done p.1 s) ≡ put_behind l m
+token_behind : {A : Type 0} (l : List A) (t : Token) (m : Read (List A))
+    → put_behind l ((m >>= λ k s. done (t, k) s) >>= λ (p : Token × List A) s. done p.1 s) ≡ put_behind l m
 token_behind l t (done k s) = refl
 token_behind l t (stop x) = refl
 
-past_behind : {A : Type 0} (l : List A) (rest : State → Read (List A)) (m : Read Token) → put_behind l (past_token rest m) ≡ (m >>= λ t s. put_behind l (rest s))
+past_behind : {A : Type 0} (l : List A) (rest : State → Read (List A)) (m : Read Token)
+    → put_behind l (past_token rest m) ≡ (m >>= λ t s. put_behind l (rest s))
 past_behind l rest (done t s) = token_behind l t (rest s)
 past_behind l rest (stop x) = refl
 
 -- ---- the equations
 -- Items = One More
-pub from_first : {A : Type 0} (more : State → Read (List A)) (m : Read A) → item_before more m ≡ (m >>= λ e s. put_behind (e ∷ []) (more s))
+pub from_first : {A : Type 0} (more : State → Read (List A)) (m : Read A)
+    → item_before more m ≡ (m >>= λ e s. put_behind (e ∷ []) (more s))
 from_first more (done e s) = first_behind (more s)
   where
-    first_behind : (k : Read (List _)) → ((k >>= λ l s'. done (e, l) s') >>= λ (p : _ × List _) s'. done (p.0 ∷ p.1) s') ≡ put_behind (e ∷ []) k
+    first_behind : (k : Read (List _))
+        → ((k >>= λ l s'. done (e, l) s') >>= λ (p : _ × List _) s'. done (p.0 ∷ p.1) s') ≡ put_behind (e ∷ []) k
     first_behind (done l s') = refl
     first_behind (stop x) = refl
 from_first more (stop x) = refl
@@ -56,10 +64,12 @@ pub further_items : {A : Type 0} (rest more : State → Read (List A)) (one : St
     → ((s : State) → rest s ≡ cond (is_at close s) (closing (take close s)) (item_before more (one s)))
     → ((s : State) → more s ≡ cond (is_at comma s) (past_token rest (take comma s)) (closing (take close s)))
     → (l : List A) (s : State) → put_behind l (more s) ≡ cond (is_at comma s)
-    (take comma s >>= λ t s'. cond (is_at close s') (take close s' >>= λ u s''. done l s'') (one s' >>= λ e s''. put_behind (l ++ (e ∷ [])) (more s'')))
+    (take comma s >>= λ t s'. cond (is_at close s') (take close s' >>= λ u s''. done l s'')
+    (one s' >>= λ e s''. put_behind (l ++ (e ∷ [])) (more s'')))
     (take close s >>= λ t s'. done l s')
 further_items rest more one comma close h k l s =
     ap (put_behind l) (k s) ∙ bind_cond (is_at comma s) _ _ _ ∙ ap₂ (cond (is_at comma s))
     (past_behind l rest (take comma s) ∙ bind_alike (take comma s) _ _ (λ t s' is.
-    ap (put_behind l) (h s') ∙ bind_cond (is_at close s') _ _ _ ∙ ap₂ (cond (is_at close s')) (none_behind l (take close s')) (item_behind l more (one s'))))
+    ap (put_behind l) (h s') ∙ bind_cond (is_at close s') _ _ _
+    ∙ ap₂ (cond (is_at close s')) (none_behind l (take close s')) (item_behind l more (one s'))))
     (none_behind l (take close s))

@@ -13,11 +13,14 @@ use Rattle.wgsl_read_attribute.specs.Behind.{behind_attributes}
 
 -- attributes, and what stands behind them
 unfoldable pub global_directive_parts : State → Read GlobalDirective
-global_directive_parts s = reader (further attribute_list) s >>= λ a s'. behind_attributes with_attributes a (reader (further directive_part)) s'
+global_directive_parts s = reader (further attribute_list) s
+    >>= λ a s'. behind_attributes with_attributes a (reader (further directive_part)) s'
 
 pub global_directive_by_parts : (s : State) → reader (of global_directive) s ≡ global_directive_parts s
 unfolding global_directive_at global_directive_parts
 global_directive_by_parts s =
     global_directive_is s
-    ∙ bind_associates (reader (further attribute_list) s) (λ a s'. reader (further directive_part) s' >>= λ u s''. done (a, u) s'') (λ p s'. done (with_attributes p.0 p.1) s')
-    ∙ bind_alike (reader (further attribute_list) s) _ _ (λ a s' h. bind_associates (reader (further directive_part) s') (λ u s''. done (a, u) s'') (λ p s''. done (with_attributes p.0 p.1) s''))
+    ∙ bind_associates (reader (further attribute_list) s) (λ a s'. reader (further directive_part) s'
+    >>= λ u s''. done (a, u) s'') (λ p s'. done (with_attributes p.0 p.1) s')
+    ∙ bind_alike (reader (further attribute_list) s) _ _ (λ a s' h. bind_associates (reader (further
+    directive_part) s') (λ u s''. done (a, u) s'') (λ p s''. done (with_attributes p.0 p.1) s''))

@@ -4,7 +4,7 @@ use Rattle.std.specs.Prelude.{Option, Some, None}
 use Rattle.std.specs.Option.{option_map}
 use Rattle.grammar.specs.Tokens.{Token}
 use Rattle.grammar.specs.States.{State, Read, Read.done, Read.stop, ◌>>=◌, is_at, take}
-use Rattle.wgsl_model.specs.Tokens.Classes.{SymComma, SymSemicolon, KwEnable, KwRequires}
+use Rattle.wgsl_model.specs.Tokens.ClassTable.{SymComma, SymSemicolon, KwEnable, KwRequires}
 use Rattle.wgsl_model.specs.Grammar.TokenValues.{text_of}
 use Rattle.wgsl_model.specs.Trees.Units.{UnattributedDirective, UnattributedDirective.enable, UnattributedDirective.requires}
 use Rattle.wgsl_model.specs.Grammar.UnitParts.{rule_of, texts_of}
@@ -17,7 +17,8 @@ use Rattle.wgsl_read_declaration.specs.Names.{dotted}
 use Rattle.wgsl_read_declaration.proofs.ClosedLists.{closing, item_before, past_token, put_behind, from_first, further_items}
 
 -- the name of a rule, by the texts of its parts
-pub rule_of_is : (first : Token) (second : Option Token) → rule_of first second ≡ dotted (text_of first) (option_map text_of second)
+pub rule_of_is : (first : Token) (second : Option Token)
+    → rule_of first second ≡ dotted (text_of first) (option_map text_of second)
 rule_of_is first None = refl
 rule_of_is first (Some second) = refl
 
@@ -48,33 +49,40 @@ closing_texts : (m : Read Token) → as_texts (closing m) ≡ closing m
 closing_texts (done t s) = refl
 closing_texts (stop e) = refl
 
-one_text : (t : Token) (m : Read (List Token)) → as_texts ((m >>= λ l s. done (t, l) s) >>= λ (p : Token × List Token) s. done (p.0 ∷ p.1) s)
+one_text : (t : Token) (m : Read (List Token))
+    → as_texts ((m >>= λ l s. done (t, l) s) >>= λ (p : Token × List Token) s. done (p.0 ∷ p.1) s)
     ≡ ((as_texts m >>= λ l s. done (text_of t, l) s) >>= λ (p : List ℕ × List (List ℕ)) s. done (p.0 ∷ p.1) s)
 one_text t (done l s) = refl
 one_text t (stop e) = refl
 
-item_texts : (behind : State → Read (List Token)) (m : Read Token) → as_texts (item_before behind m) ≡ item_before (λ s. as_texts (behind s)) (as_text m)
+item_texts : (behind : State → Read (List Token)) (m : Read Token)
+    → as_texts (item_before behind m) ≡ item_before (λ s. as_texts (behind s)) (as_text m)
 item_texts behind (done t s) = one_text t (behind s)
 item_texts behind (stop e) = refl
 
-token_texts : (t : Token) (m : Read (List Token)) → as_texts ((m >>= λ l s. done (t, l) s) >>= λ (p : Token × List Token) s. done p.1 s)
+token_texts : (t : Token) (m : Read (List Token))
+    → as_texts ((m >>= λ l s. done (t, l) s) >>= λ (p : Token × List Token) s. done p.1 s)
     ≡ ((as_texts m >>= λ l s. done (t, l) s) >>= λ (p : Token × List (List ℕ)) s. done p.1 s)
 token_texts t (done l s) = refl
 token_texts t (stop e) = refl
 
-past_texts : (behind : State → Read (List Token)) (m : Read Token) → as_texts (past_token behind m) ≡ past_token (λ s. as_texts (behind s)) m
+past_texts : (behind : State → Read (List Token)) (m : Read Token)
+    → as_texts (past_token behind m) ≡ past_token (λ s. as_texts (behind s)) m
 past_texts behind (done t s) = token_texts t (behind s)
 past_texts behind (stop e) = refl
 
 rest_is : (s : State) → rest s ≡ cond (is_at SymSemicolon s) (closing (take SymSemicolon s)) (item_before more (name s))
 rest_is s =
     ap as_texts (step (further name_rest) s) ∙ texts_cond (is_at SymSemicolon s) _ _
-    ∙ ap₂ (cond (is_at SymSemicolon s)) (closing_texts (take SymSemicolon s)) (item_texts (reader (further name_more)) (reader (of ident) s))
+    ∙ ap₂ (cond (is_at SymSemicolon s)) (closing_texts (take SymSemicolon s))
+    (item_texts (reader (further name_more)) (reader (of ident) s))
 
-more_is : (s : State) → more s ≡ cond (is_at SymComma s) (past_token rest (take SymComma s)) (closing (take SymSemicolon s))
+more_is : (s : State)
+    → more s ≡ cond (is_at SymComma s) (past_token rest (take SymComma s)) (closing (take SymSemicolon s))
 more_is s =
     ap as_texts (step (further name_more) s) ∙ texts_cond (is_at SymComma s) _ _
-    ∙ ap₂ (cond (is_at SymComma s)) (past_texts (reader (further name_rest)) (take SymComma s)) (closing_texts (take SymSemicolon s))
+    ∙ ap₂ (cond (is_at SymComma s)) (past_texts (reader (further name_rest)) (take SymComma s))
+    (closing_texts (take SymSemicolon s))
 
 -- ---- the list, name by name
 -- the names behind some
@@ -84,7 +92,8 @@ names_from names s = put_behind names (more s)
 -- one more behind a comma, where the list is not closed
 unfoldable pub names_turn : List (List ℕ) → State → Read (List (List ℕ))
 names_turn names s = cond (is_at SymComma s)
-    (take SymComma s >>= λ t s'. cond (is_at SymSemicolon s') (take SymSemicolon s' >>= λ u s''. done names s'') (name s' >>= λ n s''. names_from (names ++ (n ∷ [])) s''))
+    (take SymComma s >>= λ t s'. cond (is_at SymSemicolon s') (take SymSemicolon s'
+    >>= λ u s''. done names s'') (name s' >>= λ n s''. names_from (names ++ (n ∷ [])) s''))
     (take SymSemicolon s >>= λ t s'. done names s')
 
 -- a first name and those behind it
@@ -93,7 +102,8 @@ first_names s = name s >>= λ n s'. names_from (n ∷ []) s'
 
 pub names_is : (s : State) → names_at s ≡ first_names s
 unfolding names_at first_names names_from
-names_is s = ap as_texts (step (further name_items) s) ∙ item_texts (reader (further name_more)) (reader (of ident) s) ∙ from_first more (name s)
+names_is s = ap as_texts (step (further name_items) s)
+    ∙ item_texts (reader (further name_more)) (reader (of ident) s) ∙ from_first more (name s)
 
 pub names_are : (names : List (List ℕ)) (s : State) → names_from names s ≡ names_turn names s
 unfolding names_from names_turn
@@ -110,12 +120,15 @@ enable_part_at s = directive_at KwEnable (λ names. enable (record { extensions 
 unfoldable pub requires_part_at : State → Read UnattributedDirective
 requires_part_at s = directive_at KwRequires (λ names. requires (record { extensions = names })) s
 
-of_names : (directive : List (List ℕ) → UnattributedDirective) (t : Token) (m : Read (List Token)) → (((m >>= λ l s. done (t, l) s) >>= λ (p : Token × List Token) s. done p.1 s) >>= λ ts s. done (directive (texts_of ts)) s)
+of_names : (directive : List (List ℕ) → UnattributedDirective) (t : Token) (m : Read (List Token))
+    → (((m >>= λ l s. done (t, l) s) >>= λ (p : Token × List Token) s. done p.1 s)
+    >>= λ ts s. done (directive (texts_of ts)) s)
     ≡ (as_texts m >>= λ names s. done (directive names) s)
 of_names directive t (done l s) = refl
 of_names directive t (stop e) = refl
 
-past_keyword : (directive : List (List ℕ) → UnattributedDirective) (m : Read Token) → (past_token (reader (further name_items)) m >>= λ ts s. done (directive (texts_of ts)) s)
+past_keyword : (directive : List (List ℕ) → UnattributedDirective) (m : Read Token)
+    → (past_token (reader (further name_items)) m >>= λ ts s. done (directive (texts_of ts)) s)
     ≡ (m >>= λ t s. names_at s >>= λ names s'. done (directive names) s')
 unfolding names_at
 past_keyword directive (done t s) = of_names directive t (reader (further name_items) s)
@@ -123,8 +136,10 @@ past_keyword directive (stop e) = refl
 
 pub enable_part_is : (s : State) → reader (further enable_part) s ≡ enable_part_at s
 unfolding enable_part_at
-enable_part_is s = step (further enable_part) s ∙ past_keyword (λ names. enable (record { extensions = names })) (take KwEnable s)
+enable_part_is s = step (further enable_part) s
+    ∙ past_keyword (λ names. enable (record { extensions = names })) (take KwEnable s)
 
 pub requires_part_is : (s : State) → reader (further requires_part) s ≡ requires_part_at s
 unfolding requires_part_at
-requires_part_is s = step (further requires_part) s ∙ past_keyword (λ names. requires (record { extensions = names })) (take KwRequires s)
+requires_part_is s = step (further requires_part) s
+    ∙ past_keyword (λ names. requires (record { extensions = names })) (take KwRequires s)

@@ -1,7 +1,7 @@
 -- Lists of members, item by item.
 use Rattle.std.proofs.Common.{◌≡◌, cond, List, [], ◌∷◌, ◌++◌, ◌∙◌}
 use Rattle.grammar.specs.States.{State, Read, Read.done, ◌>>=◌, is_at, take}
-use Rattle.wgsl_model.specs.Tokens.Classes.{SymBraceRight, SymComma}
+use Rattle.wgsl_model.specs.Tokens.ClassTable.{SymBraceRight, SymComma}
 use Rattle.wgsl_model.specs.Trees.Spanned.{Spanned}
 use Rattle.wgsl_model.specs.Trees.Units.{StructMember}
 use Rattle.wgsl_model.specs.Grammar.Symbols.{Symbol.struct_member}
@@ -17,7 +17,8 @@ members_from ms s = put_behind ms (reader (further member_more) s)
 -- one more behind a comma, where the list is not closed
 unfoldable pub members_turn : List (Spanned StructMember) → State → Read (List (Spanned StructMember))
 members_turn ms s = cond (is_at SymComma s)
-    (take SymComma s >>= λ t s'. cond (is_at SymBraceRight s') (take SymBraceRight s' >>= λ u s''. done ms s'') (reader (of struct_member) s' >>= λ m s''. members_from (ms ++ (m ∷ [])) s''))
+    (take SymComma s >>= λ t s'. cond (is_at SymBraceRight s') (take SymBraceRight s' >>= λ u s''.
+    done ms s'') (reader (of struct_member) s' >>= λ m s''. members_from (ms ++ (m ∷ [])) s''))
     (take SymBraceRight s >>= λ t s'. done ms s')
 
 -- a first member and those behind it
@@ -30,4 +31,5 @@ members_is s = step (further member_items) s ∙ from_first (reader (further mem
 
 pub members_are : (ms : List (Spanned StructMember)) (s : State) → members_from ms s ≡ members_turn ms s
 unfolding members_from members_turn
-members_are ms s = further_items (reader (further member_rest)) (reader (further member_more)) (reader (of struct_member)) _ _ (step (further member_rest)) (step (further member_more)) ms s
+members_are ms s = further_items (reader (further member_rest)) (reader (further member_more))
+    (reader (of struct_member)) _ _ (step (further member_rest)) (step (further member_more)) ms s

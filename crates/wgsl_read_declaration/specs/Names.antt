@@ -2,7 +2,7 @@
 use Rattle.std.specs.Prelude.{ℕ, cond, List, ◌++◌, Option, Some, None, codes}
 use Rattle.grammar.specs.Tokens.{Token}
 use Rattle.grammar.specs.States.{State, is_at, first_of, after}
-use Rattle.wgsl_model.specs.Tokens.Classes.{SymPeriod}
+use Rattle.wgsl_model.specs.Tokens.ClassTable.{SymPeriod}
 
 -- the third token
 abbrev pub third_of : State → Token

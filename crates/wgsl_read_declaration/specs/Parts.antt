@@ -4,7 +4,7 @@ use Rattle.grammar.specs.Tokens.{Token}
 use Rattle.grammar.specs.Grammar.{Grammar.symbol}
 use Rattle.grammar.specs.Notation.{◌▹◌, optional}
 use Rattle.grammar.specs.States.{State, Read, Read.done, ◌>>=◌, go}
-use Rattle.wgsl_model.specs.Tokens.Classes.{SymPeriod}
+use Rattle.wgsl_model.specs.Tokens.ClassTable.{SymPeriod}
 use Rattle.wgsl_model.specs.Grammar.UnitParts.{texts_of}
 use Rattle.wgsl_model.specs.Grammar.Symbols.{Symbol.ident}
 use Rattle.wgsl_theory_grammar.specs.Factored.{FactoredSymbol.of, FactoredSymbol.further, Further.name_items}

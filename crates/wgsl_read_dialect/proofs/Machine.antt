@@ -49,7 +49,8 @@ after_any : (a : Bool) (x z : ℕ) → cond a (suc z) 1 ≤ suc (suc (x + z))
 after_any true x z = omega arith
 after_any false x z = omega arith
 
-pub in_token : (L : Dialect) (cs : List ℕ) (k : Steps) (s : State) → is_settled (a_token cs k) ≡ true → IsInside L (a_token cs no_step) k (a_token cs k) s
+pub in_token : (L : Dialect) (cs : List ℕ) (k : Steps) (s : State)
+    → is_settled (a_token cs k) ≡ true → IsInside L (a_token cs no_step) k (a_token cs k) s
 unfolding token_weight
 in_token L cs k s e =
     let q = and_true _ _ e in
@@ -61,7 +62,8 @@ in_token L cs k s e =
       most = at_most _ _ q.0;
     }
 
-pub in_rule : (L : Dialect) (n : FactoredSymbol) (k : Steps) (s : State) → is_settled (a_symbol n k) ≡ true → IsInside L (rule_steps L n) k (a_symbol n k) s
+pub in_rule : (L : Dialect) (n : FactoredSymbol) (k : Steps) (s : State)
+    → is_settled (a_symbol n k) ≡ true → IsInside L (rule_steps L n) k (a_symbol n k) s
 in_rule L n k s e =
     let q = and_true _ _ e in
     record {
@@ -72,7 +74,8 @@ in_rule L n k s e =
       most = at_most _ _ q.0;
     }
 
-in_first : (L : Dialect) (cs : List ℕ) (g h k : Steps) (s : State) → is_settled (a_choice cs g h k) ≡ true → is_any cs s ≡ true → IsInside L g k (a_choice cs g h k) s
+in_first : (L : Dialect) (cs : List ℕ) (g h k : Steps) (s : State)
+    → is_settled (a_choice cs g h k) ≡ true → is_any cs s ≡ true → IsInside L g k (a_choice cs g h k) s
 in_first L cs g h k s e b =
     let q = and_true _ _ e in let inside = and_true _ _ q.0 in let behind_it = and_true _ _ q.1 in
     record {
@@ -83,7 +86,8 @@ in_first L cs g h k s e b =
       most = at_most _ _ behind_it.0;
     }
 
-in_second : (L : Dialect) (cs : List ℕ) (g h k : Steps) (s : State) → is_settled (a_choice cs g h k) ≡ true → is_any cs s ≡ false → IsInside L h k (a_choice cs g h k) s
+in_second : (L : Dialect) (cs : List ℕ) (g h k : Steps) (s : State)
+    → is_settled (a_choice cs g h k) ≡ true → is_any cs s ≡ false → IsInside L h k (a_choice cs g h k) s
 in_second L cs g h k s e b =
     let q = and_true _ _ e in let inside = and_true _ _ q.0 in let behind_it = and_true _ _ q.1 in
     record {
@@ -94,19 +98,25 @@ in_second L cs g h k s e b =
       most = at_most _ _ behind_it.0;
     }
 
-pub in_choice : (L : Dialect) (cs : List ℕ) (c g h k : Steps) (s : State) → is_settled (a_choice cs g h k) ≡ true → c ≡ cond (is_any cs s) g h → IsInside L c k (a_choice cs g h k) s
-in_choice L cs c g h k s e q = subst (λ (x : Steps). IsInside L x k (a_choice cs g h k) s) (sym q) (chosen (is_any cs s) refl)
+pub in_choice : (L : Dialect) (cs : List ℕ) (c g h k : Steps) (s : State)
+    → is_settled (a_choice cs g h k) ≡ true → c ≡ cond (is_any cs s) g h
+    → IsInside L c k (a_choice cs g h k) s
+in_choice L cs c g h k s e q = subst (λ (x : Steps). IsInside L x k (a_choice cs g h k) s) (sym q)
+    (chosen (is_any cs s) refl)
   where
     chosen : (b : Bool) → is_any cs s ≡ b → IsInside L (cond b g h) k (a_choice cs g h k) s
     chosen true w = in_first L cs g h k s e w
     chosen false w = in_second L cs g h k s e w
 
-pub in_items : (L : Dialect) (cs : List ℕ) (h k : Steps) (s : State) → is_settled (items cs h k) ≡ true → IsInside L (items cs h no_step) k (items cs h k) s
+pub in_items : (L : Dialect) (cs : List ℕ) (h k : Steps) (s : State)
+    → is_settled (items cs h k) ≡ true → IsInside L (items cs h no_step) k (items cs h k) s
 unfolding token_weight
 in_items L cs h k s e =
-    let q = and_true (not (can_be_empty h) && is_settled h) (nat_le (weight k) token_weight && is_settled k) e in let behind_it = and_true _ _ q.1 in
+    let q = and_true (not (can_be_empty h) && is_settled h)
+    (nat_le (weight k) token_weight && is_settled k) e in let behind_it = and_true _ _ q.1 in
     record {
-      same = ap (λ (x : Read (Unit {0})). x >>= λ u s'. follow L k s') (sym (behind_done (repeated cs (follow L h) s)));
+      same = ap (λ (x : Read (Unit {0})). x >>= λ u s'. follow L k s')
+          (sym (behind_done (repeated cs (follow L h) s)));
       inner = ap (λ (x : Bool). x && true) q.0;
       outer = behind_it.1;
       after = after_any true (weight h) (weight k);
@@ -115,12 +125,14 @@ in_items L cs h k s e =
 
 -- ---- what is left then
 -- the steps behind, once the inner part is followed
-pub goes_on : {L : Dialect} (g k w : Steps) (s : State) (u : Unit {0}) (s' : State) (whole : Read (Unit {0})) (n : ℕ) → IsInside L g k w s → IsWorkLeft L whole n w s → follow L g s ≡ done u s'
+pub goes_on : {L : Dialect} (g k w : Steps) (s : State) (u : Unit {0}) (s' : State) (whole : Read (Unit {0})) (n : ℕ)
+    → IsInside L g k w s → IsWorkLeft L whole n w s → follow L g s ≡ done u s'
     → IsWorkLeft L whole n k s' × (work k s' < work w s)
 unfolding work
 goes_on {L} g k w s u s' whole n i l e =
     let less : token_weight * length s'.rest + weight k < token_weight * length s.rest + weight w =
-    falls (can_be_empty g) (length s'.rest) (length s.rest) (weight k) (weight w) (follow_takes L g s u s' e) i.after i.most in
+    falls (can_be_empty g) (length s'.rest) (length s.rest) (weight k) (weight w)
+    (follow_takes L g s u s' e) i.after i.most in
     let most : token_weight * length s.rest + weight w ≤ n = l.lighter in (
       record {
         follows = sym (i.same ∙ ap (λ (x : Read (Unit {0})). x >>= λ u s'. follow L k s') e) ∙ l.follows;
@@ -130,16 +142,29 @@ goes_on {L} g k w s u s' whole n i l e =
       less,
     )
   where
-    falls : (b : Bool) (x y v z : ℕ) → x + least b ≤ y → cond b (suc v) 1 ≤ z → v ≤ token_weight → token_weight * x + v < token_weight * y + z
-    falls true x y v z p q r = let m : token_weight * x ≤ token_weight * y = mul-le-mul_left token_weight (let l : x ≤ y = omega arith in l) in omega arith
-    falls false x y v z p q r = let m : token_weight * suc x ≤ token_weight * y = mul-le-mul_left token_weight (let l : suc x ≤ y = omega arith in l) in omega arith
+    falls : (b : Bool) (x y v z : ℕ) → x + least b ≤ y → cond b (suc v) 1 ≤ z → v ≤ token_weight
+        → token_weight * x + v < token_weight * y + z
+    falls true x y v z p q r =
+        let m : token_weight * x ≤ token_weight * y = mul-le-mul_left token_weight
+        (let l : x ≤ y = omega arith in l) in omega arith
+    falls false x y v z p q r =
+        let m : token_weight * suc x ≤ token_weight * y = mul-le-mul_left token_weight
+        (let l : suc x ≤ y = omega arith in l) in omega arith
 
 -- the inner part, where no steps are behind
-pub goes_in : {L : Dialect} (g w : Steps) (s : State) (whole : Read (Unit {0})) (n : ℕ) → IsInside L g no_step w s → IsWorkLeft L whole n w s → weight g < weight w → IsWorkLeft L whole n g s × (work g s < work w s)
+pub goes_in : {L : Dialect} (g w : Steps) (s : State) (whole : Read (Unit {0})) (n : ℕ)
+    → IsInside L g no_step w s → IsWorkLeft L whole n w s → weight g < weight w
+    → IsWorkLeft L whole n g s × (work g s < work w s)
 unfolding work
 goes_in {L} g w s whole n i l h =
-    let most : token_weight * length s.rest + weight w ≤ n = l.lighter in
-    (record { follows = sym (i.same ∙ behind_done (follow L g s)) ∙ l.follows; settled = i.inner; lighter = omega (arith, most, h) }, omega (arith, h))
+    let most : token_weight * length s.rest + weight w ≤ n = l.lighter in (
+      record {
+        follows = sym (i.same ∙ behind_done (follow L g s)) ∙ l.follows;
+        settled = i.inner;
+        lighter = omega (arith, most, h);
+      },
+      omega (arith, h),
+    )
 
 -- ---- what a call is allowed
 pub lighter_rule : (L : Dialect) (n : FactoredSymbol) (k : Steps) → weight (rule_steps L n) < weight (a_symbol n k)
@@ -160,5 +185,6 @@ stopped (fault.Refused refusal) m f h = ap (λ (r : Read (Unit {0})). r >>= f) h
 stopped fault.OutOfMemory m f h = tt
 
 -- a failing inner part fails the whole
-pub fails_in : {L : Dialect} (g k w : Steps) (s : State) (whole : Read (Unit {0})) (n : ℕ) (e : Fault) → IsInside L g k w s → IsWorkLeft L whole n w s → Fails e (follow L g s) → Fails e whole
+pub fails_in : {L : Dialect} (g k w : Steps) (s : State) (whole : Read (Unit {0})) (n : ℕ) (e : Fault)
+    → IsInside L g k w s → IsWorkLeft L whole n w s → Fails e (follow L g s) → Fails e whole
 fails_in {L} g k w s whole n e i l h = subst (Fails e) (sym i.same ∙ l.follows) (stopped e (follow L g s) _ h)

@@ -52,7 +52,8 @@ tagged s (stuck (t ∷ us)) = refl
 tagged s (bad x us) = refl
 tagged s out = refl
 
-said_without_value : {A : Type 0} (ts : List Token) (ending : Ending) (o : Outcome A) → answer_said ts ending (without_value o) ≡ answer_without_value (answer_said ts ending o)
+said_without_value : {A : Type 0} (ts : List Token) (ending : Ending) (o : Outcome A)
+    → answer_said ts ending (without_value o) ≡ answer_without_value (answer_said ts ending o)
 said_without_value ts finished (ok a []) = refl
 said_without_value ts (carried x) (ok a []) = refl
 said_without_value ts ending (ok a (t ∷ us)) = refl
@@ -66,7 +67,8 @@ said_without_value ts ending out = refl
 abbrev outcome : Dialect → List Token → Outcome TranslationUnit
 outcome L ts = read_all tables checking (unchecked_body L) rank_limit (of unit) ts
 
-followed : (L : Dialect) (ts : List Token) → follow L (rule_steps L (of unit)) (start_state ts) ≡ tag (start_state ts) (without_value (outcome L ts))
+followed : (L : Dialect) (ts : List Token)
+    → follow L (rule_steps L (of unit)) (start_state ts) ≡ tag (start_state ts) (without_value (outcome L ts))
 unfolding passes reads
 followed L ts = sym (passes_is L (of unit) (start_state ts)) ∙ tagged (start_state ts) (outcome L ts)
 
@@ -74,33 +76,47 @@ followed L ts = sym (passes_is L (of unit) (start_state ts)) ∙ tagged (start_s
 abbrev IsTrue : Dialect → List Token → Ending → Answer TranslationUnit → Type 0
 IsTrue L ts ending a = IsUncheckedAnswer L unit (λ v. AreUnit L ts) ts ending a
 
-small_true : (ts : List Token) (ending : Ending) (a : Answer TranslationUnit) → IsSmallAnswer unit ts ending a → IsTrue recognized ts ending a
+small_true : (ts : List Token) (ending : Ending) (a : Answer TranslationUnit)
+    → IsSmallAnswer unit ts ending a → IsTrue recognized ts ending a
 small_true ts ending (accepted v) h = (h.0, (v, h.1))
 small_true ts ending (denied x) h = h
 
-answers_are_true : (L : Dialect) (ts : List Token) (ending : Ending) → IsTrue L ts ending (unchecked_answer_of L unit ts ending)
+answers_are_true : (L : Dialect) (ts : List Token) (ending : Ending)
+    → IsTrue L ts ending (unchecked_answer_of L unit ts ending)
 answers_are_true parsed ts ending = syntax_answers_are_true unit ts ending
-answers_are_true recognized ts ending = small_true ts ending (small_answer_of unit ts ending) (small_answers_are_true unit ts ending)
+answers_are_true recognized ts ending = small_true ts ending (small_answer_of unit ts ending)
+    (small_answers_are_true unit ts ending)
 
 -- it says what is promised
-true_is : (L : Dialect) (ts : List Token) (ending : Ending) (result : Result (Unit {0}) Error) (a : Answer TranslationUnit) → IsTrue L ts ending a → Answered (λ u. u) result (answer_without_value a) → Recognized L result ts ending
+true_is : (L : Dialect) (ts : List Token) (ending : Ending) (result : Result (Unit {0}) Error)
+    (a : Answer TranslationUnit) → IsTrue L ts ending a
+    → Answered (λ u. u) result (answer_without_value a) → Recognized L result ts ending
 true_is L ts ending (Ok u) (accepted v) h r = h
 true_is L ts ending (Ok u) (denied x) h r = absurd cc
 true_is L ts ending (Err e) a h (inl m) = inl m
 true_is L ts ending (Err e) (accepted v) h (inr r) = absurd cc
-true_is L ts ending (Err e) (denied x) h (inr r) = let same : x ≡ fault_view e = cc in inr (subst (IsNamedUnchecked L unit ts ending) same h)
+true_is L ts ending (Err e) (denied x) h (inr r) =
+    let same : x ≡ fault_view e = cc in inr (subst (IsNamedUnchecked L unit ts ending) same h)
 
 -- what is returned of what was followed
-pub unit_is : (L : Dialect) (source : TokenSource) (ts : List Token) (ending : Ending) (read : Result (Unit {0}) declared.Fault) (left : State) (result : Result (Unit {0}) Error) → IsSourceOf source ts ending → wants_memory ending ≡ false
+pub unit_is : (L : Dialect) (source : TokenSource) (ts : List Token) (ending : Ending)
+    (read : Result (Unit {0}) declared.Fault) (left : State) (result : Result (Unit {0}) Error)
+    → IsSourceOf source ts ending → wants_memory ending ≡ false
     → Gives (λ u. u) read left (follow L (rule_steps L (of unit)) (state source.tokens))
-    → ((us : List Token) (e : Ending) → AreOf source.origin us e → IsReadTo source.origin read left us → IsAnsweredOf read left e result) → Recognized L result ts ending
+    → ((us : List Token) (e : Ending) → AreOf source.origin us e → IsReadTo source.origin read left us
+    → IsAnsweredOf read left e result) → Recognized L result ts ending
 unit_is L source ts ending read left result is w gives answered =
     let alone = read_alone ts ending w in
     let start : state source.tokens ≡ start_state ts = is.0 ∙ ap start_state alone in
-    let given = subst (λ (m : Read (Unit {0})). Gives (λ u. u) read left m) (ap (follow L (rule_steps L (of unit))) start ∙ followed L ts) gives in
-    let taken = all_taken (λ u. u) source.origin ts ending (without_value (outcome L ts)) read left is.1 (subst (λ (us : List Token). Gives (λ u. u) read left (tag (start_state us) (without_value (outcome L ts)))) (sym alone) given) in
-    let said = said_seen (λ u. u) ts ending (without_value (outcome L ts)) read left result given (answered ts ending is.1 taken) in
-    true_is L ts ending result (answer_said ts ending (outcome L ts)) (answers_are_true L ts ending) (subst (Answered (λ u. u) result) (said_without_value ts ending (outcome L ts)) said)
+    let given = subst (λ (m : Read (Unit {0})). Gives (λ u. u) read left m)
+    (ap (follow L (rule_steps L (of unit))) start ∙ followed L ts) gives in
+    let taken = all_taken (λ u. u) source.origin ts ending (without_value (outcome L ts)) read left
+    is.1 (subst (λ (us : List Token). Gives (λ u. u) read left
+    (tag (start_state us) (without_value (outcome L ts)))) (sym alone) given) in
+    let said = said_seen (λ u. u) ts ending (without_value (outcome L ts)) read left result given
+    (answered ts ending is.1 taken) in
+    true_is L ts ending result (answer_said ts ending (outcome L ts)) (answers_are_true L ts ending)
+    (subst (Answered (λ u. u) result) (said_without_value ts ending (outcome L ts)) said)
 
 -- ---- of the text
 -- in a dialect
@@ -108,20 +124,26 @@ abbrev IsUnitIn : Dialect → List ℕ → Type 0
 IsUnitIn L source = (ts : List Token) × IsTokenList source ts finished × AreUnit L ts
 
 abbrev IsRefusedIn : Dialect → List ℕ → Fault → Type 0
-IsRefusedIn L source x = (ts : List Token) × (ending : Ending) × IsTokenList source ts ending × IsNamedUnchecked L unit ts ending x
+IsRefusedIn L source x = (ts : List Token) × (ending : Ending) × IsTokenList source ts ending
+    × IsNamedUnchecked L unit ts ending x
 
-pub accepted_is : (L : Dialect) (source : List ℕ) (ts : List Token) (ending : Ending) (result : Result (Unit {0}) Error) → IsTokenList source ts ending → Recognized L result ts ending → IfOk result (λ u. IsUnitIn L source)
+pub accepted_is : (L : Dialect) (source : List ℕ) (ts : List Token) (ending : Ending)
+    (result : Result (Unit {0}) Error) → IsTokenList source ts ending
+    → Recognized L result ts ending → IfOk result (λ u. IsUnitIn L source)
 accepted_is L source ts ending (Ok u) l h = (ts, subst (IsTokenList source ts) h.0 l, h.1)
 accepted_is L source ts ending (Err e) l h = tt
 
-pub refused_is : (L : Dialect) (source : List ℕ) (ts : List Token) (ending : Ending) (result : Result (Unit {0}) Error) → IsTokenList source ts ending → Recognized L result ts ending
+pub refused_is : (L : Dialect) (source : List ℕ) (ts : List Token) (ending : Ending)
+    (result : Result (Unit {0}) Error) → IsTokenList source ts ending → Recognized L result ts ending
     → IfErr result (λ e. IsOutOfMemory e ⊎ IsRefusedIn L source (fault_view e))
 refused_is L source ts ending (Ok u) l h = tt
 refused_is L source ts ending (Err e) l (inl m) = inl m
 refused_is L source ts ending (Err e) l (inr h) = inr (ts, ending, l, h)
 
-pub placed_is : (L : Dialect) (source : List ℕ) (ts : List Token) (ending : Ending) (result : Result (Unit {0}) Error) → IsUtf8 source → IsTokenList (chars source) ts ending → Recognized L result ts ending
+pub placed_is : (L : Dialect) (source : List ℕ) (ts : List Token) (ending : Ending) (result : Result (Unit {0}) Error)
+    → IsUtf8 source → IsTokenList (chars source) ts ending → Recognized L result ts ending
     → IfErr result (λ e. StandsWithin e.span (length source))
 placed_is L source ts ending (Ok u) t l h = tt
 placed_is L source ts ending (Err e) t l (inl m) = memory_within (length source) e m
-placed_is L source ts ending (Err e) t l (inr h) = subst (StandsWithin e.span) (bytes_width source t) (unchecked_within L unit (chars source) ts ending (fault_view e) l h)
+placed_is L source ts ending (Err e) t l (inr h) = subst (StandsWithin e.span)
+    (bytes_width source t) (unchecked_within L unit (chars source) ts ending (fault_view e) l h)

@@ -15,18 +15,21 @@ use Rattle.wgsl_read_cursor.specs.Answers.{IsOutOfMemory}
 
 -- a text whose tokens are a unit of the dialect
 abbrev pub IsRecognized : List ℕ → Type 0
-IsRecognized source = (ts : List Token) × IsTokenList source ts finished × ((v : TranslationUnit) × Derives checking small unit v ts)
+IsRecognized source = (ts : List Token) × IsTokenList source ts finished
+    × ((v : TranslationUnit) × Derives checking small unit v ts)
 
 -- a text of which this fault is named
 abbrev pub IsRefused : List ℕ → Fault → Type 0
-IsRefused source x = (ts : List Token) × (ending : Ending) × IsTokenList source ts ending × IsNamedSmall unit ts ending x
+IsRefused source x = (ts : List Token) × (ending : Ending) × IsTokenList source ts ending
+    × IsNamedSmall unit ts ending x
 
 -- tokens that are a unit of a dialect: where the whole language is read, whatever the checks say
 abbrev pub AreUnit : Dialect → List Token → Type 0
 AreUnit parsed ts = IsSentence written unit ts
 AreUnit recognized ts = (v : TranslationUnit) × Derives checking small unit v ts
 
--- The tokens ended of themselves and are a unit of the dialect; or the fault is the one that is named of them; or memory was refused.
+-- The tokens ended of themselves and are a unit of the dialect; or the fault is the one that is
+-- named of them; or memory was refused.
 abbrev pub Recognized : Dialect → Result (Unit {0}) Error → List Token → Ending → Type 0
 Recognized L (Ok u) ts ending = (ending ≡ finished) × AreUnit L ts
 Recognized L (Err e) ts ending = IsOutOfMemory e ⊎ IsNamedUnchecked L unit ts ending (fault_view e)

@@ -7,7 +7,8 @@ use Rattle.wgsl_theory_grammar.specs.Unchecked.{unchecked_body}
 use Rattle.wgsl_theory_grammar.specs.Factored.{Further.braced_part, FactoredSymbol, FactoredSymbol.further, FactoredRule}
 use Rattle.wgsl_theory_grammar.specs.Tables.{tables}
 
--- steps, each before the others: a token of one of some classes; a symbol; one of two, the first where the next token is of one of some classes; and items, as long as it is
+-- steps, each before the others: a token of one of some classes; a symbol; one of two, the first
+-- where the next token is of one of some classes; and items, as long as it is
 pub data Steps : Type 0 where
   no_step : Steps
   a_token : List ℕ → Steps → Steps

@@ -12,7 +12,8 @@ can_be_empty (a_symbol n k) = empties n && can_be_empty k
 can_be_empty (a_choice cs g h k) = (can_be_empty g || can_be_empty h) && can_be_empty k
 can_be_empty (items cs h k) = can_be_empty k
 
--- the weight of a symbol: more than the weight of its steps, as each symbol that they begin with has a lower rank
+-- the weight of a symbol: more than the weight of its steps, as each symbol that they begin with
+-- has a lower rank
 unfoldable pub symbol_weight : FactoredSymbol → ℕ
 symbol_weight n = 25 * 8 ^ ranks n
 

@@ -6,7 +6,7 @@ use Rattle.grammar.specs.Grammar.{is_among}
 use Rattle.grammar.specs.Tables.{disjoint, subset}
 use Rattle.grammar.specs.States.{State, Read, ◌>>=◌, refused_at, refused, is_first, is_at, is_any, take}
 use Rattle.grammar.proofs.Reading.Beginnings.{cond_no}
-use Rattle.wgsl_lex_token.specs.declared.kind.TokenKind.{TokenKind}
+use Rattle.wgsl_lex_token.specs.declared.kind_table.TokenKind.{TokenKind}
 use Rattle.wgsl_lex_token.specs.View.{class_of_kind}
 use Rattle.grammar.proofs.Reading.Sets.{apart', not_subset}
 
@@ -29,11 +29,13 @@ any_is (c ∷ (d ∷ cs)) end [] = any_is (d ∷ cs) end []
 any_is (c ∷ (d ∷ cs)) end (t ∷ ts) = ap (λ (b : Bool). cond (eqb t.class c) true b) (any_is (d ∷ cs) end (t ∷ ts))
 
 -- the next token is of one of some classes, by its kind
-pub any_of_kind : (cs : List ℕ) (s : State) (kind : TokenKind) (b : Bool) → is_at (class_of_kind kind) s ≡ true → b ≡ is_among (class_of_kind kind) cs → b ≡ is_any cs s
+pub any_of_kind : (cs : List ℕ) (s : State) (kind : TokenKind) (b : Bool)
+    → is_at (class_of_kind kind) s ≡ true → b ≡ is_among (class_of_kind kind) cs → b ≡ is_any cs s
 unfolding is_at
 any_of_kind cs s kind b h e = e ∙ of_list s.rest h ∙ sym (any_is cs s.end s.rest)
   where
-    of_list : (ts : List Token) → is_first (class_of_kind kind) ts ≡ true → is_among (class_of_kind kind) cs ≡ begins_with cs ts
+    of_list : (ts : List Token) → is_first (class_of_kind kind) ts ≡ true
+        → is_among (class_of_kind kind) cs ≡ begins_with cs ts
     of_list [] h = absurd cc
     of_list (t ∷ ts) h = ap (λ (c : ℕ). is_among c cs) (sym (eqb-true t.class (class_of_kind kind) h))
 
@@ -56,18 +58,21 @@ none_at cs ds h s e = any_is cs s.end s.rest ∙ of_list s.rest (sym (any_is ds 
     of_list [] e = refl
     of_list (t ∷ ts) e = not_subset t.class cs ds h e
 
-other_first : {A : Type 0} (a b : Bool) (x y : A) → (b ≡ true → a ≡ false) → (a ≡ false → b ≡ false → x ≡ y) → cond a x y ≡ cond b y x
+other_first : {A : Type 0} (a b : Bool) (x y : A) → (b ≡ true → a ≡ false)
+    → (a ≡ false → b ≡ false → x ≡ y) → cond a x y ≡ cond b y x
 other_first true true x y h k = let clash = h refl in absurd cc
 other_first true false x y h k = refl
 other_first false true x y h k = refl
 other_first false false x y h k = sym (k refl refl)
 
 -- the second part is tested first; what begins neither is refused by both
-pub tested_first : {A : Type 0} (cs ds : List ℕ) → disjoint cs ds ≡ true → (s : State) (x y : Read A) → (is_any cs s ≡ false → is_any ds s ≡ false → x ≡ y) → cond (is_any cs s) x y ≡ cond (is_any ds s) y x
+pub tested_first : {A : Type 0} (cs ds : List ℕ) → disjoint cs ds ≡ true → (s : State) (x y : Read A)
+    → (is_any cs s ≡ false → is_any ds s ≡ false → x ≡ y) → cond (is_any cs s) x y ≡ cond (is_any ds s) y x
 tested_first cs ds h s x y k = other_first (is_any cs s) (is_any ds s) x y (apart_at cs ds h s) k
 
 -- what is refused gives nothing to go on with
-refused_goes_on : {A B : Type 0} (end : ℕ) (ts : List Token) (f : A → State → Read B) → (refused_at end ts >>= f) ≡ refused_at end ts
+refused_goes_on : {A B : Type 0} (end : ℕ) (ts : List Token) (f : A → State → Read B)
+    → (refused_at end ts >>= f) ≡ refused_at end ts
 refused_goes_on end [] f = refl
 refused_goes_on end (t ∷ ts) f = refl
 

@@ -1,7 +1,7 @@
 -- What rules and loops read, turn by turn, each as a word of its own, which no computation opens.
 use Rattle.std.specs.Prelude.{ℕ, List, [], ◌∷◌, ◌++◌, cond}
 use Rattle.grammar.specs.States.{State, Read, Read.done, ◌>>=◌, is_at, is_any, next_start, span_from, take}
-use Rattle.wgsl_model.specs.Tokens.Classes.{SymAnd, SymBracketLeft, SymComma, SymMinus, SymMinusMinus, SymOr, SymParenRight, SymPeriod, SymPlus, SymShiftLeft, SymShiftRight, SymXor, TemplateArgsEnd}
+use Rattle.wgsl_model.specs.Tokens.ClassTable.{SymAnd, SymBracketLeft, SymComma, SymMinus, SymMinusMinus, SymOr, SymParenRight, SymPeriod, SymPlus, SymShiftLeft, SymShiftRight, SymXor, TemplateArgsEnd}
 use Rattle.wgsl_model.specs.Faults.Kinds.{next_place}
 use Rattle.wgsl_model.specs.Trees.Operators.{BinaryOperator, BinaryOperator.bitwise_or, BinaryOperator.bitwise_and, BinaryOperator.bitwise_xor, BinaryOperator.shift_left, BinaryOperator.shift_right}
 use Rattle.wgsl_model.specs.Trees.Expressions.{ExpressionNode}
@@ -20,7 +20,8 @@ template_items_from es s = reader (further template_items) s >>= λ more s'. don
 -- one argument, and what may follow it
 unfoldable pub template_items_turn : List ExpressionNode → State → Read (List ExpressionNode)
 template_items_turn es s = reader (of expression) s >>= λ e s'. cond (is_at SymComma s')
-    (take SymComma s' >>= λ t s''. cond (is_at TemplateArgsEnd s'') (take TemplateArgsEnd s'' >>= λ t s'''. done (es ++ e ∷ []) s''') (template_items_from (es ++ e ∷ []) s''))
+    (take SymComma s' >>= λ t s''. cond (is_at TemplateArgsEnd s'') (take TemplateArgsEnd s''
+    >>= λ t s'''. done (es ++ e ∷ []) s''') (template_items_from (es ++ e ∷ []) s''))
     (take TemplateArgsEnd s' >>= λ t s''. done (es ++ e ∷ []) s'')
 
 -- arguments up to the closing parenthesis, behind some
@@ -46,7 +47,8 @@ components_behind e s = read_growth e (reader (further components)) s
 
 -- one component more, where there is one
 unfoldable pub components_turn : ExpressionNode → State → Read ExpressionNode
-components_turn e s = cond (is_any (SymBracketLeft ∷ SymPeriod ∷ []) s) (component_behind e s >>= components_behind) (done e s)
+components_turn e s = cond (is_any (SymBracketLeft ∷ SymPeriod ∷ []) s)
+    (component_behind e s >>= components_behind) (done e s)
 
 -- a primary expression and its components
 unfoldable pub singular_at : State → Read ExpressionNode
@@ -56,19 +58,22 @@ singular_at s = reader (of primary_expression) s >>= components_behind
 -- an operator and its operand, or else an operand with its components
 unfoldable pub unary_at : State → Read ExpressionNode
 unary_at s = cond (is_any unary_operators s)
-    (unary_operator_at s >>= λ op s'. reader (of unary_expression) s' >>= λ e s''. done (unary_of (op, e) (span_from (next_start s) s'')) s'')
+    (unary_operator_at s >>= λ op s'. reader (of unary_expression) s'
+    >>= λ e s''. done (unary_of (op, e) (span_from (next_start s) s'')) s'')
     (reader (of singular_expression) s)
 
 -- ---- products and sums
 -- one factor more, where there is one
 unfoldable pub factors_turn : ExpressionNode → State → Read ExpressionNode
 factors_turn e s = cond (is_any multiplicative_operators s)
-    (multiplicative_operator_at s >>= λ op s'. reader (of unary_expression) s' >>= λ right s''. factors_behind (with_operand (op, right) e) s'') (done e s)
+    (multiplicative_operator_at s >>= λ op s'. reader (of unary_expression) s'
+    >>= λ right s''. factors_behind (with_operand (op, right) e) s'') (done e s)
 
 -- one factor more of a product that began at a place, where there is one
 unfoldable pub products_turn : ℕ → ExpressionNode → State → Read ExpressionNode
 products_turn start e s = cond (is_any multiplicative_operators s)
-    (multiplicative_operator_at s >>= λ op s'. reader (of unary_expression) s' >>= λ right s''. products_from start (binary_of e (op, right) (span_from start s'')) s'') (done e s)
+    (multiplicative_operator_at s >>= λ op s'. reader (of unary_expression) s'
+    >>= λ right s''. products_from start (binary_of e (op, right) (span_from start s'')) s'') (done e s)
 
 -- a product
 unfoldable pub product_at : State → Read ExpressionNode
@@ -81,13 +86,16 @@ negated_product_at s = take SymMinusMinus s >>= λ t s'. reader (of unary_expres
 
 -- one summand more, where there is one
 unfoldable pub summands_turn : ExpressionNode → State → Read ExpressionNode
-summands_turn e s = cond (is_any (SymPlus ∷ SymMinus ∷ SymMinusMinus ∷ []) s) (summand_at s >>= λ p s'. summands_behind (with_operand p e) s') (done e s)
+summands_turn e s = cond (is_any (SymPlus ∷ SymMinus ∷ SymMinusMinus ∷ []) s)
+    (summand_at s >>= λ p s'. summands_behind (with_operand p e) s') (done e s)
 
 -- ---- shifts and comparisons
 -- a shift, or factors and summands
 unfoldable pub sum_turn : ExpressionNode → State → Read ExpressionNode
-sum_turn e s = cond (is_at SymShiftLeft s) (take SymShiftLeft s >>= λ t s'. reader (of unary_expression) s' >>= λ right s''. done (with_operand (shift_left, right) e) s'')
-    (cond (is_at SymShiftRight s) (take SymShiftRight s >>= λ t s'. reader (of unary_expression) s' >>= λ right s''. done (with_operand (shift_right, right) e) s'')
+sum_turn e s = cond (is_at SymShiftLeft s) (take SymShiftLeft s >>= λ t s'.
+    reader (of unary_expression) s' >>= λ right s''. done (with_operand (shift_left, right) e) s'')
+    (cond (is_at SymShiftRight s) (take SymShiftRight s >>= λ t s'. reader (of unary_expression) s'
+    >>= λ right s''. done (with_operand (shift_right, right) e) s'')
     (factors_behind e s >>= summands_behind))
 
 -- a shift expression
@@ -97,7 +105,8 @@ shift_at s = reader (of unary_expression) s >>= sum_behind
 -- a comparison with one operand more, or none
 unfoldable pub relation_turn : ExpressionNode → State → Read ExpressionNode
 relation_turn e s = cond (is_any relational_operators s)
-    (relational_operator_at s >>= λ op s'. reader (of shift_expression) s' >>= λ right s''. done (with_operand (op, right) e) s'') (done e s)
+    (relational_operator_at s >>= λ op s'. reader (of shift_expression) s'
+    >>= λ right s''. done (with_operand (op, right) e) s'') (done e s)
 
 -- a relational expression
 unfoldable pub relational_at : State → Read ExpressionNode
@@ -107,12 +116,14 @@ relational_at s = reader (of shift_expression) s >>= relation_behind
 -- one operand more, where there is one
 unfoldable pub bitwise_turn : ℕ → BinaryOperator → ExpressionNode → State → Read ExpressionNode
 bitwise_turn class operator e s = cond (is_at class s)
-    (take class s >>= λ t s'. reader (of unary_expression) s' >>= λ right s''. bitwise_behind class operator (with_operand (operator, right) e) s'') (done e s)
+    (take class s >>= λ t s'. reader (of unary_expression) s'
+    >>= λ right s''. bitwise_behind class operator (with_operand (operator, right) e) s'') (done e s)
 
 -- one more, where there is one
 unfoldable pub logical_turn : ℕ → BinaryOperator → ExpressionNode → State → Read ExpressionNode
 logical_turn class operator e s = cond (is_at class s)
-    (take class s >>= λ t s'. reader (of relational_expression) s' >>= λ right s''. logical_behind class operator (with_operand (operator, right) e) s'') (done e s)
+    (take class s >>= λ t s'. reader (of relational_expression) s'
+    >>= λ right s''. logical_behind class operator (with_operand (operator, right) e) s'') (done e s)
 
 -- the operands of a bitwise operator, or a relational expression with what may follow it
 unfoldable pub expression_turn : ExpressionNode → State → Read ExpressionNode

@@ -3,7 +3,7 @@ use Rattle.std.specs.Prelude.{ℕ, List, [], ◌∷◌, Option, cond}
 use Rattle.grammar.specs.Grammar.{Grammar.symbol}
 use Rattle.grammar.specs.Notation.{◌means◌, ◌then◌, ◌gives◌, ◌▹◌, ◌◃◌, optional}
 use Rattle.grammar.specs.States.{State, Read, Read.done, ◌>>=◌, is_at, is_any, turns, go}
-use Rattle.wgsl_model.specs.Tokens.Classes.{SymAnd, SymAndAnd, SymBang, SymEqualEqual, SymForwardSlash, SymGreaterThan, SymGreaterThanEqual, SymLessThan, SymLessThanEqual, SymMinus, SymMinusMinus, SymModulo, SymNotEqual, SymOr, SymOrOr, SymParenLeft, SymParenRight, SymPlus, SymShiftLeft, SymShiftRight, SymStar, SymTilde, SymXor, Ident, ReservedWord}
+use Rattle.wgsl_model.specs.Tokens.ClassTable.{SymAnd, SymAndAnd, SymBang, SymEqualEqual, SymForwardSlash, SymGreaterThan, SymGreaterThanEqual, SymLessThan, SymLessThanEqual, SymMinus, SymMinusMinus, SymModulo, SymNotEqual, SymOr, SymOrOr, SymParenLeft, SymParenRight, SymPlus, SymShiftLeft, SymShiftRight, SymStar, SymTilde, SymXor, Ident, ReservedWord}
 use Rattle.wgsl_model.specs.Trees.Operators.{UnaryOperator, BinaryOperator, BinaryOperator.short_circuit_or, BinaryOperator.short_circuit_and, BinaryOperator.subtraction}
 use Rattle.wgsl_model.specs.Trees.Expressions as tree
 use Rattle.wgsl_model.specs.Trees.Expressions.{ExpressionNode, Expression}
@@ -21,7 +21,9 @@ unary_operators = SymMinus ∷ SymBang ∷ SymTilde ∷ SymStar ∷ SymAnd ∷ [
 
 -- between operands
 abbrev pub binary_operators : List ℕ
-binary_operators = SymAnd ∷ SymOr ∷ SymXor ∷ SymAndAnd ∷ SymOrOr ∷ SymShiftLeft ∷ SymShiftRight ∷ SymStar ∷ SymForwardSlash ∷ SymModulo ∷ SymPlus ∷ SymMinus ∷ SymMinusMinus ∷ SymLessThan ∷ SymGreaterThan ∷ SymLessThanEqual ∷ SymGreaterThanEqual ∷ SymEqualEqual ∷ SymNotEqual ∷ []
+binary_operators = SymAnd ∷ SymOr ∷ SymXor ∷ SymAndAnd ∷ SymOrOr ∷ SymShiftLeft ∷ SymShiftRight
+    ∷ SymStar ∷ SymForwardSlash ∷ SymModulo ∷ SymPlus ∷ SymMinus ∷ SymMinusMinus ∷ SymLessThan
+    ∷ SymGreaterThan ∷ SymLessThanEqual ∷ SymGreaterThanEqual ∷ SymEqualEqual ∷ SymNotEqual ∷ []
 
 -- of products
 abbrev pub multiplicative_operators : List ℕ
@@ -33,7 +35,8 @@ additive_operators = SymPlus ∷ SymMinus ∷ []
 
 -- of comparisons
 abbrev pub relational_operators : List ℕ
-relational_operators = SymLessThan ∷ SymGreaterThan ∷ SymLessThanEqual ∷ SymGreaterThanEqual ∷ SymEqualEqual ∷ SymNotEqual ∷ []
+relational_operators = SymLessThan ∷ SymGreaterThan ∷ SymLessThanEqual ∷ SymGreaterThanEqual
+    ∷ SymEqualEqual ∷ SymNotEqual ∷ []
 
 -- ---- lists
 -- a template list or none
@@ -43,21 +46,25 @@ optional_template_list_at s = go tables reader (optional (symbol (of template_li
 -- ---- primary expressions
 -- a call where there are arguments, else a type or an identifier
 unfoldable pub call_or_type_at : State → Read Expression
-call_or_type_at s = go tables reader (symbol (of type_specifier) then optional (symbol (of arguments)) gives call_or_type) s
+call_or_type_at s = go tables reader
+    (symbol (of type_specifier) then optional (symbol (of arguments)) gives call_or_type) s
 
 -- an expression in parentheses
 unfoldable pub parenthesized_expression_at : State → Read Expression
-parenthesized_expression_at s = go tables reader (SymParenLeft ▹ symbol (of expression) ◃ SymParenRight gives Expression.parenthesized) s
+parenthesized_expression_at s = go tables reader
+    (SymParenLeft ▹ symbol (of expression) ◃ SymParenRight gives Expression.parenthesized) s
 
 -- a primary expression, before it is placed
 unfoldable pub primary_at : State → Read Expression
 primary_at s = cond (is_any (Ident ∷ ReservedWord ∷ []) s) (call_or_type_at s)
-    (cond (is_at SymParenLeft s) (parenthesized_expression_at s) (reader (of literal) s >>= λ l s'. done (Expression.literal l) s'))
+    (cond (is_at SymParenLeft s) (parenthesized_expression_at s)
+    (reader (of literal) s >>= λ l s'. done (Expression.literal l) s'))
 
 -- ---- components
 -- a component behind a base
 unfoldable pub component_behind : ExpressionNode → State → Read ExpressionNode
-component_behind e s = reader (of component) s >>= λ c s'. done (placed_expression (c e) (record { start = tree.start_of e; end = s'.end })) s'
+component_behind e s = reader (of component) s
+    >>= λ c s'. done (placed_expression (c e) (record { start = tree.start_of e; end = s'.end })) s'
 
 -- ---- operators
 -- an operator before an operand
@@ -83,8 +90,10 @@ factors_behind e s = read_growth e (reader (further factors)) s
 
 -- the factors of a product that starts at a place, behind a first one
 unfoldable pub products_from : ℕ → ExpressionNode → State → Read ExpressionNode
-products_from start e s = turns (λ (left : ExpressionNode) (p : BinaryOperator × ExpressionNode) span. binary_of left p (record { start = start; end = span.end }))
-    multiplicative_operators (go tables reader (lifted multiplicative_operator then symbol (of unary_expression))) 0 e s
+products_from start e s = turns (λ (left : ExpressionNode) (p : BinaryOperator × ExpressionNode) span.
+    binary_of left p (record { start = start; end = span.end }))
+    multiplicative_operators
+    (go tables reader (lifted multiplicative_operator then symbol (of unary_expression))) 0 e s
 
 -- an operator of a sum and an operand, or a negation that begins with the second minus of `--`
 unfoldable pub summand_at : State → Read (BinaryOperator × ExpressionNode)
@@ -108,12 +117,14 @@ relation_behind e s = read_growth e (reader (further relation_rest)) s
 -- ---- expressions
 -- further operands behind one operator
 unfoldable pub bitwise_behind : ℕ → BinaryOperator → ExpressionNode → State → Read ExpressionNode
-bitwise_behind class operator e s = turns (λ (left : ExpressionNode) (p : BinaryOperator × ExpressionNode) span. with_operand p left)
+bitwise_behind class operator e s =
+    turns (λ (left : ExpressionNode) (p : BinaryOperator × ExpressionNode) span. with_operand p left)
     (class ∷ []) (go tables reader (class means operator then symbol (of unary_expression))) 0 e s
 
 -- further relational expressions behind one operator
 unfoldable pub logical_behind : ℕ → BinaryOperator → ExpressionNode → State → Read ExpressionNode
-logical_behind class operator e s = turns (λ (left : ExpressionNode) (p : BinaryOperator × ExpressionNode) span. with_operand p left)
+logical_behind class operator e s =
+    turns (λ (left : ExpressionNode) (p : BinaryOperator × ExpressionNode) span. with_operand p left)
     (class ∷ []) (go tables reader (class means operator then symbol (of relational_expression))) 0 e s
 
 -- `&&` or `||` and their operands, none too

@@ -3,7 +3,7 @@
 
 ghost use Rattle.std.specs.Prelude.{◌≡◌, [], ◌∷◌};
 ghost use Rattle.grammar.specs.States.{is_any};
-ghost use Rattle.wgsl_model.specs.Tokens.Classes.{SymBracketLeft, SymPeriod};
+ghost use Rattle.wgsl_model.specs.Tokens.ClassTable.{SymBracketLeft, SymPeriod};
 ghost use Rattle.wgsl_model.specs.Grammar.Symbols.{Symbol.primary_expression, Symbol.singular_expression};
 ghost use Rattle.wgsl_theory_grammar.specs.Factored.{FactoredSymbol.of, FactoredSymbol.further, Further.components};
 ghost use Rattle.wgsl_theory_grammar.specs.Reader.{reader};

@@ -3,7 +3,7 @@
 
 ghost use Rattle.std.specs.Prelude.{◌≡◌, [], ◌∷◌};
 ghost use Rattle.grammar.specs.States.{is_any};
-ghost use Rattle.wgsl_model.specs.Tokens.Classes.{SymMinus, SymMinusMinus, SymPlus};
+ghost use Rattle.wgsl_model.specs.Tokens.ClassTable.{SymMinus, SymMinusMinus, SymPlus};
 ghost use Rattle.wgsl_model.specs.Faults.Kinds.{next_place};
 ghost use Rattle.wgsl_model.specs.Grammar.Symbols.{Symbol.multiplicative_expression, Symbol.negated_expression, Symbol.shift_expression};
 ghost use Rattle.wgsl_theory_grammar.specs.Factored.{FactoredSymbol.of};

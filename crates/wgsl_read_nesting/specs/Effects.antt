@@ -1,6 +1,6 @@
 -- What the code takes tokens for.
 use Rattle.std.specs.Prelude.{ℕ, Bool, true, false, List, ◌∷◌, [], ◌==◌, if◌then◌else◌, map}
-use Rattle.wgsl_model.specs.Tokens.Classes.{SymPeriod}
+use Rattle.wgsl_model.specs.Tokens.ClassTable.{SymPeriod}
 use Rattle.wgsl_lexer.specs.TextTokens.{tokens_left}
 use Rattle.wgsl_lexer.specs.declared.text_tokens.TextTokens.{TextTokens}
 use Rattle.wgsl_read_nesting.specs.Nesting.{opens_bracket, closes_bracket, is_operand, may_prefix}

@@ -1,8 +1,9 @@
--- How deep a text nests: how many brackets, blocks, template lists and prefix operators are open at one place.
+-- How deep a text nests: how many brackets, blocks, template lists and prefix operators are open at
+-- one place.
 use Rattle.std.specs.Prelude.{ℕ, max, Bool, true, false, List, [], ◌∷◌, length, drop, map, ◌==◌, if◌then◌else◌}
 use Rattle.grammar.specs.Grammar.{is_among}
 use Rattle.grammar.specs.Tokens.{Token}
-use Rattle.wgsl_model.specs.Tokens.Classes.{SymAnd, SymBang, SymBracketLeft, SymBracketRight, SymBraceLeft, SymBraceRight, SymMinus, SymParenLeft, SymParenRight, SymPeriod, SymStar, SymTilde, KwFalse, KwTrue, Ident, ReservedWord, AbstractInt, I32, U32, AbstractFloat, F32, F16, TemplateArgsStart, TemplateArgsEnd}
+use Rattle.wgsl_model.specs.Tokens.ClassTable.{SymAnd, SymBang, SymBracketLeft, SymBracketRight, SymBraceLeft, SymBraceRight, SymMinus, SymParenLeft, SymParenRight, SymPeriod, SymStar, SymTilde, KwFalse, KwTrue, Ident, ReservedWord, AbstractInt, I32, U32, AbstractFloat, F32, F16, TemplateArgsStart, TemplateArgsEnd}
 use Rattle.wgsl_read_nesting.specs.declared.open.Open.{Open}
 use Rattle.wgsl_read_nesting.specs.declared.open.Open.TheVariants.{Bracket, Operator}
 
@@ -16,11 +17,13 @@ closes_bracket class = is_among class (SymParenRight ∷ SymBracketRight ∷ Sym
 
 -- a name or a literal
 abbrev pub is_operand : ℕ → Bool
-is_operand class = is_among class (Ident ∷ ReservedWord ∷ KwTrue ∷ KwFalse ∷ AbstractInt ∷ I32 ∷ U32 ∷ AbstractFloat ∷ F32 ∷ F16 ∷ [])
+is_operand class = is_among class
+    (Ident ∷ ReservedWord ∷ KwTrue ∷ KwFalse ∷ AbstractInt ∷ I32 ∷ U32 ∷ AbstractFloat ∷ F32 ∷ F16 ∷ [])
 
 -- an operand can end with it, so that an operator behind it stands between two
 abbrev pub is_operand_end : ℕ → Bool
-is_operand_end class = if is_operand class then true else is_among class (SymParenRight ∷ SymBracketRight ∷ TemplateArgsEnd ∷ [])
+is_operand_end class = if is_operand class then true
+    else is_among class (SymParenRight ∷ SymBracketRight ∷ TemplateArgsEnd ∷ [])
 
 -- an operator that can stand before an operand
 abbrev pub may_prefix : ℕ → Bool
@@ -32,7 +35,8 @@ without_operators [] = []
 without_operators (Operator ∷ opened) = without_operators opened
 without_operators (Bracket ∷ opened) = Bracket ∷ opened
 
--- What is open behind a token. A prefix operator is open until its operand ends: with `.`, brackets and template lists the operand goes on.
+-- What is open behind a token. A prefix operator is open until its operand ends: with `.`, brackets
+-- and template lists the operand goes on.
 abbrev pub open_behind : Bool → ℕ → List Open → List Open
 open_behind behind_operand class opened =
     if opens_bracket class then Bracket ∷ opened
@@ -42,10 +46,12 @@ open_behind behind_operand class opened =
     else if may_prefix class then if behind_operand then without_operators opened else Operator ∷ opened
     else without_operators opened
 
--- the greatest number that is open at one place of tokens of these classes, where so much is open before them
+-- the greatest number that is open at one place of tokens of these classes, where so much is open
+-- before them
 abbrev pub deepest : Bool → List Open → List ℕ → ℕ
 deepest behind_operand opened [] = length opened
-deepest behind_operand opened (class ∷ classes) = max (length opened) (deepest (is_operand_end class) (open_behind behind_operand class opened) classes)
+deepest behind_operand opened (class ∷ classes) = max (length opened)
+    (deepest (is_operand_end class) (open_behind behind_operand class opened) classes)
 
 -- the greatest number that is open at one place
 abbrev pub nesting : List Token → ℕ

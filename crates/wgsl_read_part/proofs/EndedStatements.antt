@@ -3,7 +3,7 @@ use Rattle.std.proofs.Common.{◌≡◌, ◌∙◌, sym, ap, cond}
 use Rattle.grammar.specs.Tokens.{Token}
 use Rattle.grammar.specs.States.{State, Read, Read.done, ◌>>=◌, is_at, take, next_start, span_from}
 use Rattle.grammar.proofs.Binding.{bind_associates, pair_goes_on}
-use Rattle.wgsl_model.specs.Tokens.Classes.{SymParenLeft, SymSemicolon}
+use Rattle.wgsl_model.specs.Tokens.ClassTable.{SymParenLeft, SymSemicolon}
 use Rattle.wgsl_model.specs.Trees.Attributes.{Attributes}
 use Rattle.wgsl_model.specs.Trees.Statements.{Statement, StatementNode, UnattributedStatement, statement, unattributed}
 use Rattle.wgsl_model.specs.Grammar.StatementParts.{placed_statement}
@@ -22,13 +22,18 @@ abbrev pub placed_from : State → Statement → State → Read StatementNode
 placed_from s x s' = done (placed_statement x (span_from (next_start s) s')) s'
 
 -- ---- a `;` behind a part is one behind what is made of the part
-pub ended_made : {A B : Type 0} (m : Read A) (f : A → B) → ((m >>= λ a s. take SymSemicolon s >>= λ t s'. done (a, t) s') >>= λ (p : A × Token) s. done p.0 s) >>= (λ a s. done (f a) s)
+pub ended_made : {A B : Type 0} (m : Read A) (f : A → B)
+    → ((m >>= λ a s. take SymSemicolon s >>= λ t s'. done (a, t) s') >>= λ (p : A × Token) s. done p.0 s)
+    >>= (λ a s. done (f a) s)
     ≡ ((m >>= λ a s. done (f a) s) >>= λ b s. take SymSemicolon s >>= λ t s'. done b s')
-ended_made m f = token_behind m (take SymSemicolon) (λ a s. done (f a) s) ∙ sym (bind_associates m (λ a s. done (f a) s) (λ b s. take SymSemicolon s >>= λ t s'. done b s'))
+ended_made m f = token_behind m (take SymSemicolon) (λ a s. done (f a) s)
+    ∙ sym (bind_associates m (λ a s. done (f a) s) (λ b s. take SymSemicolon s >>= λ t s'. done b s'))
 
-pub ended_behind : (a : Attributes) (s : State) → behind_attributes statement a (reader (further ended_part)) s ≡ ended (behind_attributes statement a ended_kinds_at) s
+pub ended_behind : (a : Attributes) (s : State) → behind_attributes statement a
+    (reader (further ended_part)) s ≡ ended (behind_attributes statement a ended_kinds_at) s
 unfolding ended_part_at ended_kinds_at word_at assert_statement_at
-ended_behind a s = ap (λ m. m >>= λ u s'. done (statement a u) s') (ended_part_is s) ∙ ended_made (ended_kinds_at s) (statement a)
+ended_behind a s = ap (λ m. m >>= λ u s'. done (statement a u) s') (ended_part_is s)
+    ∙ ended_made (ended_kinds_at s) (statement a)
 
 -- ---- a statement that has no attributes
 unfoldable pub plain_statement_parts : State → Read StatementNode
@@ -38,7 +43,9 @@ pub plain_statement_by_parts : (s : State) → reader (further plain_statement) 
 unfolding plain_statement_at plain_statement_parts unplaced_plain_at
 plain_statement_by_parts s =
     plain_statement_is s
-    ∙ ap (λ m. cond (is_at SymSemicolon s) (take SymSemicolon s >>= λ t s'. done (unattributed UnattributedStatement.void) s') m >>= placed_from s) (ended_made (reader (further parenthesized_statement) s) unattributed)
+    ∙ ap (λ m. cond (is_at SymSemicolon s) (take SymSemicolon s
+    >>= λ t s'. done (unattributed UnattributedStatement.void) s') m >>= placed_from s)
+    (ended_made (reader (further parenthesized_statement) s) unattributed)
 
 -- ---- what a `for` does before its first turn, and after each
 unfoldable pub for_init_parts : State → Read StatementNode
@@ -48,7 +55,8 @@ pub for_init_by_parts : (s : State) → reader (of for_init) s ≡ for_init_part
 unfolding for_init_at for_init_parts init_statement_at init_kinds_at
 for_init_by_parts s =
     for_init_is s
-    ∙ ap (λ m. cond (is_at SymParenLeft s) (in_parentheses s) m >>= placed_from s) (pair_goes_on (reader (further attribute_list) s) init_kinds_at (λ p s'. done (statement p.0 p.1) s'))
+    ∙ ap (λ m. cond (is_at SymParenLeft s) (in_parentheses s) m >>= placed_from s)
+    (pair_goes_on (reader (further attribute_list) s) init_kinds_at (λ p s'. done (statement p.0 p.1) s'))
 
 unfoldable pub for_update_parts : State → Read StatementNode
 for_update_parts s = update_statement_at s >>= placed_from s
@@ -57,4 +65,5 @@ pub for_update_by_parts : (s : State) → reader (of for_update) s ≡ for_updat
 unfolding for_update_at for_update_parts update_statement_at
 for_update_by_parts s =
     for_update_is s
-    ∙ ap (λ m. cond (is_at SymParenLeft s) (in_parentheses s) m >>= placed_from s) (pair_goes_on (reader (further attribute_list) s) (reader (further simple_part)) (λ p s'. done (statement p.0 p.1) s'))
+    ∙ ap (λ m. cond (is_at SymParenLeft s) (in_parentheses s) m >>= placed_from s) (pair_goes_on (reader
+    (further attribute_list) s) (reader (further simple_part)) (λ p s'. done (statement p.0 p.1) s'))

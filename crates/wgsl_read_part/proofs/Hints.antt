@@ -12,7 +12,26 @@ use Rattle.std.proofs.lemmas.List.{map_push}
 use Rattle.wgsl_theory_grammar.proofs.StatementEquations.{case_selector_is, init_part_is, condition_part_is, update_part_is, assert_part_is}
 
 unfoldable pub definitions : ⊤
-unfolding break_if_rest_at clause_head_at take maybe_colon_at selectors_parts selectors_turn case_selector_at for_header_at init_part_at for_init_parts init_statement_at init_kinds_at condition_part_at update_part_at for_update_parts update_statement_at condition_at block_start_at block_start_after_at switch_head_at break_part_at plain_statement_parts unplaced_plain_at ended_kinds_at assert_statement_at assert_part_at
+unfolding break_if_rest_at clause_head_at take maybe_colon_at selectors_parts selectors_turn
+    case_selector_at for_header_at init_part_at for_init_parts init_statement_at init_kinds_at
+    condition_part_at update_part_at for_update_parts update_statement_at condition_at
+    block_start_at block_start_after_at switch_head_at break_part_at plain_statement_parts
+    unplaced_plain_at ended_kinds_at assert_statement_at assert_part_at
 definitions = tt
 
-pub ruleset lemmas = (is_break, selectors_by_parts, selectors_are, map_push, case_selector_is, init_part_is, for_init_by_parts, condition_part_is, update_part_is, for_update_by_parts, plain_statement_by_parts, ended_behind, assert_part_is, is_const_assert)
+pub ruleset lemmas = (
+  is_break,
+  selectors_by_parts,
+  selectors_are,
+  map_push,
+  case_selector_is,
+  init_part_is,
+  for_init_by_parts,
+  condition_part_is,
+  update_part_is,
+  for_update_by_parts,
+  plain_statement_by_parts,
+  ended_behind,
+  assert_part_is,
+  is_const_assert,
+)

@@ -1,9 +1,10 @@
--- What stands before the block of a clause of `switch`, each part as a word of its own, which no computation opens.
+-- What stands before the block of a clause of `switch`, each part as a word of its own, which no
+-- computation opens.
 use Rattle.std.specs.Prelude.{List, [], ◌∷◌, Option, cond}
 use Rattle.grammar.specs.Tokens.{Token}
 use Rattle.grammar.specs.Notation.{one_token, optional}
 use Rattle.grammar.specs.States.{State, Read, Read.done, ◌>>=◌, is_at, take, go}
-use Rattle.wgsl_model.specs.Tokens.Classes.{SymColon, KwCase, KwDefault}
+use Rattle.wgsl_model.specs.Tokens.ClassTable.{SymColon, KwCase, KwDefault}
 use Rattle.wgsl_model.specs.Trees.Statements.{CaseSelector}
 use Rattle.wgsl_theory_grammar.specs.Factored.{FactoredSymbol.further, Further.selectors}
 use Rattle.wgsl_theory_grammar.specs.Tables.{tables}

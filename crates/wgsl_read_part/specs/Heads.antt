@@ -1,7 +1,8 @@
--- What stands before a block or between its attributes and its statements, each as a word of its own, which no computation opens.
+-- What stands before a block or between its attributes and its statements, each as a word of its
+-- own, which no computation opens.
 use Rattle.std.specs.Prelude.{ℕ, Option}
 use Rattle.grammar.specs.States.{State, Read, Read.done, ◌>>=◌, take}
-use Rattle.wgsl_model.specs.Tokens.Classes.{SymBraceLeft, SymParenLeft, KwFor, KwSwitch}
+use Rattle.wgsl_model.specs.Tokens.ClassTable.{SymBraceLeft, SymParenLeft, KwFor, KwSwitch}
 use Rattle.wgsl_model.specs.Trees.Expressions.{ExpressionNode}
 use Rattle.wgsl_model.specs.Trees.Attributes.{Attributes}
 use Rattle.wgsl_model.specs.Trees.Statements.{StatementNode}
@@ -23,8 +24,12 @@ block_start_after_at class s = take class s >>= λ t s'. block_start_at s'
 
 -- `switch`, its expression, the attributes of its body, and the `{` behind them
 unfoldable pub switch_head_at : State → Read (ExpressionNode × Attributes)
-switch_head_at s = take KwSwitch s >>= λ t s1. reader (of expression) s1 >>= λ e s2. block_start_at s2 >>= λ a s3. done (e, a) s3
+switch_head_at s = take KwSwitch s
+    >>= λ t s1. reader (of expression) s1 >>= λ e s2. block_start_at s2 >>= λ a s3. done (e, a) s3
 
--- `for`, `(`, what is done before the first turn, the condition, what is done after each turn, and the `)`
+-- `for`, `(`, what is done before the first turn, the condition, what is done after each turn, and
+-- the `)`
 unfoldable pub for_header_at : State → Read (Option StatementNode × (Option ExpressionNode × Option StatementNode))
-for_header_at s = take KwFor s >>= λ t s1. take SymParenLeft s1 >>= λ u s2. reader (further init_part) s2 >>= λ i s3. reader (further condition_part) s3 >>= λ c s4. reader (further update_part) s4 >>= λ w s5. done (i, (c, w)) s5
+for_header_at s = take KwFor s
+    >>= λ t s1. take SymParenLeft s1 >>= λ u s2. reader (further init_part) s2 >>= λ i s3.
+    reader (further condition_part) s3 >>= λ c s4. reader (further update_part) s4 >>= λ w s5. done (i, (c, w)) s5

@@ -1,9 +1,10 @@
--- What the statements that a `;` ends read, and what stands in the headers and bodies of loops, each part as a word of its own, which no computation opens.
+-- What the statements that a `;` ends read, and what stands in the headers and bodies of loops,
+-- each part as a word of its own, which no computation opens.
 use Rattle.std.specs.Prelude.{ℕ, List, [], ◌∷◌, cond}
 use Rattle.grammar.specs.Grammar.{Grammar.symbol}
 use Rattle.grammar.specs.Notation.{◌gives◌, ◌▹◌, ◌◃◌}
 use Rattle.grammar.specs.States.{State, Read, Read.done, ◌>>=◌, is_at, is_any, take, go}
-use Rattle.wgsl_model.specs.Tokens.Classes.{SymAnd, SymBraceRight, SymParenLeft, SymSemicolon, SymStar, SymUnderscore, KwConst, KwContinue, KwDiscard, KwIf, KwLet, KwReturn, KwVar, Ident, ReservedWord}
+use Rattle.wgsl_model.specs.Tokens.ClassTable.{SymAnd, SymBraceRight, SymParenLeft, SymSemicolon, SymStar, SymUnderscore, KwConst, KwContinue, KwDiscard, KwIf, KwLet, KwReturn, KwVar, Ident, ReservedWord}
 use Rattle.wgsl_model.specs.Trees.Attributes.{Attributes}
 use Rattle.wgsl_model.specs.Trees.Attributed.{Attributed, with_attributes}
 use Rattle.wgsl_model.specs.Trees.Statements.{BreakIfStatement, Statement, UnattributedStatement, statement, unattributed, break_if_of}
@@ -28,13 +29,16 @@ in_parentheses s = behind_attributes statement [] (reader (further parenthesized
 
 -- a statement that has no attributes, with its `;`, without its place
 unfoldable pub unplaced_plain_at : State → Read Statement
-unplaced_plain_at s = cond (is_at SymSemicolon s) (take SymSemicolon s >>= λ t s'. done (unattributed UnattributedStatement.void) s') (ended in_parentheses s)
+unplaced_plain_at s = cond (is_at SymSemicolon s)
+    (take SymSemicolon s >>= λ t s'. done (unattributed UnattributedStatement.void) s')
+    (ended in_parentheses s)
 
 -- a `const_assert` as a statement, without its attributes
 unfoldable pub assert_statement_at : State → Read UnattributedStatement
 assert_statement_at s = reader (further assert_part) s >>= λ c s'. done (UnattributedStatement.const_assert c) s'
 
--- the classes that begin a call, an assignment, an increment or a decrement that may have attributes
+-- the classes that begin a call, an assignment, an increment or a decrement that may have
+-- attributes
 abbrev pub begin_simple_part : List ℕ
 begin_simple_part = SymAnd ∷ SymStar ∷ SymUnderscore ∷ Ident ∷ ReservedWord ∷ []
 
@@ -43,7 +47,8 @@ abbrev pub begun_part : {A : Type 0} → List (List ℕ × (State → Read A)) �
 begun_part [] last s = last s
 begun_part (p ∷ parts) last s = cond (is_any p.0 s) (p.1 s) (begun_part parts last s)
 
--- the statements other than `break` and `const_assert` that a `;` ends, without their attributes and their `;`
+-- the statements other than `break` and `const_assert` that a `;` ends, without their attributes
+-- and their `;`
 abbrev pub ended_kinds : List (List ℕ × (State → Read UnattributedStatement))
 ended_kinds =
     (KwReturn ∷ [], reader (further returning_part))
@@ -60,16 +65,20 @@ ended_kinds_at s = begun_part ended_kinds assert_statement_at s
 
 -- a `break if` with its attributes, behind its `break`, and the `}` behind it
 unfoldable pub break_if_rest_at : Attributes → State → Read (Attributed BreakIfStatement)
-break_if_rest_at a s = go tables reader (KwIf ▹ symbol (of expression) ◃ SymSemicolon ◃ SymBraceRight gives λ e. with_attributes a (break_if_of e)) s
+break_if_rest_at a s = go tables reader (KwIf ▹ symbol (of expression) ◃ SymSemicolon ◃ SymBraceRight
+    gives λ e. with_attributes a (break_if_of e)) s
 
 -- what a `for` does before its first turn, without its attributes
 unfoldable pub init_kinds_at : State → Read UnattributedStatement
-init_kinds_at s = cond (is_at KwVar s) (reader (further local_part) s) (cond (is_any (KwConst ∷ KwLet ∷ []) s) (reader (further value_part) s) (reader (further simple_part) s))
+init_kinds_at s = cond (is_at KwVar s) (reader (further local_part) s)
+    (cond (is_any (KwConst ∷ KwLet ∷ []) s) (reader (further value_part) s) (reader (further simple_part) s))
 
 -- the same with its attributes, without its place
 unfoldable pub init_statement_at : State → Read Statement
-init_statement_at s = cond (is_at SymParenLeft s) (in_parentheses s) (reader (further attribute_list) s >>= λ a s'. behind_attributes statement a init_kinds_at s')
+init_statement_at s = cond (is_at SymParenLeft s) (in_parentheses s)
+    (reader (further attribute_list) s >>= λ a s'. behind_attributes statement a init_kinds_at s')
 
 -- what it does after each turn, without its place
 unfoldable pub update_statement_at : State → Read Statement
-update_statement_at s = cond (is_at SymParenLeft s) (in_parentheses s) (reader (further attribute_list) s >>= λ a s'. behind_attributes statement a (reader (further simple_part)) s')
+update_statement_at s = cond (is_at SymParenLeft s) (in_parentheses s)
+    (reader (further attribute_list) s >>= λ a s'. behind_attributes statement a (reader (further simple_part)) s')

@@ -3,7 +3,7 @@
 
 ghost use Rattle.std.specs.Prelude.{◌≡◌, ◌≤◌, Some, None, cond, length, map};
 ghost use Rattle.grammar.specs.States.{Read.done, is_at, is_any, first_of};
-ghost use Rattle.wgsl_model.specs.Tokens.Classes as class;
+ghost use Rattle.wgsl_model.specs.Tokens.ClassTable as class;
 ghost use Rattle.wgsl_model.specs.Grammar.Symbols.{Symbol.case_selector};
 ghost use Rattle.wgsl_tree_simple.specs.View.{selector_view};
 ghost use Rattle.wgsl_theory_grammar.specs.Factored.{FactoredSymbol.of, FactoredSymbol.further, Further.selectors};

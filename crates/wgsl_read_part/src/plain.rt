@@ -3,7 +3,7 @@
 
 ghost use Rattle.std.specs.Prelude.{◌≡◌, [], ◌∷◌};
 ghost use Rattle.grammar.specs.States.{is_any};
-ghost use Rattle.wgsl_model.specs.Tokens.Classes as class;
+ghost use Rattle.wgsl_model.specs.Tokens.ClassTable as class;
 ghost use Rattle.wgsl_model.specs.Trees.Statements.{statement};
 ghost use Rattle.wgsl_tree_attribute.specs.View.{attributes_view};
 ghost use Rattle.wgsl_tree_statement.specs.View.{statement_view, statement_node_view};

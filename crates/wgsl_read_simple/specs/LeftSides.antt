@@ -3,7 +3,7 @@ use Rattle.std.specs.Prelude.{ℕ}
 use Rattle.grammar.specs.Grammar.{Grammar.symbol}
 use Rattle.grammar.specs.Notation.{◌then◌, ◌makes◌, ◌▹◌, ◌◃◌, ◌means◌}
 use Rattle.grammar.specs.States.{State, Read, go}
-use Rattle.wgsl_model.specs.Tokens.Classes.{SymParenLeft, SymParenRight}
+use Rattle.wgsl_model.specs.Tokens.ClassTable.{SymParenLeft, SymParenRight}
 use Rattle.wgsl_model.specs.Trees.Operators.{UnaryOperator}
 use Rattle.wgsl_model.specs.Trees.Expressions.{ExpressionNode}
 use Rattle.wgsl_model.specs.Grammar.ExpressionParts.{unary_of}
@@ -19,8 +19,10 @@ left_name_at s = go tables reader (symbol (of ident) makes variable_at) s
 
 -- a left side in parentheses
 unfoldable pub parenthesized_left_side_at : State → Read ExpressionNode
-parenthesized_left_side_at s = go tables reader (SymParenLeft ▹ symbol (of lhs_expression) ◃ SymParenRight makes parenthesized_at) s
+parenthesized_left_side_at s = go tables reader
+    (SymParenLeft ▹ symbol (of lhs_expression) ◃ SymParenRight makes parenthesized_at) s
 
 -- an operator, by the class of its token, before a left side
 unfoldable pub unary_left_side_at : ℕ → UnaryOperator → State → Read ExpressionNode
-unary_left_side_at class operator s = go tables reader (class means operator then symbol (of lhs_expression) makes unary_of) s
+unary_left_side_at class operator s = go tables reader
+    (class means operator then symbol (of lhs_expression) makes unary_of) s

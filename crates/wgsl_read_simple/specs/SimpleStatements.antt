@@ -1,9 +1,10 @@
--- What the parts of calls, assignments, increments and decrements read, each as a word of its own, which no computation opens.
+-- What the parts of calls, assignments, increments and decrements read, each as a word of its own,
+-- which no computation opens.
 use Rattle.std.specs.Prelude.{ℕ, List, [], ◌∷◌, Option}
 use Rattle.grammar.specs.Grammar.{Grammar.symbol}
 use Rattle.grammar.specs.Notation.{one_token, ◌then◌, ◌gives◌, ◌makes◌, optional}
 use Rattle.grammar.specs.States.{State, Read, Read.done, ◌>>=◌, go}
-use Rattle.wgsl_model.specs.Tokens.Classes.{SymEqual, SymUnderscore, SymPlusEqual, SymMinusEqual, SymTimesEqual, SymDivisionEqual, SymModuloEqual, SymAndEqual, SymOrEqual, SymXorEqual, SymShiftRightAssign, SymShiftLeftAssign}
+use Rattle.wgsl_model.specs.Tokens.ClassTable.{SymEqual, SymUnderscore, SymPlusEqual, SymMinusEqual, SymTimesEqual, SymDivisionEqual, SymModuloEqual, SymAndEqual, SymOrEqual, SymXorEqual, SymShiftRightAssign, SymShiftLeftAssign}
 use Rattle.wgsl_model.specs.Trees.Operators.{AssignmentOperator}
 use Rattle.wgsl_model.specs.Trees.Expressions.{ExpressionNode, type_expression, template_of}
 use Rattle.wgsl_model.specs.Grammar.ExpressionParts.{call_of}
@@ -16,7 +17,8 @@ use Rattle.wgsl_theory_grammar.specs.Reader.{reader}
 
 -- a name, and what follows it
 unfoldable pub named_statement_at : State → Read UnattributedStatement
-named_statement_at s = go tables reader (symbol (of ident) then symbol (further name_rest_statement) gives λ p. p.1 p.0) s
+named_statement_at s = go tables reader
+    (symbol (of ident) then symbol (further name_rest_statement) gives λ p. p.1 p.0) s
 
 -- a template list, or nothing
 unfoldable pub maybe_template_list_at : State → Read (Option (List ExpressionNode))
@@ -28,11 +30,14 @@ call_of_name name template es = call_statement_of (call_of (type_expression name
 
 -- the rest of it behind the name
 unfoldable pub call_rest_at : List ℕ → State → Read UnattributedStatement
-call_rest_at name s = maybe_template_list_at s >>= λ template s'. reader (of arguments) s' >>= λ es s''. done (call_of_name name template es) s''
+call_rest_at name s = maybe_template_list_at s
+    >>= λ template s'. reader (of arguments) s' >>= λ es s''. done (call_of_name name template es) s''
 
 -- the classes of `=` and the compound operators
 abbrev pub assignment_classes : List ℕ
-assignment_classes = SymEqual ∷ SymPlusEqual ∷ SymMinusEqual ∷ SymTimesEqual ∷ SymDivisionEqual ∷ SymModuloEqual ∷ SymAndEqual ∷ SymOrEqual ∷ SymXorEqual ∷ SymShiftRightAssign ∷ SymShiftLeftAssign ∷ []
+assignment_classes = SymEqual ∷ SymPlusEqual ∷ SymMinusEqual ∷ SymTimesEqual ∷ SymDivisionEqual
+    ∷ SymModuloEqual ∷ SymAndEqual ∷ SymOrEqual ∷ SymXorEqual ∷ SymShiftRightAssign
+    ∷ SymShiftLeftAssign ∷ []
 
 -- `=` or a compound operator
 unfoldable pub assignment_operator_at : State → Read AssignmentOperator

@@ -1,9 +1,10 @@
--- What the parts of declarations of values and of `return` read, each as a word of its own, which no computation opens.
+-- What the parts of declarations of values and of `return` read, each as a word of its own, which
+-- no computation opens.
 use Rattle.std.specs.Prelude.{ℕ, Option}
 use Rattle.grammar.specs.Grammar.{Grammar.symbol}
 use Rattle.grammar.specs.Notation.{◌or◌, ◌means◌, optional}
 use Rattle.grammar.specs.States.{State, Read, go}
-use Rattle.wgsl_model.specs.Tokens.Classes.{KwConst, KwLet}
+use Rattle.wgsl_model.specs.Tokens.ClassTable.{KwConst, KwLet}
 use Rattle.wgsl_model.specs.Trees.Expressions.{ExpressionNode}
 use Rattle.wgsl_model.specs.Trees.Statements.{DeclarationKind, DeclarationKind.let_kind, DeclarationKind.const_kind, UnattributedStatement}
 use Rattle.wgsl_model.specs.Grammar.Symbols.{Symbol.expression}

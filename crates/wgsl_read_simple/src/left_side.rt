@@ -3,7 +3,7 @@
 
 ghost use Rattle.std.specs.Prelude.{◌≡◌, [], ◌∷◌, IfOk};
 ghost use Rattle.grammar.specs.States.{is_any};
-ghost use Rattle.wgsl_model.specs.Tokens.Classes as class;
+ghost use Rattle.wgsl_model.specs.Tokens.ClassTable as class;
 ghost use Rattle.wgsl_model.specs.Trees.Expressions.{expression_node};
 ghost use Rattle.wgsl_model.specs.Grammar.ExpressionParts.{variable};
 ghost use Rattle.wgsl_model.specs.Grammar.Symbols.{Symbol.lhs_expression};

@@ -3,7 +3,7 @@
 
 ghost use Rattle.std.specs.Prelude.{◌≡◌, [], ◌∷◌, map, option_map};
 ghost use Rattle.grammar.specs.States.{is_any};
-ghost use Rattle.wgsl_model.specs.Tokens.Classes as class;
+ghost use Rattle.wgsl_model.specs.Tokens.ClassTable as class;
 ghost use Rattle.wgsl_model.specs.Trees.Statements.{statement};
 ghost use Rattle.wgsl_tree_words.specs.View.{assignment_operator_view};
 ghost use Rattle.wgsl_tree_expression.specs.View.{ident_name, expression_node_view, template_arg_view};

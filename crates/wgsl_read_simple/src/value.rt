@@ -3,7 +3,7 @@
 
 ghost use Rattle.std.specs.Prelude.{◌≡◌, [], ◌∷◌, option_map};
 ghost use Rattle.grammar.specs.States.{is_any};
-ghost use Rattle.wgsl_model.specs.Tokens.Classes as class;
+ghost use Rattle.wgsl_model.specs.Tokens.ClassTable as class;
 ghost use Rattle.wgsl_model.specs.Trees.Statements as plain;
 ghost use Rattle.wgsl_model.specs.Trees.Statements.{statement, assert_of};
 ghost use Rattle.wgsl_tree_expression.specs.View.{expression_node_view};

@@ -13,7 +13,24 @@ use Rattle.wgsl_theory_grammar.proofs.StatementEquations.{braced_part_is}
 use Rattle.std.proofs.lemmas.List.{map_push}
 
 unfoldable pub definitions : ⊤
-unfolding braced_part_at statements_turn take elses_turn loop_items_turn continuing_items_turn statement_parts statement_behind_at statement_part_at clauses_parts clauses_turn
+unfolding braced_part_at statements_turn take elses_turn loop_items_turn continuing_items_turn
+    statement_parts statement_behind_at statement_part_at clauses_parts clauses_turn
 definitions = tt
 
-pub ruleset lemmas = (braced_part_is, statement_rest_from, statements_are, map_push, else_rest_from, elses_are, else_if_clause_is, else_clause_is, loop_rest_from, loop_items_are, continuing_rest_from, continuing_items_are, statement_by_parts, clauses_by_parts, clauses_are)
+pub ruleset lemmas = (
+  braced_part_is,
+  statement_rest_from,
+  statements_are,
+  map_push,
+  else_rest_from,
+  elses_are,
+  else_if_clause_is,
+  else_clause_is,
+  loop_rest_from,
+  loop_items_are,
+  continuing_rest_from,
+  continuing_items_are,
+  statement_by_parts,
+  clauses_by_parts,
+  clauses_are,
+)

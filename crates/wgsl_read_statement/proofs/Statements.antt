@@ -8,7 +8,7 @@ use Rattle.grammar.specs.States.{State, Read, Read.done, ◌>>=◌, refused_at, 
 use Rattle.grammar.proofs.Reading.Sets.{cases, cond_and}
 use Rattle.grammar.proofs.Reading.Beginnings.{cond_yes, cond_no}
 use Rattle.grammar.proofs.Binding.{bind_associates, bind_alike, pair_goes_on}
-use Rattle.wgsl_model.specs.Tokens.Classes.{SymParenLeft, SymSemicolon, KwBreak, KwConstAssert}
+use Rattle.wgsl_model.specs.Tokens.ClassTable.{SymParenLeft, SymSemicolon, KwBreak, KwConstAssert}
 use Rattle.wgsl_model.specs.Trees.Expressions.{ExpressionNode}
 use Rattle.wgsl_model.specs.Trees.Statements.{StatementNode, Statement, UnattributedStatement, statement, assert_of}
 use Rattle.wgsl_model.specs.Grammar.StatementParts.{placed_statement}
@@ -27,7 +27,8 @@ use Rattle.wgsl_read_statement.specs.Statements.{begin_braced_part, statement_pa
 -- ---- what is refused
 -- a part and its `;`, as the grammar writes it
 abbrev with_semicolon : Read UnattributedStatement → Read UnattributedStatement
-with_semicolon m = (m >>= λ u s. take SymSemicolon s >>= λ t s'. done (u, t) s') >>= λ (p : UnattributedStatement × Token) s. done p.0 s
+with_semicolon m = (m >>= λ u s. take SymSemicolon s >>= λ t s'. done (u, t) s')
+    >>= λ (p : UnattributedStatement × Token) s. done p.0 s
 
 -- `break` of its token
 abbrev break_from : Read Token → Read UnattributedStatement
@@ -43,7 +44,9 @@ break_refused s n = ap break_from (not_taken KwBreak s n) ∙ break_stops s.end 
 
 -- `const_assert` of its token
 abbrev assert_from : Read Token → Read UnattributedStatement
-assert_from m = (((m >>= λ t s. reader (of expression) s >>= λ e s'. done (t, e) s') >>= λ (p : Token × ExpressionNode) s. done p.1 s) >>= λ e s. done (assert_of e) s) >>= λ c s. done (UnattributedStatement.const_assert c) s
+assert_from m = (((m >>= λ t s. reader (of expression) s >>= λ e s'. done (t, e) s')
+    >>= λ (p : Token × ExpressionNode) s. done p.1 s) >>= λ e s. done (assert_of e) s)
+    >>= λ c s. done (UnattributedStatement.const_assert c) s
 
 assert_stops : (end : ℕ) (ts : List Token) → assert_from (refused_at end ts) ≡ refused_at end ts
 assert_stops end [] = refl
@@ -51,7 +54,9 @@ assert_stops end (t ∷ ts) = refl
 
 assert_refused : (s : State) → is_at KwConstAssert s ≡ false → assert_statement_at s ≡ refused s
 unfolding assert_statement_at assert_part_at
-assert_refused s n = ap (λ m. m >>= λ c s'. done (UnattributedStatement.const_assert c) s') (assert_part_is s) ∙ ap assert_from (not_taken KwConstAssert s n) ∙ assert_stops s.end s.rest
+assert_refused s n =
+    ap (λ m. m >>= λ c s'. done (UnattributedStatement.const_assert c) s') (assert_part_is s)
+    ∙ ap assert_from (not_taken KwConstAssert s n) ∙ assert_stops s.end s.rest
 
 ended_stops : (end : ℕ) (ts : List Token) → with_semicolon (refused_at end ts) ≡ refused_at end ts
 ended_stops end [] = refl
@@ -67,15 +72,19 @@ begin_within [] classes = true
 begin_within (p ∷ parts) classes = cond (subset p.0 classes) (begin_within parts classes) false
 
 -- where none of some parts is begun, the last one stands
-none_begun : {A : Type 0} (parts : List (List ℕ × (State → Read A))) (last : State → Read A) (classes : List ℕ) (s : State) → begin_within parts classes ≡ true → is_any classes s ≡ false → begun_part parts last s ≡ last s
+none_begun : {A : Type 0} (parts : List (List ℕ × (State → Read A))) (last : State → Read A)
+    (classes : List ℕ) (s : State) → begin_within parts classes ≡ true → is_any classes s ≡ false
+    → begun_part parts last s ≡ last s
 none_begun [] last classes s h n = refl
 none_begun {A} (p ∷ parts) last classes s h n =
     let both = cond_and (subset p.0 classes) (begin_within parts classes) h in
-    cond_no {A = Read A} (is_any p.0 s) (p.1 s) (begun_part parts last s) (none_among p.0 classes s both.0 n) ∙ none_begun parts last classes s both.1 n
+    cond_no {A = Read A} (is_any p.0 s) (p.1 s) (begun_part parts last s) (none_among p.0 classes s both.0 n)
+    ∙ none_begun parts last classes s both.1 n
 
 kinds_refused : (s : State) → is_any begin_ended_part s ≡ false → ended_kinds_at s ≡ refused s
 unfolding ended_kinds_at
-kinds_refused s n = none_begun ended_kinds assert_statement_at begin_ended_part s refl n ∙ assert_refused s (not_one KwConstAssert begin_ended_part s refl n)
+kinds_refused s n = none_begun ended_kinds assert_statement_at begin_ended_part s refl n
+    ∙ assert_refused s (not_one KwConstAssert begin_ended_part s refl n)
 
 ended_refused : (s : State) → is_any begin_ended_part s ≡ false → reader (further ended_part) s ≡ refused s
 unfolding ended_part_at ended_kinds_at word_at assert_statement_at
@@ -87,10 +96,13 @@ abbrev pub part_written : FactoredRule UnattributedStatement
 part_written = symbol (further braced_part) or (symbol (further ended_part) or break_part)
 
 -- of two that are refused alike, either may come last
-last_is : (s : State) → is_at KwBreak s ≡ false → cond (is_any begin_ended_part s) (reader (further ended_part) s) (break_part_at s) ≡ reader (further ended_part) s
+last_is : (s : State) → is_at KwBreak s ≡ false → cond (is_any begin_ended_part s)
+    (reader (further ended_part) s) (break_part_at s) ≡ reader (further ended_part) s
 last_is s n = elim (cases (is_any begin_ended_part s)) [
-  | inl y ↦ cond_yes {A = Read UnattributedStatement} (is_any begin_ended_part s) (reader (further ended_part) s) (break_part_at s) y
-  | inr m ↦ cond_no {A = Read UnattributedStatement} (is_any begin_ended_part s) (reader (further ended_part) s) (break_part_at s) m ∙ break_refused s n ∙ sym (ended_refused s m)
+  | inl y ↦ cond_yes {A = Read UnattributedStatement} (is_any begin_ended_part s)
+      (reader (further ended_part) s) (break_part_at s) y
+  | inr m ↦ cond_no {A = Read UnattributedStatement} (is_any begin_ended_part s)
+      (reader (further ended_part) s) (break_part_at s) m ∙ break_refused s n ∙ sym (ended_refused s m)
 ]
 
 begin_braced_apart : is_any begin_braced_part (alone KwBreak) ≡ false
@@ -109,29 +121,39 @@ statement_part_is s =
     let last : Read UnattributedStatement = cond (is_any begin_ended_part s) ended (break_part_at s) in
     elim (cases (is_at KwBreak s)) [
       | inl y ↦
-          cond_no {A = Read UnattributedStatement} (is_any begin_braced_part s) braced last (other_class begin_braced_part KwBreak s begin_braced_apart y)
-          ∙ cond_no {A = Read UnattributedStatement} (is_any begin_ended_part s) ended (break_part_at s) (other_class begin_ended_part KwBreak s begin_ended_apart y)
-          ∙ sym (cond_yes {A = Read UnattributedStatement} (is_at KwBreak s) (break_part_at s) (cond (is_any begin_braced_part s) braced ended) y)
+          cond_no {A = Read UnattributedStatement} (is_any begin_braced_part s) braced last
+          (other_class begin_braced_part KwBreak s begin_braced_apart y)
+          ∙ cond_no {A = Read UnattributedStatement} (is_any begin_ended_part s) ended
+          (break_part_at s) (other_class begin_ended_part KwBreak s begin_ended_apart y)
+          ∙ sym (cond_yes {A = Read UnattributedStatement} (is_at KwBreak s) (break_part_at s)
+          (cond (is_any begin_braced_part s) braced ended) y)
       | inr n ↦
           ap (cond (is_any begin_braced_part s) braced) (last_is s n)
-          ∙ sym (cond_no {A = Read UnattributedStatement} (is_at KwBreak s) (break_part_at s) (cond (is_any begin_braced_part s) braced ended) n)
+          ∙ sym (cond_no {A = Read UnattributedStatement} (is_at KwBreak s) (break_part_at s)
+          (cond (is_any begin_braced_part s) braced ended) n)
     ]
 
 -- where there is no `break`
-pub unbroken_is : (s : State) → is_at KwBreak s ≡ false → cond (is_any begin_braced_part s) (reader (further braced_part) s) (reader (further ended_part) s) ≡ statement_part_at s
+pub unbroken_is : (s : State) → is_at KwBreak s ≡ false → cond (is_any begin_braced_part s)
+    (reader (further braced_part) s) (reader (further ended_part) s) ≡ statement_part_at s
 unfolding statement_part_at
-unbroken_is s n = sym (cond_no {A = Read UnattributedStatement} (is_at KwBreak s) (break_part_at s) (cond (is_any begin_braced_part s) (reader (further braced_part) s) (reader (further ended_part) s)) n)
+unbroken_is s n = sym (cond_no {A = Read UnattributedStatement} (is_at KwBreak s) (break_part_at s)
+    (cond (is_any begin_braced_part s) (reader (further braced_part) s) (reader (further ended_part) s)) n)
 
 -- ---- a statement
 unfoldable pub statement_parts : State → Read StatementNode
-statement_parts s = cond (is_any (SymParenLeft ∷ SymSemicolon ∷ []) s) (reader (further plain_statement) s) (reader (further attribute_list) s >>= λ a s'. statement_behind_at a (next_start s) s')
+statement_parts s = cond (is_any (SymParenLeft ∷ SymSemicolon ∷ []) s) (reader (further plain_statement) s)
+    (reader (further attribute_list) s >>= λ a s'. statement_behind_at a (next_start s) s')
 
 pub statement_by_parts : (s : State) → reader (of Symbol.statement) s ≡ statement_parts s
 unfolding statement_at statement_parts statement_behind_at
 statement_by_parts s =
-    let place : Statement → State → Read StatementNode = λ x s'. done (placed_statement x (span_from (next_start s) s')) s' in
+    let place : Statement → State → Read StatementNode =
+    λ x s'. done (placed_statement x (span_from (next_start s) s')) s' in
     statement_is s
     ∙ ap (cond (is_any (SymParenLeft ∷ SymSemicolon ∷ []) s) (reader (further plain_statement) s))
-    (ap (λ m. m >>= place) (pair_goes_on (reader (further attribute_list) s) (go tables reader part_written) (λ p s'. done (statement p.0 p.1) s'))
+    (ap (λ m. m >>= place) (pair_goes_on (reader (further attribute_list) s)
+    (go tables reader part_written) (λ p s'. done (statement p.0 p.1) s'))
     ∙ bind_associates (reader (further attribute_list) s) _ place
-    ∙ bind_alike (reader (further attribute_list) s) _ _ (λ a s' h. ap (λ m. (m >>= λ u s''. done (statement a u) s'') >>= place) (statement_part_is s')))
+    ∙ bind_alike (reader (further attribute_list) s) _ _
+    (λ a s' h. ap (λ m. (m >>= λ u s''. done (statement a u) s'') >>= place) (statement_part_is s')))

@@ -9,7 +9,7 @@ use Rattle.grammar.specs.Notation.{one_token, ◌then◌, ◌▹◌, optional}
 use Rattle.grammar.specs.States.{State, Read, Read.done, ◌>>=◌, is_at, take, go}
 use Rattle.grammar.proofs.Lists.{until}
 use Rattle.grammar.proofs.Binding.{bind_associates, bind_alike, bind_cond, pair_goes_on}
-use Rattle.wgsl_model.specs.Tokens.Classes.{SymBraceRight, SymColon, KwCase, KwDefault}
+use Rattle.wgsl_model.specs.Tokens.ClassTable.{SymBraceRight, SymColon, KwCase, KwDefault}
 use Rattle.wgsl_model.specs.Trees.Statements.{clause_of, switch_of}
 use Rattle.wgsl_model.specs.Trees.Statements as plain
 use Rattle.wgsl_model.specs.Grammar.Symbols.{Symbol.compound_statement, Symbol.switch_clause}
@@ -45,7 +45,8 @@ Clause = List plain.CaseSelector × plain.CompoundStatement
 
 -- attributes, what stands before the block, and the block
 abbrev pub switch_clause_parts : State → Read plain.SwitchClause
-switch_clause_parts s = reader (further attribute_list) s >>= λ a s1. clause_head_at s1 >>= λ l s2. reader (of compound_statement) s2 >>= λ b s3. done (clause_of a (l, b)) s3
+switch_clause_parts s = reader (further attribute_list) s >>= λ a s1. clause_head_at s1
+    >>= λ l s2. reader (of compound_statement) s2 >>= λ b s3. done (clause_of a (l, b)) s3
 
 -- the block behind what stands before it
 abbrev block_behind : List plain.CaseSelector → State → Read Clause
@@ -55,7 +56,8 @@ abbrev default_only : List plain.CaseSelector
 default_only = plain.CaseSelector.default_selector ∷ []
 
 abbrev case_head : State → Read (List plain.CaseSelector)
-case_head s = take KwCase s >>= λ t s1. reader (further selectors) s1 >>= λ l s2. maybe_colon_at s2 >>= λ o s3. done l s3
+case_head s = take KwCase s
+    >>= λ t s1. reader (further selectors) s1 >>= λ l s2. maybe_colon_at s2 >>= λ o s3. done l s3
 
 abbrev default_head : State → Read (List plain.CaseSelector)
 default_head s = take KwDefault s >>= λ t s1. maybe_colon_at s1 >>= λ o s2. done default_only s2
@@ -70,21 +72,27 @@ case_made p s = done (p.0, p.1.1) s
 abbrev default_made : Option Token × plain.CompoundStatement → State → Read Clause
 default_made p s = done (default_only, p.1) s
 
-case_is : (s : State) → (go tables reader (KwCase ▹ symbol (further selectors) then behind_colon) s >>= case_made) ≡ (case_head s >>= block_behind)
+case_is : (s : State)
+    → (go tables reader (KwCase ▹ symbol (further selectors) then behind_colon) s >>= case_made)
+    ≡ (case_head s >>= block_behind)
 unfolding maybe_colon_at
 case_is s =
     token_before (take KwCase s) (go tables reader (symbol (further selectors) then behind_colon)) case_made
-    ∙ bind_alike (take KwCase s) _ _ (λ t s1 h. triple_goes_on (reader (further selectors) s1) maybe_colon_at (reader (of compound_statement)) case_made)
+    ∙ bind_alike (take KwCase s) _ _ (λ t s1 h. triple_goes_on (reader (further selectors) s1)
+    maybe_colon_at (reader (of compound_statement)) case_made)
     ∙ sym (bind_associates (take KwCase s) _ block_behind
     ∙ bind_alike (take KwCase s) _ _ (λ t s1 h. bind_associates (reader (further selectors) s1) _ block_behind
     ∙ bind_alike (reader (further selectors) s1) _ _ (λ l s2 h2. bind_associates (maybe_colon_at s2) _ block_behind)))
 
-default_is : (s : State) → (go tables reader (KwDefault ▹ behind_colon) s >>= default_made) ≡ (default_head s >>= block_behind)
+default_is : (s : State)
+    → (go tables reader (KwDefault ▹ behind_colon) s >>= default_made) ≡ (default_head s >>= block_behind)
 unfolding maybe_colon_at
 default_is s =
     token_before (take KwDefault s) (go tables reader behind_colon) default_made
-    ∙ bind_alike (take KwDefault s) _ _ (λ t s1 h. pair_goes_on (maybe_colon_at s1) (reader (of compound_statement)) default_made)
-    ∙ sym (bind_associates (take KwDefault s) _ block_behind ∙ bind_alike (take KwDefault s) _ _ (λ t s1 h. bind_associates (maybe_colon_at s1) _ block_behind))
+    ∙ bind_alike (take KwDefault s) _ _
+    (λ t s1 h. pair_goes_on (maybe_colon_at s1) (reader (of compound_statement)) default_made)
+    ∙ sym (bind_associates (take KwDefault s) _ block_behind
+    ∙ bind_alike (take KwDefault s) _ _ (λ t s1 h. bind_associates (maybe_colon_at s1) _ block_behind))
 
 clause_part_by_parts : (s : State) → reader (further clause_part) s ≡ (clause_head_at s >>= block_behind)
 unfolding clause_part_at clause_head_at
@@ -96,10 +104,13 @@ pub switch_clause_by_parts : (s : State) → reader (of switch_clause) s ≡ swi
 unfolding switch_clause_at
 switch_clause_by_parts s =
     switch_clause_is s
-    ∙ pair_goes_on (reader (further attribute_list) s) (reader (further clause_part)) (λ p s'. done (clause_of p.0 p.1) s')
-    ∙ bind_alike (reader (further attribute_list) s) _ _ (λ a s1 h. ap (λ m. m >>= λ p s'. done (clause_of a p) s') (clause_part_by_parts s1)
+    ∙ pair_goes_on (reader (further attribute_list) s) (reader (further clause_part))
+    (λ p s'. done (clause_of p.0 p.1) s')
+    ∙ bind_alike (reader (further attribute_list) s) _ _
+    (λ a s1 h. ap (λ m. m >>= λ p s'. done (clause_of a p) s') (clause_part_by_parts s1)
     ∙ bind_associates (clause_head_at s1) block_behind (λ p s'. done (clause_of a p) s')
-    ∙ bind_alike (clause_head_at s1) _ _ (λ l s2 h2. bind_associates (reader (of compound_statement) s2) (λ b s'. done (l, b) s') (λ p s'. done (clause_of a p) s')))
+    ∙ bind_alike (clause_head_at s1) _ _ (λ l s2 h2. bind_associates (reader (of compound_statement) s2)
+    (λ b s'. done (l, b) s') (λ p s'. done (clause_of a p) s')))
 
 -- ---- clauses
 -- further clauses, behind those that were read so far
@@ -107,11 +118,13 @@ unfoldable pub clauses_from : List plain.SwitchClause → State → Read (List p
 clauses_from clauses s = reader (further clause_rest) s >>= λ more s'. done (clauses ++ more) s'
 
 unfoldable pub clauses_turn : List plain.SwitchClause → State → Read (List plain.SwitchClause)
-clauses_turn clauses s = cond (is_at SymBraceRight s) (take SymBraceRight s >>= λ t s'. done clauses s') (reader (of switch_clause) s >>= λ c s'. clauses_from (clauses ++ c ∷ []) s')
+clauses_turn clauses s = cond (is_at SymBraceRight s) (take SymBraceRight s >>= λ t s'. done clauses s')
+    (reader (of switch_clause) s >>= λ c s'. clauses_from (clauses ++ c ∷ []) s')
 
 pub clauses_are : (clauses : List plain.SwitchClause) (s : State) → clauses_from clauses s ≡ clauses_turn clauses s
 unfolding clauses_from clauses_turn clause_rest_at
-clauses_are clauses s = until (reader (further clause_rest)) (reader (of switch_clause)) SymBraceRight clause_rest_is clauses s
+clauses_are clauses s = until (reader (further clause_rest))
+    (reader (of switch_clause)) SymBraceRight clause_rest_is clauses s
 
 -- the first, and those behind it
 unfoldable pub clauses_parts : State → Read (List plain.SwitchClause)
@@ -129,26 +142,43 @@ switch_parts s = switch_head_at s >>= λ h s1. clauses_at s1 >>= λ clauses s2. 
 abbrev clauses_written : FactoredRule (plain.SwitchClause × List plain.SwitchClause)
 clauses_written = symbol (of switch_clause) then symbol (further clause_rest)
 
-clauses_go_on : (f : List plain.SwitchClause → State → Read plain.UnattributedStatement) (s : State) → (reader (of switch_clause) s >>= λ c s'. reader (further clause_rest) s' >>= λ cs s''. f (c ∷ cs) s'') ≡ (clauses_at s >>= f)
+clauses_go_on : (f : List plain.SwitchClause → State → Read plain.UnattributedStatement) (s : State)
+    → (reader (of switch_clause) s >>= λ c s'. reader (further clause_rest) s' >>= λ cs s''. f (c ∷ cs) s'')
+    ≡ (clauses_at s >>= f)
 unfolding clauses_at
-clauses_go_on f s = sym (bind_associates (reader (of switch_clause) s) _ f ∙ bind_alike (reader (of switch_clause) s) _ _ (λ c s' h. bind_associates (reader (further clause_rest) s') _ f))
+clauses_go_on f s = sym (bind_associates (reader (of switch_clause) s) _ f ∙ bind_alike (reader
+    (of switch_clause) s) _ _ (λ c s' h. bind_associates (reader (further clause_rest) s') _ f))
 
 pub switch_by_parts : (s : State) → reader (further switch_part) s ≡ switch_parts s
 switch_by_parts s =
-    step (further switch_part) s ∙ switch_head_first clauses_written (λ p s'. done (switch_of p.0 p.1.0 (p.1.1.0 ∷ p.1.1.1)) s') s
-    ∙ bind_alike (switch_head_at s) _ _ (λ h s1 k. pair_goes_on (reader (of switch_clause) s1) (reader (further clause_rest)) (λ p s'. done (switch_of h.0 h.1 (p.0 ∷ p.1)) s')
+    step (further switch_part) s
+    ∙ switch_head_first clauses_written (λ p s'. done (switch_of p.0 p.1.0 (p.1.1.0 ∷ p.1.1.1)) s') s
+    ∙ bind_alike (switch_head_at s) _ _ (λ h s1 k. pair_goes_on (reader (of switch_clause) s1)
+    (reader (further clause_rest)) (λ p s'. done (switch_of h.0 h.1 (p.0 ∷ p.1)) s')
     ∙ clauses_go_on (λ clauses s'. done (switch_of h.0 h.1 clauses) s') s1)
 
 -- ---- what is made of what was read
-pub switch_statement_is : (attributes : Vec (Spanned Attribute) Global) (expression : Spanned Expression) (body_attributes : Vec (Spanned Attribute) Global) (clauses : Vec SwitchClause Global)
-    → V.statement_view (variant.Switch (layers.roll-SwitchStatement (record { attributes = attributes; expression = expression; body_attributes = body_attributes; clauses = clauses })))
-    ≡ plain.statement (attributes_view attributes.items) (switch_of (expression_node_view expression) (attributes_view body_attributes.items) (map V.switch_clause_view clauses.items))
+pub switch_statement_is : (attributes : Vec (Spanned Attribute) Global) (expression : Spanned Expression)
+    (body_attributes : Vec (Spanned Attribute) Global) (clauses : Vec SwitchClause Global)
+    → V.statement_view (variant.Switch (layers.roll-SwitchStatement (record {
+      attributes = attributes;
+      expression = expression;
+      body_attributes = body_attributes;
+      clauses = clauses;
+    })))
+    ≡ plain.statement (attributes_view attributes.items) (switch_of (expression_node_view expression)
+    (attributes_view body_attributes.items) (map V.switch_clause_view clauses.items))
 switch_statement_is attributes expression body_attributes clauses =
-    is_switch _ ∙ ap (plain.as_statement plain.switch_statement) (switch_statement_roll (record { attributes = attributes; expression = expression; body_attributes = body_attributes; clauses = clauses }))
+    is_switch _ ∙ ap (plain.as_statement plain.switch_statement) (switch_statement_roll
+    (record { attributes = attributes; expression = expression; body_attributes = body_attributes; clauses = clauses }))
 
-pub clause_view_is : (attributes : Vec (Spanned Attribute) Global) (selected : Vec CaseSelector Global) (body : CompoundStatement)
-    → V.switch_clause_view (layers.roll-SwitchClause (record { attributes = attributes; case_selectors = selected; body = body })) ≡ clause_of (attributes_view attributes.items) (map selector_view selected.items, V.compound_statement_view body)
-clause_view_is attributes selected body = switch_clause_roll (record { attributes = attributes; case_selectors = selected; body = body })
+pub clause_view_is : (attributes : Vec (Spanned Attribute) Global) (selected : Vec CaseSelector Global)
+    (body : CompoundStatement)
+    → V.switch_clause_view (layers.roll-SwitchClause
+    (record { attributes = attributes; case_selectors = selected; body = body })) ≡ clause_of
+    (attributes_view attributes.items) (map selector_view selected.items, V.compound_statement_view body)
+clause_view_is attributes selected body =
+    switch_clause_roll (record { attributes = attributes; case_selectors = selected; body = body })
 
 -- for search
 pub ruleset switches = (switch_by_parts, switch_statement_is)

@@ -1,7 +1,7 @@
 -- What the parts of statements read, each as a word of its own, which no computation opens.
 use Rattle.std.specs.Prelude.{ℕ, List, cond}
 use Rattle.grammar.specs.States.{State, Read, Read.done, ◌>>=◌, is_at, is_any, span_from}
-use Rattle.wgsl_model.specs.Tokens.Classes.{KwBreak}
+use Rattle.wgsl_model.specs.Tokens.ClassTable.{KwBreak}
 use Rattle.wgsl_model.specs.Trees.Attributes.{Attributes}
 use Rattle.wgsl_model.specs.Trees.Statements.{StatementNode, UnattributedStatement, statement}
 use Rattle.wgsl_model.specs.Grammar.StatementParts.{placed_statement}
@@ -17,8 +17,10 @@ begin_braced_part = firsts (further braced_part)
 
 -- a statement from its first word on, without its attributes
 unfoldable pub statement_part_at : State → Read UnattributedStatement
-statement_part_at s = cond (is_at KwBreak s) (break_part_at s) (cond (is_any begin_braced_part s) (reader (further braced_part) s) (reader (further ended_part) s))
+statement_part_at s = cond (is_at KwBreak s) (break_part_at s)
+    (cond (is_any begin_braced_part s) (reader (further braced_part) s) (reader (further ended_part) s))
 
 -- a statement behind its attributes, which begin at a place
 unfoldable pub statement_behind_at : Attributes → ℕ → State → Read StatementNode
-statement_behind_at a start s = behind_attributes statement a statement_part_at s >>= λ x s'. done (placed_statement x (span_from start s')) s'
+statement_behind_at a start s = behind_attributes statement a statement_part_at s
+    >>= λ x s'. done (placed_statement x (span_from start s')) s'

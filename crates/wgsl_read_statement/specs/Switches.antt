@@ -8,4 +8,5 @@ use Rattle.wgsl_theory_grammar.specs.Reader.{reader}
 
 -- the clauses, one at least, and the `}` behind them
 unfoldable pub clauses_at : State → Read (List SwitchClause)
-clauses_at s = reader (of switch_clause) s >>= λ clause s'. reader (further clause_rest) s' >>= λ clauses s''. done (clause ∷ clauses) s''
+clauses_at s = reader (of switch_clause) s
+    >>= λ clause s'. reader (further clause_rest) s' >>= λ clauses s''. done (clause ∷ clauses) s''

@@ -2,7 +2,7 @@
 use Rattle.std.proofs.Common.{◌≡◌, ◌∙◌, ap, cond}
 use Rattle.grammar.specs.States.{State, Read, Read.done, ◌>>=◌, is_at, next_start, span_from, go}
 use Rattle.grammar.proofs.Binding.{bind_associates, pair_goes_on}
-use Rattle.wgsl_model.specs.Tokens.Classes.{SymSemicolon}
+use Rattle.wgsl_model.specs.Tokens.ClassTable.{SymSemicolon}
 use Rattle.wgsl_model.specs.Trees.Spanned.{Spanned, spanned}
 use Rattle.wgsl_model.specs.Trees.Attributed.{with_attributes}
 use Rattle.wgsl_model.specs.Trees.Units.{GlobalDeclaration}
@@ -28,8 +28,11 @@ global_declaration_parts s = cond (is_at SymSemicolon s) (void_at s) (attributed
 pub global_declaration_by_parts : (s : State) → reader (of global_declaration) s ≡ global_declaration_parts s
 unfolding global_declaration_at global_declaration_parts void_at attributed_at declaration_behind_at declaration_part_at
 global_declaration_by_parts s =
-    let place : GlobalDeclaration → State → Read (Spanned GlobalDeclaration) = λ d s'. done (spanned d (span_from (next_start s) s')) s' in
+    let place : GlobalDeclaration → State → Read (Spanned GlobalDeclaration) =
+    λ d s'. done (spanned d (span_from (next_start s) s')) s' in
     global_declaration_is s
     ∙ ap (cond (is_at SymSemicolon s) (void_at s))
-    (ap (λ m. m >>= place) (pair_goes_on (reader (further attribute_list) s) declaration_part_at (λ p s'. done (with_attributes p.0 p.1) s'))
-    ∙ bind_associates (reader (further attribute_list) s) (λ a s'. declaration_part_at s' >>= λ u s''. done (with_attributes a u) s'') place)
+    (ap (λ m. m >>= place) (pair_goes_on (reader (further attribute_list) s) declaration_part_at
+    (λ p s'. done (with_attributes p.0 p.1) s'))
+    ∙ bind_associates (reader (further attribute_list) s)
+    (λ a s'. declaration_part_at s' >>= λ u s''. done (with_attributes a u) s'') place)

@@ -13,7 +13,24 @@ use Rattle.wgsl_read_unit.proofs.Results.{function_parts_is}
 use Rattle.std.proofs.lemmas.List.{map_push}
 
 unfoldable pub definitions : ⊤
-unfolding function_part_at return_part_at parameters_turn take formal_parameter_at unit_at front_turn further_turn global_declaration_parts void_at attributed_at declaration_behind_at declaration_part_at attributed_part_at led_part_at assert_declaration_at assert_part_at
+unfolding function_part_at return_part_at parameters_turn take formal_parameter_at unit_at
+    front_turn further_turn global_declaration_parts void_at attributed_at declaration_behind_at
+    declaration_part_at attributed_part_at led_part_at assert_declaration_at assert_part_at
 definitions = tt
 
-pub ruleset lemmas = (function_part_is, function_parts_is, parameters_is, parameters_are, map_push, formal_parameter_is, unit_is, front_are, front_from_none, further_are, global_declaration_by_parts, attributed_part_is, led_part_is, assert_part_is)
+pub ruleset lemmas = (
+  function_part_is,
+  function_parts_is,
+  parameters_is,
+  parameters_are,
+  map_push,
+  formal_parameter_is,
+  unit_is,
+  front_are,
+  front_from_none,
+  further_are,
+  global_declaration_by_parts,
+  attributed_part_is,
+  led_part_is,
+  assert_part_is,
+)

@@ -10,8 +10,15 @@ use Rattle.wgsl_model.specs.Grammar.TokenValues.{text_of}
 use Rattle.wgsl_model.specs.Grammar.UnitParts.{function_parts}
 use Rattle.wgsl_read_unit.specs.Results.{return_attributes, return_type}
 
-pub function_parts_is : (name : Token) (parameters : List FormalParameter) (returned : Option (Attributes × TypeExpression)) (block : CompoundStatement)
+pub function_parts_is : (name : Token) (parameters : List FormalParameter)
+    (returned : Option (Attributes × TypeExpression)) (block : CompoundStatement)
     → function_parts name parameters returned block
-    ≡ record { ident = text_of name; parameters = parameters; return_attributes = return_attributes returned; return_type = return_type returned; body = block }
+    ≡ record {
+      ident = text_of name;
+      parameters = parameters;
+      return_attributes = return_attributes returned;
+      return_type = return_type returned;
+      body = block;
+    }
 function_parts_is name parameters None block = refl
 function_parts_is name parameters (Some r) block = refl

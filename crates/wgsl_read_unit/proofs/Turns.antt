@@ -7,7 +7,7 @@ use Rattle.grammar.proofs.Reading.Beginnings.{pick}
 use Rattle.grammar.proofs.Binding.{bind_associates, bind_alike}
 use Rattle.grammar.proofs.States.{turns_are, shortens}
 use Rattle.grammar.proofs.Lists.{separated, behind_none}
-use Rattle.wgsl_model.specs.Tokens.Classes.{SymComma, SymParenRight}
+use Rattle.wgsl_model.specs.Tokens.ClassTable.{SymComma, SymParenRight}
 use Rattle.wgsl_model.specs.Trees.Spanned.{Spanned}
 use Rattle.wgsl_model.specs.Trees.Units.{FormalParameter, GlobalDeclaration}
 use Rattle.wgsl_model.specs.Grammar.Symbols.{Symbol.formal_parameter, Symbol.global_declaration}
@@ -29,7 +29,8 @@ parameters_from ps s = reader (further parameter_rest) s >>= λ m s'. done (ps +
 -- one more, where the list is not closed
 unfoldable pub parameters_turn : List FormalParameter → State → Read (List FormalParameter)
 parameters_turn ps s = cond (is_at SymParenRight s) (take SymParenRight s >>= λ t s'. done ps s')
-    (reader (of formal_parameter) s >>= λ p s'. cond (is_at SymComma s') (take SymComma s' >>= λ t s''. parameters_from (ps ++ (p ∷ [])) s'') (take SymParenRight s' >>= λ t s''. done (ps ++ (p ∷ [])) s''))
+    (reader (of formal_parameter) s >>= λ p s'. cond (is_at SymComma s') (take SymComma s' >>= λ t s''.
+    parameters_from (ps ++ (p ∷ [])) s'') (take SymParenRight s' >>= λ t s''. done (ps ++ (p ∷ [])) s''))
 
 pub parameters_is : (s : State) → reader (further parameter_rest) s ≡ parameters_from [] s
 unfolding parameters_from
@@ -37,7 +38,8 @@ parameters_is s = behind_none (reader (further parameter_rest) s)
 
 pub parameters_are : (ps : List FormalParameter) (s : State) → parameters_from ps s ≡ parameters_turn ps s
 unfolding parameters_from parameters_turn
-parameters_are ps s = separated (reader (further parameter_rest)) (reader (further parameter_more)) (reader (of formal_parameter)) _ _ (step (further parameter_rest)) (step (further parameter_more)) ps s
+parameters_are ps s = separated (reader (further parameter_rest)) (reader (further parameter_more))
+    (reader (of formal_parameter)) _ _ (step (further parameter_rest)) (step (further parameter_more)) ps s
 
 -- ---- declarations
 abbrev Declarations : Type 0
@@ -54,33 +56,43 @@ turns_of k start ds s = turns_in k grown begin_global_declaration (reader (of gl
 -- where they are said to begin is nothing to them
 same_turns : (k i j : ℕ) (ds : Declarations) (s : State) → turns_of k i ds s ≡ turns_of k j ds s
 same_turns zero i j ds s = refl
-same_turns (suc k) i j ds s = ap (λ (m : Read Declarations). pick (is_any begin_global_declaration s) m (done ds s)) (bind_alike (reader (of global_declaration) s) _ _ (λ d s' h. same_turns k i j (ds ++ (d ∷ [])) s'))
+same_turns (suc k) i j ds s =
+    ap (λ (m : Read Declarations). pick (is_any begin_global_declaration s) m (done ds s))
+    (bind_alike (reader (of global_declaration) s) _ _ (λ d s' h. same_turns k i j (ds ++ (d ∷ [])) s'))
 
 -- those behind some are put behind them
-turns_behind : (k i : ℕ) (xs ys : Declarations) (s : State) → (turns_of k i ys s >>= λ zs s'. done (xs ++ zs) s') ≡ turns_of k i (xs ++ ys) s
-turns_behind zero i xs ys s = bind_pick (is_any begin_global_declaration s) (stop Stop.never) (done ys s) (λ zs s'. done (xs ++ zs) s')
+turns_behind : (k i : ℕ) (xs ys : Declarations) (s : State)
+    → (turns_of k i ys s >>= λ zs s'. done (xs ++ zs) s') ≡ turns_of k i (xs ++ ys) s
+turns_behind zero i xs ys s = bind_pick (is_any begin_global_declaration s) (stop Stop.never)
+    (done ys s) (λ zs s'. done (xs ++ zs) s')
 turns_behind (suc k) i xs ys s =
     let put : Declarations → State → Read Declarations = λ zs s'. done (xs ++ zs) s' in
     let one : Read (Spanned GlobalDeclaration) = reader (of global_declaration) s in
     let turn : Spanned GlobalDeclaration → State → Read Declarations = λ d s'. turns_of k i (ys ++ (d ∷ [])) s' in
     bind_pick (is_any begin_global_declaration s) (one >>= turn) (done ys s) put
     ∙ ap (λ (m : Read Declarations). pick (is_any begin_global_declaration s) m (done (xs ++ ys) s))
-    (bind_associates one turn put ∙ bind_alike one _ _ (λ d s' h. turns_behind k i xs (ys ++ (d ∷ [])) s' ∙ ap (λ (z : Declarations). turns_of k i z s') (sym (append_assoc xs ys (d ∷ [])))))
+    (bind_associates one turn put ∙ bind_alike one _ _ (λ d s' h. turns_behind k i xs (ys ++ (d ∷ [])) s'
+    ∙ ap (λ (z : Declarations). turns_of k i z s') (sym (append_assoc xs ys (d ∷ [])))))
 
-further_turns : (start : ℕ) (ds : Declarations) (s : State) → further_declarations_at ds s ≡ turns grown begin_global_declaration (reader (of global_declaration)) start ds s
+further_turns : (start : ℕ) (ds : Declarations) (s : State) → further_declarations_at ds s
+    ≡ turns grown begin_global_declaration (reader (of global_declaration)) start ds s
 unfolding further_declarations_at declaration_list_at
 further_turns start ds s =
-    ap (λ (m : Read Declarations). m >>= λ more s'. done (ds ++ more) s') (declaration_list_is s ∙ same_turns (length s.rest) (next_start s) start [] s)
+    ap (λ (m : Read Declarations). m >>= λ more s'. done (ds ++ more) s')
+    (declaration_list_is s ∙ same_turns (length s.rest) (next_start s) start [] s)
     ∙ turns_behind (length s.rest) start ds [] s
     ∙ ap (λ (z : Declarations). turns_of (length s.rest) start z s) (append-nil ds)
 
 -- one more, where the next token begins one
 unfoldable pub further_turn : Declarations → State → Read Declarations
-further_turn ds s = cond (is_any begin_global_declaration s) (reader (of global_declaration) s >>= λ d s'. further_declarations_at (ds ++ (d ∷ [])) s') (done ds s)
+further_turn ds s = cond (is_any begin_global_declaration s)
+    (reader (of global_declaration) s >>= λ d s'. further_declarations_at (ds ++ (d ∷ [])) s') (done ds s)
 
 pub further_are : (ds : Declarations) (s : State) → further_declarations_at ds s ≡ further_turn ds s
 unfolding further_turn reader
 further_are ds s =
     further_turns (next_start s) ds s
-    ∙ turns_are grown begin_global_declaration (reader (of global_declaration)) (shortens tables body rank_limit passes (symbol (of global_declaration)) refl refl refl) (next_start s) ds s
-    ∙ ap (λ (m : Read Declarations). cond (is_any begin_global_declaration s) m (done ds s)) (bind_alike (reader (of global_declaration) s) _ _ (λ d s' h. sym (further_turns (next_start s) (ds ++ (d ∷ [])) s')))
+    ∙ turns_are grown begin_global_declaration (reader (of global_declaration)) (shortens tables
+    body rank_limit passes (symbol (of global_declaration)) refl refl refl) (next_start s) ds s
+    ∙ ap (λ (m : Read Declarations). cond (is_any begin_global_declaration s) m (done ds s)) (bind_alike
+    (reader (of global_declaration) s) _ _ (λ d s' h. sym (further_turns (next_start s) (ds ++ (d ∷ [])) s')))

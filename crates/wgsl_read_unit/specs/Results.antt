@@ -12,7 +12,8 @@ use Rattle.wgsl_tree_attribute.specs.View.{attributes_view}
 use Rattle.wgsl_span.specs.declared.Spanned.{Spanned}
 
 -- attributes and a type, if something is returned
-abbrev pub returned_view : Option (Vec (Spanned Attribute) Global × TypeExpression) → Option (plain_attribute.Attributes × plain.TypeExpression)
+abbrev pub returned_view : Option (Vec (Spanned Attribute) Global × TypeExpression)
+    → Option (plain_attribute.Attributes × plain.TypeExpression)
 returned_view = option_map (λ r. (attributes_view r.0.items, type_expression_view r.1))
 
 -- the attributes, none where nothing is returned

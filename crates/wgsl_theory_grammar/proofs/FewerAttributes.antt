@@ -18,7 +18,8 @@ module _ {M : Mode} {D : WrittenRelation} where
   same : {A : Type 0} {g : Rule A} → Keeps M D g g
   same = record { kept = λ v xs ys d. d }
 
-  then_keeps : {A B : Type 0} {g h : Rule A} {k l : Rule B} → Keeps M D g h → Keeps M D k l → Keeps M D (g then k) (h then l)
+  then_keeps : {A B : Type 0} {g h : Rule A} {k l : Rule B} → Keeps M D g h → Keeps M D k l
+      → Keeps M D (g then k) (h then l)
   then_keeps G K = record { kept = λ v xs ys d. (d.0, G.kept v.0 xs d.0 d.1, K.kept v.1 d.0 ys d.2) }
 
   or_keeps : {A : Type 0} {g h k l : Rule A} → Keeps M D g h → Keeps M D k l → Keeps M D (g or k) (h or l)
@@ -40,7 +41,8 @@ module _ {M : Mode} {D : WrittenRelation} where
   leading_keeps : Keeps M D (leading recognized) (leading parsed)
   leading_keeps = record { kept = λ v xs ys d. base v ys d }
 
-  led_keeps : {A B : Type 0} {f : Attributes × A → B} {g h : Rule A} → Keeps M D g h → Keeps M D (leading recognized then g gives f) (leading parsed then h gives f)
+  led_keeps : {A B : Type 0} {f : Attributes × A → B} {g h : Rule A} → Keeps M D g h
+      → Keeps M D (leading recognized then g gives f) (leading parsed then h gives f)
   led_keeps G = gives_keeps (then_keeps leading_keeps G)
 
   left_side_keeps : Keeps M D (left_side recognized) (left_side parsed)
@@ -60,7 +62,8 @@ module _ {M : Mode} {D : WrittenRelation} where
   rule_keeps decrement = gives_keeps (behind_keeps left_side_keeps)
   rule_keeps const_assert = led_keeps same
   rule_keeps switch_clause = led_keeps same
-  rule_keeps continuing_statement = led_keeps (gives_keeps (before_keeps (then_keeps same (before_keeps (behind_keeps (then_keeps same (or_keeps (gives_keeps (led_keeps same)) same)))))))
+  rule_keeps continuing_statement = led_keeps (gives_keeps (before_keeps (then_keeps same
+      (before_keeps (behind_keeps (then_keeps same (or_keeps (gives_keeps (led_keeps same)) same)))))))
   rule_keeps const_declaration = led_keeps same
   rule_keeps alias_declaration = led_keeps same
   rule_keeps struct_declaration = led_keeps same
@@ -70,4 +73,5 @@ module _ {M : Mode} {D : WrittenRelation} where
   rule_keeps n = same
 
 pub fewer_kept : (M : Mode) (n : Symbol) → Kept (Part M fewer_attributes n) (Part M written n)
-fewer_kept M = least M fewer_attributes (Part M written) (λ n v xs ys d. roll M written n v xs ys ((rule_keeps {D = Part M written} n).kept v xs ys d))
+fewer_kept M = least M fewer_attributes (Part M written)
+    (λ n v xs ys d. roll M written n v xs ys ((rule_keeps {D = Part M written} n).kept v xs ys d))

@@ -1,8 +1,9 @@
--- The tests that the factored tables pass, for the grammar as it is and where a text is recognised alone.
+-- The tests that the factored tables pass, for the grammar as it is and where a text is recognised
+-- alone.
 use Rattle.std.proofs.Common.{◌≡◌, ◌≤◌, true, [], ◌∷◌, inl, inr, refl, arith}
 use Rattle.grammar.specs.Tables.{subset, nullable, first, continuations, decides, spans_tokens, left_rank, all_ranks, Passes}
 use Rattle.grammar.specs.Anchors.{IsAnchored, keeps_body_apart}
-use Rattle.wgsl_model.specs.Tokens.Classes.{SymAttr, KwDiagnostic, KwVar, ReservedWord}
+use Rattle.wgsl_model.specs.Tokens.ClassTable.{SymAttr, KwDiagnostic, KwVar, ReservedWord}
 use Rattle.wgsl_model.specs.Grammar.Symbols.{Dialect, Dialect.parsed, Dialect.recognized, Symbol.ident, Symbol.attribute, Symbol.var_template, Symbol.diagnostic_severity}
 use Rattle.wgsl_theory_grammar.specs.Factored.{Further.components, Further.summands, FactoredSymbol, FactoredSymbol.of, FactoredSymbol.further, factored, body, small_body}
 use Rattle.wgsl_theory_grammar.specs.Apart.{apart}
@@ -82,7 +83,15 @@ keeps_hold recognized (further summands) = refl
 keeps_hold L (further x) = refl
 
 pub dialect_passes : (L : Dialect) → Passes tables (factored L) rank_limit
-dialect_passes L = record { begins = begins_hold L; empty = empty_hold L; more = more_hold L; one = one_hold L; spans = spans_hold L; rank = rank_hold L; ranks = ranks_hold L }
+dialect_passes L = record {
+  begins = begins_hold L;
+  empty = empty_hold L;
+  more = more_hold L;
+  one = one_hold L;
+  spans = spans_hold L;
+  rank = rank_hold L;
+  ranks = ranks_hold L;
+}
 
 pub passes : Passes tables body rank_limit
 passes = dialect_passes parsed

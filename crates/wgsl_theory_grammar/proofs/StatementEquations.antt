@@ -1,4 +1,5 @@
--- Each symbol of attributes and statements that is cited reads what its right side reads; written by tools/rules.py.
+-- Each symbol of attributes and statements that is cited reads what its right side reads; written
+-- by tools/rules.py.
 use Rattle.std.proofs.Common.{◌≡◌}
 use Rattle.grammar.specs.States.{State}
 use Rattle.wgsl_model.specs.Grammar.Symbols.{Symbol.attribute, Symbol.compound_statement, Symbol.statement, Symbol.switch_clause, Symbol.case_selector, Symbol.for_init, Symbol.for_update, Symbol.var_template, Symbol.typed_ident}
@@ -127,7 +128,8 @@ pub left_side_rest_is : (s : State) → reader (further left_side_rest) s ≡ le
 unfolding left_side_rest_at
 left_side_rest_is s = step (further left_side_rest) s
 
-pub left_side_in_parentheses_is : (s : State) → reader (further left_side_in_parentheses) s ≡ left_side_in_parentheses_at s
+pub left_side_in_parentheses_is : (s : State)
+    → reader (further left_side_in_parentheses) s ≡ left_side_in_parentheses_at s
 unfolding left_side_in_parentheses_at
 left_side_in_parentheses_is s = step (further left_side_in_parentheses) s
 

@@ -5,7 +5,7 @@ use Rattle.grammar.specs.Anchors.{keeps_body_apart}
 use Rattle.grammar.proofs.Faults.First.{IsGuarded}
 use Rattle.grammar.proofs.Faults.Outcomes.{IsTested}
 use Rattle.grammar.proofs.Words.{builds, all_sentences}
-use Rattle.wgsl_model.specs.Tokens.Classes.{SymAttr}
+use Rattle.wgsl_model.specs.Tokens.ClassTable.{SymAttr}
 use Rattle.wgsl_model.specs.Grammar.Symbols.{Dialect, Dialect.parsed, Dialect.recognized, Symbol.ident}
 use Rattle.wgsl_theory_grammar.specs.Factored.{Further.components, FactoredSymbol, FactoredSymbol.of, FactoredSymbol.further}
 use Rattle.wgsl_theory_grammar.specs.Apart.{nowhere}
@@ -75,10 +75,26 @@ guarded (further components) = inl (λ v s. refl)
 guarded (further x) = inl (λ v s. refl)
 
 syntax_passes : Passes tables syntax_body rank_limit
-syntax_passes = record { begins = begins_hold; empty = empty_hold; more = more_hold; one = one_hold; spans = spans_hold; rank = rank_hold; ranks = ranks_hold }
+syntax_passes = record {
+  begins = begins_hold;
+  empty = empty_hold;
+  more = more_hold;
+  one = one_hold;
+  spans = spans_hold;
+  rank = rank_hold;
+  ranks = ranks_hold;
+}
 
 syntax_tested : IsTested tables syntax_body rank_limit nowhere
-syntax_tested = record { passes = syntax_passes; sentences = all_sentences heights syntax_body builds_hold; guarded = guarded; behind = SymAttr ∷ []; within = λ n. refl; keeps = keeps_hold; no_token = refl }
+syntax_tested = record {
+  passes = syntax_passes;
+  sentences = all_sentences heights syntax_body builds_hold;
+  guarded = guarded;
+  behind = SymAttr ∷ [];
+  within = λ n. refl;
+  keeps = keeps_hold;
+  no_token = refl;
+}
 
 -- in either dialect
 pub unchecked_passes : (L : Dialect) → Passes tables (unchecked_body L) rank_limit

@@ -5,7 +5,7 @@ use Rattle.grammar.specs.Grammar.{Mode.checking, Derives}
 use Rattle.grammar.specs.Endings.{Ending, Ending.finished, Ending.carried, Answer, Answer.accepted, Answer.denied}
 use Rattle.grammar.specs.Reading.{Outcome, Outcome.ok, Outcome.stuck, Outcome.bad, Outcome.out, read_all}
 use Rattle.grammar.specs.States.{at_end}
-use Rattle.wgsl_model.specs.Tokens.Classes.{SymParenLeft}
+use Rattle.wgsl_model.specs.Tokens.ClassTable.{SymParenLeft}
 use Rattle.wgsl_model.specs.Faults.Kinds.{unexpected_token, unexpected_end, out_of_memory_kind}
 use Rattle.wgsl_model.specs.Grammar.Symbols.{Dialect, Dialect.recognized, Symbol, Value}
 use Rattle.wgsl_model.specs.Grammar.Written.{written}
@@ -43,20 +43,25 @@ answer_in_want x out = denied x
 abbrev pub answer_of : (n : Symbol) → List Token → Ending → Answer (Value n)
 answer_of n ts finished = answer_said ts finished (read_all tables checking body rank_limit (of n) ts)
 answer_of n ts (carried x) =
-    if x.kind == out_of_memory_kind then answer_in_want x (read_all tables checking body rank_limit (of n) (ts ++ (opening ∷ [])))
+    if x.kind == out_of_memory_kind
+    then answer_in_want x (read_all tables checking body rank_limit (of n) (ts ++ (opening ∷ [])))
     else answer_said ts (carried x) (read_all tables checking body rank_limit (of n) ts)
 
--- a true answer: the tree that the tokens derive, where they ended of themselves; else the fault that is named
+-- a true answer: the tree that the tokens derive, where they ended of themselves; else the fault
+-- that is named
 abbrev pub IsAnswer : (n : Symbol) → List Token → Ending → Answer (Value n) → Type 0
 IsAnswer n ts ending (accepted v) = (ending ≡ finished) × Derives checking written n v ts
 IsAnswer n ts ending (denied x) = IsNamed n ts ending x
 
--- what the reader of a dialect answers where nothing is checked, so that no end is read in another way
+-- what the reader of a dialect answers where nothing is checked, so that no end is read in another
+-- way
 abbrev pub unchecked_answer_of : Dialect → (n : Symbol) → List Token → Ending → Answer (Value n)
-unchecked_answer_of L n ts ending = answer_said ts ending (read_all tables checking (unchecked_body L) rank_limit (of n) ts)
+unchecked_answer_of L n ts ending = answer_said ts ending
+    (read_all tables checking (unchecked_body L) rank_limit (of n) ts)
 
 -- a true answer, where a value is accepted of which something holds
-abbrev pub IsUncheckedAnswer : Dialect → (n : Symbol) → (Value n → Type 0) → List Token → Ending → Answer (Value n) → Type 0
+abbrev pub IsUncheckedAnswer : Dialect → (n : Symbol) → (Value n → Type 0) → List Token → Ending
+    → Answer (Value n) → Type 0
 IsUncheckedAnswer L n Holds ts ending (accepted v) = (ending ≡ finished) × Holds v
 IsUncheckedAnswer L n Holds ts ending (denied x) = IsNamedUnchecked L n ts ending x
 

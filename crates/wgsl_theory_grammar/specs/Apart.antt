@@ -1,6 +1,6 @@
 -- Where a checked symbol is no fault, and how the other faults are told.
 use Rattle.std.specs.Prelude.{ℕ, List, [], ◌∷◌}
-use Rattle.wgsl_model.specs.Tokens.Classes.{SymAttr}
+use Rattle.wgsl_model.specs.Tokens.ClassTable.{SymAttr}
 use Rattle.wgsl_model.specs.Grammar.Symbols.{Symbol.ident, Symbol.var_template, Symbol.diagnostic_severity}
 use Rattle.wgsl_theory_grammar.specs.Factored.{FactoredSymbol, FactoredSymbol.of}
 

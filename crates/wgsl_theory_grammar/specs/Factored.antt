@@ -3,7 +3,7 @@ use Rattle.std.specs.Prelude.{ℕ, List, [], ◌∷◌, Option, Some, None}
 use Rattle.grammar.specs.Tokens.{Token, Span}
 use Rattle.grammar.specs.Grammar.{Grammar, Grammar.empty, Grammar.token, Grammar.sequence, Grammar.choice, Grammar.mapped, Grammar.node, Grammar.checked, Grammar.symbol, Grammar.left_chain}
 use Rattle.grammar.specs.Notation.{one_token, ◌then◌, ◌or◌, ◌gives◌, ◌makes◌, ◌▹◌, ◌◃◌, ◌means◌, optional, many}
-use Rattle.wgsl_model.specs.Tokens.Classes.{SymAnd, SymAndAnd, SymArrow, SymBraceLeft, SymBraceRight, SymColon, SymComma, SymShiftRight, SymShiftLeft, SymMinusMinus, SymPlusPlus, SymOr, SymOrOr, SymParenLeft, SymParenRight, SymSemicolon, SymStar, SymXor, KwBreak, KwCase, KwContinuing, KwDefault, KwElse, KwEnable, KwFn, KwFor, KwIf, KwLoop, KwOverride, KwRequires, KwStruct, KwSwitch, KwWhile, TemplateArgsStart, TemplateArgsEnd, SymEqual, SymPeriod, SymUnderscore, KwAlias, KwConst, KwConstAssert, KwContinue, KwDiscard, KwLet, KwReturn}
+use Rattle.wgsl_model.specs.Tokens.ClassTable.{SymAnd, SymAndAnd, SymArrow, SymBraceLeft, SymBraceRight, SymColon, SymComma, SymShiftRight, SymShiftLeft, SymMinusMinus, SymPlusPlus, SymOr, SymOrOr, SymParenLeft, SymParenRight, SymSemicolon, SymStar, SymXor, KwBreak, KwCase, KwContinuing, KwDefault, KwElse, KwEnable, KwFn, KwFor, KwIf, KwLoop, KwOverride, KwRequires, KwStruct, KwSwitch, KwWhile, TemplateArgsStart, TemplateArgsEnd, SymEqual, SymPeriod, SymUnderscore, KwAlias, KwConst, KwConstAssert, KwContinue, KwDiscard, KwLet, KwReturn}
 use Rattle.wgsl_model.specs.Trees.Operators.{UnaryOperator.address_of, UnaryOperator.indirection, BinaryOperator, BinaryOperator.short_circuit_or, BinaryOperator.short_circuit_and, BinaryOperator.bitwise_or, BinaryOperator.bitwise_and, BinaryOperator.bitwise_xor, BinaryOperator.shift_left, BinaryOperator.shift_right, AssignmentOperator.equal}
 use Rattle.wgsl_model.specs.Trees.Spanned.{Spanned, spanned}
 use Rattle.wgsl_model.specs.Trees.Expressions.{ExpressionNode, Expression, TypeExpression, start_of, end_of}
@@ -19,28 +19,36 @@ use Rattle.wgsl_model.specs.Grammar.Written.{rules}
 
 -- symbols beside the written ones: each is what a part of a rule reads
 pub data Further : Type 0 where
-  -- list(X) with the token that closes it; what may follow behind a comma; what may follow behind an X
+  -- list(X) with the token that closes it; what may follow behind a comma; what may follow behind
+  -- an X
   template_items template_rest template_more argument_rest argument_more member_items member_rest member_more : Further
   parameter_rest parameter_more name_items name_rest name_more : Further
   -- list(Selector)
   selectors : Further
   -- what an expression grows by
-  components factors summands sum_rest relation_rest and_rest or_rest bitwise_and_rest bitwise_or_rest bitwise_xor_rest expression_rest : Further
+  components factors summands sum_rest relation_rest and_rest or_rest bitwise_and_rest
+      bitwise_or_rest bitwise_xor_rest expression_rest : Further
   -- attributes; statements, clauses and parts of a header with the token that closes them
-  attribute_list statement_rest loop_rest continuing_rest clause_rest else_rest init_part condition_part update_part : Further
-  -- behind their attributes, from their first word on: statements that end with a block, and all of these
+  attribute_list statement_rest loop_rest continuing_rest clause_rest else_rest init_part
+      condition_part update_part : Further
+  -- behind their attributes, from their first word on: statements that end with a block, and all of
+  -- these
   if_part switch_part loop_part for_part while_part block_part braced_part : Further
   -- statements that end with `;`, without it; all of these save `break`, with it
   returning_part local_part value_part phony_part simple_part ended_part : Further
   -- `const_assert` without its `;`; a clause; `continuing`
   assert_part clause_part continuing_part : Further
-  -- what follows a left side; a left side that begins with `(`, and one with `*` or `&`; what follows a name
+  -- what follows a left side; a left side that begins with `(`, and one with `*` or `&`; what
+  -- follows a name
   left_side_rest left_side_in_parentheses prefixed_left_side name_rest_statement : Further
-  -- what never has attributes: an assignment, increment or decrement that begins with `(`, without its `;`; such a statement with it, or an empty one
+  -- what never has attributes: an assignment, increment or decrement that begins with `(`, without
+  -- its `;`; such a statement with it, or an empty one
   parenthesized_statement plain_statement : Further
   -- declarations and directives behind their attributes, from their first word on
-  var_part override_part function_part const_part alias_part struct_part enable_part requires_part diagnostic_part : Further
-  -- declarations that have attributes in both dialects, the others, and directives, each behind its attributes
+  var_part override_part function_part const_part alias_part struct_part enable_part requires_part
+      diagnostic_part : Further
+  -- declarations that have attributes in both dialects, the others, and directives, each behind its
+  -- attributes
   attributed_part led_part directive_part : Further
   -- all declarations; all directives and declarations
   declaration_list front : Further
@@ -150,11 +158,13 @@ lifted (left_chain f g h) = left_chain f (lifted g) (lifted h)
 
 -- ---- lists
 -- X, then what may follow
-abbrev pub items_of : {N : Type 0} {V : N → Type 0} {A : Type 0} → Grammar N V A → Grammar N V (List A) → Grammar N V (List A)
+abbrev pub items_of : {N : Type 0} {V : N → Type 0} {A : Type 0} → Grammar N V A
+    → Grammar N V (List A) → Grammar N V (List A)
 items_of x more = x then more gives λ (item, items). item ∷ items
 
 -- the token that closes the list, or its items
-abbrev pub items_or_close : {N : Type 0} {V : N → Type 0} {A : Type 0} → ℕ → Grammar N V A → Grammar N V (List A) → Grammar N V (List A)
+abbrev pub items_or_close : {N : Type 0} {V : N → Type 0} {A : Type 0} → ℕ → Grammar N V A
+    → Grammar N V (List A) → Grammar N V (List A)
 items_or_close close x more = close means [] or items_of x more
 
 -- a comma and the rest, or the token that closes the list
@@ -162,7 +172,8 @@ abbrev pub more_of : {N : Type 0} {V : N → Type 0} {A : Type 0} → ℕ → Gr
 more_of close rest = SymComma ▹ rest or close means []
 
 -- list(X), item by item
-abbrev pub listed : {N : Type 0} {V : N → Type 0} {A : Type 0} → Grammar N V A → Grammar N V (List A) → Grammar N V (List A)
+abbrev pub listed : {N : Type 0} {V : N → Type 0} {A : Type 0} → Grammar N V A
+    → Grammar N V (List A) → Grammar N V (List A)
 listed x xs = x then (SymComma ▹ (xs or empty []) or empty []) gives λ (item, items). item ∷ items
 
 -- the token that closes, or a part and then that token
@@ -172,11 +183,13 @@ closed_optional close x = close means None or x ◃ close gives λ a. Some a
 -- ---- expressions, from a first operand on
 -- a component and its end, behind a base
 abbrev pub grown_by_component : Growth → (ExpressionNode → Expression) × ℕ → Span → Growth
-grown_by_component f (make, last) span base = placed_expression (make (f base)) (record { start = start_of (f base); end = last })
+grown_by_component f (make, last) span base = placed_expression (make (f base))
+    (record { start = start_of (f base); end = last })
 
 -- an operator and an operand behind an operand
 abbrev pub with_operand : BinaryOperator × ExpressionNode → Growth
-with_operand (operator, operand) left = binary_of left (operator, operand) (record { start = start_of left; end = end_of operand })
+with_operand (operator, operand) left = binary_of left (operator, operand)
+    (record { start = start_of left; end = end_of operand })
 
 -- one operator and operand more
 abbrev pub grown : Growth → BinaryOperator × ExpressionNode → Span → Growth
@@ -195,7 +208,8 @@ abbrev pub one_more : {N : Type 0} {V : N → Type 0} → Grammar N V (BinaryOpe
 one_more item = item gives with_operand
 
 -- further operands behind one operator, one at least
-abbrev pub some_more : {N : Type 0} {V : N → Type 0} → ℕ → BinaryOperator → Grammar N V ExpressionNode → Grammar N V Growth
+abbrev pub some_more : {N : Type 0} {V : N → Type 0} → ℕ → BinaryOperator
+    → Grammar N V ExpressionNode → Grammar N V Growth
 some_more class operator x = left_chain grown (one_more (class means operator then x)) (class means operator then x)
 
 -- a call where there are arguments, else the type alone
@@ -218,7 +232,8 @@ abbrev pub leading_before : {A B : Type 0} → Dialect → (Attributes → A →
 leading_before L make g = leading_list L then g gives λ (a, x). make a x
 
 -- attributes, and one of two behind them; the second has none where a text is recognised alone
-abbrev pub either_behind : {A B : Type 0} → Dialect → (Attributes → A → B) → FactoredRule A → FactoredRule A → FactoredRule B
+abbrev pub either_behind : {A B : Type 0} → Dialect → (Attributes → A → B) → FactoredRule A
+    → FactoredRule A → FactoredRule B
 either_behind parsed make g h = attributes_before make (g or h)
 either_behind recognized make g h = attributes_before make g or leading_before recognized make h
 
@@ -230,10 +245,13 @@ with_place g = g makes λ v span. (v, span)
 abbrev pub taken_by : {B : Type 0} → Attributes → (Attributes → B) → B
 taken_by a f = f a
 
--- attributes, and behind them another part, or an item of one of two kinds and the rest; the other part and the second kind have none where a text is recognised alone
-abbrev pub items_behind : {A R B : Type 0} → Dialect → ((A × Span) × R → Attributes → B) → FactoredRule A → FactoredRule A → FactoredRule R → FactoredRule (Attributes → B) → FactoredRule B
+-- attributes, and behind them another part, or an item of one of two kinds and the rest; the other
+-- part and the second kind have none where a text is recognised alone
+abbrev pub items_behind : {A R B : Type 0} → Dialect → ((A × Span) × R → Attributes → B)
+    → FactoredRule A → FactoredRule A → FactoredRule R → FactoredRule (Attributes → B) → FactoredRule B
 items_behind parsed put g h rest other = attributes_before taken_by (other or with_place (g or h) then rest gives put)
-items_behind recognized put g h rest other = attributes_before taken_by (with_place g then rest gives put) or leading_before recognized taken_by (other or with_place h then rest gives put)
+items_behind recognized put g h rest other = attributes_before taken_by (with_place g then rest gives put)
+    or leading_before recognized taken_by (other or with_place h then rest gives put)
 
 -- a place, from the first of the attributes before it on
 abbrev pub begun_by : Attributes → Span → Span
@@ -245,7 +263,8 @@ abbrev pub statement_behind : Attributes → UnattributedStatement × Span → S
 statement_behind a (s, span) = placed_statement (statement a s) (begun_by a span)
 
 -- the same, before the rest of a block
-abbrev pub statement_first : {E : Type 0} → (UnattributedStatement × Span) × (List StatementNode × E) → Attributes → List StatementNode × E
+abbrev pub statement_first : {E : Type 0} → (UnattributedStatement × Span) × (List StatementNode × E)
+    → Attributes → List StatementNode × E
 statement_first (s, (statements, last)) a = (statement_behind a s ∷ statements, last)
 
 -- a declaration of its attributes, and of what stands behind them with its place
@@ -253,7 +272,8 @@ abbrev pub declaration_behind : Attributes → UnattributedDeclaration × Span �
 declaration_behind a (d, span) = spanned (with_attributes a d) (begun_by a span)
 
 -- the same, before further declarations
-abbrev pub declaration_first : (UnattributedDeclaration × Span) × List (Spanned GlobalDeclaration) → Attributes → List GlobalDirective × List (Spanned GlobalDeclaration)
+abbrev pub declaration_first : (UnattributedDeclaration × Span) × List (Spanned GlobalDeclaration)
+    → Attributes → List GlobalDirective × List (Spanned GlobalDeclaration)
 declaration_first (d, declarations) a = ([], declaration_behind a d ∷ declarations)
 
 -- ---- statements
@@ -270,19 +290,24 @@ abbrev pub break_part : FactoredRule UnattributedStatement
 break_part = (KwBreak means UnattributedStatement.break_statement) ◃ SymSemicolon
 
 -- what `break` and its `;` make in a `continuing`, before the rest of it
-abbrev pub with_break : Token × (List StatementNode × Option (Attributed BreakIfStatement)) → Token → Attributes → List StatementNode × Option (Attributed BreakIfStatement)
-with_break (semicolon, rest) b a = statement_first ((UnattributedStatement.break_statement, record { start = b.start; end = semicolon.end }), rest) a
+abbrev pub with_break : Token × (List StatementNode × Option (Attributed BreakIfStatement)) → Token
+    → Attributes → List StatementNode × Option (Attributed BreakIfStatement)
+with_break (semicolon, rest) b a = statement_first
+    ((UnattributedStatement.break_statement, record { start = b.start; end = semicolon.end }), rest) a
 
 -- the condition of a `break if`, which is the last in a `continuing`
-abbrev pub with_condition : ExpressionNode → Token → Attributes → List StatementNode × Option (Attributed BreakIfStatement)
+abbrev pub with_condition : ExpressionNode → Token → Attributes
+    → List StatementNode × Option (Attributed BreakIfStatement)
 with_condition e b a = ([], Some (with_attributes a (break_if_of e)))
 
 -- `continuing`, which is the last in a `loop`
-abbrev pub with_continuing : CompoundStatement × Option (Attributed BreakIfStatement) → Attributes → List StatementNode × Option ContinuingStatement
+abbrev pub with_continuing : CompoundStatement × Option (Attributed BreakIfStatement) → Attributes
+    → List StatementNode × Option ContinuingStatement
 with_continuing p a = ([], Some (continuing_statement_of a p))
 
 -- a directive, before the rest of a unit
-abbrev pub directive_first : UnattributedDirective × (List GlobalDirective × List (Spanned GlobalDeclaration)) → Attributes → List GlobalDirective × List (Spanned GlobalDeclaration)
+abbrev pub directive_first : UnattributedDirective × (List GlobalDirective × List (Spanned GlobalDeclaration))
+    → Attributes → List GlobalDirective × List (Spanned GlobalDeclaration)
 directive_first (d, (directives, declarations)) a = (with_attributes a d ∷ directives, declarations)
 
 -- an empty declaration
@@ -299,16 +324,19 @@ further_body L argument_more = more_of SymParenRight (symbol (further argument_r
 further_body L member_items = items_of (symbol (of struct_member)) (symbol (further member_more))
 further_body L member_rest = items_or_close SymBraceRight (symbol (of struct_member)) (symbol (further member_more))
 further_body L member_more = more_of SymBraceRight (symbol (further member_rest))
-further_body L parameter_rest = items_or_close SymParenRight (symbol (of formal_parameter)) (symbol (further parameter_more))
+further_body L parameter_rest = items_or_close SymParenRight (symbol (of formal_parameter))
+    (symbol (further parameter_more))
 further_body L parameter_more = more_of SymParenRight (symbol (further parameter_rest))
 further_body L name_items = items_of (symbol (of ident)) (symbol (further name_more))
 further_body L name_rest = items_or_close SymSemicolon (symbol (of ident)) (symbol (further name_more))
 further_body L name_more = more_of SymSemicolon (symbol (further name_rest))
 further_body L selectors = listed (symbol (of case_selector)) (symbol (further selectors))
-further_body L components = left_chain grown_by_component unchanged (symbol (of component) makes λ c span. (c, span.end))
+further_body L components = left_chain grown_by_component unchanged
+    (symbol (of component) makes λ c span. (c, span.end))
 further_body L factors = any_more (lifted multiplicative_operator then symbol (of unary_expression))
 further_body L summands = any_more (lifted (summand L))
-further_body L sum_rest = one_more (SymShiftLeft means shift_left then symbol (of unary_expression)) or one_more (SymShiftRight means shift_right then symbol (of unary_expression))
+further_body L sum_rest = one_more (SymShiftLeft means shift_left then symbol (of unary_expression))
+    or one_more (SymShiftRight means shift_right then symbol (of unary_expression))
     or symbol (further factors) then symbol (further summands) gives λ (product, sum) left. sum (product left)
 further_body L relation_rest = one_more (lifted relational_operator then symbol (of shift_expression)) or unchanged
 further_body L and_rest = some_more SymAndAnd short_circuit_and (symbol (of relational_expression))
@@ -316,40 +344,67 @@ further_body L or_rest = some_more SymOrOr short_circuit_or (symbol (of relation
 further_body L bitwise_and_rest = some_more SymAnd bitwise_and (symbol (of unary_expression))
 further_body L bitwise_or_rest = some_more SymOr bitwise_or (symbol (of unary_expression))
 further_body L bitwise_xor_rest = some_more SymXor bitwise_xor (symbol (of unary_expression))
-further_body L expression_rest = symbol (further bitwise_and_rest) or symbol (further bitwise_or_rest) or symbol (further bitwise_xor_rest)
-    or symbol (further sum_rest) then symbol (further relation_rest) then (symbol (further and_rest) or symbol (further or_rest) or unchanged) gives λ (sum, (relation, more)) left. more (relation (sum left))
+further_body L expression_rest = symbol (further bitwise_and_rest)
+    or symbol (further bitwise_or_rest) or symbol (further bitwise_xor_rest)
+    or symbol (further sum_rest) then symbol (further relation_rest) then (symbol (further and_rest)
+    or symbol (further or_rest) or unchanged) gives λ (sum, (relation, more)) left. more (relation (sum left))
 further_body L attribute_list = lifted attributes
-further_body L statement_rest = SymBraceRight means [] or symbol (of statement) then symbol (further statement_rest) gives λ (s, statements). s ∷ statements
+further_body L statement_rest = SymBraceRight means []
+    or symbol (of statement) then symbol (further statement_rest) gives λ (s, statements). s ∷ statements
 further_body L loop_rest = SymBraceRight means ([], None)
-    or symbol (further plain_statement) then symbol (further loop_rest) gives (λ (s, (statements, last)). (s ∷ statements, last))
-    or items_behind L statement_first (symbol (further braced_part)) (symbol (further ended_part) or break_part) (symbol (further loop_rest))
+    or symbol (further plain_statement) then symbol (further loop_rest)
+    gives (λ (s, (statements, last)). (s ∷ statements, last))
+    or items_behind L statement_first (symbol (further braced_part))
+    (symbol (further ended_part) or break_part) (symbol (further loop_rest))
     (symbol (further continuing_part) ◃ SymBraceRight gives with_continuing)
 further_body L continuing_rest = SymBraceRight means ([], None)
-    or symbol (further plain_statement) then symbol (further continuing_rest) gives (λ (s, (statements, last)). (s ∷ statements, last))
-    or items_behind L statement_first (symbol (further braced_part)) (symbol (further ended_part)) (symbol (further continuing_rest))
+    or symbol (further plain_statement) then symbol (further continuing_rest)
+    gives (λ (s, (statements, last)). (s ∷ statements, last))
+    or items_behind L statement_first (symbol (further braced_part)) (symbol (further ended_part))
+    (symbol (further continuing_rest))
     (one_token KwBreak then (one_token SymSemicolon then symbol (further continuing_rest) gives with_break
     or KwIf ▹ symbol (of expression) ◃ SymSemicolon ◃ SymBraceRight gives with_condition) gives λ (b, more). more b)
-further_body L clause_rest = SymBraceRight means [] or symbol (of switch_clause) then symbol (further clause_rest) gives λ (clause, clauses). clause ∷ clauses
-further_body L else_rest = KwElse ▹ (KwIf ▹ symbol (of expression) then symbol (of compound_statement) then symbol (further else_rest) gives (λ (condition, (block, (else_ifs, last))). (ElseIfClause.else_if_clause [] condition block ∷ else_ifs, last))
-    or symbol (of compound_statement) gives λ b. ([], Some (ElseClause.else_clause [] b))) or empty ([], None)
+further_body L clause_rest = SymBraceRight means []
+    or symbol (of switch_clause) then symbol (further clause_rest) gives λ (clause, clauses). clause ∷ clauses
+further_body L else_rest =
+    KwElse ▹ (KwIf ▹ symbol (of expression) then symbol (of compound_statement) then symbol (further else_rest)
+    gives (λ (condition, (block, (else_ifs, last))). (ElseIfClause.else_if_clause [] condition block ∷ else_ifs, last))
+    or symbol (of compound_statement) gives λ b. ([], Some (ElseClause.else_clause [] b)))
+    or empty ([], None)
 further_body L init_part = closed_optional SymSemicolon (symbol (of for_init))
 further_body L condition_part = closed_optional SymSemicolon (symbol (of expression))
 further_body L update_part = closed_optional SymParenRight (symbol (of for_update))
-further_body L if_part = KwIf ▹ symbol (of expression) then symbol (of compound_statement) then symbol (further else_rest) gives λ (condition, (block, elses)). if_of condition block elses
-further_body L switch_part = KwSwitch ▹ symbol (of expression) then symbol (further attribute_list) then SymBraceLeft ▹ symbol (of switch_clause) then symbol (further clause_rest)
+further_body L if_part =
+    KwIf ▹ symbol (of expression) then symbol (of compound_statement) then symbol (further else_rest)
+    gives λ (condition, (block, elses)). if_of condition block elses
+further_body L switch_part = KwSwitch ▹ symbol (of expression) then symbol (further attribute_list)
+    then SymBraceLeft ▹ symbol (of switch_clause) then symbol (further clause_rest)
     gives λ (selected, (body_attributes, (clause, clauses))). switch_of selected body_attributes (clause ∷ clauses)
-further_body L loop_part = KwLoop ▹ symbol (further attribute_list) then SymBraceLeft ▹ symbol (further loop_rest) gives λ (body_attributes, (body, continuing)). loop_of body_attributes body continuing
-further_body L for_part = KwFor ▹ SymParenLeft ▹ symbol (further init_part) then symbol (further condition_part) then symbol (further update_part) then symbol (of compound_statement)
+further_body L loop_part =
+    KwLoop ▹ symbol (further attribute_list) then SymBraceLeft ▹ symbol (further loop_rest)
+    gives λ (body_attributes, (body, continuing)). loop_of body_attributes body continuing
+further_body L for_part =
+    KwFor ▹ SymParenLeft ▹ symbol (further init_part) then symbol (further condition_part)
+    then symbol (further update_part) then symbol (of compound_statement)
     gives λ (init, (condition, (update, block))). for_of init condition update block
-further_body L while_part = KwWhile ▹ symbol (of expression) then symbol (of compound_statement) gives λ (condition, block). while_of condition block
-further_body L block_part = SymBraceLeft ▹ symbol (further statement_rest) gives λ ss. UnattributedStatement.compound (statements_of ss)
-further_body L braced_part = symbol (further if_part) or symbol (further switch_part) or symbol (further loop_part) or symbol (further for_part) or symbol (further while_part) or symbol (further block_part)
+further_body L while_part = KwWhile ▹ symbol (of expression) then symbol (of compound_statement)
+    gives λ (condition, block). while_of condition block
+further_body L block_part = SymBraceLeft ▹ symbol (further statement_rest)
+    gives λ ss. UnattributedStatement.compound (statements_of ss)
+further_body L braced_part = symbol (further if_part) or symbol (further switch_part)
+    or symbol (further loop_part) or symbol (further for_part) or symbol (further while_part)
+    or symbol (further block_part)
 further_body L returning_part = KwReturn ▹ optional (symbol (of expression)) gives return_of
-further_body L local_part = lifted var_kind then symbol (of typed_ident) then optional (lifted initializer) gives λ (kind, (typed, value)). local_of kind typed value
-further_body L value_part = (KwLet means DeclarationKind.let_kind or KwConst means DeclarationKind.const_kind) then symbol (of typed_ident) then lifted initializer
+further_body L local_part = lifted var_kind then symbol (of typed_ident) then optional (lifted initializer)
+    gives λ (kind, (typed, value)). local_of kind typed value
+further_body L value_part =
+    (KwLet means DeclarationKind.let_kind or KwConst means DeclarationKind.const_kind)
+    then symbol (of typed_ident) then lifted initializer
     gives λ (kind, (typed, value)). local_of kind typed (Some value)
-further_body L phony_part = (one_token SymUnderscore makes underscore_at) then lifted initializer gives λ (left, right). assignment_of left equal right
-further_body L simple_part = symbol (of ident) then symbol (further name_rest_statement) gives (λ (name, rest). rest name)
+further_body L phony_part = (one_token SymUnderscore makes underscore_at) then lifted initializer
+    gives λ (left, right). assignment_of left equal right
+further_body L simple_part =
+    symbol (of ident) then symbol (further name_rest_statement) gives (λ (name, rest). rest name)
     or symbol (further prefixed_left_side) then symbol (further left_side_rest) gives (λ (left, rest). rest left)
     or symbol (further phony_part)
 further_body L ended_part = (symbol (further returning_part)
@@ -360,35 +415,63 @@ further_body L ended_part = (symbol (further returning_part)
     or symbol (further simple_part)
     or symbol (further assert_part) gives UnattributedStatement.const_assert) ◃ SymSemicolon
 further_body L assert_part = KwConstAssert ▹ symbol (of expression) gives assert_of
-further_body L clause_part = KwCase ▹ symbol (further selectors) then optional (one_token SymColon) then symbol (of compound_statement) gives (λ (cases, (colon, block)). (cases, block))
-    or KwDefault ▹ optional (one_token SymColon) then symbol (of compound_statement) gives λ (colon, block). (CaseSelector.default_selector ∷ [], block)
-further_body L continuing_part = KwContinuing ▹ symbol (further attribute_list) then SymBraceLeft ▹ symbol (further continuing_rest) gives λ (body_attributes, (body, break_if)). (compound_of body_attributes body, break_if)
-further_body L left_side_rest = lifted assignment_operator then symbol (of expression) gives (λ (operator, right) left. assignment_of left operator right)
+further_body L clause_part = KwCase ▹ symbol (further selectors) then optional (one_token SymColon)
+    then symbol (of compound_statement) gives (λ (cases, (colon, block)). (cases, block))
+    or KwDefault ▹ optional (one_token SymColon) then symbol (of compound_statement)
+    gives λ (colon, block). (CaseSelector.default_selector ∷ [], block)
+further_body L continuing_part =
+    KwContinuing ▹ symbol (further attribute_list) then SymBraceLeft ▹ symbol (further continuing_rest)
+    gives λ (body_attributes, (body, break_if)). (compound_of body_attributes body, break_if)
+further_body L left_side_rest = lifted assignment_operator then symbol (of expression)
+    gives (λ (operator, right) left. assignment_of left operator right)
     or SymPlusPlus means increment_of or SymMinusMinus means decrement_of
-further_body L left_side_in_parentheses = (SymParenLeft ▹ symbol (of lhs_expression) ◃ SymParenRight makes parenthesized_at) then symbol (further components) gives λ (left, growth). growth left
+further_body L left_side_in_parentheses =
+    (SymParenLeft ▹ symbol (of lhs_expression) ◃ SymParenRight makes parenthesized_at)
+    then symbol (further components) gives λ (left, growth). growth left
 further_body L prefixed_left_side = SymStar means indirection then symbol (of lhs_expression) makes unary_of
     or SymAnd means address_of then symbol (of lhs_expression) makes unary_of
-further_body L name_rest_statement = optional (symbol (of template_list)) then symbol (of arguments) gives (λ called name. call_by_name name called)
-    or symbol (further components) then symbol (further left_side_rest) gives λ (growth, rest) name. rest (growth (variable_of name))
-further_body L parenthesized_statement = symbol (further left_side_in_parentheses) then symbol (further left_side_rest) gives λ (left, rest). rest left
-further_body L plain_statement = (SymSemicolon means unattributed UnattributedStatement.void or symbol (further parenthesized_statement) ◃ SymSemicolon gives unattributed) makes placed_statement
-further_body L var_part = lifted var_kind then symbol (of typed_ident) then optional (lifted initializer) ◃ SymSemicolon gives λ (kind, (typed, value)). value_of kind typed value
-further_body L override_part = KwOverride ▹ symbol (of typed_ident) then optional (lifted initializer) ◃ SymSemicolon gives λ (typed, value). value_of DeclarationKind.override_kind typed value
-further_body L function_part = KwFn ▹ symbol (of ident) then SymParenLeft ▹ symbol (further parameter_rest) then optional (SymArrow ▹ symbol (further attribute_list) then symbol (of type_specifier)) then symbol (of compound_statement)
+further_body L name_rest_statement = optional (symbol (of template_list)) then symbol (of arguments)
+    gives (λ called name. call_by_name name called)
+    or symbol (further components) then symbol (further left_side_rest)
+    gives λ (growth, rest) name. rest (growth (variable_of name))
+further_body L parenthesized_statement =
+    symbol (further left_side_in_parentheses) then symbol (further left_side_rest)
+    gives λ (left, rest). rest left
+further_body L plain_statement = (SymSemicolon means unattributed UnattributedStatement.void
+    or symbol (further parenthesized_statement) ◃ SymSemicolon gives unattributed) makes placed_statement
+further_body L var_part =
+    lifted var_kind then symbol (of typed_ident) then optional (lifted initializer) ◃ SymSemicolon
+    gives λ (kind, (typed, value)). value_of kind typed value
+further_body L override_part =
+    KwOverride ▹ symbol (of typed_ident) then optional (lifted initializer) ◃ SymSemicolon
+    gives λ (typed, value). value_of DeclarationKind.override_kind typed value
+further_body L function_part =
+    KwFn ▹ symbol (of ident) then SymParenLeft ▹ symbol (further parameter_rest) then optional (SymArrow
+    ▹ symbol (further attribute_list) then symbol (of type_specifier)) then symbol (of compound_statement)
     gives λ (name, (parameters, (returned, block))). function_of name parameters returned block
-further_body L const_part = KwConst ▹ symbol (of typed_ident) then lifted initializer ◃ SymSemicolon gives λ (typed, value). value_of DeclarationKind.const_kind typed (Some value)
-further_body L alias_part = KwAlias ▹ symbol (of ident) then SymEqual ▹ symbol (of type_specifier) ◃ SymSemicolon gives alias_of
-further_body L struct_part = KwStruct ▹ symbol (of ident) then SymBraceLeft ▹ symbol (further member_items) gives struct_of
+further_body L const_part = KwConst ▹ symbol (of typed_ident) then lifted initializer ◃ SymSemicolon
+    gives λ (typed, value). value_of DeclarationKind.const_kind typed (Some value)
+further_body L alias_part =
+    KwAlias ▹ symbol (of ident) then SymEqual ▹ symbol (of type_specifier) ◃ SymSemicolon gives alias_of
+further_body L struct_part =
+    KwStruct ▹ symbol (of ident) then SymBraceLeft ▹ symbol (further member_items) gives struct_of
 further_body L enable_part = KwEnable ▹ symbol (further name_items) gives enable_of
 further_body L requires_part = KwRequires ▹ symbol (further name_items) gives requires_of
-further_body L diagnostic_part = symbol (of diagnostic_severity) ◃ SymComma then symbol (of ident) then optional (SymPeriod ▹ symbol (of ident)) then optional (one_token SymComma) ◃ SymParenRight ◃ SymSemicolon
+further_body L diagnostic_part = symbol (of diagnostic_severity) ◃ SymComma then symbol (of ident)
+    then optional (SymPeriod ▹ symbol (of ident)) then optional (one_token SymComma) ◃ SymParenRight ◃ SymSemicolon
     gives λ (severity, (first, (second, comma))). diagnostic_of severity first second
-further_body L attributed_part = symbol (further var_part) or symbol (further override_part) or symbol (further function_part)
-further_body L led_part = symbol (further const_part) or symbol (further alias_part) or symbol (further struct_part) or symbol (further assert_part) ◃ SymSemicolon gives UnattributedDeclaration.const_assert
-further_body L directive_part = symbol (further enable_part) or symbol (further requires_part) or symbol (further diagnostic_part)
+further_body L attributed_part = symbol (further var_part) or symbol (further override_part)
+    or symbol (further function_part)
+further_body L led_part = symbol (further const_part) or symbol (further alias_part)
+    or symbol (further struct_part)
+    or symbol (further assert_part) ◃ SymSemicolon gives UnattributedDeclaration.const_assert
+further_body L directive_part = symbol (further enable_part) or symbol (further requires_part)
+    or symbol (further diagnostic_part)
 further_body L declaration_list = many (symbol (of global_declaration))
-further_body L front = void_declaration then symbol (further declaration_list) gives (λ (d, declarations). ([], d ∷ declarations))
-    or items_behind L declaration_first (symbol (further attributed_part)) (symbol (further led_part)) (symbol (further declaration_list))
+further_body L front =
+    void_declaration then symbol (further declaration_list) gives (λ (d, declarations). ([], d ∷ declarations))
+    or items_behind L declaration_first (symbol (further attributed_part))
+    (symbol (further led_part)) (symbol (further declaration_list))
     (symbol (further directive_part) then symbol (further front) gives directive_first)
     or empty ([], [])
 
@@ -398,15 +481,24 @@ factored L (further x) = further_body L x
 factored L (of template_list) = TemplateArgsStart ▹ symbol (further template_items)
 factored L (of expressions) = listed (symbol (of expression)) (symbol (of expressions))
 factored L (of arguments) = SymParenLeft ▹ symbol (further argument_rest)
-factored L (of primary_expression) = (symbol (of type_specifier) then optional (symbol (of arguments)) gives call_or_type
-    or symbol (of literal) gives Expression.literal or SymParenLeft ▹ symbol (of expression) ◃ SymParenRight gives Expression.parenthesized) makes placed_expression
-factored L (of singular_expression) = symbol (of primary_expression) then symbol (further components) gives λ (first, growth). growth first
-factored L (of shift_expression) = symbol (of unary_expression) then symbol (further sum_rest) gives λ (first, growth). growth first
-factored L (of relational_expression) = symbol (of shift_expression) then symbol (further relation_rest) gives λ (first, growth). growth first
-factored L (of expression) = symbol (of unary_expression) then symbol (further expression_rest) gives λ (first, growth). growth first
-factored L (of lhs_expression) = (symbol (of ident) makes variable_at) then symbol (further components) gives (λ (left, growth). growth left) or symbol (further prefixed_left_side) or symbol (further left_side_in_parentheses)
+factored L (of primary_expression) =
+    (symbol (of type_specifier) then optional (symbol (of arguments)) gives call_or_type
+    or symbol (of literal) gives Expression.literal or SymParenLeft
+    ▹ symbol (of expression) ◃ SymParenRight gives Expression.parenthesized) makes placed_expression
+factored L (of singular_expression) = symbol (of primary_expression) then symbol (further components)
+    gives λ (first, growth). growth first
+factored L (of shift_expression) = symbol (of unary_expression) then symbol (further sum_rest)
+    gives λ (first, growth). growth first
+factored L (of relational_expression) = symbol (of shift_expression) then symbol (further relation_rest)
+    gives λ (first, growth). growth first
+factored L (of expression) = symbol (of unary_expression) then symbol (further expression_rest)
+    gives λ (first, growth). growth first
+factored L (of lhs_expression) =
+    (symbol (of ident) makes variable_at) then symbol (further components) gives (λ (left, growth). growth left)
+    or symbol (further prefixed_left_side) or symbol (further left_side_in_parentheses)
 factored L (of compound_statement) = attributes_before compound_of (SymBraceLeft ▹ symbol (further statement_rest))
-factored L (of statement) = symbol (further plain_statement) or either_behind L statement (symbol (further braced_part)) (symbol (further ended_part) or break_part) makes placed_statement
+factored L (of statement) = symbol (further plain_statement) or either_behind L statement
+    (symbol (further braced_part)) (symbol (further ended_part) or break_part) makes placed_statement
 factored L (of return_statement) = leading_before L statement (symbol (further returning_part))
 factored L (of if_statement) = attributes_before statement (symbol (further if_part))
 factored L (of switch_statement) = attributes_before statement (symbol (further switch_part))
@@ -417,18 +509,26 @@ factored L (of call_statement) = leading_before L statement (symbol (of call) gi
 factored L (of var_statement) = leading_before L statement (symbol (further local_part))
 factored L (of value_statement) = leading_before L statement (symbol (further value_part))
 factored L (of break_statement) = leading_before L statement (KwBreak means UnattributedStatement.break_statement)
-factored L (of continue_statement) = leading_before L statement (KwContinue means UnattributedStatement.continue_statement)
+factored L (of continue_statement) = leading_before L statement
+    (KwContinue means UnattributedStatement.continue_statement)
 factored L (of discard_statement) = leading_before L statement (KwDiscard means UnattributedStatement.discard_statement)
 factored L (of phony_assignment) = leading_before L statement (symbol (further phony_part))
 factored L (of const_assert) = leading_before L with_attributes (symbol (further assert_part))
 factored L (of switch_clause) = leading_before L clause_of (symbol (further clause_part))
 factored L (of continuing_statement) = leading_before L continuing_statement_of (symbol (further continuing_part))
 factored L (of for_init) = (symbol (further parenthesized_statement) gives unattributed
-    or leading_before L statement (symbol (further local_part) or symbol (further value_part) or symbol (further simple_part))) makes placed_statement
-factored L (of for_update) = (symbol (further parenthesized_statement) gives unattributed or leading_before L statement (symbol (further simple_part))) makes placed_statement
-factored L (of struct_member) = symbol (further attribute_list) then symbol (of ident) ◃ SymColon then symbol (of type_specifier) makes member_of
-factored L (of formal_parameter) = symbol (further attribute_list) then symbol (of ident) ◃ SymColon then symbol (of type_specifier) gives parameter_of
-factored L (of global_declaration) = void_declaration or either_behind L with_attributes (symbol (further attributed_part)) (symbol (further led_part)) makes spanned
+    or leading_before L statement (symbol (further local_part) or symbol (further value_part)
+    or symbol (further simple_part))) makes placed_statement
+factored L (of for_update) = (symbol (further parenthesized_statement) gives unattributed
+    or leading_before L statement (symbol (further simple_part))) makes placed_statement
+factored L (of struct_member) =
+    symbol (further attribute_list) then symbol (of ident) ◃ SymColon then symbol (of type_specifier)
+    makes member_of
+factored L (of formal_parameter) =
+    symbol (further attribute_list) then symbol (of ident) ◃ SymColon then symbol (of type_specifier)
+    gives parameter_of
+factored L (of global_declaration) = void_declaration
+    or either_behind L with_attributes (symbol (further attributed_part)) (symbol (further led_part)) makes spanned
 factored L (of var_declaration) = attributes_before with_attributes (symbol (further var_part))
 factored L (of const_declaration) = leading_before L with_attributes (symbol (further const_part))
 factored L (of override_declaration) = attributes_before with_attributes (symbol (further override_part))
@@ -439,7 +539,8 @@ factored L (of global_directive) = leading_before L with_attributes (symbol (fur
 factored L (of enable_directive) = leading_before L with_attributes (symbol (further enable_part))
 factored L (of requires_directive) = leading_before L with_attributes (symbol (further requires_part))
 factored L (of diagnostic_directive) = leading_before L with_attributes (symbol (further diagnostic_part))
-factored L (of unit) = symbol (further front) gives λ (directives, declarations). record { global_directives = directives; global_declarations = declarations }
+factored L (of unit) = symbol (further front) gives λ (directives, declarations).
+    record { global_directives = directives; global_declarations = declarations }
 factored L (of n) = lifted (rules L n)
 
 -- those of the whole language

@@ -1,8 +1,10 @@
--- The grammar of the whole language with attributes in fewer places: the A* of `led` and `left_side` are none.
+-- The grammar of the whole language with attributes in fewer places: the A* of `led` and
+-- `left_side` are none.
 use Rattle.wgsl_model.specs.Grammar.Symbols.{Dialect, Dialect.parsed, Dialect.recognized, Symbol, return_statement, call_statement, var_statement, value_statement, break_statement, continue_statement, discard_statement, assignment, phony_assignment, increment, decrement, const_assert, switch_clause, continuing_statement, const_declaration, alias_declaration, struct_declaration, enable_directive, requires_directive, diagnostic_directive, Value, Rule}
 use Rattle.wgsl_model.specs.Grammar.Written.{rules}
 
--- the rules with `led` or `left_side`, which differ between the dialects by these attributes alone, are taken from the one without them
+-- the rules with `led` or `left_side`, which differ between the dialects by these attributes alone,
+-- are taken from the one without them
 abbrev pub fewer_of : Symbol → Dialect
 fewer_of return_statement = recognized
 fewer_of call_statement = recognized

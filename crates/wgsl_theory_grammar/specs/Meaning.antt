@@ -2,7 +2,7 @@
 use Rattle.std.specs.Prelude.{ℕ, List, [], ◌∷◌, Option, Some}
 use Rattle.grammar.specs.Grammar.{Grammar.empty, Grammar.symbol, Grammar.left_chain}
 use Rattle.grammar.specs.Notation.{◌then◌, ◌or◌, ◌gives◌, ◌makes◌, ◌▹◌, ◌◃◌, ◌means◌, optional, many, several, list, list_or_none, one_token}
-use Rattle.wgsl_model.specs.Tokens.Classes.{SymAnd, SymAndAnd, SymBraceLeft, SymBraceRight, SymComma, SymShiftRight, SymShiftLeft, SymMinusMinus, SymPlusPlus, SymOr, SymOrOr, SymParenLeft, SymParenRight, SymSemicolon, SymStar, SymXor, KwFn, KwFor, KwIf, KwLoop, KwOverride, KwSwitch, KwWhile, TemplateArgsEnd, SymColon, SymEqual, SymPeriod, SymUnderscore, KwAlias, KwCase, KwConst, KwConstAssert, KwContinue, KwContinuing, KwDefault, KwDiscard, KwEnable, KwLet, KwRequires, KwReturn, KwStruct}
+use Rattle.wgsl_model.specs.Tokens.ClassTable.{SymAnd, SymAndAnd, SymBraceLeft, SymBraceRight, SymComma, SymShiftRight, SymShiftLeft, SymMinusMinus, SymPlusPlus, SymOr, SymOrOr, SymParenLeft, SymParenRight, SymSemicolon, SymStar, SymXor, KwFn, KwFor, KwIf, KwLoop, KwOverride, KwSwitch, KwWhile, TemplateArgsEnd, SymColon, SymEqual, SymPeriod, SymUnderscore, KwAlias, KwCase, KwConst, KwConstAssert, KwContinue, KwContinuing, KwDefault, KwDiscard, KwEnable, KwLet, KwRequires, KwReturn, KwStruct}
 use Rattle.wgsl_model.specs.Trees.Operators.{UnaryOperator.address_of, UnaryOperator.indirection, BinaryOperator, BinaryOperator.short_circuit_or, BinaryOperator.short_circuit_and, BinaryOperator.bitwise_or, BinaryOperator.bitwise_and, BinaryOperator.bitwise_xor, BinaryOperator.shift_left, BinaryOperator.shift_right, AssignmentOperator.equal}
 use Rattle.wgsl_model.specs.Trees.Expressions.{ExpressionNode}
 use Rattle.wgsl_model.specs.Trees.Attributed.{Attributed}
@@ -14,7 +14,8 @@ use Rattle.wgsl_model.specs.Grammar.UnitParts.{value_of, return_part, function_o
 use Rattle.wgsl_model.specs.Grammar.Symbols.{Dialect, Symbol.ident, Symbol.template_list, Symbol.arguments, Symbol.component, Symbol.unary_expression, Symbol.shift_expression, Symbol.relational_expression, Symbol.expression, Symbol.lhs_expression, Symbol.compound_statement, Symbol.switch_clause, Symbol.case_selector, Symbol.continuing_statement, Symbol.for_init, Symbol.for_update, Symbol.typed_ident, Symbol.struct_member, Symbol.formal_parameter, Symbol.global_declaration, Symbol.global_directive, Rule, Symbol.type_specifier, Symbol.call, Symbol.diagnostic_severity}
 use Rattle.wgsl_theory_grammar.specs.Factored.{FurtherValue, Further, Further.template_items, Further.template_rest, Further.template_more, Further.argument_rest, Further.argument_more, Further.member_items, Further.member_rest, Further.member_more, Further.parameter_rest, Further.parameter_more, Further.name_items, Further.name_rest, Further.name_more, Further.selectors, Further.components, Further.factors, Further.summands, Further.sum_rest, Further.relation_rest, Further.and_rest, Further.or_rest, Further.bitwise_and_rest, Further.bitwise_or_rest, Further.bitwise_xor_rest, Further.expression_rest, Further.attribute_list, Further.statement_rest, Further.loop_rest, Further.continuing_rest, Further.clause_rest, Further.else_rest, Further.init_part, Further.condition_part, Further.update_part, Further.if_part, Further.switch_part, Further.loop_part, Further.for_part, Further.while_part, Further.block_part, Further.braced_part, Further.returning_part, Further.local_part, Further.value_part, Further.phony_part, Further.simple_part, Further.ended_part, Further.assert_part, Further.clause_part, Further.continuing_part, Further.left_side_rest, Further.left_side_in_parentheses, Further.prefixed_left_side, Further.name_rest_statement, Further.parenthesized_statement, Further.plain_statement, Further.var_part, Further.override_part, Further.function_part, Further.const_part, Further.alias_part, Further.struct_part, Further.enable_part, Further.requires_part, Further.diagnostic_part, Further.attributed_part, Further.led_part, Further.directive_part, Further.declaration_list, Further.front, Growth, grown_by_component, unchanged, any_more, one_more, some_more, variable_of, call_by_name}
 
--- list(X) and the token that closes it; the same, or that token alone; a comma and then the same, or that token alone
+-- list(X) and the token that closes it; the same, or that token alone; a comma and then the same,
+-- or that token alone
 abbrev pub closed_list : {A : Type 0} → ℕ → Rule A → Rule (List A)
 closed_list close x = list SymComma x ◃ close
 
@@ -36,7 +37,8 @@ factor = multiplicative_operator then symbol unary_expression
 
 -- what makes a shift or a sum of a first operand
 abbrev pub sum_growth : Dialect → Rule Growth
-sum_growth L = one_more (SymShiftLeft means shift_left then symbol unary_expression) or one_more (SymShiftRight means shift_right then symbol unary_expression)
+sum_growth L = one_more (SymShiftLeft means shift_left then symbol unary_expression)
+    or one_more (SymShiftRight means shift_right then symbol unary_expression)
     or any_more factor then any_more (summand L) gives λ (product, sum) left. sum (product left)
 
 -- what makes a comparison of a shift
@@ -45,8 +47,12 @@ relation_growth = one_more (relational_operator then symbol shift_expression) or
 
 -- what makes an expression of a first operand
 abbrev pub expression_growth : Dialect → Rule Growth
-expression_growth L = some_more SymAnd bitwise_and (symbol unary_expression) or some_more SymOr bitwise_or (symbol unary_expression) or some_more SymXor bitwise_xor (symbol unary_expression)
-    or sum_growth L then relation_growth then (some_more SymAndAnd short_circuit_and (symbol relational_expression) or some_more SymOrOr short_circuit_or (symbol relational_expression) or unchanged) gives λ (sum, (relation, more)) left. more (relation (sum left))
+expression_growth L = some_more SymAnd bitwise_and (symbol unary_expression)
+    or some_more SymOr bitwise_or (symbol unary_expression)
+    or some_more SymXor bitwise_xor (symbol unary_expression)
+    or sum_growth L then relation_growth then (some_more SymAndAnd short_circuit_and (symbol relational_expression)
+    or some_more SymOrOr short_circuit_or (symbol relational_expression) or unchanged)
+    gives λ (sum, (relation, more)) left. more (relation (sum left))
 
 -- components behind a base
 abbrev pub component_growth : Rule Growth
@@ -54,28 +60,39 @@ component_growth = left_chain grown_by_component unchanged (symbol component mak
 
 -- what makes a statement of a left side
 abbrev pub left_side_growth : Rule (ExpressionNode → UnattributedStatement)
-left_side_growth = assignment_operator then symbol expression gives (λ (operator, right) left. assignment_of left operator right) or SymPlusPlus means increment_of or SymMinusMinus means decrement_of
+left_side_growth = assignment_operator then symbol expression
+    gives (λ (operator, right) left. assignment_of left operator right)
+    or SymPlusPlus means increment_of or SymMinusMinus means decrement_of
 
 -- an assignment, increment or decrement whose left side begins with `(`
 abbrev pub parenthesized_growth : Rule UnattributedStatement
 parenthesized_growth = parenthesized_left_side then left_side_growth gives λ (left, rest). rest left
 
--- statements behind their attributes: each kind, those that end with a block, and those that end with `;`, without it
+-- statements behind their attributes: each kind, those that end with a block, and those that end
+-- with `;`, without it
 abbrev pub if_kind : Rule UnattributedStatement
-if_kind = KwIf ▹ symbol expression then symbol compound_statement then elses gives λ (condition, (block, elses)). if_of condition block elses
+if_kind = KwIf ▹ symbol expression then symbol compound_statement then elses
+    gives λ (condition, (block, elses)). if_of condition block elses
 
 abbrev pub switch_kind : Rule UnattributedStatement
-switch_kind = KwSwitch ▹ symbol expression then attributes then SymBraceLeft ▹ several (symbol switch_clause) ◃ SymBraceRight gives λ (selected, (body_attributes, clauses)). switch_of selected body_attributes clauses
+switch_kind = KwSwitch ▹ symbol expression then attributes then SymBraceLeft
+    ▹ several (symbol switch_clause) ◃ SymBraceRight
+    gives λ (selected, (body_attributes, clauses)). switch_of selected body_attributes clauses
 
 abbrev pub loop_kind : Rule UnattributedStatement
-loop_kind = KwLoop ▹ attributes then SymBraceLeft ▹ (statements then optional (symbol continuing_statement)) ◃ SymBraceRight gives λ (body_attributes, (body, continuing)). loop_of body_attributes body continuing
+loop_kind = KwLoop ▹ attributes then SymBraceLeft
+    ▹ (statements then optional (symbol continuing_statement)) ◃ SymBraceRight
+    gives λ (body_attributes, (body, continuing)). loop_of body_attributes body continuing
 
 abbrev pub for_kind : Rule UnattributedStatement
-for_kind = KwFor ▹ SymParenLeft ▹ optional (symbol for_init) ◃ SymSemicolon then optional (symbol expression) ◃ SymSemicolon
-    then optional (symbol for_update) ◃ SymParenRight then symbol compound_statement gives λ (init, (condition, (update, block))). for_of init condition update block
+for_kind = KwFor ▹ SymParenLeft ▹ optional (symbol for_init) ◃ SymSemicolon
+    then optional (symbol expression) ◃ SymSemicolon
+    then optional (symbol for_update) ◃ SymParenRight then symbol compound_statement
+    gives λ (init, (condition, (update, block))). for_of init condition update block
 
 abbrev pub while_kind : Rule UnattributedStatement
-while_kind = KwWhile ▹ symbol expression then symbol compound_statement gives λ (condition, block). while_of condition block
+while_kind = KwWhile ▹ symbol expression then symbol compound_statement
+    gives λ (condition, block). while_of condition block
 
 abbrev pub block_kind : Rule UnattributedStatement
 block_kind = SymBraceLeft ▹ statements ◃ SymBraceRight gives λ ss. UnattributedStatement.compound (statements_of ss)
@@ -87,57 +104,76 @@ abbrev pub return_kind : Rule UnattributedStatement
 return_kind = KwReturn ▹ optional (symbol expression) gives return_of
 
 abbrev pub local_kind : Rule UnattributedStatement
-local_kind = var_kind then symbol typed_ident then optional initializer gives λ (kind, (typed, value)). local_of kind typed value
+local_kind = var_kind then symbol typed_ident then optional initializer
+    gives λ (kind, (typed, value)). local_of kind typed value
 
 abbrev pub value_kind : Rule UnattributedStatement
-value_kind = (KwLet means DeclarationKind.let_kind or KwConst means DeclarationKind.const_kind) then symbol typed_ident then initializer gives λ (kind, (typed, value)). local_of kind typed (Some value)
+value_kind = (KwLet means DeclarationKind.let_kind or KwConst means DeclarationKind.const_kind)
+    then symbol typed_ident then initializer
+    gives λ (kind, (typed, value)). local_of kind typed (Some value)
 
 abbrev pub phony_kind : Rule UnattributedStatement
-phony_kind = (one_token SymUnderscore makes underscore_at) then initializer gives λ (left, right). assignment_of left equal right
+phony_kind = (one_token SymUnderscore makes underscore_at) then initializer
+    gives λ (left, right). assignment_of left equal right
 
 abbrev pub simple_kinds : Rule UnattributedStatement
-simple_kinds = open_left_side then left_side_growth gives (λ (left, rest). rest left) or phony_kind or symbol call gives call_statement_of
+simple_kinds = open_left_side then left_side_growth gives (λ (left, rest). rest left) or phony_kind
+    or symbol call gives call_statement_of
 
 abbrev pub assert_kind : Rule ConstAssert
 assert_kind = KwConstAssert ▹ symbol expression gives assert_of
 
 abbrev pub ended_kinds : Rule UnattributedStatement
-ended_kinds = return_kind or local_kind or value_kind or KwContinue means UnattributedStatement.continue_statement or KwDiscard means UnattributedStatement.discard_statement
+ended_kinds = return_kind or local_kind or value_kind
+    or KwContinue means UnattributedStatement.continue_statement
+    or KwDiscard means UnattributedStatement.discard_statement
     or simple_kinds or assert_kind gives UnattributedStatement.const_assert
 
 -- a clause, and a `continuing`, behind their attributes
 abbrev pub clause_kinds : Rule (List CaseSelector × CompoundStatement)
-clause_kinds = KwCase ▹ list SymComma (symbol case_selector) then optional (one_token SymColon) then symbol compound_statement gives (λ (cases, (colon, block)). (cases, block))
-    or KwDefault ▹ optional (one_token SymColon) then symbol compound_statement gives λ (colon, block). (CaseSelector.default_selector ∷ [], block)
+clause_kinds = KwCase ▹ list SymComma (symbol case_selector) then optional (one_token SymColon)
+    then symbol compound_statement gives (λ (cases, (colon, block)). (cases, block))
+    or KwDefault ▹ optional (one_token SymColon) then symbol compound_statement
+    gives λ (colon, block). (CaseSelector.default_selector ∷ [], block)
 
 abbrev pub continuing_kind : Dialect → Rule (CompoundStatement × Option (Attributed BreakIfStatement))
-continuing_kind L = KwContinuing ▹ attributes then SymBraceLeft ▹ (statements then optional (break_if L)) ◃ SymBraceRight gives λ (body_attributes, (body, break_if)). (compound_of body_attributes body, break_if)
+continuing_kind L =
+    KwContinuing ▹ attributes then SymBraceLeft ▹ (statements then optional (break_if L)) ◃ SymBraceRight
+    gives λ (body_attributes, (body, break_if)). (compound_of body_attributes body, break_if)
 
--- declarations behind their attributes: each kind, those that have attributes in both dialects, and the others
+-- declarations behind their attributes: each kind, those that have attributes in both dialects, and
+-- the others
 abbrev pub global_var_kind : Rule UnattributedDeclaration
-global_var_kind = var_kind then symbol typed_ident then optional initializer ◃ SymSemicolon gives λ (kind, (typed, value)). value_of kind typed value
+global_var_kind = var_kind then symbol typed_ident then optional initializer ◃ SymSemicolon
+    gives λ (kind, (typed, value)). value_of kind typed value
 
 abbrev pub global_override_kind : Rule UnattributedDeclaration
-global_override_kind = KwOverride ▹ symbol typed_ident then optional initializer ◃ SymSemicolon gives λ (typed, value). value_of DeclarationKind.override_kind typed value
+global_override_kind = KwOverride ▹ symbol typed_ident then optional initializer ◃ SymSemicolon
+    gives λ (typed, value). value_of DeclarationKind.override_kind typed value
 
 abbrev pub function_kind : Rule UnattributedDeclaration
-function_kind = KwFn ▹ symbol ident then SymParenLeft ▹ list_or_none SymComma (symbol formal_parameter) ◃ SymParenRight then optional return_part then symbol compound_statement
+function_kind = KwFn ▹ symbol ident then SymParenLeft ▹ list_or_none SymComma (symbol formal_parameter)
+    ◃ SymParenRight then optional return_part then symbol compound_statement
     gives λ (name, (parameters, (returned, block))). function_of name parameters returned block
 
 abbrev pub global_const_kind : Rule UnattributedDeclaration
-global_const_kind = KwConst ▹ symbol typed_ident then initializer ◃ SymSemicolon gives λ (typed, value). value_of DeclarationKind.const_kind typed (Some value)
+global_const_kind = KwConst ▹ symbol typed_ident then initializer ◃ SymSemicolon
+    gives λ (typed, value). value_of DeclarationKind.const_kind typed (Some value)
 
 abbrev pub alias_kind : Rule UnattributedDeclaration
 alias_kind = KwAlias ▹ symbol ident then SymEqual ▹ symbol type_specifier ◃ SymSemicolon gives alias_of
 
 abbrev pub struct_kind : Rule UnattributedDeclaration
-struct_kind = KwStruct ▹ symbol ident then SymBraceLeft ▹ list SymComma (symbol struct_member) ◃ SymBraceRight gives struct_of
+struct_kind =
+    KwStruct ▹ symbol ident then SymBraceLeft ▹ list SymComma (symbol struct_member) ◃ SymBraceRight
+    gives struct_of
 
 abbrev pub attributed_kinds : Rule UnattributedDeclaration
 attributed_kinds = global_var_kind or global_override_kind or function_kind
 
 abbrev pub led_kinds : Rule UnattributedDeclaration
-led_kinds = global_const_kind or alias_kind or struct_kind or assert_kind ◃ SymSemicolon gives UnattributedDeclaration.const_assert
+led_kinds = global_const_kind or alias_kind or struct_kind
+    or assert_kind ◃ SymSemicolon gives UnattributedDeclaration.const_assert
 
 -- directives behind their attributes
 abbrev pub enable_kind : Rule UnattributedDirective
@@ -147,7 +183,9 @@ abbrev pub requires_kind : Rule UnattributedDirective
 requires_kind = KwRequires ▹ list SymComma (symbol ident) ◃ SymSemicolon gives requires_of
 
 abbrev pub diagnostic_kind : Rule UnattributedDirective
-diagnostic_kind = symbol diagnostic_severity ◃ SymComma then symbol ident then optional (SymPeriod ▹ symbol ident) then optional (one_token SymComma) ◃ SymParenRight ◃ SymSemicolon
+diagnostic_kind =
+    symbol diagnostic_severity ◃ SymComma then symbol ident then optional (SymPeriod ▹ symbol ident)
+    then optional (one_token SymComma) ◃ SymParenRight ◃ SymSemicolon
     gives λ (severity, (first, (second, comma))). diagnostic_of severity first second
 
 -- what each further symbol means
@@ -204,11 +242,14 @@ meaning L clause_part = clause_kinds
 meaning L continuing_part = continuing_kind L
 meaning L left_side_rest = left_side_growth
 meaning L left_side_in_parentheses = parenthesized_left_side
-meaning L prefixed_left_side = SymStar means indirection then symbol lhs_expression makes unary_of or SymAnd means address_of then symbol lhs_expression makes unary_of
-meaning L name_rest_statement = optional (symbol template_list) then symbol arguments gives (λ called name. call_by_name name called)
+meaning L prefixed_left_side = SymStar means indirection then symbol lhs_expression makes unary_of
+    or SymAnd means address_of then symbol lhs_expression makes unary_of
+meaning L name_rest_statement =
+    optional (symbol template_list) then symbol arguments gives (λ called name. call_by_name name called)
     or component_growth then left_side_growth gives λ (growth, rest) name. rest (growth (variable_of name))
 meaning L parenthesized_statement = parenthesized_growth
-meaning L plain_statement = (SymSemicolon means unattributed UnattributedStatement.void or parenthesized_growth ◃ SymSemicolon gives unattributed) makes placed_statement
+meaning L plain_statement = (SymSemicolon means unattributed UnattributedStatement.void
+    or parenthesized_growth ◃ SymSemicolon gives unattributed) makes placed_statement
 meaning L var_part = global_var_kind
 meaning L override_part = global_override_kind
 meaning L function_part = function_kind

@@ -1,17 +1,20 @@
 -- The tables of the factored grammar, written by tools/tables.py.
 use Rattle.std.specs.Prelude.{ℕ, Bool, true, false, List, [], ◌∷◌}
 use Rattle.grammar.specs.Tables.{Tables}
-use Rattle.wgsl_model.specs.Tokens.Classes.{SymAnd, SymAndAnd, SymAttr, SymForwardSlash, SymBang, SymBracketLeft, SymBraceLeft, SymBraceRight, SymColon, SymComma, SymEqual, SymEqualEqual, SymNotEqual, SymGreaterThan, SymGreaterThanEqual, SymShiftRight, SymLessThan, SymLessThanEqual, SymShiftLeft, SymModulo, SymMinus, SymMinusMinus, SymPeriod, SymPlus, SymPlusPlus, SymOr, SymOrOr, SymParenLeft, SymParenRight, SymSemicolon, SymStar, SymTilde, SymUnderscore, SymXor, SymPlusEqual, SymMinusEqual, SymTimesEqual, SymDivisionEqual, SymModuloEqual, SymAndEqual, SymOrEqual, SymXorEqual, SymShiftRightAssign, SymShiftLeftAssign, KwAlias, KwBreak, KwCase, KwConst, KwConstAssert, KwContinue, KwContinuing, KwDefault, KwDiagnostic, KwDiscard, KwElse, KwEnable, KwFalse, KwFn, KwFor, KwIf, KwLet, KwLoop, KwOverride, KwRequires, KwReturn, KwStruct, KwSwitch, KwTrue, KwVar, KwWhile, Ident, ReservedWord, AbstractInt, I32, U32, AbstractFloat, F32, F16, TemplateArgsStart, TemplateArgsEnd}
+use Rattle.wgsl_model.specs.Tokens.ClassTable.{SymAnd, SymAndAnd, SymAttr, SymForwardSlash, SymBang, SymBracketLeft, SymBraceLeft, SymBraceRight, SymColon, SymComma, SymEqual, SymEqualEqual, SymNotEqual, SymGreaterThan, SymGreaterThanEqual, SymShiftRight, SymLessThan, SymLessThanEqual, SymShiftLeft, SymModulo, SymMinus, SymMinusMinus, SymPeriod, SymPlus, SymPlusPlus, SymOr, SymOrOr, SymParenLeft, SymParenRight, SymSemicolon, SymStar, SymTilde, SymUnderscore, SymXor, SymPlusEqual, SymMinusEqual, SymTimesEqual, SymDivisionEqual, SymModuloEqual, SymAndEqual, SymOrEqual, SymXorEqual, SymShiftRightAssign, SymShiftLeftAssign, KwAlias, KwBreak, KwCase, KwConst, KwConstAssert, KwContinue, KwContinuing, KwDefault, KwDiagnostic, KwDiscard, KwElse, KwEnable, KwFalse, KwFn, KwFor, KwIf, KwLet, KwLoop, KwOverride, KwRequires, KwReturn, KwStruct, KwSwitch, KwTrue, KwVar, KwWhile, Ident, ReservedWord, AbstractInt, I32, U32, AbstractFloat, F32, F16, TemplateArgsStart, TemplateArgsEnd}
 use Rattle.wgsl_model.specs.Grammar.Symbols.{Symbol.ident, Symbol.type_specifier, Symbol.template_list, Symbol.expressions, Symbol.call, Symbol.arguments, Symbol.literal, Symbol.primary_expression, Symbol.singular_expression, Symbol.component, Symbol.unary_expression, Symbol.multiplicative_expression, Symbol.negated_expression, Symbol.additive_expression, Symbol.shift_expression, Symbol.relational_expression, Symbol.expression, Symbol.lhs_expression, Symbol.attribute, Symbol.compound_statement, Symbol.statement, Symbol.return_statement, Symbol.if_statement, Symbol.switch_statement, Symbol.loop_statement, Symbol.for_statement, Symbol.while_statement, Symbol.call_statement, Symbol.var_statement, Symbol.value_statement, Symbol.break_statement, Symbol.continue_statement, Symbol.discard_statement, Symbol.assignment, Symbol.phony_assignment, Symbol.increment, Symbol.decrement, Symbol.const_assert, Symbol.switch_clause, Symbol.case_selector, Symbol.continuing_statement, Symbol.for_init, Symbol.for_update, Symbol.var_template, Symbol.typed_ident, Symbol.struct_member, Symbol.formal_parameter, Symbol.global_declaration, Symbol.var_declaration, Symbol.const_declaration, Symbol.override_declaration, Symbol.alias_declaration, Symbol.struct_declaration, Symbol.function_declaration, Symbol.diagnostic_severity, Symbol.global_directive, Symbol.enable_directive, Symbol.requires_directive, Symbol.diagnostic_directive, Symbol.unit}
 use Rattle.wgsl_theory_grammar.specs.Factored.{FactoredSymbol, FactoredSymbol.of, FactoredSymbol.further, Further.template_items, Further.template_rest, Further.template_more, Further.argument_rest, Further.argument_more, Further.member_items, Further.member_rest, Further.member_more, Further.parameter_rest, Further.parameter_more, Further.name_items, Further.name_rest, Further.name_more, Further.selectors, Further.components, Further.factors, Further.summands, Further.sum_rest, Further.relation_rest, Further.and_rest, Further.or_rest, Further.bitwise_and_rest, Further.bitwise_or_rest, Further.bitwise_xor_rest, Further.expression_rest, Further.attribute_list, Further.statement_rest, Further.loop_rest, Further.continuing_rest, Further.clause_rest, Further.else_rest, Further.init_part, Further.condition_part, Further.update_part, Further.if_part, Further.switch_part, Further.loop_part, Further.for_part, Further.while_part, Further.block_part, Further.braced_part, Further.returning_part, Further.local_part, Further.value_part, Further.phony_part, Further.simple_part, Further.ended_part, Further.assert_part, Further.clause_part, Further.continuing_part, Further.left_side_rest, Further.left_side_in_parentheses, Further.prefixed_left_side, Further.name_rest_statement, Further.parenthesized_statement, Further.plain_statement, Further.var_part, Further.override_part, Further.function_part, Further.const_part, Further.alias_part, Further.struct_part, Further.enable_part, Further.requires_part, Further.diagnostic_part, Further.attributed_part, Further.led_part, Further.directive_part, Further.declaration_list, Further.front}
 
--- the classes that begin expressions, unary_expression, multiplicative_expression, additive_expression, shift_expression, relational_expression, expression, template_items
+-- the classes that begin expressions, unary_expression, multiplicative_expression,
+-- additive_expression, shift_expression, relational_expression, expression, template_items
 abbrev pub begin_expressions : List ℕ
-begin_expressions = SymAnd ∷ SymBang ∷ SymMinus ∷ SymParenLeft ∷ SymStar ∷ SymTilde ∷ KwFalse ∷ KwTrue ∷ Ident ∷ ReservedWord ∷ AbstractInt ∷ I32 ∷ U32 ∷ AbstractFloat ∷ F32 ∷ F16 ∷ []
+begin_expressions = SymAnd ∷ SymBang ∷ SymMinus ∷ SymParenLeft ∷ SymStar ∷ SymTilde ∷ KwFalse
+    ∷ KwTrue ∷ Ident ∷ ReservedWord ∷ AbstractInt ∷ I32 ∷ U32 ∷ AbstractFloat ∷ F32 ∷ F16 ∷ []
 
 -- the classes that begin primary_expression, singular_expression
 abbrev pub begin_primary_expression : List ℕ
-begin_primary_expression = SymParenLeft ∷ KwFalse ∷ KwTrue ∷ Ident ∷ ReservedWord ∷ AbstractInt ∷ I32 ∷ U32 ∷ AbstractFloat ∷ F32 ∷ F16 ∷ []
+begin_primary_expression = SymParenLeft ∷ KwFalse ∷ KwTrue ∷ Ident ∷ ReservedWord ∷ AbstractInt
+    ∷ I32 ∷ U32 ∷ AbstractFloat ∷ F32 ∷ F16 ∷ []
 
 -- the classes that begin call_statement, struct_member, formal_parameter, member_items
 abbrev pub begin_call_statement : List ℕ
@@ -23,19 +26,24 @@ begin_assignment = SymAnd ∷ SymAttr ∷ SymParenLeft ∷ SymStar ∷ Ident ∷
 
 -- the classes that begin case_selector, selectors
 abbrev pub begin_case_selector : List ℕ
-begin_case_selector = SymAnd ∷ SymBang ∷ SymMinus ∷ SymParenLeft ∷ SymStar ∷ SymTilde ∷ KwDefault ∷ KwFalse ∷ KwTrue ∷ Ident ∷ ReservedWord ∷ AbstractInt ∷ I32 ∷ U32 ∷ AbstractFloat ∷ F32 ∷ F16 ∷ []
+begin_case_selector = SymAnd ∷ SymBang ∷ SymMinus ∷ SymParenLeft ∷ SymStar ∷ SymTilde ∷ KwDefault
+    ∷ KwFalse ∷ KwTrue ∷ Ident ∷ ReservedWord ∷ AbstractInt ∷ I32 ∷ U32 ∷ AbstractFloat ∷ F32 ∷ F16 ∷ []
 
 -- the classes that begin global_declaration, declaration_list
 abbrev pub begin_global_declaration : List ℕ
-begin_global_declaration = SymAttr ∷ SymSemicolon ∷ KwAlias ∷ KwConst ∷ KwConstAssert ∷ KwFn ∷ KwOverride ∷ KwStruct ∷ KwVar ∷ []
+begin_global_declaration = SymAttr ∷ SymSemicolon ∷ KwAlias ∷ KwConst ∷ KwConstAssert ∷ KwFn
+    ∷ KwOverride ∷ KwStruct ∷ KwVar ∷ []
 
 -- the classes that begin unit, front
 abbrev pub begin_unit : List ℕ
-begin_unit = SymAttr ∷ SymSemicolon ∷ KwAlias ∷ KwConst ∷ KwConstAssert ∷ KwDiagnostic ∷ KwEnable ∷ KwFn ∷ KwOverride ∷ KwRequires ∷ KwStruct ∷ KwVar ∷ []
+begin_unit = SymAttr ∷ SymSemicolon ∷ KwAlias ∷ KwConst ∷ KwConstAssert ∷ KwDiagnostic ∷ KwEnable
+    ∷ KwFn ∷ KwOverride ∷ KwRequires ∷ KwStruct ∷ KwVar ∷ []
 
 -- the classes that begin statement_rest, continuing_rest
 abbrev pub begin_statement_rest : List ℕ
-begin_statement_rest = SymAnd ∷ SymAttr ∷ SymBraceLeft ∷ SymBraceRight ∷ SymParenLeft ∷ SymSemicolon ∷ SymStar ∷ SymUnderscore ∷ KwBreak ∷ KwConst ∷ KwConstAssert ∷ KwContinue ∷ KwDiscard ∷ KwFor ∷ KwIf ∷ KwLet ∷ KwLoop ∷ KwReturn ∷ KwSwitch ∷ KwVar ∷ KwWhile ∷ Ident ∷ ReservedWord ∷ []
+begin_statement_rest = SymAnd ∷ SymAttr ∷ SymBraceLeft ∷ SymBraceRight ∷ SymParenLeft ∷ SymSemicolon
+    ∷ SymStar ∷ SymUnderscore ∷ KwBreak ∷ KwConst ∷ KwConstAssert ∷ KwContinue ∷ KwDiscard ∷ KwFor
+    ∷ KwIf ∷ KwLet ∷ KwLoop ∷ KwReturn ∷ KwSwitch ∷ KwVar ∷ KwWhile ∷ Ident ∷ ReservedWord ∷ []
 
 -- the classes that begin each symbol
 abbrev pub firsts : FactoredSymbol → List ℕ
@@ -52,7 +60,9 @@ firsts (of negated_expression) = SymMinusMinus ∷ []
 firsts (of lhs_expression) = SymAnd ∷ SymParenLeft ∷ SymStar ∷ Ident ∷ ReservedWord ∷ []
 firsts (of attribute) = SymAttr ∷ []
 firsts (of compound_statement) = SymAttr ∷ SymBraceLeft ∷ []
-firsts (of statement) = SymAnd ∷ SymAttr ∷ SymBraceLeft ∷ SymParenLeft ∷ SymSemicolon ∷ SymStar ∷ SymUnderscore ∷ KwBreak ∷ KwConst ∷ KwConstAssert ∷ KwContinue ∷ KwDiscard ∷ KwFor ∷ KwIf ∷ KwLet ∷ KwLoop ∷ KwReturn ∷ KwSwitch ∷ KwVar ∷ KwWhile ∷ Ident ∷ ReservedWord ∷ []
+firsts (of statement) = SymAnd ∷ SymAttr ∷ SymBraceLeft ∷ SymParenLeft ∷ SymSemicolon ∷ SymStar
+    ∷ SymUnderscore ∷ KwBreak ∷ KwConst ∷ KwConstAssert ∷ KwContinue ∷ KwDiscard ∷ KwFor ∷ KwIf
+    ∷ KwLet ∷ KwLoop ∷ KwReturn ∷ KwSwitch ∷ KwVar ∷ KwWhile ∷ Ident ∷ ReservedWord ∷ []
 firsts (of return_statement) = SymAttr ∷ KwReturn ∷ []
 firsts (of if_statement) = SymAttr ∷ KwIf ∷ []
 firsts (of switch_statement) = SymAttr ∷ KwSwitch ∷ []
@@ -73,7 +83,8 @@ firsts (of const_assert) = SymAttr ∷ KwConstAssert ∷ []
 firsts (of switch_clause) = SymAttr ∷ KwCase ∷ KwDefault ∷ []
 firsts (of case_selector) = begin_case_selector
 firsts (of continuing_statement) = SymAttr ∷ KwContinuing ∷ []
-firsts (of for_init) = SymAnd ∷ SymAttr ∷ SymParenLeft ∷ SymStar ∷ SymUnderscore ∷ KwConst ∷ KwLet ∷ KwVar ∷ Ident ∷ ReservedWord ∷ []
+firsts (of for_init) = SymAnd ∷ SymAttr ∷ SymParenLeft ∷ SymStar ∷ SymUnderscore ∷ KwConst ∷ KwLet
+    ∷ KwVar ∷ Ident ∷ ReservedWord ∷ []
 firsts (of for_update) = SymAnd ∷ SymAttr ∷ SymParenLeft ∷ SymStar ∷ SymUnderscore ∷ Ident ∷ ReservedWord ∷ []
 firsts (of var_template) = KwVar ∷ []
 firsts (of typed_ident) = Ident ∷ ReservedWord ∷ []
@@ -92,9 +103,13 @@ firsts (of enable_directive) = SymAttr ∷ KwEnable ∷ []
 firsts (of requires_directive) = SymAttr ∷ KwRequires ∷ []
 firsts (of diagnostic_directive) = SymAttr ∷ KwDiagnostic ∷ []
 firsts (of unit) = begin_unit
-firsts (further template_rest) = SymAnd ∷ SymBang ∷ SymMinus ∷ SymParenLeft ∷ SymStar ∷ SymTilde ∷ KwFalse ∷ KwTrue ∷ Ident ∷ ReservedWord ∷ AbstractInt ∷ I32 ∷ U32 ∷ AbstractFloat ∷ F32 ∷ F16 ∷ TemplateArgsEnd ∷ []
+firsts (further template_rest) = SymAnd ∷ SymBang ∷ SymMinus ∷ SymParenLeft ∷ SymStar ∷ SymTilde
+    ∷ KwFalse ∷ KwTrue ∷ Ident ∷ ReservedWord ∷ AbstractInt ∷ I32 ∷ U32 ∷ AbstractFloat ∷ F32 ∷ F16
+    ∷ TemplateArgsEnd ∷ []
 firsts (further template_more) = SymComma ∷ TemplateArgsEnd ∷ []
-firsts (further argument_rest) = SymAnd ∷ SymBang ∷ SymMinus ∷ SymParenLeft ∷ SymParenRight ∷ SymStar ∷ SymTilde ∷ KwFalse ∷ KwTrue ∷ Ident ∷ ReservedWord ∷ AbstractInt ∷ I32 ∷ U32 ∷ AbstractFloat ∷ F32 ∷ F16 ∷ []
+firsts (further argument_rest) = SymAnd ∷ SymBang ∷ SymMinus ∷ SymParenLeft ∷ SymParenRight
+    ∷ SymStar ∷ SymTilde ∷ KwFalse ∷ KwTrue ∷ Ident ∷ ReservedWord ∷ AbstractInt ∷ I32 ∷ U32
+    ∷ AbstractFloat ∷ F32 ∷ F16 ∷ []
 firsts (further argument_more) = SymComma ∷ SymParenRight ∷ []
 firsts (further member_items) = begin_call_statement
 firsts (further member_rest) = SymAttr ∷ SymBraceRight ∷ Ident ∷ ReservedWord ∷ []
@@ -108,23 +123,34 @@ firsts (further selectors) = begin_case_selector
 firsts (further components) = SymBracketLeft ∷ SymPeriod ∷ []
 firsts (further factors) = SymForwardSlash ∷ SymModulo ∷ SymStar ∷ []
 firsts (further summands) = SymMinus ∷ SymMinusMinus ∷ SymPlus ∷ []
-firsts (further sum_rest) = SymForwardSlash ∷ SymShiftRight ∷ SymShiftLeft ∷ SymModulo ∷ SymMinus ∷ SymMinusMinus ∷ SymPlus ∷ SymStar ∷ []
-firsts (further relation_rest) = SymEqualEqual ∷ SymNotEqual ∷ SymGreaterThan ∷ SymGreaterThanEqual ∷ SymLessThan ∷ SymLessThanEqual ∷ []
+firsts (further sum_rest) = SymForwardSlash ∷ SymShiftRight ∷ SymShiftLeft ∷ SymModulo ∷ SymMinus
+    ∷ SymMinusMinus ∷ SymPlus ∷ SymStar ∷ []
+firsts (further relation_rest) = SymEqualEqual ∷ SymNotEqual ∷ SymGreaterThan ∷ SymGreaterThanEqual
+    ∷ SymLessThan ∷ SymLessThanEqual ∷ []
 firsts (further and_rest) = SymAndAnd ∷ []
 firsts (further or_rest) = SymOrOr ∷ []
 firsts (further bitwise_and_rest) = SymAnd ∷ []
 firsts (further bitwise_or_rest) = SymOr ∷ []
 firsts (further bitwise_xor_rest) = SymXor ∷ []
-firsts (further expression_rest) = SymAnd ∷ SymAndAnd ∷ SymForwardSlash ∷ SymEqualEqual ∷ SymNotEqual ∷ SymGreaterThan ∷ SymGreaterThanEqual ∷ SymShiftRight ∷ SymLessThan ∷ SymLessThanEqual ∷ SymShiftLeft ∷ SymModulo ∷ SymMinus ∷ SymMinusMinus ∷ SymPlus ∷ SymOr ∷ SymOrOr ∷ SymStar ∷ SymXor ∷ []
+firsts (further expression_rest) = SymAnd ∷ SymAndAnd ∷ SymForwardSlash ∷ SymEqualEqual ∷ SymNotEqual
+    ∷ SymGreaterThan ∷ SymGreaterThanEqual ∷ SymShiftRight ∷ SymLessThan ∷ SymLessThanEqual ∷ SymShiftLeft
+    ∷ SymModulo ∷ SymMinus ∷ SymMinusMinus ∷ SymPlus ∷ SymOr ∷ SymOrOr ∷ SymStar ∷ SymXor ∷ []
 firsts (further attribute_list) = SymAttr ∷ []
 firsts (further statement_rest) = begin_statement_rest
-firsts (further loop_rest) = SymAnd ∷ SymAttr ∷ SymBraceLeft ∷ SymBraceRight ∷ SymParenLeft ∷ SymSemicolon ∷ SymStar ∷ SymUnderscore ∷ KwBreak ∷ KwConst ∷ KwConstAssert ∷ KwContinue ∷ KwContinuing ∷ KwDiscard ∷ KwFor ∷ KwIf ∷ KwLet ∷ KwLoop ∷ KwReturn ∷ KwSwitch ∷ KwVar ∷ KwWhile ∷ Ident ∷ ReservedWord ∷ []
+firsts (further loop_rest) = SymAnd ∷ SymAttr ∷ SymBraceLeft ∷ SymBraceRight ∷ SymParenLeft
+    ∷ SymSemicolon ∷ SymStar ∷ SymUnderscore ∷ KwBreak ∷ KwConst ∷ KwConstAssert ∷ KwContinue
+    ∷ KwContinuing ∷ KwDiscard ∷ KwFor ∷ KwIf ∷ KwLet ∷ KwLoop ∷ KwReturn ∷ KwSwitch ∷ KwVar
+    ∷ KwWhile ∷ Ident ∷ ReservedWord ∷ []
 firsts (further continuing_rest) = begin_statement_rest
 firsts (further clause_rest) = SymAttr ∷ SymBraceRight ∷ KwCase ∷ KwDefault ∷ []
 firsts (further else_rest) = KwElse ∷ []
-firsts (further init_part) = SymAnd ∷ SymAttr ∷ SymParenLeft ∷ SymSemicolon ∷ SymStar ∷ SymUnderscore ∷ KwConst ∷ KwLet ∷ KwVar ∷ Ident ∷ ReservedWord ∷ []
-firsts (further condition_part) = SymAnd ∷ SymBang ∷ SymMinus ∷ SymParenLeft ∷ SymSemicolon ∷ SymStar ∷ SymTilde ∷ KwFalse ∷ KwTrue ∷ Ident ∷ ReservedWord ∷ AbstractInt ∷ I32 ∷ U32 ∷ AbstractFloat ∷ F32 ∷ F16 ∷ []
-firsts (further update_part) = SymAnd ∷ SymAttr ∷ SymParenLeft ∷ SymParenRight ∷ SymStar ∷ SymUnderscore ∷ Ident ∷ ReservedWord ∷ []
+firsts (further init_part) = SymAnd ∷ SymAttr ∷ SymParenLeft ∷ SymSemicolon ∷ SymStar
+    ∷ SymUnderscore ∷ KwConst ∷ KwLet ∷ KwVar ∷ Ident ∷ ReservedWord ∷ []
+firsts (further condition_part) = SymAnd ∷ SymBang ∷ SymMinus ∷ SymParenLeft ∷ SymSemicolon
+    ∷ SymStar ∷ SymTilde ∷ KwFalse ∷ KwTrue ∷ Ident ∷ ReservedWord ∷ AbstractInt ∷ I32 ∷ U32
+    ∷ AbstractFloat ∷ F32 ∷ F16 ∷ []
+firsts (further update_part) = SymAnd ∷ SymAttr ∷ SymParenLeft ∷ SymParenRight ∷ SymStar
+    ∷ SymUnderscore ∷ Ident ∷ ReservedWord ∷ []
 firsts (further if_part) = KwIf ∷ []
 firsts (further switch_part) = KwSwitch ∷ []
 firsts (further loop_part) = KwLoop ∷ []
@@ -137,14 +163,20 @@ firsts (further local_part) = KwVar ∷ []
 firsts (further value_part) = KwConst ∷ KwLet ∷ []
 firsts (further phony_part) = SymUnderscore ∷ []
 firsts (further simple_part) = SymAnd ∷ SymStar ∷ SymUnderscore ∷ Ident ∷ ReservedWord ∷ []
-firsts (further ended_part) = SymAnd ∷ SymStar ∷ SymUnderscore ∷ KwConst ∷ KwConstAssert ∷ KwContinue ∷ KwDiscard ∷ KwLet ∷ KwReturn ∷ KwVar ∷ Ident ∷ ReservedWord ∷ []
+firsts (further ended_part) = SymAnd ∷ SymStar ∷ SymUnderscore ∷ KwConst ∷ KwConstAssert
+    ∷ KwContinue ∷ KwDiscard ∷ KwLet ∷ KwReturn ∷ KwVar ∷ Ident ∷ ReservedWord ∷ []
 firsts (further assert_part) = KwConstAssert ∷ []
 firsts (further clause_part) = KwCase ∷ KwDefault ∷ []
 firsts (further continuing_part) = KwContinuing ∷ []
-firsts (further left_side_rest) = SymEqual ∷ SymMinusMinus ∷ SymPlusPlus ∷ SymPlusEqual ∷ SymMinusEqual ∷ SymTimesEqual ∷ SymDivisionEqual ∷ SymModuloEqual ∷ SymAndEqual ∷ SymOrEqual ∷ SymXorEqual ∷ SymShiftRightAssign ∷ SymShiftLeftAssign ∷ []
+firsts (further left_side_rest) = SymEqual ∷ SymMinusMinus ∷ SymPlusPlus ∷ SymPlusEqual
+    ∷ SymMinusEqual ∷ SymTimesEqual ∷ SymDivisionEqual ∷ SymModuloEqual ∷ SymAndEqual ∷ SymOrEqual
+    ∷ SymXorEqual ∷ SymShiftRightAssign ∷ SymShiftLeftAssign ∷ []
 firsts (further left_side_in_parentheses) = SymParenLeft ∷ []
 firsts (further prefixed_left_side) = SymAnd ∷ SymStar ∷ []
-firsts (further name_rest_statement) = SymBracketLeft ∷ SymEqual ∷ SymMinusMinus ∷ SymPeriod ∷ SymPlusPlus ∷ SymParenLeft ∷ SymPlusEqual ∷ SymMinusEqual ∷ SymTimesEqual ∷ SymDivisionEqual ∷ SymModuloEqual ∷ SymAndEqual ∷ SymOrEqual ∷ SymXorEqual ∷ SymShiftRightAssign ∷ SymShiftLeftAssign ∷ TemplateArgsStart ∷ []
+firsts (further name_rest_statement) = SymBracketLeft ∷ SymEqual ∷ SymMinusMinus ∷ SymPeriod
+    ∷ SymPlusPlus ∷ SymParenLeft ∷ SymPlusEqual ∷ SymMinusEqual ∷ SymTimesEqual ∷ SymDivisionEqual
+    ∷ SymModuloEqual ∷ SymAndEqual ∷ SymOrEqual ∷ SymXorEqual ∷ SymShiftRightAssign
+    ∷ SymShiftLeftAssign ∷ TemplateArgsStart ∷ []
 firsts (further parenthesized_statement) = SymParenLeft ∷ []
 firsts (further plain_statement) = SymParenLeft ∷ SymSemicolon ∷ []
 firsts (further var_part) = KwVar ∷ []
@@ -184,40 +216,63 @@ behind_singular_expression = SymBracketLeft ∷ SymPeriod ∷ SymParenLeft ∷ T
 
 -- the classes that could go on behind multiplicative_expression, negated_expression, factors
 abbrev pub behind_multiplicative_expression : List ℕ
-behind_multiplicative_expression = SymForwardSlash ∷ SymBracketLeft ∷ SymModulo ∷ SymPeriod ∷ SymParenLeft ∷ SymStar ∷ TemplateArgsStart ∷ []
+behind_multiplicative_expression = SymForwardSlash ∷ SymBracketLeft ∷ SymModulo ∷ SymPeriod
+    ∷ SymParenLeft ∷ SymStar ∷ TemplateArgsStart ∷ []
 
 -- the classes that could go on behind additive_expression, summands
 abbrev pub behind_additive_expression : List ℕ
-behind_additive_expression = SymForwardSlash ∷ SymBracketLeft ∷ SymModulo ∷ SymMinus ∷ SymMinusMinus ∷ SymPeriod ∷ SymPlus ∷ SymParenLeft ∷ SymStar ∷ TemplateArgsStart ∷ []
+behind_additive_expression = SymForwardSlash ∷ SymBracketLeft ∷ SymModulo ∷ SymMinus ∷ SymMinusMinus
+    ∷ SymPeriod ∷ SymPlus ∷ SymParenLeft ∷ SymStar ∷ TemplateArgsStart ∷ []
 
 -- the classes that could go on behind shift_expression, sum_rest
 abbrev pub behind_shift_expression : List ℕ
-behind_shift_expression = SymForwardSlash ∷ SymBracketLeft ∷ SymShiftRight ∷ SymShiftLeft ∷ SymModulo ∷ SymMinus ∷ SymMinusMinus ∷ SymPeriod ∷ SymPlus ∷ SymParenLeft ∷ SymStar ∷ TemplateArgsStart ∷ []
+behind_shift_expression = SymForwardSlash ∷ SymBracketLeft ∷ SymShiftRight ∷ SymShiftLeft ∷ SymModulo
+    ∷ SymMinus ∷ SymMinusMinus ∷ SymPeriod ∷ SymPlus ∷ SymParenLeft ∷ SymStar ∷ TemplateArgsStart ∷ []
 
 -- the classes that could go on behind relational_expression, relation_rest
 abbrev pub behind_relational_expression : List ℕ
-behind_relational_expression = SymForwardSlash ∷ SymBracketLeft ∷ SymEqualEqual ∷ SymNotEqual ∷ SymGreaterThan ∷ SymGreaterThanEqual ∷ SymShiftRight ∷ SymLessThan ∷ SymLessThanEqual ∷ SymShiftLeft ∷ SymModulo ∷ SymMinus ∷ SymMinusMinus ∷ SymPeriod ∷ SymPlus ∷ SymParenLeft ∷ SymStar ∷ TemplateArgsStart ∷ []
+behind_relational_expression = SymForwardSlash ∷ SymBracketLeft ∷ SymEqualEqual ∷ SymNotEqual
+    ∷ SymGreaterThan ∷ SymGreaterThanEqual ∷ SymShiftRight ∷ SymLessThan ∷ SymLessThanEqual
+    ∷ SymShiftLeft ∷ SymModulo ∷ SymMinus ∷ SymMinusMinus ∷ SymPeriod ∷ SymPlus ∷ SymParenLeft
+    ∷ SymStar ∷ TemplateArgsStart ∷ []
 
--- the classes that could go on behind expression, value_statement, assignment, phony_assignment, const_assert, case_selector, for_update, expression_rest, value_part, phony_part, simple_part, assert_part, left_side_rest, name_rest_statement, parenthesized_statement
+-- the classes that could go on behind expression, value_statement, assignment, phony_assignment,
+-- const_assert, case_selector, for_update, expression_rest, value_part, phony_part, simple_part,
+-- assert_part, left_side_rest, name_rest_statement, parenthesized_statement
 abbrev pub behind_expression : List ℕ
-behind_expression = SymAnd ∷ SymAndAnd ∷ SymForwardSlash ∷ SymBracketLeft ∷ SymEqualEqual ∷ SymNotEqual ∷ SymGreaterThan ∷ SymGreaterThanEqual ∷ SymShiftRight ∷ SymLessThan ∷ SymLessThanEqual ∷ SymShiftLeft ∷ SymModulo ∷ SymMinus ∷ SymMinusMinus ∷ SymPeriod ∷ SymPlus ∷ SymOr ∷ SymOrOr ∷ SymParenLeft ∷ SymStar ∷ SymXor ∷ TemplateArgsStart ∷ []
+behind_expression = SymAnd ∷ SymAndAnd ∷ SymForwardSlash ∷ SymBracketLeft ∷ SymEqualEqual
+    ∷ SymNotEqual ∷ SymGreaterThan ∷ SymGreaterThanEqual ∷ SymShiftRight ∷ SymLessThan
+    ∷ SymLessThanEqual ∷ SymShiftLeft ∷ SymModulo ∷ SymMinus ∷ SymMinusMinus ∷ SymPeriod ∷ SymPlus
+    ∷ SymOr ∷ SymOrOr ∷ SymParenLeft ∷ SymStar ∷ SymXor ∷ TemplateArgsStart ∷ []
 
 -- the classes that could go on behind return_statement, returning_part
 abbrev pub behind_return_statement : List ℕ
-behind_return_statement = SymAnd ∷ SymAndAnd ∷ SymForwardSlash ∷ SymBang ∷ SymBracketLeft ∷ SymEqualEqual ∷ SymNotEqual ∷ SymGreaterThan ∷ SymGreaterThanEqual ∷ SymShiftRight ∷ SymLessThan ∷ SymLessThanEqual ∷ SymShiftLeft ∷ SymModulo ∷ SymMinus ∷ SymMinusMinus ∷ SymPeriod ∷ SymPlus ∷ SymOr ∷ SymOrOr ∷ SymParenLeft ∷ SymStar ∷ SymTilde ∷ SymXor ∷ KwFalse ∷ KwTrue ∷ Ident ∷ ReservedWord ∷ AbstractInt ∷ I32 ∷ U32 ∷ AbstractFloat ∷ F32 ∷ F16 ∷ TemplateArgsStart ∷ []
+behind_return_statement = SymAnd ∷ SymAndAnd ∷ SymForwardSlash ∷ SymBang ∷ SymBracketLeft
+    ∷ SymEqualEqual ∷ SymNotEqual ∷ SymGreaterThan ∷ SymGreaterThanEqual ∷ SymShiftRight ∷ SymLessThan
+    ∷ SymLessThanEqual ∷ SymShiftLeft ∷ SymModulo ∷ SymMinus ∷ SymMinusMinus ∷ SymPeriod ∷ SymPlus
+    ∷ SymOr ∷ SymOrOr ∷ SymParenLeft ∷ SymStar ∷ SymTilde ∷ SymXor ∷ KwFalse ∷ KwTrue ∷ Ident
+    ∷ ReservedWord ∷ AbstractInt ∷ I32 ∷ U32 ∷ AbstractFloat ∷ F32 ∷ F16 ∷ TemplateArgsStart ∷ []
 
 -- the classes that could go on behind var_statement, for_init, local_part
 abbrev pub behind_var_statement : List ℕ
-behind_var_statement = SymAnd ∷ SymAndAnd ∷ SymForwardSlash ∷ SymBracketLeft ∷ SymColon ∷ SymEqual ∷ SymEqualEqual ∷ SymNotEqual ∷ SymGreaterThan ∷ SymGreaterThanEqual ∷ SymShiftRight ∷ SymLessThan ∷ SymLessThanEqual ∷ SymShiftLeft ∷ SymModulo ∷ SymMinus ∷ SymMinusMinus ∷ SymPeriod ∷ SymPlus ∷ SymOr ∷ SymOrOr ∷ SymParenLeft ∷ SymStar ∷ SymXor ∷ TemplateArgsStart ∷ []
+behind_var_statement = SymAnd ∷ SymAndAnd ∷ SymForwardSlash ∷ SymBracketLeft ∷ SymColon ∷ SymEqual
+    ∷ SymEqualEqual ∷ SymNotEqual ∷ SymGreaterThan ∷ SymGreaterThanEqual ∷ SymShiftRight ∷ SymLessThan
+    ∷ SymLessThanEqual ∷ SymShiftLeft ∷ SymModulo ∷ SymMinus ∷ SymMinusMinus ∷ SymPeriod ∷ SymPlus
+    ∷ SymOr ∷ SymOrOr ∷ SymParenLeft ∷ SymStar ∷ SymXor ∷ TemplateArgsStart ∷ []
 
 -- the classes that could go on behind unit, front
 abbrev pub behind_unit : List ℕ
-behind_unit = SymAttr ∷ SymSemicolon ∷ KwAlias ∷ KwConst ∷ KwConstAssert ∷ KwDiagnostic ∷ KwEnable ∷ KwFn ∷ KwOverride ∷ KwRequires ∷ KwStruct ∷ KwVar ∷ []
+behind_unit = SymAttr ∷ SymSemicolon ∷ KwAlias ∷ KwConst ∷ KwConstAssert ∷ KwDiagnostic ∷ KwEnable
+    ∷ KwFn ∷ KwOverride ∷ KwRequires ∷ KwStruct ∷ KwVar ∷ []
 
 -- the classes that could go on behind each symbol
 abbrev pub mores : FactoredSymbol → List ℕ
 mores (of type_specifier) = TemplateArgsStart ∷ []
-mores (of expressions) = SymAnd ∷ SymAndAnd ∷ SymForwardSlash ∷ SymBang ∷ SymBracketLeft ∷ SymComma ∷ SymEqualEqual ∷ SymNotEqual ∷ SymGreaterThan ∷ SymGreaterThanEqual ∷ SymShiftRight ∷ SymLessThan ∷ SymLessThanEqual ∷ SymShiftLeft ∷ SymModulo ∷ SymMinus ∷ SymMinusMinus ∷ SymPeriod ∷ SymPlus ∷ SymOr ∷ SymOrOr ∷ SymParenLeft ∷ SymStar ∷ SymTilde ∷ SymXor ∷ KwFalse ∷ KwTrue ∷ Ident ∷ ReservedWord ∷ AbstractInt ∷ I32 ∷ U32 ∷ AbstractFloat ∷ F32 ∷ F16 ∷ TemplateArgsStart ∷ []
+mores (of expressions) = SymAnd ∷ SymAndAnd ∷ SymForwardSlash ∷ SymBang ∷ SymBracketLeft ∷ SymComma
+    ∷ SymEqualEqual ∷ SymNotEqual ∷ SymGreaterThan ∷ SymGreaterThanEqual ∷ SymShiftRight ∷ SymLessThan
+    ∷ SymLessThanEqual ∷ SymShiftLeft ∷ SymModulo ∷ SymMinus ∷ SymMinusMinus ∷ SymPeriod ∷ SymPlus
+    ∷ SymOr ∷ SymOrOr ∷ SymParenLeft ∷ SymStar ∷ SymTilde ∷ SymXor ∷ KwFalse ∷ KwTrue ∷ Ident
+    ∷ ReservedWord ∷ AbstractInt ∷ I32 ∷ U32 ∷ AbstractFloat ∷ F32 ∷ F16 ∷ TemplateArgsStart ∷ []
 mores (of primary_expression) = SymParenLeft ∷ TemplateArgsStart ∷ []
 mores (of singular_expression) = behind_singular_expression
 mores (of unary_expression) = behind_singular_expression
@@ -245,14 +300,25 @@ mores (of typed_ident) = SymColon ∷ TemplateArgsStart ∷ []
 mores (of struct_member) = TemplateArgsStart ∷ []
 mores (of formal_parameter) = TemplateArgsStart ∷ []
 mores (of unit) = behind_unit
-mores (further selectors) = SymAnd ∷ SymAndAnd ∷ SymForwardSlash ∷ SymBang ∷ SymBracketLeft ∷ SymComma ∷ SymEqualEqual ∷ SymNotEqual ∷ SymGreaterThan ∷ SymGreaterThanEqual ∷ SymShiftRight ∷ SymLessThan ∷ SymLessThanEqual ∷ SymShiftLeft ∷ SymModulo ∷ SymMinus ∷ SymMinusMinus ∷ SymPeriod ∷ SymPlus ∷ SymOr ∷ SymOrOr ∷ SymParenLeft ∷ SymStar ∷ SymTilde ∷ SymXor ∷ KwDefault ∷ KwFalse ∷ KwTrue ∷ Ident ∷ ReservedWord ∷ AbstractInt ∷ I32 ∷ U32 ∷ AbstractFloat ∷ F32 ∷ F16 ∷ TemplateArgsStart ∷ []
+mores (further selectors) = SymAnd ∷ SymAndAnd ∷ SymForwardSlash ∷ SymBang ∷ SymBracketLeft
+    ∷ SymComma ∷ SymEqualEqual ∷ SymNotEqual ∷ SymGreaterThan ∷ SymGreaterThanEqual ∷ SymShiftRight
+    ∷ SymLessThan ∷ SymLessThanEqual ∷ SymShiftLeft ∷ SymModulo ∷ SymMinus ∷ SymMinusMinus
+    ∷ SymPeriod ∷ SymPlus ∷ SymOr ∷ SymOrOr ∷ SymParenLeft ∷ SymStar ∷ SymTilde ∷ SymXor ∷ KwDefault
+    ∷ KwFalse ∷ KwTrue ∷ Ident ∷ ReservedWord ∷ AbstractInt ∷ I32 ∷ U32 ∷ AbstractFloat ∷ F32 ∷ F16
+    ∷ TemplateArgsStart ∷ []
 mores (further components) = SymBracketLeft ∷ SymPeriod ∷ []
 mores (further factors) = behind_multiplicative_expression
 mores (further summands) = behind_additive_expression
 mores (further sum_rest) = behind_shift_expression
 mores (further relation_rest) = behind_relational_expression
-mores (further and_rest) = SymAndAnd ∷ SymForwardSlash ∷ SymBracketLeft ∷ SymEqualEqual ∷ SymNotEqual ∷ SymGreaterThan ∷ SymGreaterThanEqual ∷ SymShiftRight ∷ SymLessThan ∷ SymLessThanEqual ∷ SymShiftLeft ∷ SymModulo ∷ SymMinus ∷ SymMinusMinus ∷ SymPeriod ∷ SymPlus ∷ SymParenLeft ∷ SymStar ∷ TemplateArgsStart ∷ []
-mores (further or_rest) = SymForwardSlash ∷ SymBracketLeft ∷ SymEqualEqual ∷ SymNotEqual ∷ SymGreaterThan ∷ SymGreaterThanEqual ∷ SymShiftRight ∷ SymLessThan ∷ SymLessThanEqual ∷ SymShiftLeft ∷ SymModulo ∷ SymMinus ∷ SymMinusMinus ∷ SymPeriod ∷ SymPlus ∷ SymOrOr ∷ SymParenLeft ∷ SymStar ∷ TemplateArgsStart ∷ []
+mores (further and_rest) = SymAndAnd ∷ SymForwardSlash ∷ SymBracketLeft ∷ SymEqualEqual
+    ∷ SymNotEqual ∷ SymGreaterThan ∷ SymGreaterThanEqual ∷ SymShiftRight ∷ SymLessThan
+    ∷ SymLessThanEqual ∷ SymShiftLeft ∷ SymModulo ∷ SymMinus ∷ SymMinusMinus ∷ SymPeriod ∷ SymPlus
+    ∷ SymParenLeft ∷ SymStar ∷ TemplateArgsStart ∷ []
+mores (further or_rest) = SymForwardSlash ∷ SymBracketLeft ∷ SymEqualEqual ∷ SymNotEqual
+    ∷ SymGreaterThan ∷ SymGreaterThanEqual ∷ SymShiftRight ∷ SymLessThan ∷ SymLessThanEqual
+    ∷ SymShiftLeft ∷ SymModulo ∷ SymMinus ∷ SymMinusMinus ∷ SymPeriod ∷ SymPlus ∷ SymOrOr
+    ∷ SymParenLeft ∷ SymStar ∷ TemplateArgsStart ∷ []
 mores (further bitwise_and_rest) = SymAnd ∷ SymBracketLeft ∷ SymPeriod ∷ SymParenLeft ∷ TemplateArgsStart ∷ []
 mores (further bitwise_or_rest) = SymBracketLeft ∷ SymPeriod ∷ SymOr ∷ SymParenLeft ∷ TemplateArgsStart ∷ []
 mores (further bitwise_xor_rest) = SymBracketLeft ∷ SymPeriod ∷ SymParenLeft ∷ SymXor ∷ TemplateArgsStart ∷ []
@@ -272,7 +338,8 @@ mores (further left_side_in_parentheses) = SymBracketLeft ∷ SymPeriod ∷ []
 mores (further prefixed_left_side) = SymBracketLeft ∷ SymPeriod ∷ []
 mores (further name_rest_statement) = behind_expression
 mores (further parenthesized_statement) = behind_expression
-mores (further declaration_list) = SymAttr ∷ SymSemicolon ∷ KwAlias ∷ KwConst ∷ KwConstAssert ∷ KwFn ∷ KwOverride ∷ KwStruct ∷ KwVar ∷ []
+mores (further declaration_list) = SymAttr ∷ SymSemicolon ∷ KwAlias ∷ KwConst ∷ KwConstAssert ∷ KwFn
+    ∷ KwOverride ∷ KwStruct ∷ KwVar ∷ []
 mores (further front) = behind_unit
 mores n = []
 

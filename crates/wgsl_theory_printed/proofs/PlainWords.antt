@@ -1,4 +1,5 @@
--- No word of a text has a `.`, so the tokens that are written from the tree of a module derive that tree.
+-- No word of a text has a `.`, so the tokens that are written from the tree of a module derive that
+-- tree.
 use Rattle.std.proofs.Common.{◌≡◌, ℕ, Bool, true, false, cond, refl, sym, ap, subst, List, [], ◌∷◌, map, Some, ◌∙◌}
 use Rattle.std.specs.Prelude.{option_map}
 use Rattle.std.specs.Str.{encode_utf8_all}
@@ -18,7 +19,7 @@ use Rattle.wgsl_model.specs.Grammar.Symbols.{Symbol.unit}
 use Rattle.wgsl_model.specs.Tokens.TokenList.{IsTokenList}
 use Rattle.wgsl_model.specs.Trees.Units.{TranslationUnit}
 use Rattle.wgsl_model.specs.Tokens.Words.{look_up}
-use Rattle.wgsl_model.specs.Tokens.Classes.{symbols}
+use Rattle.wgsl_model.specs.Tokens.ClassTable.{symbols}
 use Rattle.wgsl_model.specs.Grammar.Written.{written}
 use Rattle.wgsl_theory_reread.specs.CanonicalUnits.{canonical, without_place}
 use Rattle.wgsl_theory_reread.proofs.Words.{NoPeriod, AllWords}
@@ -32,13 +33,16 @@ use Rattle.wgsl_theory_printed.proofs.Spelling.Cut.{longest_spelling}
 -- ---- words
 
 -- the kind of a spelling, where it is a word, has no `.`
-value_plain : (word : List ℕ) (kind : Kind) → spells spelling word ≡ true → kind_of_spelling word ≡ Some kind → IsNamed kind → NoPeriod (text_in kind)
+value_plain : (word : List ℕ) (kind : Kind) → spells spelling word ≡ true
+    → kind_of_spelling word ≡ Some kind → IsNamed kind → NoPeriod (text_in kind)
 value_plain [] kind s h n = absurd (cc)
 value_plain (c ∷ cs) kind s h n = go (begins_name c) _ refl h where
   bytes : List ℕ
   bytes = encode_utf8_all (c ∷ cs)
 
-  go : (a b : Bool) → begins_name c ≡ a → cond a (Some (kind_of_word bytes)) (cond b (number_of (c ∷ cs)) (option_map plain (look_up symbols (c ∷ cs)))) ≡ Some kind → NoPeriod (text_in kind)
+  go : (a b : Bool) → begins_name c ≡ a → cond a (Some (kind_of_word bytes))
+      (cond b (number_of (c ∷ cs)) (option_map plain (look_up symbols (c ∷ cs)))) ≡ Some kind
+      → NoPeriod (text_in kind)
   go true b e f =
       let same : kind_of_word bytes ≡ kind = cc in
       let text : text_in kind ≡ bytes = ap text_in (sym same) ∙ word_text bytes (subst IsNamed (sym same) n) in
@@ -58,6 +62,7 @@ pub module_words : (source : List ℕ) (ts : List Token) (e : Ending) → IsToke
 module_words = text_words words_are_plain
 
 -- tokens with the kinds that are written from the tree of a module derive it again
-pub canonical_parse : (source : List ℕ) (u : TranslationUnit) → IsUnit source u → (ts : List Token) → map without_place ts ≡ canonical u
+pub canonical_parse : (source : List ℕ) (u : TranslationUnit) → IsUnit source u → (ts : List Token)
+    → map without_place ts ≡ canonical u
     → (again : TranslationUnit) × Derives checking written unit again ts × (bare_unit again ≡ bare_unit (full_unit u))
 canonical_parse source u h ts e = unit_again u h.0 (module_words source h.0 finished h.1) h.2 ts e

@@ -1,4 +1,5 @@
--- The printed text of a derived unit has the tokens that are written from it, so it reads as that unit without its empty items, spans aside.
+-- The printed text of a derived unit has the tokens that are written from it, so it reads as that
+-- unit without its empty items, spans aside.
 use Rattle.std.proofs.Common.{◌≡◌, ℕ, true, sym, ap, subst, List, [], ◌∙◌, chars}
 use Rattle.std.specs.Str.{is_utf8}
 use Rattle.std.proofs.lemmas.Str.{is_utf8-from_IsUtf8}
@@ -26,7 +27,10 @@ printed_is_utf8 source u h = is_utf8-from_IsUtf8 (print_unit u) (unit_utf8 sourc
 
 -- its tokens are those written from the tree
 pub printed_tokens : (source : List ℕ) (u : TranslationUnit) → IsUnit source u → HasTokens (print_unit u) (canonical u)
-printed_tokens source u h = let text = chars (print_unit u) in lexed (canonical u) (written_shape source u h (module_words source h.0 finished h.1)) (width text) text (unit_along source u h)
+printed_tokens source u h =
+    let text = chars (print_unit u) in lexed (canonical u)
+    (written_shape source u h (module_words source h.0 finished h.1)) (width text) text
+    (unit_along source u h)
 
 -- it reads as the unit without its empty items, spans aside
 pub printed_parse : (source : List ℕ) (u : TranslationUnit) → IsUnit source u → ReadsBack (print_unit u) u
@@ -42,13 +46,16 @@ prints_again : (u again : TranslationUnit) → bare_unit again ≡ bare_unit (fu
 prints_again u again e = sym (unit_print_bare again) ∙ ap print_unit e ∙ unit_print_bare (full_unit u) ∙ unit_printed u
 
 -- whatever it reads as prints the same
-pub print_twice : (source : List ℕ) (u again : TranslationUnit) → IsUnit source u → IsUnit (chars (print_unit u)) again → print_unit again ≡ print_unit u
+pub print_twice : (source : List ℕ) (u again : TranslationUnit) → IsUnit source u
+    → IsUnit (chars (print_unit u)) again → print_unit again ≡ print_unit u
 print_twice source u again h k =
     let back = printed_parse source u h in
     ap print_unit (one_unit (chars (print_unit u)) again back.0 k back.1) ∙ prints_again u back.0 back.2
 
 -- the program writes what it wrote as it stands
-pub formatted_twice : (source : List ℕ) (u : TranslationUnit) → IsUnit source u → Formats (print_unit u) (record { status = 0; output = print_unit u; errors = [] })
+pub formatted_twice : (source : List ℕ) (u : TranslationUnit) → IsUnit source u
+    → Formats (print_unit u) (record { status = 0; output = print_unit u; errors = [] })
 formatted_twice source u h =
     let back = printed_parse source u h in
-    subst (λ (text : List ℕ). Formats (print_unit u) (record { status = 0; output = text; errors = [] })) (prints_again u back.0 back.2) (printed back.0 (printed_is_utf8 source u h) back.1)
+    subst (λ (text : List ℕ). Formats (print_unit u) (record { status = 0; output = text; errors = [] }))
+    (prints_again u back.0 back.2) (printed back.0 (printed_is_utf8 source u h) back.1)

@@ -1,10 +1,11 @@
--- What it means that a value is read again: a list of tokens with the kinds that are written from the value derives a value that is the same, spans and empty items aside.
+-- What it means that a value is read again: a list of tokens with the kinds that are written from
+-- the value derives a value that is the same, spans and empty items aside.
 use Rattle.std.proofs.Common.{◌≡◌, Bool, true, false, List, ◌∷◌, map, Option, Some}
 use Rattle.std.specs.Option.{option_map}
 use Rattle.grammar.specs.Tokens.{Token}
 use Rattle.grammar.specs.Grammar.{Mode.checking, Part}
 use Rattle.wgsl_model.specs.Tokens.Kind.{Kind, plain}
-use Rattle.wgsl_model.specs.Tokens.Classes.{SymAttr, SymParenLeft, SymSemicolon, KwDiagnostic, TemplateArgsStart, TemplateArgsEnd}
+use Rattle.wgsl_model.specs.Tokens.ClassTable.{SymAttr, SymParenLeft, SymSemicolon, KwDiagnostic, TemplateArgsStart, TemplateArgsEnd}
 use Rattle.wgsl_model.specs.Tokens.Raw.{kind_of_word}
 use Rattle.wgsl_model.specs.Tokens.Words.{look_up}
 use Rattle.wgsl_model.specs.Trees.NamedValues.{DiagnosticSeverity, severities}
@@ -88,7 +89,8 @@ seen_statement (statement_node s span) = bare_statement_node (statement_node (fu
 
 -- the arguments of a template between its ends
 abbrev pub template_list_tokens : Writer (List ExpressionNode)
-template_list_tokens es rest = plain TemplateArgsStart ∷ list_tokens expression_node_tokens es (plain TemplateArgsEnd ∷ rest)
+template_list_tokens es rest = plain TemplateArgsStart
+    ∷ list_tokens expression_node_tokens es (plain TemplateArgsEnd ∷ rest)
 
 -- the tokens of what each symbol derives; those of a component are written with its base
 abbrev pub write : (n : Symbol) → Writer (Value n)
@@ -110,7 +112,8 @@ write shift_expression v rest = expression_node_tokens v rest
 write relational_expression v rest = expression_node_tokens v rest
 write expression v rest = expression_node_tokens v rest
 write lhs_expression v rest = expression_node_tokens v rest
-write attribute v rest = plain SymAttr ∷ (kind_of_word v.node.name ∷ optional_tokens arguments_tokens v.node.arguments rest)
+write attribute v rest = plain SymAttr
+    ∷ (kind_of_word v.node.name ∷ optional_tokens arguments_tokens v.node.arguments rest)
 write compound_statement v rest = compound_tokens v rest
 write statement v rest = statement_tokens v rest
 write const_assert v rest = attributes_tokens v.attributes (assert_tokens v.node rest)
@@ -153,7 +156,8 @@ Same arguments w v = map bare_expression_node w ≡ map bare_expression_node v
 Same literal w v = w ≡ v
 Same primary_expression w v = bare_expression_node w ≡ bare_expression_node v
 Same singular_expression w v = bare_expression_node w ≡ bare_expression_node v
-Same component w v = (x y : ExpressionNode) → bare_expression_node x ≡ bare_expression_node y → bare_expression (w x) ≡ bare_expression (v y)
+Same component w v = (x y : ExpressionNode) → bare_expression_node x ≡ bare_expression_node y
+    → bare_expression (w x) ≡ bare_expression (v y)
 Same unary_expression w v = bare_expression_node w ≡ bare_expression_node v
 Same multiplicative_expression w v = bare_expression_node w ≡ bare_expression_node v
 Same negated_expression w v = bare_expression_node w ≡ bare_expression_node v
@@ -222,7 +226,9 @@ Known shift_expression v = Unit {0}
 Known relational_expression v = Unit {0}
 Known expression v = Unit {0}
 Known lhs_expression v = Unit {0}
-Known attribute v = (a : Attribute) × (attribute_of v.node ≡ right a) × ((rest : List Kind) → named_attribute_tokens a rest ≡ kind_of_word v.node.name ∷ optional_tokens arguments_tokens v.node.arguments rest)
+Known attribute v = (a : Attribute) × (attribute_of v.node ≡ right a)
+    × ((rest : List Kind) → named_attribute_tokens a rest
+    ≡ kind_of_word v.node.name ∷ optional_tokens arguments_tokens v.node.arguments rest)
 Known compound_statement v = Unit {0}
 Known statement v = Unit {0}
 Known const_assert v = Unit {0}
@@ -251,7 +257,8 @@ Known unit v = Unit {0}
 Known n v = EndsAs (closing n) v
 
 -- what is derived from a list of tokens up to a list with these kinds
-pub record Found {A : Type 0} (P : A → List Token → List Token → Type 0) (Like : A → Type 0) (us : List Token) (ks : List Kind) : Type 0 where
+pub record Found {A : Type 0} (P : A → List Token → List Token → Type 0) (Like : A → Type 0)
+    (us : List Token) (ks : List Kind) : Type 0 where
   pub value : A
   pub rest : List Token
   pub kinds : map without_place rest ≡ ks
@@ -259,20 +266,25 @@ pub record Found {A : Type 0} (P : A → List Token → List Token → Type 0) (
   pub derived : P value us rest
 
 -- from every list with the kinds that are written from a value
-abbrev pub Finds : {A : Type 0} → (A → List Token → List Token → Type 0) → (A → Type 0) → (List Kind → List Kind) → Type 0
-Finds P Like written_before = (us : List Token) (ks : List Kind) → map without_place us ≡ written_before ks → Found P Like us ks
+abbrev pub Finds : {A : Type 0} → (A → List Token → List Token → Type 0) → (A → Type 0)
+    → (List Kind → List Kind) → Type 0
+Finds P Like written_before = (us : List Token) (ks : List Kind)
+    → map without_place us ≡ written_before ks → Found P Like us ks
 
 -- a component is written behind its base, whatever that is
 abbrev pub FindsComponent : (ExpressionNode → Expression) → Type 0
-FindsComponent v = (ks : List Kind) → (ms : List Kind) × ((base : ExpressionNode) → expression_tokens (v base) ks ≡ expression_node_tokens base ms)
+FindsComponent v = (ks : List Kind) → (ms : List Kind)
+    × ((base : ExpressionNode) → expression_tokens (v base) ks ≡ expression_node_tokens base ms)
     × ((us : List Token) → map without_place us ≡ ms → Found (D component) (λ w. Same component w v) us ks)
 
 -- a symbol's value is read again; a negated product is read as a product behind a minus
 abbrev pub IsFound : (n : Symbol) → Value n → Type 0
 IsFound component v = FindsComponent v
-IsFound negated_expression v = Finds (D multiplicative_expression) (λ w. Same multiplicative_expression w v) (write negated_expression v)
+IsFound negated_expression v = Finds (D multiplicative_expression)
+    (λ w. Same multiplicative_expression w v) (write negated_expression v)
 IsFound n v = Finds (D n) (λ w. Same n w v) (write n v)
 
--- a value that a symbol derives from tokens whose words have the classes of their spellings: so are the tokens behind it, and the value is read again
+-- a value that a symbol derives from tokens whose words have the classes of their spellings: so are
+-- the tokens behind it, and the value is read again
 abbrev pub Again : (n : Symbol) → Value n → List Token → List Token → Type 0
 Again n v xs ys = AllWords xs → AllWords ys × Known n v × IsFound n v

@@ -7,3 +7,4 @@ pub mod StatementParts
 pub mod StatementRules
 pub mod UnitParts
 pub mod UnitRules
+pub mod RuleTerms

@@ -1,6 +1,8 @@
--- The tokens that printed attributes have, written from their trees before the tokens that follow them. A name is the token that its word is: `const`, `if`, `else` and `diagnostic` are keywords, and `type` is a reserved word.
+-- The tokens that printed attributes have, written from their trees before the tokens that follow
+-- them. A name is the token that its word is: `const`, `if`, `else` and `diagnostic` are keywords,
+-- and `type` is a reserved word.
 use Rattle.std.specs.Prelude.{ℕ, ◌==◌, List, [], ◌∷◌, ◌++◌, if◌then◌else◌, codes}
-use Rattle.wgsl_model.specs.Tokens.Classes.{SymAttr, SymComma, SymOr, SymParenLeft, SymParenRight, SymPeriod}
+use Rattle.wgsl_model.specs.Tokens.ClassTable.{SymAttr, SymComma, SymOr, SymParenLeft, SymParenRight, SymPeriod}
 use Rattle.wgsl_model.specs.Tokens.Kind.{Kind, plain}
 use Rattle.wgsl_model.specs.Tokens.Raw.{kind_of_word}
 use Rattle.wgsl_model.specs.Trees.NamedValues.{InterpolationSampling, severity_text, interpolation_type_text, interpolation_sampling_text, builtin_value_text}
@@ -17,10 +19,13 @@ parenthesize write a rest = plain SymParenLeft ∷ write a (plain SymParenRight 
 abbrev pub behind_comma : {A : Type 0} → Writer A → Writer A
 behind_comma write a rest = plain SymComma ∷ write a rest
 
--- the name of a rule, from the bytes that are before and those that are left: a word, or two with `.` between
+-- the name of a rule, from the bytes that are before and those that are left: a word, or two with
+-- `.` between
 abbrev pub rule_tokens_from : List ℕ → List ℕ → List Kind → List Kind
 rule_tokens_from before [] rest = kind_of_word before ∷ rest
-rule_tokens_from before (c ∷ cs) rest = if c == 46 then kind_of_word before ∷ (plain SymPeriod ∷ (kind_of_word cs ∷ rest)) else rule_tokens_from (before ++ (c ∷ [])) cs rest
+rule_tokens_from before (c ∷ cs) rest = if c == 46
+    then kind_of_word before ∷ (plain SymPeriod ∷ (kind_of_word cs ∷ rest))
+    else rule_tokens_from (before ++ (c ∷ [])) cs rest
 
 -- the name of a rule
 abbrev pub rule_tokens : Writer (List ℕ)
@@ -42,15 +47,23 @@ arguments_tokens = parenthesize (list_tokens expression_node_tokens)
 
 -- an attribute without its `@`
 abbrev pub named_attribute_tokens : Attribute → List Kind → List Kind
-named_attribute_tokens (with_argument name e) rest = kind_of_word (one_argument_text name) ∷ parenthesize expression_node_tokens e rest
+named_attribute_tokens (with_argument name e) rest = kind_of_word (one_argument_text name)
+    ∷ parenthesize expression_node_tokens e rest
 named_attribute_tokens (without_argument name) rest = kind_of_word (no_argument_text name) ∷ rest
-named_attribute_tokens (builtin b) rest = kind_of_word (codes "builtin") ∷ parenthesize word_token (builtin_value_text b) rest
-named_attribute_tokens (diagnostic d) rest = kind_of_word (codes "diagnostic") ∷ (plain SymParenLeft ∷ (kind_of_word (severity_text d.severity) ∷ behind_comma rule_tokens d.rule (plain SymParenRight ∷ rest)))
+named_attribute_tokens (builtin b) rest = kind_of_word (codes "builtin")
+    ∷ parenthesize word_token (builtin_value_text b) rest
+named_attribute_tokens (diagnostic d) rest = kind_of_word (codes "diagnostic") ∷ (plain SymParenLeft
+    ∷ (kind_of_word (severity_text d.severity) ∷ behind_comma rule_tokens d.rule (plain SymParenRight ∷ rest)))
 named_attribute_tokens (interpolate i) rest =
-    kind_of_word (codes "interpolate") ∷ (plain SymParenLeft ∷ (kind_of_word (interpolation_type_text i.ty) ∷ optional_tokens (behind_comma (λ (s : InterpolationSampling). word_token (interpolation_sampling_text s))) i.sampling (plain SymParenRight ∷ rest)))
+    kind_of_word (codes "interpolate") ∷ (plain SymParenLeft
+    ∷ (kind_of_word (interpolation_type_text i.ty) ∷ optional_tokens (behind_comma (λ (s : InterpolationSampling).
+    word_token (interpolation_sampling_text s))) i.sampling (plain SymParenRight ∷ rest)))
 named_attribute_tokens (workgroup_size w) rest =
-    kind_of_word (codes "workgroup_size") ∷ (plain SymParenLeft ∷ expression_node_tokens w.x (optional_tokens (behind_comma expression_node_tokens) w.y (optional_tokens (behind_comma expression_node_tokens) w.z (plain SymParenRight ∷ rest))))
-named_attribute_tokens (type_constraint t) rest = kind_of_word (codes "type") ∷ (plain SymParenLeft ∷ (kind_of_word t.ident ∷ behind_comma types_tokens t.variants (plain SymParenRight ∷ rest)))
+    kind_of_word (codes "workgroup_size")
+    ∷ (plain SymParenLeft ∷ expression_node_tokens w.x (optional_tokens (behind_comma expression_node_tokens)
+    w.y (optional_tokens (behind_comma expression_node_tokens) w.z (plain SymParenRight ∷ rest))))
+named_attribute_tokens (type_constraint t) rest = kind_of_word (codes "type") ∷ (plain SymParenLeft
+    ∷ (kind_of_word t.ident ∷ behind_comma types_tokens t.variants (plain SymParenRight ∷ rest)))
 named_attribute_tokens (custom c) rest = kind_of_word c.name ∷ optional_tokens arguments_tokens c.arguments rest
 
 -- an attribute

@@ -1,7 +1,8 @@
--- The tokens that a printed expression has, written from its tree before the tokens that follow it: no comma behind the last item of a list, and `-` `-` for two minuses.
+-- The tokens that a printed expression has, written from its tree before the tokens that follow it:
+-- no comma behind the last item of a list, and `-` `-` for two minuses.
 use Rattle.std.specs.Prelude.{ℕ, pos, List, [], ◌∷◌, Option, Some, None, if◌then◌else◌}
 use Rattle.grammar.specs.Tokens.{Payload.number}
-use Rattle.wgsl_model.specs.Tokens.Classes.{SymAnd, SymAndAnd, SymBang, SymBracketLeft, SymBracketRight, SymComma, SymEqualEqual, SymForwardSlash, SymGreaterThan, SymGreaterThanEqual, SymLessThan, SymLessThanEqual, SymMinus, SymModulo, SymNotEqual, SymOr, SymOrOr, SymParenLeft, SymParenRight, SymPeriod, SymPlus, SymShiftLeft, SymShiftRight, SymStar, SymTilde, SymXor, KwTrue, KwFalse, AbstractInt, I32, U32, AbstractFloat, F32, F16, TemplateArgsStart, TemplateArgsEnd}
+use Rattle.wgsl_model.specs.Tokens.ClassTable.{SymAnd, SymAndAnd, SymBang, SymBracketLeft, SymBracketRight, SymComma, SymEqualEqual, SymForwardSlash, SymGreaterThan, SymGreaterThanEqual, SymLessThan, SymLessThanEqual, SymMinus, SymModulo, SymNotEqual, SymOr, SymOrOr, SymParenLeft, SymParenRight, SymPeriod, SymPlus, SymShiftLeft, SymShiftRight, SymStar, SymTilde, SymXor, KwTrue, KwFalse, AbstractInt, I32, U32, AbstractFloat, F32, F16, TemplateArgsStart, TemplateArgsEnd}
 use Rattle.wgsl_model.specs.Tokens.Kind.{Kind, plain, named}
 use Rattle.wgsl_model.specs.Tokens.Raw.{kind_of_word}
 use Rattle.wgsl_model.specs.Trees.Operators.{UnaryOperator, logical_negation, negation, bitwise_complement, address_of, indirection, BinaryOperator, short_circuit_or, short_circuit_and, addition, subtraction, multiplication, division, remainder, equality, inequality, less_than, less_than_equal, greater_than, greater_than_equal, bitwise_or, bitwise_and, bitwise_xor, shift_left, shift_right}
@@ -81,10 +82,14 @@ abbrev mutual
   pub expression_tokens : Expression → List Kind → List Kind
   expression_tokens (literal l) rest = literal_token l ∷ rest
   expression_tokens (parenthesized e) rest = plain SymParenLeft ∷ expression_node_tokens e (plain SymParenRight ∷ rest)
-  expression_tokens (named_component base component) rest = expression_node_tokens base (plain SymPeriod ∷ (kind_of_word component ∷ rest))
-  expression_tokens (indexing base index) rest = expression_node_tokens base (plain SymBracketLeft ∷ expression_node_tokens index (plain SymBracketRight ∷ rest))
-  expression_tokens (unary operator operand) rest = plain (unary_operator_class operator) ∷ expression_node_tokens operand rest
-  expression_tokens (binary operator left right) rest = expression_node_tokens left (plain (binary_operator_class operator) ∷ expression_node_tokens right rest)
+  expression_tokens (named_component base component) rest = expression_node_tokens base
+      (plain SymPeriod ∷ (kind_of_word component ∷ rest))
+  expression_tokens (indexing base index) rest = expression_node_tokens base
+      (plain SymBracketLeft ∷ expression_node_tokens index (plain SymBracketRight ∷ rest))
+  expression_tokens (unary operator operand) rest = plain (unary_operator_class operator)
+      ∷ expression_node_tokens operand rest
+  expression_tokens (binary operator left right) rest = expression_node_tokens left
+      (plain (binary_operator_class operator) ∷ expression_node_tokens right rest)
   expression_tokens (function_call c) rest = call_tokens c rest
   expression_tokens (type_or_identifier t) rest = type_tokens t rest
 
@@ -92,14 +97,16 @@ abbrev mutual
   expression_node_tokens (expression_node e span) rest = expression_tokens e rest
 
   pub call_tokens : FunctionCall → List Kind → List Kind
-  call_tokens (call ty arguments) rest = type_tokens ty (plain SymParenLeft ∷ expressions_tokens arguments (plain SymParenRight ∷ rest))
+  call_tokens (call ty arguments) rest = type_tokens ty
+      (plain SymParenLeft ∷ expressions_tokens arguments (plain SymParenRight ∷ rest))
 
   pub type_tokens : TypeExpression → List Kind → List Kind
   type_tokens (type_expression name arguments) rest = kind_of_word name ∷ template_tokens arguments rest
 
   pub template_tokens : TemplateArguments → List Kind → List Kind
   template_tokens no_template rest = rest
-  template_tokens (template arguments) rest = plain TemplateArgsStart ∷ expressions_tokens arguments (plain TemplateArgsEnd ∷ rest)
+  template_tokens (template arguments) rest = plain TemplateArgsStart
+      ∷ expressions_tokens arguments (plain TemplateArgsEnd ∷ rest)
 
   -- expressions with a comma between each two
   pub expressions_tokens : ExpressionNodes → List Kind → List Kind
@@ -109,4 +116,5 @@ abbrev mutual
   -- further expressions, each behind a comma
   pub further_expressions_tokens : ExpressionNodes → List Kind → List Kind
   further_expressions_tokens no_expressions rest = rest
-  further_expressions_tokens (expression_before e es) rest = plain SymComma ∷ expression_node_tokens e (further_expressions_tokens es rest)
+  further_expressions_tokens (expression_before e es) rest = plain SymComma
+      ∷ expression_node_tokens e (further_expressions_tokens es rest)

@@ -1,6 +1,8 @@
--- The tokens that printed statements and declarations of values have, written from their trees before the tokens that follow them: no empty statement in a list, no colon behind what a clause selects, and `case default` for a clause with `default` alone.
+-- The tokens that printed statements and declarations of values have, written from their trees
+-- before the tokens that follow them: no empty statement in a list, no colon behind what a clause
+-- selects, and `case default` for a clause with `default` alone.
 use Rattle.std.specs.Prelude.{ℕ, List, ◌∷◌, Option, if◌then◌else◌}
-use Rattle.wgsl_model.specs.Tokens.Classes.{SymAndEqual, SymBraceLeft, SymBraceRight, SymColon, SymDivisionEqual, SymEqual, SymMinusEqual, SymMinusMinus, SymModuloEqual, SymOrEqual, SymParenLeft, SymParenRight, SymPlusEqual, SymPlusPlus, SymSemicolon, SymShiftLeftAssign, SymShiftRightAssign, SymTimesEqual, SymXorEqual, KwBreak, KwCase, KwConst, KwConstAssert, KwContinue, KwContinuing, KwDefault, KwDiscard, KwElse, KwFor, KwIf, KwLet, KwLoop, KwOverride, KwReturn, KwSwitch, KwVar, KwWhile, TemplateArgsStart, TemplateArgsEnd}
+use Rattle.wgsl_model.specs.Tokens.ClassTable.{SymAndEqual, SymBraceLeft, SymBraceRight, SymColon, SymDivisionEqual, SymEqual, SymMinusEqual, SymMinusMinus, SymModuloEqual, SymOrEqual, SymParenLeft, SymParenRight, SymPlusEqual, SymPlusPlus, SymSemicolon, SymShiftLeftAssign, SymShiftRightAssign, SymTimesEqual, SymXorEqual, KwBreak, KwCase, KwConst, KwConstAssert, KwContinue, KwContinuing, KwDefault, KwDiscard, KwElse, KwFor, KwIf, KwLet, KwLoop, KwOverride, KwReturn, KwSwitch, KwVar, KwWhile, TemplateArgsStart, TemplateArgsEnd}
 use Rattle.wgsl_model.specs.Tokens.Kind.{Kind, plain}
 use Rattle.wgsl_model.specs.Tokens.Raw.{kind_of_word}
 use Rattle.wgsl_model.specs.Trees.Operators.{AssignmentOperator, equal, plus_equal, minus_equal, times_equal, division_equal, modulo_equal, and_equal, or_equal, xor_equal, shift_right_assign, shift_left_assign}
@@ -15,7 +17,9 @@ use Rattle.wgsl_theory_reread.specs.CanonicalAttributes.{behind_comma, attribute
 -- ---- declarations of values
 -- the template of a `var`
 abbrev pub var_template_tokens : Writer (AddressSpace × Option AccessMode)
-var_template_tokens p rest = plain TemplateArgsStart ∷ (kind_of_word (address_space_text p.0) ∷ optional_tokens (behind_comma (λ (m : AccessMode). word_token (access_mode_text m))) p.1 (plain TemplateArgsEnd ∷ rest))
+var_template_tokens p rest = plain TemplateArgsStart
+    ∷ (kind_of_word (address_space_text p.0) ∷ optional_tokens (behind_comma (λ (m : AccessMode).
+    word_token (access_mode_text m))) p.1 (plain TemplateArgsEnd ∷ rest))
 
 -- the keyword of a kind of value, and the template of a `var`
 abbrev pub kind_tokens : Writer DeclarationKind
@@ -34,7 +38,8 @@ initializer_tokens e rest = plain SymEqual ∷ expression_node_tokens e rest
 
 -- the declaration of a value, without its `;`
 abbrev pub declaration_tokens : Writer Declaration
-declaration_tokens d rest = kind_tokens d.kind (kind_of_word d.ident ∷ optional_tokens typed_tokens d.ty (optional_tokens initializer_tokens d.initializer rest))
+declaration_tokens d rest = kind_tokens d.kind (kind_of_word d.ident
+    ∷ optional_tokens typed_tokens d.ty (optional_tokens initializer_tokens d.initializer rest))
 
 -- ---- statements
 -- `const_assert` and its expression, without its `;`
@@ -62,7 +67,8 @@ selector_tokens (expression_selector e) rest = expression_node_tokens e rest
 
 -- `break if` and its condition, behind its attributes
 abbrev pub break_if_tokens : Writer (Attributed BreakIfStatement)
-break_if_tokens b rest = attributes_tokens b.attributes (plain KwBreak ∷ (plain KwIf ∷ expression_node_tokens b.node.expression (plain SymSemicolon ∷ rest)))
+break_if_tokens b rest = attributes_tokens b.attributes
+    (plain KwBreak ∷ (plain KwIf ∷ expression_node_tokens b.node.expression (plain SymSemicolon ∷ rest)))
 
 -- the `;` that ends a statement, if one does
 abbrev pub end_token : Writer Statement
@@ -83,7 +89,8 @@ abbrev mutual
   pub unattributed_tokens : UnattributedStatement → List Kind → List Kind
   unattributed_tokens void rest = rest
   unattributed_tokens (compound ss) rest = plain SymBraceLeft ∷ statements_tokens ss (plain SymBraceRight ∷ rest)
-  unattributed_tokens (assignment a) rest = expression_node_tokens a.lhs (plain (assignment_operator_class a.operator) ∷ expression_node_tokens a.rhs rest)
+  unattributed_tokens (assignment a) rest = expression_node_tokens a.lhs
+      (plain (assignment_operator_class a.operator) ∷ expression_node_tokens a.rhs rest)
   unattributed_tokens (increment i) rest = expression_node_tokens i.expression (plain SymPlusPlus ∷ rest)
   unattributed_tokens (decrement d) rest = expression_node_tokens d.expression (plain SymMinusMinus ∷ rest)
   unattributed_tokens (if_statement s) rest = if_tokens s rest
@@ -94,7 +101,8 @@ abbrev mutual
   unattributed_tokens break_statement rest = plain KwBreak ∷ rest
   unattributed_tokens continue_statement rest = plain KwContinue ∷ rest
   unattributed_tokens discard_statement rest = plain KwDiscard ∷ rest
-  unattributed_tokens (return_statement r) rest = plain KwReturn ∷ optional_tokens expression_node_tokens r.expression rest
+  unattributed_tokens (return_statement r) rest = plain KwReturn
+      ∷ optional_tokens expression_node_tokens r.expression rest
   unattributed_tokens (function_call_statement c) rest = call_tokens c.call rest
   unattributed_tokens (const_assert c) rest = assert_tokens c rest
   unattributed_tokens (declaration d) rest = declaration_tokens d rest
@@ -106,14 +114,17 @@ abbrev mutual
   -- the statements that are not empty
   pub statements_tokens : StatementNodes → List Kind → List Kind
   statements_tokens no_statements rest = rest
-  statements_tokens (statement_before (statement_node s span) ss) rest = if is_void s then statements_tokens ss rest else unended_tokens s (end_token s (statements_tokens ss rest))
+  statements_tokens (statement_before (statement_node s span) ss) rest = if is_void s
+      then statements_tokens ss rest else unended_tokens s (end_token s (statements_tokens ss rest))
 
   pub compound_tokens : CompoundStatement → List Kind → List Kind
-  compound_tokens (compound_statement attributes ss) rest = attributes_tokens attributes (plain SymBraceLeft ∷ statements_tokens ss (plain SymBraceRight ∷ rest))
+  compound_tokens (compound_statement attributes ss) rest = attributes_tokens attributes
+      (plain SymBraceLeft ∷ statements_tokens ss (plain SymBraceRight ∷ rest))
 
   -- a block without its closing brace
   pub opened_tokens : CompoundStatement → List Kind → List Kind
-  opened_tokens (compound_statement attributes ss) rest = attributes_tokens attributes (plain SymBraceLeft ∷ statements_tokens ss rest)
+  opened_tokens (compound_statement attributes ss) rest = attributes_tokens attributes
+      (plain SymBraceLeft ∷ statements_tokens ss rest)
 
   pub if_tokens : IfStatement → List Kind → List Kind
   if_tokens (if_else first others last) rest = if_clause_tokens first (else_ifs_tokens others (else_tokens last rest))
@@ -126,18 +137,21 @@ abbrev mutual
   else_ifs_tokens (else_if_before c cs) rest = else_if_clause_tokens c (else_ifs_tokens cs rest)
 
   pub else_if_clause_tokens : ElseIfClause → List Kind → List Kind
-  else_if_clause_tokens (else_if_clause attributes e block) rest = attributes_tokens attributes (plain KwElse ∷ (plain KwIf ∷ expression_node_tokens e (compound_tokens block rest)))
+  else_if_clause_tokens (else_if_clause attributes e block) rest = attributes_tokens attributes
+      (plain KwElse ∷ (plain KwIf ∷ expression_node_tokens e (compound_tokens block rest)))
 
   pub else_tokens : MaybeElseClause → List Kind → List Kind
   else_tokens no_else rest = rest
   else_tokens (one_else c) rest = else_clause_tokens c rest
 
   pub else_clause_tokens : ElseClause → List Kind → List Kind
-  else_clause_tokens (else_clause attributes block) rest = attributes_tokens attributes (plain KwElse ∷ compound_tokens block rest)
+  else_clause_tokens (else_clause attributes block) rest = attributes_tokens attributes
+      (plain KwElse ∷ compound_tokens block rest)
 
   pub switch_tokens : SwitchStatement → List Kind → List Kind
   switch_tokens (switch e body_attributes cs) rest =
-      plain KwSwitch ∷ expression_node_tokens e (attributes_tokens body_attributes (plain SymBraceLeft ∷ clauses_tokens cs (plain SymBraceRight ∷ rest)))
+      plain KwSwitch ∷ expression_node_tokens e (attributes_tokens body_attributes
+      (plain SymBraceLeft ∷ clauses_tokens cs (plain SymBraceRight ∷ rest)))
 
   pub clauses_tokens : SwitchClauses → List Kind → List Kind
   clauses_tokens no_clauses rest = rest
@@ -148,7 +162,8 @@ abbrev mutual
       attributes_tokens attributes (plain KwCase ∷ list_tokens selector_tokens selectors (compound_tokens block rest))
 
   pub loop_tokens : LoopStatement → List Kind → List Kind
-  loop_tokens (repeat body last) rest = plain KwLoop ∷ opened_tokens body (maybe_continuing_tokens last (plain SymBraceRight ∷ rest))
+  loop_tokens (repeat body last) rest = plain KwLoop
+      ∷ opened_tokens body (maybe_continuing_tokens last (plain SymBraceRight ∷ rest))
 
   pub maybe_continuing_tokens : MaybeContinuing → List Kind → List Kind
   maybe_continuing_tokens no_continuing rest = rest
@@ -156,11 +171,14 @@ abbrev mutual
 
   pub continuing_tokens : ContinuingStatement → List Kind → List Kind
   continuing_tokens (continuing attributes body condition) rest =
-      attributes_tokens attributes (plain KwContinuing ∷ opened_tokens body (optional_tokens break_if_tokens condition (plain SymBraceRight ∷ rest)))
+      attributes_tokens attributes (plain KwContinuing
+      ∷ opened_tokens body (optional_tokens break_if_tokens condition (plain SymBraceRight ∷ rest)))
 
   pub for_tokens : ForStatement → List Kind → List Kind
   for_tokens (repeat_for init condition update block) rest =
-      plain KwFor ∷ (plain SymParenLeft ∷ part_tokens init (plain SymSemicolon ∷ optional_tokens expression_node_tokens condition (plain SymSemicolon ∷ part_tokens update (plain SymParenRight ∷ compound_tokens block rest))))
+      plain KwFor ∷ (plain SymParenLeft
+      ∷ part_tokens init (plain SymSemicolon ∷ optional_tokens expression_node_tokens condition
+      (plain SymSemicolon ∷ part_tokens update (plain SymParenRight ∷ compound_tokens block rest))))
 
   -- a part of the header of a `for`, without the `;` that ends it
   pub part_tokens : MaybeStatement → List Kind → List Kind

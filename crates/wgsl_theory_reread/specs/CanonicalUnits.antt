@@ -1,8 +1,9 @@
--- The tokens that a printed module has, written from its tree: no empty declaration, no comma behind the last item of a list, and no places.
+-- The tokens that a printed module has, written from its tree: no empty declaration, no comma
+-- behind the last item of a list, and no places.
 use Rattle.std.specs.Prelude.{◌≡◌, ℕ, List, [], ◌∷◌, Option, Some, None, if◌then◌else◌, map, chars}
 use Rattle.grammar.specs.Tokens.{Token}
 use Rattle.grammar.specs.Endings.{Ending.finished}
-use Rattle.wgsl_model.specs.Tokens.Classes.{SymArrow, SymBraceLeft, SymBraceRight, SymColon, SymComma, SymEqual, SymParenLeft, SymParenRight, SymSemicolon, KwAlias, KwDiagnostic, KwEnable, KwFn, KwRequires, KwStruct}
+use Rattle.wgsl_model.specs.Tokens.ClassTable.{SymArrow, SymBraceLeft, SymBraceRight, SymColon, SymComma, SymEqual, SymParenLeft, SymParenRight, SymSemicolon, KwAlias, KwDiagnostic, KwEnable, KwFn, KwRequires, KwStruct}
 use Rattle.wgsl_model.specs.Tokens.Kind.{Kind, plain}
 use Rattle.wgsl_model.specs.Tokens.Raw.{kind_of_word}
 use Rattle.wgsl_model.specs.Trees.NamedValues.{severity_text}
@@ -18,9 +19,13 @@ use Rattle.wgsl_theory_reread.specs.CanonicalStatements.{declaration_tokens, ass
 
 -- what stands behind the attributes of a directive
 abbrev pub unattributed_directive_tokens : Writer UnattributedDirective
-unattributed_directive_tokens (diagnostic d) rest = plain KwDiagnostic ∷ (plain SymParenLeft ∷ (kind_of_word (severity_text d.severity) ∷ (plain SymComma ∷ rule_tokens d.rule_name (plain SymParenRight ∷ (plain SymSemicolon ∷ rest)))))
-unattributed_directive_tokens (enable d) rest = plain KwEnable ∷ list_tokens word_token d.extensions (plain SymSemicolon ∷ rest)
-unattributed_directive_tokens (requires d) rest = plain KwRequires ∷ list_tokens word_token d.extensions (plain SymSemicolon ∷ rest)
+unattributed_directive_tokens (diagnostic d) rest = plain KwDiagnostic
+    ∷ (plain SymParenLeft ∷ (kind_of_word (severity_text d.severity)
+    ∷ (plain SymComma ∷ rule_tokens d.rule_name (plain SymParenRight ∷ (plain SymSemicolon ∷ rest)))))
+unattributed_directive_tokens (enable d) rest = plain KwEnable
+    ∷ list_tokens word_token d.extensions (plain SymSemicolon ∷ rest)
+unattributed_directive_tokens (requires d) rest = plain KwRequires
+    ∷ list_tokens word_token d.extensions (plain SymSemicolon ∷ rest)
 
 -- a directive
 abbrev pub directive_tokens : Writer GlobalDirective
@@ -28,7 +33,8 @@ directive_tokens d rest = attributes_tokens d.attributes (unattributed_directive
 
 -- attributes, a name and its type
 abbrev pub attributed_tokens : Attributes → List ℕ → TypeExpression → List Kind → List Kind
-attributed_tokens attributes ident ty rest = attributes_tokens attributes (kind_of_word ident ∷ (plain SymColon ∷ type_tokens ty rest))
+attributed_tokens attributes ident ty rest = attributes_tokens attributes
+    (kind_of_word ident ∷ (plain SymColon ∷ type_tokens ty rest))
 
 -- a member of a structure
 abbrev pub member_tokens : Writer (Spanned StructMember)
@@ -46,14 +52,17 @@ result_tokens attributes (Some t) rest = plain SymArrow ∷ attributes_tokens at
 -- a function
 abbrev pub function_tokens : Writer Function
 function_tokens f rest =
-    plain KwFn ∷ (kind_of_word f.ident ∷ (plain SymParenLeft ∷ list_tokens parameter_tokens f.parameters (plain SymParenRight ∷ result_tokens f.return_attributes f.return_type (compound_tokens f.body rest))))
+    plain KwFn ∷ (kind_of_word f.ident ∷ (plain SymParenLeft ∷ list_tokens parameter_tokens f.parameters
+    (plain SymParenRight ∷ result_tokens f.return_attributes f.return_type (compound_tokens f.body rest))))
 
 -- what stands behind the attributes of a declaration; an empty one is its `;`
 abbrev pub unattributed_declaration_tokens : Writer UnattributedDeclaration
 unattributed_declaration_tokens void rest = plain SymSemicolon ∷ rest
 unattributed_declaration_tokens (declaration d) rest = declaration_tokens d (plain SymSemicolon ∷ rest)
-unattributed_declaration_tokens (type_alias a) rest = plain KwAlias ∷ (kind_of_word a.ident ∷ (plain SymEqual ∷ type_tokens a.ty (plain SymSemicolon ∷ rest)))
-unattributed_declaration_tokens (structure s) rest = plain KwStruct ∷ (kind_of_word s.ident ∷ (plain SymBraceLeft ∷ list_tokens member_tokens s.members (plain SymBraceRight ∷ rest)))
+unattributed_declaration_tokens (type_alias a) rest = plain KwAlias
+    ∷ (kind_of_word a.ident ∷ (plain SymEqual ∷ type_tokens a.ty (plain SymSemicolon ∷ rest)))
+unattributed_declaration_tokens (structure s) rest = plain KwStruct ∷ (kind_of_word s.ident
+    ∷ (plain SymBraceLeft ∷ list_tokens member_tokens s.members (plain SymBraceRight ∷ rest)))
 unattributed_declaration_tokens (function f) rest = function_tokens f rest
 unattributed_declaration_tokens (const_assert c) rest = assert_tokens c (plain SymSemicolon ∷ rest)
 
@@ -67,7 +76,8 @@ kept_declaration_tokens d rest = if is_void d.node then rest else global_declara
 
 -- a module: its directives, then its declarations
 abbrev pub unit_tokens : Writer TranslationUnit
-unit_tokens u rest = all_tokens directive_tokens u.global_directives (all_tokens kept_declaration_tokens u.global_declarations rest)
+unit_tokens u rest = all_tokens directive_tokens u.global_directives
+    (all_tokens kept_declaration_tokens u.global_declarations rest)
 
 -- the tokens that the printed module has
 abbrev pub canonical : TranslationUnit → List Kind

@@ -7,6 +7,7 @@ pub mod EditAttributeRules
 pub mod EditStatementParts
 pub mod EditStatementRules
 pub mod EditUnitRules
+pub mod RuleTerms
 pub mod DerivedEdits
 pub mod Nested
 pub mod WrittenShape

@@ -2,7 +2,7 @@
 use Rattle.std.proofs.Common.{◌≡◌, ℕ, zero, suc, ◌+◌, ◌<◌, ◌≤◌, ◌==◌, ◌&&◌, Bool, true, false, cond, refl, ap, ◌∙◌, List, [], ◌∷◌, arith}
 use Rattle.std.specs.Char.{is_whitespace}
 use Rattle.grammar.specs.Tables.{is_empty}
-use Rattle.wgsl_model.specs.Tokens.Classes.{LineComment}
+use Rattle.wgsl_model.specs.Tokens.ClassTable.{LineComment}
 use Rattle.wgsl_model.specs.Tokens.Characters.{is_line_break}
 use Rattle.wgsl_model.specs.Tokens.Trivia.{Place, outside, in_line, in_block, second, out_of_block, first_or_zero}
 use Rattle.wgsl_model_tidy.specs.Pieces.{Piece, comment, comments, put, put_in_line, line_ends_at}
@@ -14,7 +14,8 @@ put_followed c [] = refl
 put_followed c (p ∷ ps) = refl
 
 -- none does in either
-either_none : (b : Bool) (ps qs : List Piece) → is_followed ps ≡ false → is_followed qs ≡ false → is_followed (cond b ps qs) ≡ false
+either_none : (b : Bool) (ps qs : List Piece) → is_followed ps ≡ false → is_followed qs ≡ false
+    → is_followed (cond b ps qs) ≡ false
 either_none true ps qs h k = h
 either_none false ps qs h k = k
 
@@ -36,43 +37,61 @@ pub behind_end : (n : ℕ) (b : Bool) → (suc n == 0 && b) ≡ false
 behind_end n b = rw (no_zero n) refl
 
 -- after a line end none does
-pub none_behind : (behind : ℕ → List Piece) → ((m : ℕ) → is_followed (behind (suc m)) ≡ false) → (p : Place) (n : ℕ) (text : List ℕ) → is_followed (comments behind p (suc n) text) ≡ false
+pub none_behind : (behind : ℕ → List Piece) → ((m : ℕ) → is_followed (behind (suc m)) ≡ false)
+    → (p : Place) (n : ℕ) (text : List ℕ) → is_followed (comments behind p (suc n) text) ≡ false
 unfolding comments
 none_behind behind h outside n [] = h n
 none_behind behind h outside n (c ∷ cs) =
     either_none (c == 47 && first_or_zero cs == 47) (put c (comments behind (second in_line) (suc n) cs))
-    (cond (c == 47 && first_or_zero cs == 42) (put c (comments behind (second (in_block 0)) (suc n) cs)) (comments behind outside (suc n + line_ends_at c cs) cs))
+    (cond (c == 47 && first_or_zero cs == 42) (put c (comments behind (second (in_block 0)) (suc n) cs))
+    (comments behind outside (suc n + line_ends_at c cs) cs))
     (put_none c (comments behind (second in_line) (suc n) cs) (none_behind behind h (second in_line) n cs))
-    (either_none (c == 47 && first_or_zero cs == 42) (put c (comments behind (second (in_block 0)) (suc n) cs)) (comments behind outside (suc n + line_ends_at c cs) cs)
+    (either_none (c == 47 && first_or_zero cs == 42) (put c (comments behind (second (in_block 0))
+    (suc n) cs)) (comments behind outside (suc n + line_ends_at c cs) cs)
     (put_none c (comments behind (second (in_block 0)) (suc n) cs) (none_behind behind h (second (in_block 0)) n cs))
-    (ap (λ m. is_followed (comments behind outside m cs)) (one_more n (line_ends_at c cs)) ∙ none_behind behind h outside (n + line_ends_at c cs) cs))
+    (ap (λ m. is_followed (comments behind outside m cs)) (one_more n (line_ends_at c cs))
+    ∙ none_behind behind h outside (n + line_ends_at c cs) cs))
 none_behind behind h in_line n [] = behind_end n _
 none_behind behind h in_line n (c ∷ cs) =
-    either_none (is_line_break c) (comment LineComment (suc n) ∷ comments behind outside (line_ends_at c cs) cs) (put_in_line c (comments behind in_line (suc n) cs))
+    either_none (is_line_break c)
+    (comment LineComment (suc n) ∷ comments behind outside (line_ends_at c cs) cs)
+    (put_in_line c (comments behind in_line (suc n) cs))
     (behind_end n _)
     (put_in_line_none c (comments behind in_line (suc n) cs) (none_behind behind h in_line n cs))
 none_behind behind h (in_block depth) n [] = behind_end n _
 none_behind behind h (in_block depth) n (c ∷ cs) =
-    either_none (c == 47 && first_or_zero cs == 42) (put c (comments behind (second (in_block (suc depth))) (suc n) cs))
-    (cond (c == 42 && first_or_zero cs == 47) (put c (comments behind (second (out_of_block depth)) (suc n) cs)) (put c (comments behind (in_block depth) (suc n) cs)))
-    (put_none c (comments behind (second (in_block (suc depth))) (suc n) cs) (none_behind behind h (second (in_block (suc depth))) n cs))
-    (either_none (c == 42 && first_or_zero cs == 47) (put c (comments behind (second (out_of_block depth)) (suc n) cs)) (put c (comments behind (in_block depth) (suc n) cs))
-    (put_none c (comments behind (second (out_of_block depth)) (suc n) cs) (none_behind behind h (second (out_of_block depth)) n cs))
+    either_none (c == 47 && first_or_zero cs == 42)
+    (put c (comments behind (second (in_block (suc depth))) (suc n) cs))
+    (cond (c == 42 && first_or_zero cs == 47) (put c (comments behind (second (out_of_block depth))
+    (suc n) cs)) (put c (comments behind (in_block depth) (suc n) cs)))
+    (put_none c (comments behind (second (in_block (suc depth))) (suc n) cs)
+    (none_behind behind h (second (in_block (suc depth))) n cs))
+    (either_none (c == 42 && first_or_zero cs == 47) (put c (comments behind
+    (second (out_of_block depth)) (suc n) cs)) (put c (comments behind (in_block depth) (suc n) cs))
+    (put_none c (comments behind (second (out_of_block depth)) (suc n) cs)
+    (none_behind behind h (second (out_of_block depth)) n cs))
     (put_none c (comments behind (in_block depth) (suc n) cs) (none_behind behind h (in_block depth) n cs)))
 none_behind behind h (second p) n [] = behind_end n _
 none_behind behind h (second outside) n (c ∷ cs) = behind_end n _
-none_behind behind h (second in_line) n (c ∷ cs) = put_none c (comments behind in_line (suc n) cs) (none_behind behind h in_line n cs)
-none_behind behind h (second (in_block depth)) n (c ∷ cs) = put_none c (comments behind (in_block depth) (suc n) cs) (none_behind behind h (in_block depth) n cs)
-none_behind behind h (second (second p)) n (c ∷ cs) = put_none c (comments behind (second p) (suc n) cs) (none_behind behind h (second p) n cs)
+none_behind behind h (second in_line) n (c ∷ cs) = put_none c (comments behind in_line (suc n) cs)
+    (none_behind behind h in_line n cs)
+none_behind behind h (second (in_block depth)) n (c ∷ cs) = put_none c
+    (comments behind (in_block depth) (suc n) cs) (none_behind behind h (in_block depth) n cs)
+none_behind behind h (second (second p)) n (c ∷ cs) = put_none c
+    (comments behind (second p) (suc n) cs) (none_behind behind h (second p) n cs)
 
 -- one follows a comment without a line end before it, where one follows after the comment
-pub over_comment : (class : ℕ) (text : List ℕ) (ps : List Piece) → is_comment class ≡ true → is_followed (piece class text 0 ∷ ps) ≡ is_followed ps
+pub over_comment : (class : ℕ) (text : List ℕ) (ps : List Piece) → is_comment class ≡ true
+    → is_followed (piece class text 0 ∷ ps) ≡ is_followed ps
 over_comment class text ps h = rw h refl
 
 -- none does after some line ends, and no line end changes nothing
-pub ended : (behind : ℕ → List Piece) → ((m : ℕ) → is_followed (behind (suc m)) ≡ false) → (k : ℕ) (text : List ℕ) → 0 < k → is_followed (comments behind outside (0 + k) text) ≡ false
+pub ended : (behind : ℕ → List Piece) → ((m : ℕ) → is_followed (behind (suc m)) ≡ false)
+    → (k : ℕ) (text : List ℕ) → 0 < k → is_followed (comments behind outside (0 + k) text) ≡ false
 ended behind h zero text e = absurd (omega (arith, e))
-ended behind h (suc n) text e = let same : 0 + suc n ≡ suc n = omega arith in ap (λ m. is_followed (comments behind outside m text)) same ∙ none_behind behind h outside n text
+ended behind h (suc n) text e =
+    let same : 0 + suc n ≡ suc n = omega arith in
+    ap (λ m. is_followed (comments behind outside m text)) same ∙ none_behind behind h outside n text
 
 pub not_ended : (k : ℕ) → k ≤ 0 → 0 + k ≡ 0
 not_ended k e = omega (arith, e)

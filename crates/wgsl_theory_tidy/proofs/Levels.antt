@@ -27,4 +27,5 @@ level_indent layout = go layout.tabs
 
 pub indentation_indent : (layout : Layout) (depth : ℕ) → IsIndent (indentation layout depth)
 indentation_indent layout zero = no_indent
-indentation_indent layout (suc depth) = both_indents (level layout) (indentation layout depth) (level_indent layout) (indentation_indent layout depth)
+indentation_indent layout (suc depth) = both_indents (level layout) (indentation layout depth)
+    (level_indent layout) (indentation_indent layout depth)

@@ -5,4 +5,5 @@ pub mod ExpressionRules
 pub mod AttributeRules
 pub mod StatementRules
 pub mod UnitRules
+pub mod RuleTerms
 pub mod Moved

@@ -1,7 +1,7 @@
 -- What the first token after comments does, and whether an operand begins with it.
 use Rattle.std.proofs.Common.{◌≡◌, ℕ, suc, ◌+◌, ◌==◌, ◌&&◌, Bool, true, false, cond, refl, ap, ◌∙◌, List, [], ◌∷◌}
 use Rattle.grammar.specs.Tables.{is_empty}
-use Rattle.wgsl_model.specs.Tokens.Classes.{LineComment, BlockComment}
+use Rattle.wgsl_model.specs.Tokens.ClassTable.{LineComment, BlockComment}
 use Rattle.std.specs.Char.{is_whitespace}
 use Rattle.wgsl_model.specs.Tokens.Characters.{is_line_break}
 use Rattle.wgsl_model.specs.Tokens.Trivia.{Place, outside, in_line, in_block, second, out_of_block, first_or_zero}
@@ -10,29 +10,36 @@ use Rattle.wgsl_model_tidy.specs.Roles.{Role}
 use Rattle.wgsl_model_tidy.specs.Open.{LayoutState, role_in}
 use Rattle.wgsl_model_tidy.specs.LaidOut.{operand_follows, next_role, in_line_of, is_comment}
 
--- what is known of pieces is the same with a character more in the first one, and with a comment before them
+-- what is known of pieces is the same with a character more in the first one, and with a comment
+-- before them
 pub record PassesComments {A : Type 0} (f : List Piece → A) : Type 0 where
   pub over_character : (c : ℕ) (ps : List Piece) → f (put c ps) ≡ f ps
   pub over_comment : (class n : ℕ) (ps : List Piece) → is_comment class ≡ true → f (comment class n ∷ ps) ≡ f ps
 
 -- either way
-either : {A : Type 0} (f : List Piece → A) (x : A) (b : Bool) (ps qs : List Piece) → f ps ≡ x → f qs ≡ x → f (cond b ps qs) ≡ x
+either : {A : Type 0} (f : List Piece → A) (x : A) (b : Bool) (ps qs : List Piece) → f ps ≡ x
+    → f qs ≡ x → f (cond b ps qs) ≡ x
 either f x true ps qs h k = h
 either f x false ps qs h k = k
 
-in_line_same : {A : Type 0} (f : List Piece → A) → PassesComments f → (c : ℕ) (ps : List Piece) → f (put_in_line c ps) ≡ f ps
+in_line_same : {A : Type 0} (f : List Piece → A) → PassesComments f → (c : ℕ) (ps : List Piece)
+    → f (put_in_line c ps) ≡ f ps
 in_line_same f s c [] = refl
-in_line_same f s c (p ∷ ps) = either f (f (p ∷ ps)) (is_whitespace c && is_empty p.text) (p ∷ ps) (put c (p ∷ ps)) refl (s.over_character c (p ∷ ps))
+in_line_same f s c (p ∷ ps) = either f (f (p ∷ ps)) (is_whitespace c && is_empty p.text) (p ∷ ps)
+    (put c (p ∷ ps)) refl (s.over_character c (p ∷ ps))
 
 -- what is known so after however many line ends is so after the comments
-pub known_behind : {A : Type 0} (f : List Piece → A) → PassesComments f → (x : A) (behind : ℕ → List Piece) → ((m : ℕ) → f (behind m) ≡ x) → (p : Place) (n : ℕ) (text : List ℕ) → f (comments behind p n text) ≡ x
+pub known_behind : {A : Type 0} (f : List Piece → A) → PassesComments f
+    → (x : A) (behind : ℕ → List Piece) → ((m : ℕ) → f (behind m) ≡ x)
+    → (p : Place) (n : ℕ) (text : List ℕ) → f (comments behind p n text) ≡ x
 unfolding comments
 known_behind f s x behind h outside n [] = h n
 known_behind f s x behind h outside n (c ∷ cs) =
     let line = comments behind (second in_line) n cs in
     let block = comments behind (second (in_block 0)) n cs in
     let blank = comments behind outside (n + line_ends_at c cs) cs in
-    either f x (c == 47 && first_or_zero cs == 47) (put c line) (cond (c == 47 && first_or_zero cs == 42) (put c block) blank)
+    either f x (c == 47 && first_or_zero cs == 47) (put c line)
+    (cond (c == 47 && first_or_zero cs == 42) (put c block) blank)
     (s.over_character c line ∙ known_behind f s x behind h (second in_line) n cs)
     (either f x (c == 47 && first_or_zero cs == 42) (put c block) blank
     (s.over_character c block ∙ known_behind f s x behind h (second (in_block 0)) n cs)
@@ -49,7 +56,8 @@ known_behind f s x behind h (in_block depth) n (c ∷ cs) =
     let inner = comments behind (second (in_block (suc depth))) n cs in
     let outer = comments behind (second (out_of_block depth)) n cs in
     let left = comments behind (in_block depth) n cs in
-    either f x (c == 47 && first_or_zero cs == 42) (put c inner) (cond (c == 42 && first_or_zero cs == 47) (put c outer) (put c left))
+    either f x (c == 47 && first_or_zero cs == 42) (put c inner)
+    (cond (c == 42 && first_or_zero cs == 47) (put c outer) (put c left))
     (s.over_character c inner ∙ known_behind f s x behind h (second (in_block (suc depth))) n cs)
     (either f x (c == 42 && first_or_zero cs == 47) (put c outer) (put c left)
     (s.over_character c outer ∙ known_behind f s x behind h (second (out_of_block depth)) n cs)
@@ -57,10 +65,15 @@ known_behind f s x behind h (in_block depth) n (c ∷ cs) =
 known_behind f s x behind h (second p) n [] = s.over_comment OpenComment n (behind 0) refl ∙ h 0
 known_behind f s x behind h (second outside) n (c ∷ cs) =
     let after = comments behind outside 0 cs in
-    s.over_character c (comment BlockComment n ∷ after) ∙ s.over_comment BlockComment n after refl ∙ known_behind f s x behind h outside 0 cs
-known_behind f s x behind h (second in_line) n (c ∷ cs) = s.over_character c (comments behind in_line n cs) ∙ known_behind f s x behind h in_line n cs
-known_behind f s x behind h (second (in_block depth)) n (c ∷ cs) = s.over_character c (comments behind (in_block depth) n cs) ∙ known_behind f s x behind h (in_block depth) n cs
-known_behind f s x behind h (second (second p)) n (c ∷ cs) = s.over_character c (comments behind (second p) n cs) ∙ known_behind f s x behind h (second p) n cs
+    s.over_character c (comment BlockComment n ∷ after) ∙ s.over_comment BlockComment n after refl
+    ∙ known_behind f s x behind h outside 0 cs
+known_behind f s x behind h (second in_line) n (c ∷ cs) =
+    s.over_character c (comments behind in_line n cs) ∙ known_behind f s x behind h in_line n cs
+known_behind f s x behind h (second (in_block depth)) n (c ∷ cs) =
+    s.over_character c (comments behind (in_block depth) n cs)
+    ∙ known_behind f s x behind h (in_block depth) n cs
+known_behind f s x behind h (second (second p)) n (c ∷ cs) =
+    s.over_character c (comments behind (second p) n cs) ∙ known_behind f s x behind h (second p) n cs
 
 -- ---- so is what the first token does
 
@@ -71,7 +84,9 @@ next_put s c (p ∷ ps) = refl
 next_passes : (s : LayoutState) → PassesComments (next_role s)
 next_passes s = record { over_character = next_put s; over_comment = λ class n ps h. rw h refl }
 
-pub next_behind : (s : LayoutState) (right : Role) (behind : ℕ → List Piece) → ((m : ℕ) → next_role s (behind m) ≡ right) → (p : Place) (n : ℕ) (text : List ℕ) → next_role s (comments behind p n text) ≡ right
+pub next_behind : (s : LayoutState) (right : Role) (behind : ℕ → List Piece)
+    → ((m : ℕ) → next_role s (behind m) ≡ right) → (p : Place) (n : ℕ) (text : List ℕ)
+    → next_role s (comments behind p n text) ≡ right
 next_behind s right behind h p n text = known_behind (next_role s) (next_passes s) right behind h p n text
 
 -- ---- and whether an operand begins with it
@@ -83,10 +98,13 @@ operand_put c (p ∷ ps) = refl
 operand_passes : PassesComments operand_follows
 operand_passes = record { over_character = operand_put; over_comment = λ class n ps h. rw h refl }
 
-pub operand_behind : (operand : Bool) (behind : ℕ → List Piece) → ((m : ℕ) → operand_follows (behind m) ≡ operand) → (p : Place) (n : ℕ) (text : List ℕ) → operand_follows (comments behind p n text) ≡ operand
+pub operand_behind : (operand : Bool) (behind : ℕ → List Piece)
+    → ((m : ℕ) → operand_follows (behind m) ≡ operand) → (p : Place) (n : ℕ) (text : List ℕ)
+    → operand_follows (comments behind p n text) ≡ operand
 operand_behind operand behind h p n text = known_behind operand_follows operand_passes operand behind h p n text
 
 -- the depth of the line does not matter for what it does
 pub next_in_line : (s : LayoutState) (depth : ℕ) (ps : List Piece) → next_role (in_line_of s depth) ps ≡ next_role s ps
 next_in_line s depth [] = refl
-next_in_line s depth (p ∷ ps) = ap (λ r. cond (is_comment p.class) r (role_in s p.class (operand_follows ps))) (next_in_line s depth ps)
+next_in_line s depth (p ∷ ps) =
+    ap (λ r. cond (is_comment p.class) r (role_in s p.class (operand_follows ps))) (next_in_line s depth ps)

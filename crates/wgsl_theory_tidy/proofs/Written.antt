@@ -31,14 +31,19 @@ space_level layout h = rw h refl
 
 -- a space more
 pub one_space : (text : List ℕ) (n : ℕ) → (text ++ replicate n 32) ++ codes " " ≡ text ++ replicate (n + 1) 32
-one_space text n = append_assoc text (replicate n 32) (replicate 1 32) ∙ ap (λ xs. text ++ xs) (replicate-append-replicate n 1 32)
+one_space text n = append_assoc text (replicate n 32) (replicate 1 32)
+    ∙ ap (λ xs. text ++ xs) (replicate-append-replicate n 1 32)
 
 -- a level more
-level_behind : (layout : Layout) (depth : ℕ) → indentation layout depth ++ level layout ≡ level layout ++ indentation layout depth
+level_behind : (layout : Layout) (depth : ℕ)
+    → indentation layout depth ++ level layout ≡ level layout ++ indentation layout depth
 level_behind layout zero = sym (append-nil (level layout))
-level_behind layout (suc depth) = append_assoc (level layout) (indentation layout depth) (level layout) ∙ ap (λ xs. level layout ++ xs) (level_behind layout depth)
+level_behind layout (suc depth) = append_assoc (level layout) (indentation layout depth) (level layout)
+    ∙ ap (λ xs. level layout ++ xs) (level_behind layout depth)
 
-pub one_level : (layout : Layout) (text : List ℕ) (depth : ℕ) → (text ++ indentation layout depth) ++ level layout ≡ text ++ indentation layout (depth + 1)
+pub one_level : (layout : Layout) (text : List ℕ) (depth : ℕ)
+    → (text ++ indentation layout depth) ++ level layout ≡ text ++ indentation layout (depth + 1)
 one_level layout text depth =
     let more : depth + 1 ≡ suc depth = omega arith in
-    append_assoc text (indentation layout depth) (level layout) ∙ ap (λ xs. text ++ xs) (level_behind layout depth) ∙ ap (λ n. text ++ indentation layout n) (sym more)
+    append_assoc text (indentation layout depth) (level layout)
+    ∙ ap (λ xs. text ++ xs) (level_behind layout depth) ∙ ap (λ n. text ++ indentation layout n) (sym more)

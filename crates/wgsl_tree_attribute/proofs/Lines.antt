@@ -9,6 +9,8 @@ use Rattle.wgsl_model.specs.Printed.Attributes.{print_attribute, print_attribute
 abbrev pub attribute_text : Spanned Attribute → List ℕ
 attribute_text a = print_attribute a.node
 
-pub some_attributes : {X : Type 0} (view : X → Spanned Attribute) (end : List ℕ) (xs : List X) → (length xs == 0) ≡ false → joined (32 ∷ []) (map attribute_text (map view xs)) ++ end ≡ print_attributes end (map view xs)
+pub some_attributes : {X : Type 0} (view : X → Spanned Attribute) (end : List ℕ) (xs : List X)
+    → (length xs == 0) ≡ false
+    → joined (32 ∷ []) (map attribute_text (map view xs)) ++ end ≡ print_attributes end (map view xs)
 some_attributes view end [] e = absurd (true≢false e)
 some_attributes view end (x ∷ xs) e = refl

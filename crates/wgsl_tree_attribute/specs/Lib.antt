@@ -1,3 +1,4 @@
+pub mod ViewNodes
 pub mod View
-pub mod Variants
+pub mod VariantsNodes
 pub mod Equality

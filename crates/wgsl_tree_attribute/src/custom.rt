@@ -1,15 +1,12 @@
 //! Attributes of other names.
 
-ghost use Rattle.std.specs.Prelude.{◌≡◌, IfOk};
 ghost use Rattle.wgsl_tree_attribute.specs.View.{custom_view, expressions_view};
 ghost use Rattle.std.specs.Option.{option_map};
 ghost use Rattle.std.specs.Fmt.{WritesOnOk};
 ghost use Rattle.wgsl_model.specs.Printed.Attributes.{print_custom, print_arguments};
 
-use std::alloc::{AllocError, Global};
 use std::fmt;
 use std::fmt::Write;
-use wgsl_span::CloneWith;
 use wgsl_tree_expression::ExpressionNode;
 use wgsl_writer::write_joined;
 
@@ -18,25 +15,6 @@ use wgsl_writer::write_joined;
 pub struct CustomAttribute {
     pub name: String,
     pub arguments: Option<Vec<ExpressionNode>>,
-}
-
-impl CustomAttribute {
-    pub fn clone(&self, alloc: Global) -> Result<Self, AllocError>
-        ensures { IfOk result (λ copy. custom_view copy ≡ custom_view self.now) }
-    {
-        self.clone_with(alloc)
-    }
-}
-
-impl CloneWith for CustomAttribute {
-    ghost copies = { λ attribute copy. custom_view copy ≡ custom_view attribute };
-
-    fn clone_with(&self, alloc: Global) -> Result<Self, AllocError> {
-        Ok(CustomAttribute {
-            name: String::from_str(alloc, self.name.as_str())?,
-            arguments: self.arguments.clone_with(alloc)?,
-        })
-    }
 }
 
 pub(crate) fn write_custom<W: fmt::Write>(

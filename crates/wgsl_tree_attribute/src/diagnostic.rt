@@ -1,14 +1,11 @@
 //! The filter of diagnostics that an attribute sets.
 
-ghost use Rattle.std.specs.Prelude.{◌≡◌, IfOk};
 ghost use Rattle.wgsl_tree_attribute.specs.View.{diagnostic_view};
 ghost use Rattle.std.specs.Fmt.{WritesOnOk};
 ghost use Rattle.wgsl_model.specs.Printed.Attributes.{print_diagnostic_attribute};
 
-use std::alloc::{AllocError, Global};
 use std::fmt;
 use std::fmt::Write;
-use wgsl_span::CloneWith;
 use wgsl_tree_words::DiagnosticSeverity;
 
 /// A severity and the name of a rule.
@@ -16,25 +13,6 @@ use wgsl_tree_words::DiagnosticSeverity;
 pub struct DiagnosticAttribute {
     pub severity: DiagnosticSeverity,
     pub rule: String,
-}
-
-impl DiagnosticAttribute {
-    pub fn clone(&self, alloc: Global) -> Result<Self, AllocError>
-        ensures { IfOk result (λ copy. diagnostic_view copy ≡ diagnostic_view self.now) }
-    {
-        self.clone_with(alloc)
-    }
-}
-
-impl CloneWith for DiagnosticAttribute {
-    ghost copies = { λ attribute copy. diagnostic_view copy ≡ diagnostic_view attribute };
-
-    fn clone_with(&self, alloc: Global) -> Result<Self, AllocError> {
-        Ok(DiagnosticAttribute {
-            severity: self.severity,
-            rule: String::from_str(alloc, self.rule.as_str())?,
-        })
-    }
 }
 
 pub(crate) fn write_diagnostic<W: fmt::Write>(

@@ -3,10 +3,12 @@
 
 mod attribute;
 mod attributes_before;
+mod copies_nodes;
 mod custom;
 mod diagnostic;
 mod interpolate;
 mod type_constraint;
+mod variants_nodes;
 mod workgroup_size;
 
 pub use attribute::{Attribute, AttributeNode, Attributes};

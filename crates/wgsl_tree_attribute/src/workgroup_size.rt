@@ -1,16 +1,13 @@
 //! The sizes of a workgroup.
 
-ghost use Rattle.std.specs.Prelude.{◌≡◌, IfOk};
 ghost use Rattle.wgsl_tree_attribute.specs.View.{workgroup_size_view};
 ghost use Rattle.std.specs.Option.{option_map};
 ghost use Rattle.std.specs.Fmt.{WritesOnOk};
 ghost use Rattle.wgsl_model.specs.Printed.Attributes.{print_workgroup_size, print_further};
 ghost use Rattle.wgsl_tree_expression.specs.View.{expression_node_view};
 
-use std::alloc::{AllocError, Global};
 use std::fmt;
 use std::fmt::Write;
-use wgsl_span::CloneWith;
 use wgsl_tree_expression::ExpressionNode;
 
 #[derive(PartialEq, Debug, Drop)]
@@ -18,26 +15,6 @@ pub struct WorkgroupSizeAttribute {
     pub x: ExpressionNode,
     pub y: Option<ExpressionNode>,
     pub z: Option<ExpressionNode>,
-}
-
-impl WorkgroupSizeAttribute {
-    pub fn clone(&self, alloc: Global) -> Result<Self, AllocError>
-        ensures { IfOk result (λ copy. workgroup_size_view copy ≡ workgroup_size_view self.now) }
-    {
-        self.clone_with(alloc)
-    }
-}
-
-impl CloneWith for WorkgroupSizeAttribute {
-    ghost copies = { λ attribute copy. workgroup_size_view copy ≡ workgroup_size_view attribute };
-
-    fn clone_with(&self, alloc: Global) -> Result<Self, AllocError> {
-        Ok(WorkgroupSizeAttribute {
-            x: self.x.clone_with(alloc)?,
-            y: self.y.clone_with(alloc)?,
-            z: self.z.clone_with(alloc)?,
-        })
-    }
 }
 
 pub(crate) fn write_workgroup_size<W: fmt::Write>(

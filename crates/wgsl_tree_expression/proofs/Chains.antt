@@ -22,7 +22,8 @@ below_both (suc m) n node =
     let on : suc m + n ≡ suc (m + n) = omega arith in
     ap (λ k. below k node) on ∙ below_both m n (left_of node)
 
-above_both : (m n : ℕ) (node : ExpressionNode) → text_above (m + n) node ≡ text_above n (below m node) ++ text_above m node
+above_both : (m n : ℕ) (node : ExpressionNode)
+    → text_above (m + n) node ≡ text_above n (below m node) ++ text_above m node
 above_both zero n node =
     let on : 0 + n ≡ n = omega arith in
     ap (λ k. text_above k node) on ∙ sym (append-nil (text_above n node))
@@ -30,7 +31,8 @@ above_both (suc m) n node =
     let on : suc m + n ≡ suc (m + n) = omega arith in
     ap (λ k. text_above k node) on
     ∙ ap (λ t. t ++ text_behind (expression_in node)) (above_both m n (left_of node))
-    ∙ append_assoc (text_above n (below m (left_of node))) (text_above m (left_of node)) (text_behind (expression_in node))
+    ∙ append_assoc (text_above n (below m (left_of node))) (text_above m (left_of node))
+    (text_behind (expression_in node))
 
 -- half of some steps
 pub half_below : (l u : ℕ) → u ≤ l / 2 → u ≤ l
@@ -48,7 +50,8 @@ below_parts l u node h =
     let on : u + (l - u) ≡ l = omega (arith, h) in
     sym (below_both u (l - u) node) ∙ ap (λ k. below k node) on
 
-pub above_parts : (s l u : ℕ) (node : ExpressionNode) → u ≤ l → l ≤ s → text_above (s - u) (below u node) ≡ text_above (s - l) (below l node) ++ text_above (l - u) (below u node)
+pub above_parts : (s l u : ℕ) (node : ExpressionNode) → u ≤ l → l ≤ s
+    → text_above (s - u) (below u node) ≡ text_above (s - l) (below l node) ++ text_above (l - u) (below u node)
 above_parts s l u node h g =
     let on : s - u ≡ (l - u) + (s - l) = omega (arith, h, g) in
     ap (λ k. text_above k (below u node)) on
@@ -59,24 +62,37 @@ four : (a b c d : List ℕ) → a ++ b ++ c ++ d ≡ a ++ (b ++ c ++ d)
 four a b c d = ap (λ t. t ++ d) (append_assoc a b c) ∙ append_assoc a (b ++ c) d
 
 -- a text is that of what stands on the left, and what is behind it
-printed_behind : (node : ExpressionNode) → print_expression_node node ≡ print_expression_node (left_of node) ++ text_behind (expression_in node)
-printed_behind (expression_node (named_component base component) s) = append_assoc (print_expression_node base) (if is_abstract_int (expression_in base) then codes " ." else codes ".") component
-printed_behind (expression_node (indexing base index) s) = four (print_expression_node base) (codes "[") (print_expression_node index) (codes "]")
+printed_behind : (node : ExpressionNode)
+    → print_expression_node node ≡ print_expression_node (left_of node) ++ text_behind (expression_in node)
+printed_behind (expression_node (named_component base component) s) =
+    append_assoc (print_expression_node base)
+    (if is_abstract_int (expression_in base) then codes " ." else codes ".") component
+printed_behind (expression_node (indexing base index) s) = four (print_expression_node base)
+    (codes "[") (print_expression_node index) (codes "]")
 printed_behind (expression_node (binary operator left right) s) =
-    ap (λ t. t ++ print_expression_node right) (four (print_expression_node left) (codes " ") (binary_operator_text operator) (codes " "))
-    ∙ append_assoc (print_expression_node left) (codes " " ++ binary_operator_text operator ++ codes " ") (print_expression_node right)
-printed_behind (expression_node (literal l) s) = sym (append-nil (print_expression_node (expression_node (literal l) s)))
-printed_behind (expression_node (parenthesized n) s) = sym (append-nil (print_expression_node (expression_node (parenthesized n) s)))
-printed_behind (expression_node (unary operator n) s) = sym (append-nil (print_expression_node (expression_node (unary operator n) s)))
-printed_behind (expression_node (function_call c) s) = sym (append-nil (print_expression_node (expression_node (function_call c) s)))
-printed_behind (expression_node (type_or_identifier t) s) = sym (append-nil (print_expression_node (expression_node (type_or_identifier t) s)))
+    ap (λ t. t ++ print_expression_node right)
+    (four (print_expression_node left) (codes " ") (binary_operator_text operator) (codes " "))
+    ∙ append_assoc (print_expression_node left)
+    (codes " " ++ binary_operator_text operator ++ codes " ") (print_expression_node right)
+printed_behind (expression_node (literal l) s) =
+    sym (append-nil (print_expression_node (expression_node (literal l) s)))
+printed_behind (expression_node (parenthesized n) s) =
+    sym (append-nil (print_expression_node (expression_node (parenthesized n) s)))
+printed_behind (expression_node (unary operator n) s) =
+    sym (append-nil (print_expression_node (expression_node (unary operator n) s)))
+printed_behind (expression_node (function_call c) s) =
+    sym (append-nil (print_expression_node (expression_node (function_call c) s)))
+printed_behind (expression_node (type_or_identifier t) s) =
+    sym (append-nil (print_expression_node (expression_node (type_or_identifier t) s)))
 
-pub printed_above : (n : ℕ) (node : ExpressionNode) → print_expression_node node ≡ print_expression_node (below n node) ++ text_above n node
+pub printed_above : (n : ℕ) (node : ExpressionNode)
+    → print_expression_node node ≡ print_expression_node (below n node) ++ text_above n node
 printed_above zero node = sym (append-nil (print_expression_node node))
 printed_above (suc n) node =
     printed_behind node
     ∙ ap (λ t. t ++ text_behind (expression_in node)) (printed_above n (left_of node))
-    ∙ append_assoc (print_expression_node (below n (left_of node))) (text_above n (left_of node)) (text_behind (expression_in node))
+    ∙ append_assoc (print_expression_node (below n (left_of node))) (text_above n (left_of node))
+    (text_behind (expression_in node))
 
 -- nothing changes with its own left side
 pub with_own_left : (node : ExpressionNode) → with_left (expression_in node) (left_of node) ≡ expression_in node

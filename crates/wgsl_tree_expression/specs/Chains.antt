@@ -1,13 +1,15 @@
--- What goes down on the left side of an expression: operands, and what components and elements are taken of.
+-- What goes down on the left side of an expression: operands, and what components and elements are
+-- taken of.
 use Rattle.std.specs.Prelude.{ℕ, zero, suc, Bool, ◌&&◌, List, [], ◌++◌, codes, if◌then◌else◌}
 use Rattle.wgsl_model.specs.Printed.Operators.{binary_operator_text}
 use Rattle.wgsl_model.specs.Trees.Expressions.{ExpressionNode, expression_node, Expression, named_component, indexing, binary}
 use Rattle.wgsl_tree_words.specs.View.{binary_operator_view}
-use Rattle.wgsl_tree_equality.specs.Code.{number, same}
-use Rattle.wgsl_tree_equality.specs.Expressions.{binary_operator_number, expression_code}
+use Rattle.wgsl_tree_code.specs.Same.{same}
+use Rattle.wgsl_tree_code.specs.OperatorNodes.{binary_operator_code}
+use Rattle.wgsl_tree_code.specs.ExpressionNodes.{expression_node_code}
 use Rattle.wgsl_tree_expression.specs.declared.binary.BinaryExpression.{BinaryExpression}
 use Rattle.wgsl_tree_expression.specs.declared.expression.Expression.TheViews.{out-BinaryExpression}
-use Rattle.wgsl_tree_expression.specs.View.{expression_view}
+use Rattle.wgsl_tree_expression.specs.View.{expression_node_view}
 use Rattle.wgsl_model.specs.Printed.Expressions.{print_expression_node, is_abstract_int, expression_in}
 
 -- what stands on the left, or the node itself where nothing does
@@ -35,9 +37,11 @@ below (suc n) node = below n (left_of node)
 
 -- what is printed behind the left side
 abbrev pub text_behind : Expression → List ℕ
-text_behind (named_component base component) = (if is_abstract_int (expression_in base) then codes " ." else codes ".") ++ component
+text_behind (named_component base component) =
+    (if is_abstract_int (expression_in base) then codes " ." else codes ".") ++ component
 text_behind (indexing base index) = codes "[" ++ print_expression_node index ++ codes "]"
-text_behind (binary operator left right) = codes " " ++ binary_operator_text operator ++ codes " " ++ print_expression_node right
+text_behind (binary operator left right) = codes " " ++ binary_operator_text operator ++ codes " "
+    ++ print_expression_node right
 text_behind e = []
 
 -- what is printed behind what stands some steps down
@@ -55,5 +59,7 @@ with_left e left = e
 -- two with operators between their operands are the same but for their left operands
 abbrev pub same_behind : BinaryExpression → BinaryExpression → Bool
 same_behind x y =
-    same (number (binary_operator_number (binary_operator_view (out-BinaryExpression x).operator))) (number (binary_operator_number (binary_operator_view (out-BinaryExpression y).operator)))
-    && same (expression_code (expression_view (out-BinaryExpression x).right.node.value)) (expression_code (expression_view (out-BinaryExpression y).right.node.value))
+    same (binary_operator_code (binary_operator_view (out-BinaryExpression x).operator))
+    (binary_operator_code (binary_operator_view (out-BinaryExpression y).operator))
+    && same (expression_node_code (expression_node_view (out-BinaryExpression x).right))
+    (expression_node_code (expression_node_view (out-BinaryExpression y).right))

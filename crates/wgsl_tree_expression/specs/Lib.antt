@@ -1,4 +1,4 @@
 pub mod View
-pub mod Variants
+pub mod VariantsNodes
 pub mod Equality
 pub mod Chains

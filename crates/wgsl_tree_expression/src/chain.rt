@@ -7,8 +7,8 @@ ghost use Rattle.wgsl_tree_expression.specs.View.{expression_node_view, expressi
 ghost use Rattle.wgsl_tree_expression.specs.Chains.{left_of, steps_in, below, text_above};
 ghost use Rattle.std.specs.Fmt.{WritesOnOk};
 ghost use Rattle.wgsl_model.specs.Printed.Expressions.{print_expression_node};
-ghost use Rattle.wgsl_tree_equality.specs.Code.{same};
-ghost use Rattle.wgsl_tree_equality.specs.Expressions.{expression_code};
+ghost use Rattle.wgsl_tree_code.specs.Same.{same};
+ghost use Rattle.wgsl_tree_code.specs.ExpressionNodes.{expression_code};
 
 use crate::binary::equal_behind;
 use crate::expression::{Expression, ExpressionNode};

@@ -7,9 +7,9 @@ ghost use Rattle.std.specs.Fmt.{WritesOnOk};
 ghost use Rattle.wgsl_model.specs.Printed.Expressions.{print_expression, is_abstract_int, fuses};
 ghost use Rattle.wgsl_tree_words.specs.View.{unary_operator_view};
 ghost use Rattle.std.specs.Cmp.{on_per};
-ghost use Rattle.wgsl_tree_equality.specs.Code.{same};
-ghost use Rattle.wgsl_tree_equality.specs.Laws.{same_partial};
-ghost use Rattle.wgsl_tree_equality.specs.Expressions.{expression_code};
+ghost use Rattle.wgsl_tree_code.specs.Same.{same};
+ghost use Rattle.wgsl_tree_code.specs.Laws.{same_partial};
+ghost use Rattle.wgsl_tree_code.specs.ExpressionNodes.{expression_code};
 ghost use Rattle.wgsl_model.specs.Trees.Expressions.{type_expression, no_template, type_or_identifier};
 ghost use Rattle.wgsl_tree_expression.specs.declared.expression.Expression.TheVariants as expression;
 ghost use Rattle.wgsl_tree_expression.specs.declared.literal.LiteralExpression.TheVariants as literal;
@@ -122,70 +122,6 @@ impl Expression {
             | Expression::FunctionCall(_)
             | Expression::TypeOrIdentifier(_) => false,
         }
-    }
-}
-
-impl From<LiteralExpression> for Expression {
-    ghost from_gives = { λ inner made. made ≡ expression.Literal inner };
-
-    fn from(inner: LiteralExpression) -> Self {
-        Expression::Literal(inner)
-    }
-}
-
-impl From<ParenthesizedExpression> for Expression {
-    ghost from_gives = { λ inner made. made ≡ expression.Parenthesized inner };
-
-    fn from(inner: ParenthesizedExpression) -> Self {
-        Expression::Parenthesized(inner)
-    }
-}
-
-impl From<NamedComponentExpression> for Expression {
-    ghost from_gives = { λ inner made. made ≡ expression.NamedComponent inner };
-
-    fn from(inner: NamedComponentExpression) -> Self {
-        Expression::NamedComponent(inner)
-    }
-}
-
-impl From<IndexingExpression> for Expression {
-    ghost from_gives = { λ inner made. made ≡ expression.Indexing inner };
-
-    fn from(inner: IndexingExpression) -> Self {
-        Expression::Indexing(inner)
-    }
-}
-
-impl From<UnaryExpression> for Expression {
-    ghost from_gives = { λ inner made. made ≡ expression.Unary inner };
-
-    fn from(inner: UnaryExpression) -> Self {
-        Expression::Unary(inner)
-    }
-}
-
-impl From<BinaryExpression> for Expression {
-    ghost from_gives = { λ inner made. made ≡ expression.Binary inner };
-
-    fn from(inner: BinaryExpression) -> Self {
-        Expression::Binary(inner)
-    }
-}
-
-impl From<FunctionCall> for Expression {
-    ghost from_gives = { λ inner made. made ≡ expression.FunctionCall inner };
-
-    fn from(inner: FunctionCall) -> Self {
-        Expression::FunctionCall(inner)
-    }
-}
-
-impl From<TypeExpression> for Expression {
-    ghost from_gives = { λ inner made. made ≡ expression.TypeOrIdentifier inner };
-
-    fn from(inner: TypeExpression) -> Self {
-        Expression::TypeOrIdentifier(inner)
     }
 }
 

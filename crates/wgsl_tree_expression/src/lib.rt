@@ -12,7 +12,7 @@ mod named_component;
 mod parenthesized;
 mod type_expression;
 mod unary;
-mod variants;
+mod variants_nodes;
 
 pub use binary::BinaryExpression;
 pub use expression::{Expression, ExpressionNode};

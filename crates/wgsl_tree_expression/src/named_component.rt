@@ -6,9 +6,9 @@ ghost use Rattle.wgsl_tree_expression.specs.Chains.{with_left, text_behind};
 ghost use Rattle.std.specs.Fmt.{WritesOnOk};
 ghost use Rattle.wgsl_model.specs.Printed.Expressions.{print_expression};
 ghost use Rattle.std.specs.Cmp.{on_per};
-ghost use Rattle.wgsl_tree_equality.specs.Code.{same};
-ghost use Rattle.wgsl_tree_equality.specs.Laws.{same_partial};
-ghost use Rattle.wgsl_tree_equality.specs.Expressions.{expression_code};
+ghost use Rattle.wgsl_tree_code.specs.Same.{same};
+ghost use Rattle.wgsl_tree_code.specs.Laws.{same_partial};
+ghost use Rattle.wgsl_tree_code.specs.ExpressionNodes.{expression_code};
 ghost use Rattle.wgsl_tree_expression.specs.declared.expression.Expression.TheViews.{out-NamedComponentExpression};
 
 use crate::chain::{clone_chain, drop_chain, equal_chains, write_chain};

@@ -4,9 +4,9 @@ ghost use Rattle.std.specs.Prelude.{◌≡◌, IfOk, Some};
 ghost use Rattle.wgsl_tree_expression.specs.View.{parenthesized_expression_view};
 ghost use Rattle.wgsl_model.specs.Printed.Expressions.{print_expression};
 ghost use Rattle.std.specs.Cmp.{on_per};
-ghost use Rattle.wgsl_tree_equality.specs.Code.{same};
-ghost use Rattle.wgsl_tree_equality.specs.Laws.{same_partial};
-ghost use Rattle.wgsl_tree_equality.specs.Expressions.{expression_code};
+ghost use Rattle.wgsl_tree_code.specs.Same.{same};
+ghost use Rattle.wgsl_tree_code.specs.Laws.{same_partial};
+ghost use Rattle.wgsl_tree_code.specs.ExpressionNodes.{expression_code};
 
 use crate::chain::clone_node;
 use crate::expression::ExpressionNode;

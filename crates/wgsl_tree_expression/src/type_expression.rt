@@ -4,9 +4,9 @@ ghost use Rattle.std.specs.Prelude.{◌≡◌, IfOk, Some};
 ghost use Rattle.wgsl_tree_expression.specs.View.{type_expression_view, template_arg_view, ident_name};
 ghost use Rattle.wgsl_model.specs.Printed.Expressions.{print_expression_node, print_type};
 ghost use Rattle.std.specs.Cmp.{on_per};
-ghost use Rattle.wgsl_tree_equality.specs.Code.{same};
-ghost use Rattle.wgsl_tree_equality.specs.Laws.{same_partial};
-ghost use Rattle.wgsl_tree_equality.specs.Expressions.{expression_node_code, type_code};
+ghost use Rattle.wgsl_tree_code.specs.Same.{same};
+ghost use Rattle.wgsl_tree_code.specs.Laws.{same_partial};
+ghost use Rattle.wgsl_tree_code.specs.ExpressionNodes.{expression_node_code, type_code};
 ghost use Rattle.wgsl_model.specs.Trees.Expressions.{type_expression, no_template};
 
 use crate::chain::clone_node;

@@ -8,11 +8,15 @@ use Rattle.wgsl_tree_statement.specs.View as V
 use Rattle.wgsl_tree_statement.proofs.Views.{layer_views, variants}
 use Rattle.wgsl_tree_node.specs.Parts.{attributes_in}
 use Rattle.wgsl_tree_node.specs.PlainAttributes.{attributes_of_statement}
-use Rattle.wgsl_tree_node.specs.StatementLists.{StatementLayer, list_of_kind, statement_list}
+use Rattle.wgsl_tree_node.specs.StatementNodes.{StatementLayer, list_of_kind, statement_list}
 
-kind_listed : (k : StatementLayer) → attributes_of_statement (V.statement_view (roll-Statement k)) ≡ attributes_view (attributes_in (list_of_kind k))
+kind_listed : (k : StatementLayer) → attributes_of_statement (V.statement_view (roll-Statement k))
+    ≡ attributes_view (attributes_in (list_of_kind k))
 unfolding roll-Statement Carrier.roll
 kind_listed k = grind (arith, variants, layer_views)
 
-pub statement_listed : (s : Statement) → attributes_of_statement (V.statement_view s) ≡ attributes_view (attributes_in (statement_list s))
-statement_listed s = ap (λ (t : Statement). attributes_of_statement (V.statement_view t)) (sym (roll-out-Statement s)) ∙ kind_listed (out-Statement s)
+pub statement_listed : (s : Statement)
+    → attributes_of_statement (V.statement_view s) ≡ attributes_view (attributes_in (statement_list s))
+statement_listed s =
+    ap (λ (t : Statement). attributes_of_statement (V.statement_view t)) (sym (roll-out-Statement s))
+    ∙ kind_listed (out-Statement s)

@@ -1,6 +1,6 @@
 pub mod Lending
 pub mod Parts
-pub mod StatementLists
+pub mod StatementNodes
 pub mod PlainAttributes
-pub mod DeclaredNames
-pub mod UnitLists
+pub mod NamedNodes
+pub mod UnitNodes

@@ -17,9 +17,12 @@ use Rattle.wgsl_tree_attribute.specs.contracts.attribute.Attribute.{the_row as a
 abbrev pub AttributeList : Type 0
 AttributeList = Vec (Spanned Attribute) Global
 
--- s ends with the last list behind r as its own, as `with` gives it, and as it was where r is `None`
-abbrev pub LendsList : (Node : RattleType) → (Node.Denot → AttributeList → Node.Denot) → MutBor Node.Denot → Option (MutBor AttributeList) → Fml
-LendsList Node with s r = LendsIf Node (vec.the_row (spanned_row attribute_row) global.the_row ghosts) s r (with s.now) s.now
+-- s ends with the last list behind r as its own, as `with` gives it, and as it was where r is
+-- `None`
+abbrev pub LendsList : (Node : RattleType) → (Node.Denot → AttributeList → Node.Denot)
+    → MutBor Node.Denot → Option (MutBor AttributeList) → Fml
+LendsList Node with s r = LendsIf Node
+    (vec.the_row (spanned_row attribute_row) global.the_row ghosts) s r (with s.now) s.now
 
 -- the attributes in a list that may be there
 abbrev pub attributes_in : Option AttributeList → List (Spanned Attribute)

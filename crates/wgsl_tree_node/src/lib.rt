@@ -3,12 +3,11 @@
 
 mod attribute_list;
 mod bare;
-mod declarations;
-mod directives;
 mod node_parts;
-mod simple_statements;
-mod statements;
+mod simple_nodes;
+mod statement_nodes;
 mod syntax_node;
+mod unit_nodes;
 
 pub use attribute_list::{has_attribute, no_attributes};
 pub use node_parts::{BareNode, NodeAttributes, NodeName, UnattributedNode, UnnamedNode};

@@ -25,23 +25,32 @@ one_byte a (b ∷ bs) lacks =
 
 pub no_separator : (bs : List ℕ) → ((i : ℕ) → i ≤ length bs → LacksTextAt separator bs i) → path_parts bs ≡ bs ∷ []
 no_separator [] lacks = refl
-no_separator (a ∷ bs) lacks = one_byte a bs (lacks 0 (omega arith)) ∙ ap (onto_first a) (no_separator bs (λ i h. lacks (suc i) (omega arith)))
+no_separator (a ∷ bs) lacks = one_byte a bs (lacks 0 (omega arith))
+    ∙ ap (onto_first a) (no_separator bs (λ i h. lacks (suc i) (omega arith)))
 
-cut : (part rest : List ℕ) → ((i : ℕ) → i < length part → LacksTextAt separator (part ++ (separator ++ rest)) i) → path_parts (part ++ (separator ++ rest)) ≡ part ∷ path_parts rest
+cut : (part rest : List ℕ)
+    → ((i : ℕ) → i < length part → LacksTextAt separator (part ++ (separator ++ rest)) i)
+    → path_parts (part ++ (separator ++ rest)) ≡ part ∷ path_parts rest
 cut [] rest lacks = refl
-cut (a ∷ part) rest lacks = one_byte a (part ++ (separator ++ rest)) (lacks 0 (omega arith)) ∙ ap (onto_first a) (cut part rest (λ i h. lacks (suc i) (omega arith)))
+cut (a ∷ part) rest lacks = one_byte a (part ++ (separator ++ rest)) (lacks 0 (omega arith))
+    ∙ ap (onto_first a) (cut part rest (λ i h. lacks (suc i) (omega arith)))
 
 -- what `split_once` says
 abbrev pub SplitsOnce : List ℕ → Option (Bor (List ℕ) × Bor (List ℕ)) → Type 0
-SplitsOnce bs r = MatchOption r (FindsText separator bs None) (λ x. (i : ℕ) × (j : ℕ) × FindsText separator bs (Some (i, j)) × (x.0.now ≡ take i bs) × (x.1.now ≡ drop j bs) × (i ≤ j) × (length x.0.now ≡ i) × (length x.1.now + j ≡ length bs))
+SplitsOnce bs r = MatchOption r (FindsText separator bs None)
+    (λ x. (i : ℕ) × (j : ℕ) × FindsText separator bs (Some (i, j)) × (x.0.now ≡ take i bs)
+    × (x.1.now ≡ drop j bs) × (i ≤ j) × (length x.0.now ≡ i) × (length x.1.now + j ≡ length bs))
 
 pub one_part : (bs : List ℕ) → SplitsOnce bs None → path_parts bs ≡ bs ∷ []
 one_part bs lacks = no_separator bs lacks
 
-pub more_parts : (bs : List ℕ) (part rest : Bor (List ℕ)) → SplitsOnce bs (Some (part, rest)) → path_parts bs ≡ part.now ∷ path_parts rest.now
+pub more_parts : (bs : List ℕ) (part rest : Bor (List ℕ)) → SplitsOnce bs (Some (part, rest))
+    → path_parts bs ≡ part.now ∷ path_parts rest.now
 more_parts bs part rest splits =
     let whole = split_text_parts separator bs (Some (part, rest)) splits in
-    ap path_parts whole ∙ cut part.now rest.now (λ i h. subst (λ (text : List ℕ). LacksTextAt separator text i) whole (splits.2.0 i (omega arith)))
+    ap path_parts whole ∙ cut part.now rest.now
+    (λ i h. subst (λ (text : List ℕ). LacksTextAt separator text i) whole (splits.2.0 i (omega arith)))
 
-pub shorter : (bs : List ℕ) (part rest : Bor (List ℕ)) → SplitsOnce bs (Some (part, rest)) → length rest.now + 2 ≤ length bs
+pub shorter : (bs : List ℕ) (part rest : Bor (List ℕ)) → SplitsOnce bs (Some (part, rest))
+    → length rest.now + 2 ≤ length bs
 shorter bs part rest splits = omega (arith, splits.2.1.ends, splits.7)

@@ -8,9 +8,11 @@ use Rattle.wgsl_model.specs.Trees.Paths.{relative, origin_text}
 abbrev further : List ℕ → List ℕ
 further word = codes "::" ++ word
 
-last_first : (n : ℕ) → codes "::super" ++ flat_map further (replicate n (codes "super")) ≡ flat_map further (replicate n (codes "super")) ++ codes "::super"
+last_first : (n : ℕ) → codes "::super" ++ flat_map further (replicate n (codes "super"))
+    ≡ flat_map further (replicate n (codes "super")) ++ codes "::super"
 last_first zero = refl
-last_first (suc n) = ap (λ text. codes "::super" ++ text) (last_first n) ∙ sym (append_assoc (codes "::super") (flat_map further (replicate n (codes "super"))) (codes "::super"))
+last_first (suc n) = ap (λ text. codes "::super" ++ text) (last_first n)
+    ∙ sym (append_assoc (codes "::super") (flat_map further (replicate n (codes "super"))) (codes "::super"))
 
 pub one_super_more : (n : ℕ) → 0 < n → origin_text (relative (n + 1)) ≡ origin_text (relative n) ++ codes "::super"
 one_super_more zero h = absurd (omega arith)

@@ -21,7 +21,8 @@ path_view path = plain_path (origin_view path.origin) (map string_bytes path.com
 
 -- the origin of a path that is joined with a suffix, by the suffix's origin
 abbrev pub origin_behind : ModulePath → PathOrigin → plain.PathOrigin
-origin_behind path suffix = plain.joined_origin (origin_view path.origin) (length path.components.items) (origin_view suffix)
+origin_behind path suffix = plain.joined_origin (origin_view path.origin)
+    (length path.components.items) (origin_view suffix)
 
 -- the fault that an error names, unless it is want of memory
 abbrev pub parse_fault : ModulePathParseError → Option plain.PathFault

@@ -36,23 +36,27 @@ begun_append : (xs ys : List ℕ) → IsFilled xs → begun (xs ++ ys) ≡ begun
 begun_append [] ys h = absurd h
 begun_append (x ∷ xs) ys h = refl
 
-first_filled : (separator t : List ℕ) (ts : List (List ℕ)) → BeginsFilled (t ∷ ts) → IsFilled (joined separator (t ∷ ts))
+first_filled : (separator t : List ℕ) (ts : List (List ℕ)) → BeginsFilled (t ∷ ts)
+    → IsFilled (joined separator (t ∷ ts))
 first_filled separator [] ts h = absurd h
 first_filled separator (b ∷ bs) ts h = tt
 
-joined_more : (separator t : List ℕ) (ts : List (List ℕ)) (u : List ℕ) → joined separator (t ∷ (ts ++ (u ∷ []))) ≡ joined separator (t ∷ ts) ++ (separator ++ u)
+joined_more : (separator t : List ℕ) (ts : List (List ℕ)) (u : List ℕ)
+    → joined separator (t ∷ (ts ++ (u ∷ []))) ≡ joined separator (t ∷ ts) ++ (separator ++ u)
 joined_more separator t ts u =
     let line : List ℕ → List ℕ = λ v. separator ++ v in
     ap (λ z. t ++ z) (flat_map-append line ts (u ∷ []) ∙ ap (λ z. flat_map line ts ++ z) (append-nil (line u)))
     ∙ sym (append_assoc t (flat_map line ts) (line u))
 
 -- one text more
-pub block_more : (separator : List ℕ) (ts : List (List ℕ)) (t : List ℕ) → BeginsFilled ts → IsFilled t → block_lines separator ts ++ before_line separator (is_nil ts) ++ t ≡ block_lines separator (ts ++ (t ∷ []))
+pub block_more : (separator : List ℕ) (ts : List (List ℕ)) (t : List ℕ) → BeginsFilled ts → IsFilled t
+    → block_lines separator ts ++ before_line separator (is_nil ts) ++ t ≡ block_lines separator (ts ++ (t ∷ []))
 block_more separator [] [] begins filled = absurd filled
 block_more separator [] (b ∷ bs) begins filled = ap (λ z. codes "    " ++ z) (sym (append-nil (b ∷ bs)))
 block_more separator (u ∷ us) t begins filled =
     append_assoc (block_lines separator (u ∷ us)) separator t
-    ∙ sym (ap begun (joined_more separator u us t) ∙ begun_append (joined separator (u ∷ us)) (separator ++ t) (first_filled separator u us begins))
+    ∙ sym (ap begun (joined_more separator u us t)
+    ∙ begun_append (joined separator (u ∷ us)) (separator ++ t) (first_filled separator u us begins))
 
 pub begins : (t : List ℕ) (ts : List (List ℕ)) → IsFilled t → BeginsFilled (t ∷ ts)
 begins [] ts h = h
@@ -61,7 +65,8 @@ begins (b ∷ bs) ts h = tt
 pub statements_filled : (ss : StatementNodes) → BeginsFilled (statement_texts ss)
 statements_filled no_statements = tt
 statements_filled (statement_before (statement_node s span) ss) =
-    let P : Bool → Type 0 = λ b. is_void s ≡ b → BeginsFilled (if b then statement_texts ss else print_statement s ∷ statement_texts ss) in
+    let P : Bool → Type 0 = λ b. is_void s ≡ b
+    → BeginsFilled (if b then statement_texts ss else print_statement s ∷ statement_texts ss) in
     (elim (is_void s) as P [
       | true ↦ λ e. statements_filled ss
       | false ↦ λ e. begins (print_statement s) (statement_texts ss) (statement_filled s e)

@@ -1,4 +1,3 @@
-pub mod Copies
 pub mod Equalities
 pub mod Blocks
 pub mod Pieces

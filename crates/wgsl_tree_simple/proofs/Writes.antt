@@ -6,5 +6,6 @@ use Rattle.wgsl_writer.proofs.Through.{wrote_append}
 
 -- one text, and the next behind it
 infixl 10 ◌▸◌
-pub ◌▸◌ : {W : Type 0} {took : W → List ℕ → W → Type 0} {a b c : Indented W} {xs ys : List ℕ} → Wrote took a xs b → Wrote took b ys c → Wrote took a (xs ++ ys) c
+pub ◌▸◌ : {W : Type 0} {took : W → List ℕ → W → Type 0} {a b c : Indented W} {xs ys : List ℕ}
+    → Wrote took a xs b → Wrote took b ys c → Wrote took a (xs ++ ys) c
 one ▸ next = wrote_append _ _ _ _ _ _ one next

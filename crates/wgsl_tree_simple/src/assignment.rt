@@ -1,16 +1,14 @@
 //! Assignments.
 #![tactic(auto, using(std::proofs::lemmas::List::append_assoc))]
 
-ghost use Rattle.std.specs.Prelude.{◌≡◌, IfOk, Some};
+ghost use Rattle.std.specs.Prelude.{Some};
 ghost use Rattle.wgsl_tree_simple.specs.View.{assignment_view};
 ghost use Rattle.wgsl_model.specs.Printed.Declarations.{print_attributed, print_assignment, unended_assignment};
 
-use crate::attributes::{clone_attributes, write_attributes};
+use crate::attributes::write_attributes;
 use crate::unended::Unended;
-use std::alloc::{AllocError, Global};
 use std::fmt;
 use std::fmt::Write;
-use wgsl_span::CloneWith;
 use wgsl_tree_attribute::Attributes;
 use wgsl_tree_expression::ExpressionNode;
 use wgsl_tree_words::AssignmentOperator;
@@ -22,27 +20,6 @@ pub struct AssignmentStatement {
     pub operator: AssignmentOperator,
     pub lhs: ExpressionNode,
     pub rhs: ExpressionNode,
-}
-
-impl AssignmentStatement {
-    pub fn clone(&self, alloc: Global) -> Result<Self, AllocError>
-        ensures { IfOk result (λ copy. assignment_view copy ≡ assignment_view self.now) }
-    {
-        self.clone_with(alloc)
-    }
-}
-
-impl CloneWith for AssignmentStatement {
-    ghost copies = { λ original copy. assignment_view copy ≡ assignment_view original };
-
-    fn clone_with(&self, alloc: Global) -> Result<Self, AllocError> {
-        Ok(AssignmentStatement {
-            attributes: clone_attributes(&self.attributes, alloc)?,
-            operator: self.operator,
-            lhs: self.lhs.clone_with(alloc)?,
-            rhs: self.rhs.clone_with(alloc)?,
-        })
-    }
 }
 
 impl fmt::Display for AssignmentStatement {

@@ -1,15 +1,13 @@
 //! What ends a loop after a turn.
 #![tactic(auto, using(std::proofs::lemmas::List::append_assoc))]
 
-ghost use Rattle.std.specs.Prelude.{◌≡◌, IfOk, Some};
+ghost use Rattle.std.specs.Prelude.{Some};
 ghost use Rattle.wgsl_tree_simple.specs.View.{break_if_view};
 ghost use Rattle.wgsl_model.specs.Printed.Declarations.{print_attributed, print_break_if};
 
-use crate::attributes::{clone_attributes, write_attributes};
-use std::alloc::{AllocError, Global};
+use crate::attributes::write_attributes;
 use std::fmt;
 use std::fmt::Write;
-use wgsl_span::CloneWith;
 use wgsl_tree_attribute::Attributes;
 use wgsl_tree_expression::ExpressionNode;
 
@@ -18,25 +16,6 @@ use wgsl_tree_expression::ExpressionNode;
 pub struct BreakIfStatement {
     pub attributes: Attributes,
     pub expression: ExpressionNode,
-}
-
-impl BreakIfStatement {
-    pub fn clone(&self, alloc: Global) -> Result<Self, AllocError>
-        ensures { IfOk result (λ copy. break_if_view copy ≡ break_if_view self.now) }
-    {
-        self.clone_with(alloc)
-    }
-}
-
-impl CloneWith for BreakIfStatement {
-    ghost copies = { λ original copy. break_if_view copy ≡ break_if_view original };
-
-    fn clone_with(&self, alloc: Global) -> Result<Self, AllocError> {
-        Ok(BreakIfStatement {
-            attributes: clone_attributes(&self.attributes, alloc)?,
-            expression: self.expression.clone_with(alloc)?,
-        })
-    }
 }
 
 impl fmt::Display for BreakIfStatement {

@@ -1,18 +1,17 @@
 //! Calls that stand alone.
 #![tactic(auto, using(std::proofs::lemmas::List::append_assoc))]
 
-ghost use Rattle.std.specs.Prelude.{◌≡◌, IfOk, Some};
+ghost use Rattle.std.specs.Prelude.{◌≡◌, Some};
 ghost use Rattle.wgsl_tree_simple.specs.View.{call_statement_view};
 ghost use Rattle.wgsl_model.specs.Trees.Attributed.{without_attributes};
 ghost use Rattle.wgsl_tree_expression.specs.View.{function_call_view};
 ghost use Rattle.wgsl_model.specs.Printed.Declarations.{print_attributed, print_call_statement, unended_call};
 
-use crate::attributes::{clone_attributes, write_attributes};
+use crate::attributes::write_attributes;
 use crate::unended::Unended;
-use std::alloc::{AllocError, Global};
+use std::alloc::Global;
 use std::fmt;
 use std::fmt::Write;
-use wgsl_span::CloneWith;
 use wgsl_tree_attribute::Attributes;
 use wgsl_tree_expression::FunctionCall;
 
@@ -33,23 +32,6 @@ impl FunctionCallStatement {
             attributes: Vec::new(alloc),
             call,
         }
-    }
-
-    pub fn clone(&self, alloc: Global) -> Result<Self, AllocError>
-        ensures { IfOk result (λ copy. call_statement_view copy ≡ call_statement_view self.now) }
-    {
-        self.clone_with(alloc)
-    }
-}
-
-impl CloneWith for FunctionCallStatement {
-    ghost copies = { λ original copy. call_statement_view copy ≡ call_statement_view original };
-
-    fn clone_with(&self, alloc: Global) -> Result<Self, AllocError> {
-        Ok(FunctionCallStatement {
-            attributes: clone_attributes(&self.attributes, alloc)?,
-            call: self.call.clone_with(alloc)?,
-        })
     }
 }
 

@@ -9,12 +9,12 @@ ghost use Rattle.wgsl_model.specs.Trees.WithoutSpans.{no_span};
 ghost use Rattle.wgsl_tree_expression.specs.View.{expression_view};
 ghost use Rattle.wgsl_model.specs.Printed.Declarations.{print_attributed, print_assert, unended_assert};
 
-use crate::attributes::{clone_attributes, write_attributes};
+use crate::attributes::write_attributes;
 use crate::unended::Unended;
 use std::alloc::{AllocError, Global};
 use std::fmt;
 use std::fmt::Write;
-use wgsl_span::{CloneWith, Spanned};
+use wgsl_span::Spanned;
 use wgsl_tree_attribute::Attributes;
 use wgsl_tree_expression::{Expression, ExpressionNode};
 
@@ -36,23 +36,6 @@ impl ConstAssert {
         Ok(ConstAssert {
             attributes: Vec::new(alloc),
             expression: Spanned::with_default_span(alloc, expression)?,
-        })
-    }
-
-    pub fn clone(&self, alloc: Global) -> Result<Self, AllocError>
-        ensures { IfOk result (λ copy. assert_view copy ≡ assert_view self.now) }
-    {
-        self.clone_with(alloc)
-    }
-}
-
-impl CloneWith for ConstAssert {
-    ghost copies = { λ original copy. assert_view copy ≡ assert_view original };
-
-    fn clone_with(&self, alloc: Global) -> Result<Self, AllocError> {
-        Ok(ConstAssert {
-            attributes: clone_attributes(&self.attributes, alloc)?,
-            expression: self.expression.clone_with(alloc)?,
         })
     }
 }

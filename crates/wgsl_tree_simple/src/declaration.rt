@@ -1,21 +1,18 @@
 //! Declarations of values.
 
-ghost use Rattle.std.specs.Prelude.{Some, MatchResult, ◌≡◌, IfOk};
+ghost use Rattle.std.specs.Prelude.{Some, MatchResult};
 ghost use Rattle.std.specs.Option.{option_map};
 ghost use Rattle.std.specs.Fmt.{WritesOnOk};
 ghost use Rattle.wgsl_model.specs.Printed.Declarations.{print_attributed, print_kind, print_typed, print_initializer, print_declaration, unended_declaration};
 ghost use Rattle.wgsl_tree_expression.specs.View.{expression_node_view, type_expression_view};
 ghost use Rattle.wgsl_tree_simple.specs.View.{declaration_kind_view, declaration_view};
 ghost use Rattle.wgsl_tree_simple.specs.Kinds.{IsKindWord};
-ghost use Rattle.wgsl_tree_simple.specs.Variants.{is_const, is_override, is_let, is_var};
 ghost use Rattle.wgsl_model.specs.Trees.Statements as plain;
 
-use crate::attributes::{clone_attributes, write_attributes};
+use crate::attributes::write_attributes;
 use crate::unended::Unended;
-use std::alloc::{AllocError, Global};
 use std::fmt;
 use std::fmt::Write;
-use wgsl_span::CloneWith;
 use wgsl_tree_attribute::Attributes;
 use wgsl_tree_expression::{ExpressionNode, Ident, TypeExpression};
 use wgsl_tree_words::{AccessMode, AddressSpace};
@@ -42,30 +39,6 @@ impl DeclarationKind {
             "var" => Ok(DeclarationKind::Var(None)),
             _ => Err(()),
         }
-    }
-
-    pub fn is_const(&self) -> bool
-        ensures { result ≡ is_const (declaration_kind_view self.now) }
-    {
-        matches!(self, DeclarationKind::Const)
-    }
-
-    pub fn is_override(&self) -> bool
-        ensures { result ≡ is_override (declaration_kind_view self.now) }
-    {
-        matches!(self, DeclarationKind::Override)
-    }
-
-    pub fn is_let(&self) -> bool
-        ensures { result ≡ is_let (declaration_kind_view self.now) }
-    {
-        matches!(self, DeclarationKind::Let)
-    }
-
-    pub fn is_var(&self) -> bool
-        ensures { result ≡ is_var (declaration_kind_view self.now) }
-    {
-        matches!(self, DeclarationKind::Var(_))
     }
 }
 
@@ -95,28 +68,6 @@ pub struct Declaration {
 }
 
 pub type DeclarationStatement = Declaration;
-
-impl Declaration {
-    pub fn clone(&self, alloc: Global) -> Result<Self, AllocError>
-        ensures { IfOk result (λ copy. declaration_view copy ≡ declaration_view self.now) }
-    {
-        self.clone_with(alloc)
-    }
-}
-
-impl CloneWith for Declaration {
-    ghost copies = { λ original copy. declaration_view copy ≡ declaration_view original };
-
-    fn clone_with(&self, alloc: Global) -> Result<Self, AllocError> {
-        Ok(Declaration {
-            attributes: clone_attributes(&self.attributes, alloc)?,
-            kind: self.kind,
-            ident: self.ident.clone_with(alloc)?,
-            ty: self.ty.clone_with(alloc)?,
-            initializer: self.initializer.clone_with(alloc)?,
-        })
-    }
-}
 
 impl fmt::Display for Declaration {
     ghost output = { λ declaration. Some (print_attributed print_declaration (declaration_view declaration)) };

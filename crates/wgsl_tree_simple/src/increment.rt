@@ -1,16 +1,14 @@
 //! Statements that count up or down by one.
 #![tactic(auto, using(std::proofs::lemmas::List::append_assoc))]
 
-ghost use Rattle.std.specs.Prelude.{◌≡◌, IfOk, Some};
+ghost use Rattle.std.specs.Prelude.{Some};
 ghost use Rattle.wgsl_tree_simple.specs.View.{increment_view, decrement_view};
 ghost use Rattle.wgsl_model.specs.Printed.Declarations.{print_attributed, print_increment, print_decrement, unended_increment, unended_decrement};
 
-use crate::attributes::{clone_attributes, write_attributes};
+use crate::attributes::write_attributes;
 use crate::unended::Unended;
-use std::alloc::{AllocError, Global};
 use std::fmt;
 use std::fmt::Write;
-use wgsl_span::CloneWith;
 use wgsl_tree_attribute::Attributes;
 use wgsl_tree_expression::ExpressionNode;
 
@@ -19,25 +17,6 @@ use wgsl_tree_expression::ExpressionNode;
 pub struct IncrementStatement {
     pub attributes: Attributes,
     pub expression: ExpressionNode,
-}
-
-impl IncrementStatement {
-    pub fn clone(&self, alloc: Global) -> Result<Self, AllocError>
-        ensures { IfOk result (λ copy. increment_view copy ≡ increment_view self.now) }
-    {
-        self.clone_with(alloc)
-    }
-}
-
-impl CloneWith for IncrementStatement {
-    ghost copies = { λ original copy. increment_view copy ≡ increment_view original };
-
-    fn clone_with(&self, alloc: Global) -> Result<Self, AllocError> {
-        Ok(IncrementStatement {
-            attributes: clone_attributes(&self.attributes, alloc)?,
-            expression: self.expression.clone_with(alloc)?,
-        })
-    }
 }
 
 impl fmt::Display for IncrementStatement {
@@ -63,25 +42,6 @@ impl fmt::Display for Unended<'_, IncrementStatement> {
 pub struct DecrementStatement {
     pub attributes: Attributes,
     pub expression: ExpressionNode,
-}
-
-impl DecrementStatement {
-    pub fn clone(&self, alloc: Global) -> Result<Self, AllocError>
-        ensures { IfOk result (λ copy. decrement_view copy ≡ decrement_view self.now) }
-    {
-        self.clone_with(alloc)
-    }
-}
-
-impl CloneWith for DecrementStatement {
-    ghost copies = { λ original copy. decrement_view copy ≡ decrement_view original };
-
-    fn clone_with(&self, alloc: Global) -> Result<Self, AllocError> {
-        Ok(DecrementStatement {
-            attributes: clone_attributes(&self.attributes, alloc)?,
-            expression: self.expression.clone_with(alloc)?,
-        })
-    }
 }
 
 impl fmt::Display for DecrementStatement {

@@ -7,12 +7,14 @@ mod break_if;
 mod call_statement;
 mod case_selector;
 mod const_assert;
+mod copies_nodes;
 mod declaration;
 mod increment;
 mod parts;
 mod return_statement;
 mod single_word;
 mod unended;
+mod variants_nodes;
 
 pub use assignment::AssignmentStatement;
 pub use attributes::{clone_attributes, write_attribute_line, write_attributes};

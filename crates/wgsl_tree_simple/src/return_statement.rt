@@ -9,12 +9,12 @@ ghost use Rattle.wgsl_model.specs.Trees.WithoutSpans.{no_span};
 ghost use Rattle.wgsl_tree_expression.specs.View.{expression_view, expression_node_view};
 ghost use Rattle.wgsl_model.specs.Printed.Declarations.{print_attributed, print_return, unended_return};
 
-use crate::attributes::{clone_attributes, write_attributes};
+use crate::attributes::write_attributes;
 use crate::unended::Unended;
 use std::alloc::{AllocError, Global};
 use std::fmt;
 use std::fmt::Write;
-use wgsl_span::{CloneWith, Spanned};
+use wgsl_span::Spanned;
 use wgsl_tree_attribute::Attributes;
 use wgsl_tree_expression::{Expression, ExpressionNode};
 
@@ -44,23 +44,6 @@ impl ReturnStatement {
             attributes: Vec::new(alloc),
             expression: Some(expression),
         }
-    }
-
-    pub fn clone(&self, alloc: Global) -> Result<Self, AllocError>
-        ensures { IfOk result (λ copy. return_view copy ≡ return_view self.now) }
-    {
-        self.clone_with(alloc)
-    }
-}
-
-impl CloneWith for ReturnStatement {
-    ghost copies = { λ original copy. return_view copy ≡ return_view original };
-
-    fn clone_with(&self, alloc: Global) -> Result<Self, AllocError> {
-        Ok(ReturnStatement {
-            attributes: clone_attributes(&self.attributes, alloc)?,
-            expression: self.expression.clone_with(alloc)?,
-        })
     }
 }
 

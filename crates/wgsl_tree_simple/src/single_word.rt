@@ -1,39 +1,19 @@
 //! Statements of one word: `break`, `continue` and `discard`.
 #![tactic(auto, using(std::proofs::lemmas::List::append_assoc))]
 
-ghost use Rattle.std.specs.Prelude.{◌≡◌, IfOk, Some};
+ghost use Rattle.std.specs.Prelude.{Some};
 ghost use Rattle.wgsl_tree_simple.specs.View.{break_view, continue_view, discard_view};
 ghost use Rattle.wgsl_model.specs.Printed.Statements.{unended, print_statement};
 
-use crate::attributes::{clone_attributes, write_attributes};
+use crate::attributes::write_attributes;
 use crate::unended::Unended;
-use std::alloc::{AllocError, Global};
 use std::fmt;
 use std::fmt::Write;
-use wgsl_span::CloneWith;
 use wgsl_tree_attribute::Attributes;
 
 #[derive(PartialEq, Debug, Drop)]
 pub struct BreakStatement {
     pub attributes: Attributes,
-}
-
-impl BreakStatement {
-    pub fn clone(&self, alloc: Global) -> Result<Self, AllocError>
-        ensures { IfOk result (λ copy. break_view copy ≡ break_view self.now) }
-    {
-        self.clone_with(alloc)
-    }
-}
-
-impl CloneWith for BreakStatement {
-    ghost copies = { λ original copy. break_view copy ≡ break_view original };
-
-    fn clone_with(&self, alloc: Global) -> Result<Self, AllocError> {
-        Ok(BreakStatement {
-            attributes: clone_attributes(&self.attributes, alloc)?,
-        })
-    }
 }
 
 impl fmt::Display for BreakStatement {
@@ -58,24 +38,6 @@ pub struct ContinueStatement {
     pub attributes: Attributes,
 }
 
-impl ContinueStatement {
-    pub fn clone(&self, alloc: Global) -> Result<Self, AllocError>
-        ensures { IfOk result (λ copy. continue_view copy ≡ continue_view self.now) }
-    {
-        self.clone_with(alloc)
-    }
-}
-
-impl CloneWith for ContinueStatement {
-    ghost copies = { λ original copy. continue_view copy ≡ continue_view original };
-
-    fn clone_with(&self, alloc: Global) -> Result<Self, AllocError> {
-        Ok(ContinueStatement {
-            attributes: clone_attributes(&self.attributes, alloc)?,
-        })
-    }
-}
-
 impl fmt::Display for ContinueStatement {
     ghost output = { λ statement. Some (print_statement (continue_view statement)) };
 
@@ -96,24 +58,6 @@ impl fmt::Display for Unended<'_, ContinueStatement> {
 #[derive(PartialEq, Debug, Drop)]
 pub struct DiscardStatement {
     pub attributes: Attributes,
-}
-
-impl DiscardStatement {
-    pub fn clone(&self, alloc: Global) -> Result<Self, AllocError>
-        ensures { IfOk result (λ copy. discard_view copy ≡ discard_view self.now) }
-    {
-        self.clone_with(alloc)
-    }
-}
-
-impl CloneWith for DiscardStatement {
-    ghost copies = { λ original copy. discard_view copy ≡ discard_view original };
-
-    fn clone_with(&self, alloc: Global) -> Result<Self, AllocError> {
-        Ok(DiscardStatement {
-            attributes: clone_attributes(&self.attributes, alloc)?,
-        })
-    }
 }
 
 impl fmt::Display for DiscardStatement {

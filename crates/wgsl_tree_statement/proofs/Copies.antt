@@ -10,7 +10,9 @@ use Rattle.wgsl_tree_statement.specs.declared.statement.Statement.{Statement}
 use Rattle.wgsl_tree_simple.specs.View.{selector_view}
 use Rattle.wgsl_tree_statement.specs.View.{statement_node_view, statement_nodes_view}
 
-pub selectors_shown : (selectors copies : List CaseSelector) → ListCopies (λ s copy. selector_view copy ≡ selector_view s) selectors copies → map selector_view copies ≡ map selector_view selectors
+pub selectors_shown : (selectors copies : List CaseSelector)
+    → ListCopies (λ s copy. selector_view copy ≡ selector_view s) selectors copies
+    → map selector_view copies ≡ map selector_view selectors
 selectors_shown = list_shown (λ s copy. selector_view copy ≡ selector_view s) selector_view (λ s copy h. h)
 
 -- one more at the end
@@ -18,11 +20,15 @@ abbrev and_then : StatementNodes → StatementNode → StatementNodes
 and_then no_statements n = statement_before n no_statements
 and_then (statement_before m ms) n = statement_before m (and_then ms n)
 
-nodes_and_then : (xs : List (Spanned Statement)) (n : Spanned Statement) → statement_nodes_view (xs ++ (n ∷ [])) ≡ and_then (statement_nodes_view xs) (statement_node_view n)
+nodes_and_then : (xs : List (Spanned Statement)) (n : Spanned Statement)
+    → statement_nodes_view (xs ++ (n ∷ [])) ≡ and_then (statement_nodes_view xs) (statement_node_view n)
 nodes_and_then [] n = refl
 nodes_and_then (x ∷ xs) n = ap (statement_before (statement_node_view x)) (nodes_and_then xs n)
 
-pub node_more : (xs ys : List (Spanned Statement)) (k : ℕ) (n m : Spanned Statement) → k < length xs → n ≡ get_or xs k n → statement_nodes_view ys ≡ statement_nodes_view (take k xs) → statement_node_view m ≡ statement_node_view n → statement_nodes_view (ys ++ (m ∷ [])) ≡ statement_nodes_view (take (k + 1) xs)
+pub node_more : (xs ys : List (Spanned Statement)) (k : ℕ) (n m : Spanned Statement) → k < length xs
+    → n ≡ get_or xs k n → statement_nodes_view ys ≡ statement_nodes_view (take k xs)
+    → statement_node_view m ≡ statement_node_view n
+    → statement_nodes_view (ys ++ (m ∷ [])) ≡ statement_nodes_view (take (k + 1) xs)
 node_more xs ys k n m h at so same = sym
     (ap statement_nodes_view (take_more xs k n h ∙ ap (λ z. take k xs ++ (z ∷ [])) (sym at))
     ∙ nodes_and_then (take k xs) n
@@ -30,7 +36,9 @@ node_more xs ys k n m h at so same = sym
     ∙ ap (and_then (statement_nodes_view ys)) (sym same)
     ∙ sym (nodes_and_then ys m))
 
-pub item_more : {X Y : Type 0} (f : X → Y) (xs ys : List X) (k : ℕ) (x y : X) → k < length xs → x ≡ get_or xs k x → map f ys ≡ map f (take k xs) → f y ≡ f x → map f (ys ++ (y ∷ [])) ≡ map f (take (k + 1) xs)
+pub item_more : {X Y : Type 0} (f : X → Y) (xs ys : List X) (k : ℕ) (x y : X) → k < length xs
+    → x ≡ get_or xs k x → map f ys ≡ map f (take k xs) → f y ≡ f x
+    → map f (ys ++ (y ∷ [])) ≡ map f (take (k + 1) xs)
 item_more f xs ys k x y h at so same = sym
     (ap (map f) (take_more xs k x h ∙ ap (λ z. take k xs ++ (z ∷ [])) (sym at))
     ∙ map_push f (take k xs) x

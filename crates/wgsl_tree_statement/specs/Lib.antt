@@ -1,1 +1,2 @@
+pub mod VariantsNodes
 pub mod View

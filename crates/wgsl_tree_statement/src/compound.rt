@@ -5,9 +5,10 @@ ghost use Rattle.wgsl_tree_statement.specs.View.{compound_statement_view, statem
 ghost use Rattle.wgsl_model.specs.Trees.Statements.{compound_statement, no_statements};
 ghost use Rattle.wgsl_model.specs.Printed.Statements.{print_compound, print_opened};
 ghost use Rattle.std.specs.Cmp.{on_per};
-ghost use Rattle.wgsl_tree_equality.specs.Code.{same};
-ghost use Rattle.wgsl_tree_equality.specs.Laws.{same_partial};
-ghost use Rattle.wgsl_tree_equality.specs.Statements.{statements_code, compound_code};
+ghost use Rattle.wgsl_tree_code.specs.Code.{list};
+ghost use Rattle.wgsl_tree_code.specs.Same.{same};
+ghost use Rattle.wgsl_tree_code.specs.Laws.{same_partial};
+ghost use Rattle.wgsl_tree_code.specs.StatementNodes.{statements_code, compound_code};
 ghost use Rattle.wgsl_model.specs.Trees.EmptyItems.{full_compound};
 ghost use Rattle.wgsl_writer.specs.Writing.{WritesInto};
 
@@ -101,8 +102,8 @@ impl fmt::Display for CompoundStatement {
 
 #[cycle(equal)]
 fn nodes_equal(a: &[StatementNode], b: &[StatementNode]) -> bool
-    ensures { result ≡ same (statements_code (statement_nodes_view a.now))
-        (statements_code (statement_nodes_view b.now)) }
+    ensures { result ≡ same (list (statements_code (statement_nodes_view a.now)))
+        (list (statements_code (statement_nodes_view b.now))) }
 {
     if a.len() != b.len() {
         return false;

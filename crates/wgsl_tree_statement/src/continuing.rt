@@ -6,9 +6,9 @@ ghost use Rattle.wgsl_tree_statement.specs.View.{continuing_statement_view};
 ghost use Rattle.wgsl_model.specs.Printed.Statements.{print_continuing};
 ghost use Rattle.std.specs.Cmp.{on_per};
 ghost use Rattle.wgsl_model.specs.Trees.Statements.{continuing_of};
-ghost use Rattle.wgsl_tree_equality.specs.Code.{same};
-ghost use Rattle.wgsl_tree_equality.specs.Laws.{same_partial};
-ghost use Rattle.wgsl_tree_equality.specs.Statements.{maybe_continuing_code, continuing_code};
+ghost use Rattle.wgsl_tree_code.specs.Same.{same};
+ghost use Rattle.wgsl_tree_code.specs.Laws.{same_partial};
+ghost use Rattle.wgsl_tree_code.specs.StatementNodes.{maybe_continuing_code, continuing_code};
 ghost use Rattle.wgsl_writer.specs.Writing.{WritesInto};
 
 use crate::compound::{CompoundStatement, write_opened};

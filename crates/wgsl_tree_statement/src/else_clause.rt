@@ -6,9 +6,10 @@ ghost use Rattle.wgsl_tree_statement.specs.View.{else_if_clause_view, else_claus
 ghost use Rattle.wgsl_model.specs.Printed.Statements.{print_else_if_clause, print_else_clause};
 ghost use Rattle.std.specs.Cmp.{on_per};
 ghost use Rattle.wgsl_model.specs.Trees.Statements.{else_ifs_of, else_of};
-ghost use Rattle.wgsl_tree_equality.specs.Code.{same};
-ghost use Rattle.wgsl_tree_equality.specs.Laws.{same_partial};
-ghost use Rattle.wgsl_tree_equality.specs.Statements.{else_if_clause_code, else_ifs_code, else_clause_code, else_code};
+ghost use Rattle.wgsl_tree_code.specs.Code.{list};
+ghost use Rattle.wgsl_tree_code.specs.Same.{same};
+ghost use Rattle.wgsl_tree_code.specs.Laws.{same_partial};
+ghost use Rattle.wgsl_tree_code.specs.StatementNodes.{else_if_clause_code, else_ifs_code, else_clause_code, else_code};
 ghost use Rattle.wgsl_model.specs.Trees.EmptyItems.{full_else_ifs};
 ghost use Rattle.wgsl_writer.specs.Writing.{WritesInto};
 
@@ -153,8 +154,8 @@ pub(crate) fn else_equal(a: &Option<ElseClause>, b: &Option<ElseClause>) -> bool
 
 #[cycle(equal)]
 pub(crate) fn else_ifs_equal(a: &[ElseIfClause], b: &[ElseIfClause]) -> bool
-    ensures { result ≡ same (else_ifs_code (else_ifs_of (map else_if_clause_view a.now)))
-        (else_ifs_code (else_ifs_of (map else_if_clause_view b.now))) }
+    ensures { result ≡ same (list (else_ifs_code (else_ifs_of (map else_if_clause_view a.now))))
+        (list (else_ifs_code (else_ifs_of (map else_if_clause_view b.now)))) }
 {
     if a.len() != b.len() {
         return false;

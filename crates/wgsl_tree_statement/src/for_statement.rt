@@ -7,10 +7,10 @@ ghost use Rattle.wgsl_model.specs.Printed.Declarations.{print_attributed};
 ghost use Rattle.wgsl_model.specs.Printed.Statements.{print_for, unended_part};
 ghost use Rattle.std.specs.Cmp.{on_per};
 ghost use Rattle.wgsl_model.specs.Trees.Statements.{maybe_statement};
-ghost use Rattle.wgsl_tree_equality.specs.Code.{same};
-ghost use Rattle.wgsl_tree_equality.specs.Laws.{same_partial};
-ghost use Rattle.wgsl_tree_equality.specs.Declarations.{attributed_code};
-ghost use Rattle.wgsl_tree_equality.specs.Statements.{for_code, part_code};
+ghost use Rattle.wgsl_tree_code.specs.Same.{same};
+ghost use Rattle.wgsl_tree_code.specs.Laws.{same_partial};
+ghost use Rattle.wgsl_tree_code.specs.Code.{attributed_code};
+ghost use Rattle.wgsl_tree_code.specs.StatementNodes.{for_code, part_code};
 ghost use Rattle.wgsl_model.specs.Trees.EmptyItems.{full_part};
 ghost use Rattle.wgsl_writer.specs.Writing.{WritesInto};
 

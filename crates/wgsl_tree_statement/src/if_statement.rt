@@ -5,10 +5,10 @@ ghost use Rattle.wgsl_tree_statement.specs.View.{if_statement_view, if_clause_vi
 ghost use Rattle.wgsl_model.specs.Printed.Declarations.{print_attributed};
 ghost use Rattle.wgsl_model.specs.Printed.Statements.{print_if, print_if_clause};
 ghost use Rattle.std.specs.Cmp.{on_per};
-ghost use Rattle.wgsl_tree_equality.specs.Code.{same};
-ghost use Rattle.wgsl_tree_equality.specs.Laws.{same_partial};
-ghost use Rattle.wgsl_tree_equality.specs.Declarations.{attributed_code};
-ghost use Rattle.wgsl_tree_equality.specs.Statements.{if_code, if_clause_code};
+ghost use Rattle.wgsl_tree_code.specs.Same.{same};
+ghost use Rattle.wgsl_tree_code.specs.Laws.{same_partial};
+ghost use Rattle.wgsl_tree_code.specs.Code.{attributed_code};
+ghost use Rattle.wgsl_tree_code.specs.StatementNodes.{if_code, if_clause_code};
 ghost use Rattle.wgsl_model.specs.Trees.EmptyItems.{full_attributed, full_if};
 ghost use Rattle.wgsl_writer.specs.Writing.{WritesInto};
 

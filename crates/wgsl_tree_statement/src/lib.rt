@@ -9,7 +9,7 @@ mod if_statement;
 mod loop_statement;
 mod statement;
 mod switch;
-mod variants;
+mod variants_nodes;
 mod while_statement;
 
 pub use compound::CompoundStatement;

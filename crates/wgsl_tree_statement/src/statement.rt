@@ -1,16 +1,15 @@
-//! Statements: their copies, equality, prints and conversions, by their variants.
+//! Statements: their copies, equality and prints, by their variants.
 #![tactic(auto, using(crate::proofs::Views::variants, crate::proofs::Views::whiles))]
 
 ghost use Rattle.std.specs.Prelude.{◌≡◌, IfOk, Some};
 ghost use Rattle.wgsl_tree_statement.specs.View.{statement_view};
 ghost use Rattle.wgsl_model.specs.Printed.Statements.{print_statement, terminator_of, unended};
 ghost use Rattle.std.specs.Cmp.{on_per};
-ghost use Rattle.wgsl_tree_equality.specs.Code.{same};
-ghost use Rattle.wgsl_tree_equality.specs.Laws.{same_partial};
-ghost use Rattle.wgsl_tree_equality.specs.Statements.{statement_code};
+ghost use Rattle.wgsl_tree_code.specs.Same.{same};
+ghost use Rattle.wgsl_tree_code.specs.Laws.{same_partial};
+ghost use Rattle.wgsl_tree_code.specs.StatementNodes.{statement_code};
 ghost use Rattle.wgsl_model.specs.Trees.EmptyItems.{full_statement};
 ghost use Rattle.wgsl_writer.specs.Writing.{WritesInto};
-ghost use Rattle.wgsl_tree_statement.specs.declared.statement.Statement.TheVariants as statement;
 
 use crate::compound::{CompoundStatement, write_compound};
 use crate::for_statement::{ForStatement, remove_from_part, write_for};
@@ -118,134 +117,6 @@ impl Statement {
             | Statement::ConstAssert(_)
             | Statement::Declaration(_) => ";",
         }
-    }
-}
-
-impl From<CompoundStatement> for Statement {
-    ghost from_gives = { λ inner made. made ≡ statement.Compound inner };
-
-    fn from(inner: CompoundStatement) -> Self {
-        Statement::Compound(inner)
-    }
-}
-
-impl From<AssignmentStatement> for Statement {
-    ghost from_gives = { λ inner made. made ≡ statement.Assignment inner };
-
-    fn from(inner: AssignmentStatement) -> Self {
-        Statement::Assignment(inner)
-    }
-}
-
-impl From<IncrementStatement> for Statement {
-    ghost from_gives = { λ inner made. made ≡ statement.Increment inner };
-
-    fn from(inner: IncrementStatement) -> Self {
-        Statement::Increment(inner)
-    }
-}
-
-impl From<DecrementStatement> for Statement {
-    ghost from_gives = { λ inner made. made ≡ statement.Decrement inner };
-
-    fn from(inner: DecrementStatement) -> Self {
-        Statement::Decrement(inner)
-    }
-}
-
-impl From<IfStatement> for Statement {
-    ghost from_gives = { λ inner made. made ≡ statement.If inner };
-
-    fn from(inner: IfStatement) -> Self {
-        Statement::If(inner)
-    }
-}
-
-impl From<SwitchStatement> for Statement {
-    ghost from_gives = { λ inner made. made ≡ statement.Switch inner };
-
-    fn from(inner: SwitchStatement) -> Self {
-        Statement::Switch(inner)
-    }
-}
-
-impl From<LoopStatement> for Statement {
-    ghost from_gives = { λ inner made. made ≡ statement.Loop inner };
-
-    fn from(inner: LoopStatement) -> Self {
-        Statement::Loop(inner)
-    }
-}
-
-impl From<ForStatement> for Statement {
-    ghost from_gives = { λ inner made. made ≡ statement.For inner };
-
-    fn from(inner: ForStatement) -> Self {
-        Statement::For(inner)
-    }
-}
-
-impl From<WhileStatement> for Statement {
-    ghost from_gives = { λ inner made. made ≡ statement.While inner };
-
-    fn from(inner: WhileStatement) -> Self {
-        Statement::While(inner)
-    }
-}
-
-impl From<BreakStatement> for Statement {
-    ghost from_gives = { λ inner made. made ≡ statement.Break inner };
-
-    fn from(inner: BreakStatement) -> Self {
-        Statement::Break(inner)
-    }
-}
-
-impl From<ContinueStatement> for Statement {
-    ghost from_gives = { λ inner made. made ≡ statement.Continue inner };
-
-    fn from(inner: ContinueStatement) -> Self {
-        Statement::Continue(inner)
-    }
-}
-
-impl From<ReturnStatement> for Statement {
-    ghost from_gives = { λ inner made. made ≡ statement.Return inner };
-
-    fn from(inner: ReturnStatement) -> Self {
-        Statement::Return(inner)
-    }
-}
-
-impl From<DiscardStatement> for Statement {
-    ghost from_gives = { λ inner made. made ≡ statement.Discard inner };
-
-    fn from(inner: DiscardStatement) -> Self {
-        Statement::Discard(inner)
-    }
-}
-
-impl From<FunctionCallStatement> for Statement {
-    ghost from_gives = { λ inner made. made ≡ statement.FunctionCall inner };
-
-    fn from(inner: FunctionCallStatement) -> Self {
-        Statement::FunctionCall(inner)
-    }
-}
-
-impl From<ConstAssert> for Statement {
-    ghost from_gives = { λ inner made. made ≡ statement.ConstAssert inner };
-
-    fn from(inner: ConstAssert) -> Self {
-        Statement::ConstAssert(inner)
-    }
-}
-
-impl From<Declaration> for Statement {
-    ghost from_gives = { λ inner made. made ≡ statement.Declaration inner };
-
-    fn from(inner: Declaration) -> Self {
-        Statement::Declaration(inner)
     }
 }
 

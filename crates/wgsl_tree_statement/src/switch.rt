@@ -6,10 +6,10 @@ ghost use Rattle.wgsl_model.specs.Printed.Declarations.{print_attributed};
 ghost use Rattle.wgsl_model.specs.Printed.Statements.{print_switch, print_switch_clause};
 ghost use Rattle.std.specs.Cmp.{on_per};
 ghost use Rattle.wgsl_model.specs.Trees.Statements.{clauses_of};
-ghost use Rattle.wgsl_tree_equality.specs.Code.{same};
-ghost use Rattle.wgsl_tree_equality.specs.Laws.{same_partial};
-ghost use Rattle.wgsl_tree_equality.specs.Declarations.{attributed_code};
-ghost use Rattle.wgsl_tree_equality.specs.Statements.{switch_code, clauses_code, switch_clause_code};
+ghost use Rattle.wgsl_tree_code.specs.Same.{same};
+ghost use Rattle.wgsl_tree_code.specs.Laws.{same_partial};
+ghost use Rattle.wgsl_tree_code.specs.Code.{attributed_code, list};
+ghost use Rattle.wgsl_tree_code.specs.StatementNodes.{switch_code, clauses_code, switch_clause_code};
 ghost use Rattle.wgsl_model.specs.Trees.EmptyItems.{full_attributed, full_switch};
 ghost use Rattle.wgsl_writer.specs.Writing.{WritesInto};
 
@@ -154,8 +154,8 @@ impl fmt::Display for SwitchClause {
 
 #[cycle(equal)]
 fn clauses_equal(a: &[SwitchClause], b: &[SwitchClause]) -> bool
-    ensures { result ≡ same (clauses_code (clauses_of (map switch_clause_view a.now)))
-        (clauses_code (clauses_of (map switch_clause_view b.now))) }
+    ensures { result ≡ same (list (clauses_code (clauses_of (map switch_clause_view a.now))))
+        (list (clauses_code (clauses_of (map switch_clause_view b.now)))) }
 {
     if a.len() != b.len() {
         return false;

@@ -6,10 +6,10 @@ ghost use Rattle.wgsl_tree_statement.specs.View.{while_statement_view};
 ghost use Rattle.wgsl_model.specs.Printed.Declarations.{print_attributed};
 ghost use Rattle.wgsl_model.specs.Printed.Statements.{print_while};
 ghost use Rattle.std.specs.Cmp.{on_per};
-ghost use Rattle.wgsl_tree_equality.specs.Code.{same};
-ghost use Rattle.wgsl_tree_equality.specs.Laws.{same_partial};
-ghost use Rattle.wgsl_tree_equality.specs.Declarations.{attributed_code};
-ghost use Rattle.wgsl_tree_equality.specs.Statements.{while_code};
+ghost use Rattle.wgsl_tree_code.specs.Same.{same};
+ghost use Rattle.wgsl_tree_code.specs.Laws.{same_partial};
+ghost use Rattle.wgsl_tree_code.specs.Code.{attributed_code};
+ghost use Rattle.wgsl_tree_code.specs.StatementNodes.{while_code};
 ghost use Rattle.wgsl_writer.specs.Writing.{WritesInto};
 
 use crate::compound::{CompoundStatement, write_compound};

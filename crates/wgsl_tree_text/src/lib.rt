@@ -2,61 +2,54 @@
 //! name, and its span.
 #![tactic(auto)]
 
-/// Writes an object: each field by its name, and what writes its value.
-macro_rules! write_fields {
-    ($out:ident, $first:literal: $write:expr $(, $name:literal: $rest:expr)* $(,)?) => {{
-        $out.write_str(concat!("{\"", $first, "\":"))?;
-        $write?;
-        $($out.write_str(concat!(",\"", $name, "\":"))?;
-        $rest?;)*
-        $out.write_str("}")
-    }};
+ghost use Rattle.std.specs.Prelude.{IsOk};
+ghost use Rattle.std.specs.Fmt.{WritesInCalls};
+ghost use Rattle.wgsl_tree_code.specs.Form.{form};
+ghost use Rattle.wgsl_tree_code.specs.StatementNodes.{statement_code};
+ghost use Rattle.wgsl_tree_code.specs.UnitNodes.{global_declaration_code, global_directive_code, unit_code};
+ghost use Rattle.wgsl_tree_statement.specs.View.{statement_view};
+ghost use Rattle.wgsl_tree_unit.specs.View.{global_declaration_view, global_directive_view, unit_view};
+
+use std::fmt;
+pub use wgsl_tree_form::write_expression;
+use wgsl_tree_form::write_form;
+use wgsl_tree_statement::Statement;
+use wgsl_tree_unit::{GlobalDeclaration, GlobalDirective, TranslationUnit};
+
+/// Writes a statement without a span.
+pub fn write_statement<W: fmt::Write>(statement: &Statement, out: &mut W) -> fmt::Result
+    ensures { IsOk result → WritesInCalls W.write_str_gives out.old
+        (form (statement_code (statement_view statement.now))) out.new }
+{
+    write_form(statement, out)
 }
 
-/// Writes a list: its items, and what writes each of them.
-macro_rules! write_items {
-    ($out:ident, $items:expr, $item:ident => $write:expr) => {{
-        $out.write_str("[")?;
-        let mut before = "";
-        for $item in $items {
-            $out.write_str(before)?;
-            $write?;
-            before = ",";
-        }
-        $out.write_str("]")
-    }};
+/// Writes a directive.
+pub fn write_global_directive<W: fmt::Write>(
+    directive: &GlobalDirective,
+    out: &mut W,
+) -> fmt::Result
+    ensures { IsOk result → WritesInCalls W.write_str_gives out.old
+        (form (global_directive_code (global_directive_view directive.now))) out.new }
+{
+    write_form(directive, out)
 }
 
-/// Writes what may be there: `null` where it is not.
-macro_rules! write_optional {
-    ($out:ident, $value:expr, $item:ident => $write:expr) => {
-        match $value {
-            None => $out.write_str("null"),
-            Some($item) => $write,
-        }
-    };
+/// Writes a declaration of a module without a span.
+pub fn write_global_declaration<W: fmt::Write>(
+    declaration: &GlobalDeclaration,
+    out: &mut W,
+) -> fmt::Result
+    ensures { IsOk result → WritesInCalls W.write_str_gives out.old
+        (form (global_declaration_code (global_declaration_view declaration.now))) out.new }
+{
+    write_form(declaration, out)
 }
 
-/// Writes a pair as a list of two, and what writes each of them.
-macro_rules! write_pair {
-    ($out:ident, $pair:expr, $first:ident => $write:expr, $second:ident => $rest:expr) => {{
-        let $first = &$pair.0;
-        let $second = &$pair.1;
-        $out.write_str("[")?;
-        $write?;
-        $out.write_str(",")?;
-        $rest?;
-        $out.write_str("]")
-    }};
+/// Writes a module.
+pub fn write_translation_unit<W: fmt::Write>(unit: &TranslationUnit, out: &mut W) -> fmt::Result
+    ensures { IsOk result → WritesInCalls W.write_str_gives out.old
+        (form (unit_code (unit_view unit.now))) out.new }
+{
+    write_form(unit, out)
 }
-
-mod attribute_nodes;
-mod chain;
-mod expression_nodes;
-mod statement_nodes;
-mod texts;
-mod unit_nodes;
-
-pub use chain::write_expression;
-pub use statement_nodes::write_statement;
-pub use unit_nodes::{write_global_declaration, write_global_directive, write_translation_unit};

@@ -1,4 +1,3 @@
-mod Copies
 mod Texts
 mod FullDeclarations
 mod Shown

@@ -18,11 +18,13 @@ abbrev pub before_next : List ℕ → List (List ℕ) → List ℕ
 before_next separator [] = []
 before_next separator (t ∷ ts) = separator
 
-pub before_more : (separator : List ℕ) (ts : List (List ℕ)) (t : List ℕ) → before_next separator (ts ++ (t ∷ [])) ≡ separator
+pub before_more : (separator : List ℕ) (ts : List (List ℕ)) (t : List ℕ)
+    → before_next separator (ts ++ (t ∷ [])) ≡ separator
 before_more separator [] t = refl
 before_more separator (u ∷ us) t = refl
 
-pub joined_more : (separator : List ℕ) (ts : List (List ℕ)) (t : List ℕ) → joined separator (ts ++ (t ∷ [])) ≡ joined separator ts ++ (before_next separator ts ++ t)
+pub joined_more : (separator : List ℕ) (ts : List (List ℕ)) (t : List ℕ)
+    → joined separator (ts ++ (t ∷ [])) ≡ joined separator ts ++ (before_next separator ts ++ t)
 joined_more separator [] t = append-nil t
 joined_more separator (u ∷ us) t =
     let line : List ℕ → List ℕ = λ v. separator ++ v in
@@ -37,16 +39,21 @@ shown declarations = declaration_texts (map (spanned_view global_declaration_vie
 abbrev pub shown_one : plain.GlobalDeclaration → List (List ℕ)
 shown_one d = if is_void d then [] else print_global_declaration d ∷ []
 
-texts_more : (ds : List (plain_tree.Spanned plain.GlobalDeclaration)) (d : plain_tree.Spanned plain.GlobalDeclaration) → declaration_texts (ds ++ (d ∷ [])) ≡ declaration_texts ds ++ shown_one d.node
+texts_more : (ds : List (plain_tree.Spanned plain.GlobalDeclaration)) (d : plain_tree.Spanned plain.GlobalDeclaration)
+    → declaration_texts (ds ++ (d ∷ [])) ≡ declaration_texts ds ++ shown_one d.node
 texts_more [] d = refl
 texts_more (first ∷ ds) d =
-    elim (is_void first.node) as (λ b. (if b then declaration_texts (ds ++ (d ∷ [])) else print_global_declaration first.node ∷ declaration_texts (ds ++ (d ∷ []))) ≡ (if b then declaration_texts ds else print_global_declaration first.node ∷ declaration_texts ds) ++ shown_one d.node) [
+    elim (is_void first.node) as (λ b. (if b then declaration_texts (ds ++ (d ∷ []))
+    else print_global_declaration first.node ∷ declaration_texts (ds ++ (d ∷ []))) ≡ (if b then declaration_texts ds
+    else print_global_declaration first.node ∷ declaration_texts ds) ++ shown_one d.node) [
       | true ↦ texts_more ds d
       | false ↦ ap (λ z. print_global_declaration first.node ∷ z) (texts_more ds d)
     ]
 
 -- the front of a list that is longer by one
-pub shown_more : (xs : List (Spanned GlobalDeclaration)) (k : ℕ) (x : Spanned GlobalDeclaration) → k < length xs → x ≡ get_or xs k x → shown (take (k + 1) xs) ≡ shown (take k xs) ++ shown_one (global_declaration_view (spanned_node x))
+pub shown_more : (xs : List (Spanned GlobalDeclaration)) (k : ℕ) (x : Spanned GlobalDeclaration)
+    → k < length xs → x ≡ get_or xs k x
+    → shown (take (k + 1) xs) ≡ shown (take k xs) ++ shown_one (global_declaration_view (spanned_node x))
 shown_more xs k x inside at =
     let view = spanned_view global_declaration_view in
     ap shown (take_more xs k x inside ∙ ap (λ y. take k xs ++ (y ∷ [])) (sym at))

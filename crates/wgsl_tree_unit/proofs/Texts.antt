@@ -13,13 +13,16 @@ use Rattle.wgsl_tree_unit.specs.declared.structure.StructMember.{StructMember}
 use Rattle.wgsl_tree_unit.specs.View.{member_view}
 
 abbrev pub member_texts : List (Spanned StructMember) → List (List ℕ)
-member_texts members = map (λ (m : plain_tree.Spanned plain.StructMember). print_member m.node) (map (spanned_view member_view) members)
+member_texts members = map (λ (m : plain_tree.Spanned plain.StructMember). print_member m.node)
+    (map (spanned_view member_view) members)
 
 pub members_filled : (members : List (Spanned StructMember)) → BeginsFilled (member_texts members)
 members_filled [] = tt
-members_filled (m ∷ ms) = begins (print_member (member_view (spanned_node m))) (member_texts ms) (member_filled (member_view (spanned_node m)))
+members_filled (m ∷ ms) = begins (print_member (member_view (spanned_node m))) (member_texts ms)
+    (member_filled (member_view (spanned_node m)))
 
-pub members_more : (xs : List (Spanned StructMember)) (k : ℕ) (x : Spanned StructMember) → k < length xs → x ≡ get_or xs k x
+pub members_more : (xs : List (Spanned StructMember)) (k : ℕ) (x : Spanned StructMember)
+    → k < length xs → x ≡ get_or xs k x
     → member_texts (take k xs) ++ (print_member (member_view (spanned_node x)) ∷ []) ≡ member_texts (take (k + 1) xs)
 members_more xs k x inside at =
     let view = spanned_view member_view in

@@ -11,4 +11,7 @@ use Rattle.wgsl_tree_unit.specs.View.{member_view}
 
 -- members with `,` and a line end between each two
 abbrev pub print_members : List (Spanned StructMember) → List ℕ
-print_members members = joined (codes ",\n") (map (λ (m : plain_tree.Spanned plain.StructMember). print_member m.node) (map (spanned_view member_view) members))
+print_members members =
+    joined (codes ",\n")
+    (map (λ (m : plain_tree.Spanned plain.StructMember). print_member m.node)
+    (map (spanned_view member_view) members))

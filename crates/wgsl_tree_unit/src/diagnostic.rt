@@ -1,17 +1,15 @@
 //! Filters of diagnostics.
 
-ghost use Rattle.std.specs.Prelude.{◌≡◌, IfOk, Some};
+ghost use Rattle.std.specs.Prelude.{Some};
 ghost use Rattle.wgsl_tree_unit.specs.View.{diagnostic_directive_view};
 ghost use Rattle.std.specs.Fmt.{WritesOnOk};
 ghost use Rattle.wgsl_model.specs.Printed.Declarations.{print_attributed};
 ghost use Rattle.wgsl_model.specs.Printed.Units.{print_diagnostic};
 
-use std::alloc::{AllocError, Global};
 use std::fmt;
 use std::fmt::Write;
-use wgsl_span::CloneWith;
 use wgsl_tree_attribute::Attributes;
-use wgsl_tree_simple::{clone_attributes, write_attributes};
+use wgsl_tree_simple::write_attributes;
 use wgsl_tree_words::DiagnosticSeverity;
 
 /// `diagnostic` with a severity and the name of a rule; the parts of a name in two are joined by a `.`.
@@ -20,27 +18,6 @@ pub struct DiagnosticDirective {
     pub attributes: Attributes,
     pub severity: DiagnosticSeverity,
     pub rule_name: String,
-}
-
-impl DiagnosticDirective {
-    pub fn clone(&self, alloc: Global) -> Result<Self, AllocError>
-        ensures { IfOk result (λ copy.
-            diagnostic_directive_view copy ≡ diagnostic_directive_view self.now) }
-    {
-        self.clone_with(alloc)
-    }
-}
-
-impl CloneWith for DiagnosticDirective {
-    ghost copies = { λ directive copy. diagnostic_directive_view copy ≡ diagnostic_directive_view directive };
-
-    fn clone_with(&self, alloc: Global) -> Result<Self, AllocError> {
-        Ok(DiagnosticDirective {
-            attributes: clone_attributes(&self.attributes, alloc)?,
-            severity: self.severity,
-            rule_name: String::from_str(alloc, self.rule_name.as_str())?,
-        })
-    }
 }
 
 impl fmt::Display for DiagnosticDirective {

@@ -10,9 +10,8 @@ ghost use Rattle.wgsl_model.specs.Printed.Units.{print_enable, print_requires};
 use std::alloc::{AllocError, Global};
 use std::fmt;
 use std::fmt::Write;
-use wgsl_span::CloneWith;
 use wgsl_tree_attribute::Attributes;
-use wgsl_tree_simple::{clone_attributes, write_attributes};
+use wgsl_tree_simple::write_attributes;
 use wgsl_writer::write_joined;
 
 /// `enable` with the names of extensions.
@@ -20,26 +19,6 @@ use wgsl_writer::write_joined;
 pub struct EnableDirective {
     pub attributes: Attributes,
     pub extensions: Vec<String>,
-}
-
-impl EnableDirective {
-    pub fn clone(&self, alloc: Global) -> Result<Self, AllocError>
-        ensures { IfOk result (λ copy.
-            enable_directive_view copy ≡ enable_directive_view self.now) }
-    {
-        self.clone_with(alloc)
-    }
-}
-
-impl CloneWith for EnableDirective {
-    ghost copies = { λ directive copy. enable_directive_view copy ≡ enable_directive_view directive };
-
-    fn clone_with(&self, alloc: Global) -> Result<Self, AllocError> {
-        Ok(EnableDirective {
-            attributes: clone_attributes(&self.attributes, alloc)?,
-            extensions: clone_names(&self.extensions, alloc)?,
-        })
-    }
 }
 
 impl fmt::Display for EnableDirective {
@@ -58,26 +37,6 @@ pub struct RequiresDirective {
     pub extensions: Vec<String>,
 }
 
-impl RequiresDirective {
-    pub fn clone(&self, alloc: Global) -> Result<Self, AllocError>
-        ensures { IfOk result (λ copy.
-            requires_directive_view copy ≡ requires_directive_view self.now) }
-    {
-        self.clone_with(alloc)
-    }
-}
-
-impl CloneWith for RequiresDirective {
-    ghost copies = { λ directive copy. requires_directive_view copy ≡ requires_directive_view directive };
-
-    fn clone_with(&self, alloc: Global) -> Result<Self, AllocError> {
-        Ok(RequiresDirective {
-            attributes: clone_attributes(&self.attributes, alloc)?,
-            extensions: clone_names(&self.extensions, alloc)?,
-        })
-    }
-}
-
 impl fmt::Display for RequiresDirective {
     ghost output = { λ directive. Some (print_attributed print_requires (requires_directive_view directive)) };
 
@@ -88,7 +47,7 @@ impl fmt::Display for RequiresDirective {
 }
 
 /// Copies a list of names.
-fn clone_names(names: &Vec<String>, alloc: Global) -> Result<Vec<String>, AllocError>
+pub(crate) fn clone_names(names: &Vec<String>, alloc: Global) -> Result<Vec<String>, AllocError>
     ensures { IfOk result (λ copy. map string_bytes copy.items ≡ map string_bytes names.now.items) }
 {
     let mut copied = Vec::with_capacity(alloc, names.len())?;

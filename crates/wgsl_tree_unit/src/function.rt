@@ -1,6 +1,6 @@
 //! Functions and their parameters.
 
-ghost use Rattle.std.specs.Prelude.{◌≡◌, IfOk, None, [], Some, ◌++◌, codes};
+ghost use Rattle.std.specs.Prelude.{◌≡◌, None, [], Some, ◌++◌, codes};
 ghost use Rattle.wgsl_tree_unit.specs.View.{parameter_view, function_view};
 ghost use Rattle.wgsl_model.specs.Trees.Attributed.{without_attributes};
 ghost use Rattle.wgsl_model.specs.Trees.Statements.{compound_statement, no_statements};
@@ -12,13 +12,11 @@ ghost use Rattle.wgsl_model.specs.Printed.Declarations.{print_attributed};
 ghost use Rattle.wgsl_model.specs.Printed.Units.{print_parameter, print_result, print_function};
 ghost use Rattle.wgsl_tree_attribute.specs.View.{attributes_view};
 
-use std::alloc::{AllocError, Global};
+use std::alloc::Global;
 use std::fmt;
 use std::fmt::Write;
-use wgsl_span::CloneWith;
 use wgsl_tree_attribute::{Attributes, AttributesBefore};
 use wgsl_tree_expression::{Ident, TypeExpression};
-use wgsl_tree_simple::clone_attributes;
 use wgsl_tree_statement::CompoundStatement;
 use wgsl_writer::write_joined;
 
@@ -51,27 +49,6 @@ impl Function {
             return_type: None,
             body: CompoundStatement::new(alloc),
         }
-    }
-
-    pub fn clone(&self, alloc: Global) -> Result<Self, AllocError>
-        ensures { IfOk result (λ copy. function_view copy ≡ function_view self.now) }
-    {
-        self.clone_with(alloc)
-    }
-}
-
-impl CloneWith for Function {
-    ghost copies = { λ function copy. function_view copy ≡ function_view function };
-
-    fn clone_with(&self, alloc: Global) -> Result<Self, AllocError> {
-        Ok(Function {
-            attributes: clone_attributes(&self.attributes, alloc)?,
-            ident: self.ident.clone_with(alloc)?,
-            parameters: self.parameters.clone_with(alloc)?,
-            return_attributes: clone_attributes(&self.return_attributes, alloc)?,
-            return_type: self.return_type.clone_with(alloc)?,
-            body: self.body.clone_with(alloc)?,
-        })
     }
 }
 
@@ -107,24 +84,6 @@ impl FormalParameter {
             ident,
             ty,
         }
-    }
-
-    pub fn clone(&self, alloc: Global) -> Result<Self, AllocError>
-        ensures { IfOk result (λ copy. parameter_view copy ≡ parameter_view self.now) }
-    {
-        self.clone_with(alloc)
-    }
-}
-
-impl CloneWith for FormalParameter {
-    ghost copies = { λ parameter copy. parameter_view copy ≡ parameter_view parameter };
-
-    fn clone_with(&self, alloc: Global) -> Result<Self, AllocError> {
-        Ok(FormalParameter {
-            attributes: clone_attributes(&self.attributes, alloc)?,
-            ident: self.ident.clone_with(alloc)?,
-            ty: self.ty.clone_with(alloc)?,
-        })
     }
 }
 

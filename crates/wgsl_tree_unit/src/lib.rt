@@ -1,6 +1,7 @@
 //! Modules, their directives and their declarations.
 #![tactic(auto)]
 
+mod copies_nodes;
 mod diagnostic;
 mod directive;
 mod extensions;
@@ -9,6 +10,7 @@ mod global_declaration;
 mod structure;
 mod type_alias;
 mod unit;
+mod variants_nodes;
 
 pub use diagnostic::DiagnosticDirective;
 pub use directive::GlobalDirective;

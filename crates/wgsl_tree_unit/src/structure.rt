@@ -1,6 +1,6 @@
 //! Structures and their members.
 
-ghost use Rattle.std.specs.Prelude.{◌≡◌, IfOk, [], Some, codes, if◌then◌else◌};
+ghost use Rattle.std.specs.Prelude.{◌≡◌, [], Some, codes, if◌then◌else◌};
 ghost use Rattle.wgsl_tree_unit.specs.View.{struct_view, member_view};
 ghost use Rattle.wgsl_model.specs.Trees.Attributed.{without_attributes};
 ghost use Rattle.wgsl_tree_expression.specs.View.{ident_name, type_expression_view};
@@ -11,13 +11,13 @@ ghost use Rattle.wgsl_model.specs.Printed.Units.{print_member, print_struct};
 ghost use Rattle.wgsl_tree_unit.specs.Printed.{print_members};
 ghost use Rattle.wgsl_writer.specs.Writing.{WritesInto};
 
-use std::alloc::{AllocError, Global};
+use std::alloc::Global;
 use std::fmt;
 use std::fmt::Write;
-use wgsl_span::{CloneWith, Spanned};
+use wgsl_span::Spanned;
 use wgsl_tree_attribute::{Attributes, AttributesBefore};
 use wgsl_tree_expression::{Ident, TypeExpression};
-use wgsl_tree_simple::{clone_attributes, write_attributes};
+use wgsl_tree_simple::write_attributes;
 use wgsl_writer::Indented;
 
 #[derive(PartialEq, Debug, Drop)]
@@ -38,24 +38,6 @@ impl Struct {
             ident,
             members: Vec::new(alloc),
         }
-    }
-
-    pub fn clone(&self, alloc: Global) -> Result<Self, AllocError>
-        ensures { IfOk result (λ copy. struct_view copy ≡ struct_view self.now) }
-    {
-        self.clone_with(alloc)
-    }
-}
-
-impl CloneWith for Struct {
-    ghost copies = { λ structure copy. struct_view copy ≡ struct_view structure };
-
-    fn clone_with(&self, alloc: Global) -> Result<Self, AllocError> {
-        Ok(Struct {
-            attributes: clone_attributes(&self.attributes, alloc)?,
-            ident: self.ident.clone_with(alloc)?,
-            members: self.members.clone_with(alloc)?,
-        })
     }
 }
 
@@ -89,24 +71,6 @@ impl StructMember {
             ident,
             ty,
         }
-    }
-
-    pub fn clone(&self, alloc: Global) -> Result<Self, AllocError>
-        ensures { IfOk result (λ copy. member_view copy ≡ member_view self.now) }
-    {
-        self.clone_with(alloc)
-    }
-}
-
-impl CloneWith for StructMember {
-    ghost copies = { λ member copy. member_view copy ≡ member_view member };
-
-    fn clone_with(&self, alloc: Global) -> Result<Self, AllocError> {
-        Ok(StructMember {
-            attributes: clone_attributes(&self.attributes, alloc)?,
-            ident: self.ident.clone_with(alloc)?,
-            ty: self.ty.clone_with(alloc)?,
-        })
     }
 }
 

@@ -1,17 +1,16 @@
 //! Further names for types.
 
-ghost use Rattle.std.specs.Prelude.{◌≡◌, IfOk, [], Some};
+ghost use Rattle.std.specs.Prelude.{◌≡◌, [], Some};
 ghost use Rattle.wgsl_tree_unit.specs.View.{type_alias_view};
 ghost use Rattle.wgsl_model.specs.Printed.Declarations.{print_attributed};
 ghost use Rattle.wgsl_model.specs.Printed.Units.{print_type_alias};
 
-use std::alloc::{AllocError, Global};
+use std::alloc::Global;
 use std::fmt;
 use std::fmt::Write;
-use wgsl_span::CloneWith;
 use wgsl_tree_attribute::Attributes;
 use wgsl_tree_expression::{Ident, TypeExpression};
-use wgsl_tree_simple::{clone_attributes, write_attributes};
+use wgsl_tree_simple::write_attributes;
 
 /// A further name for a type.
 #[derive(PartialEq, Debug, Drop)]
@@ -33,24 +32,6 @@ impl TypeAlias {
             ident,
             ty,
         }
-    }
-
-    pub fn clone(&self, alloc: Global) -> Result<Self, AllocError>
-        ensures { IfOk result (λ copy. type_alias_view copy ≡ type_alias_view self.now) }
-    {
-        self.clone_with(alloc)
-    }
-}
-
-impl CloneWith for TypeAlias {
-    ghost copies = { λ alias copy. type_alias_view copy ≡ type_alias_view alias };
-
-    fn clone_with(&self, alloc: Global) -> Result<Self, AllocError> {
-        Ok(TypeAlias {
-            attributes: clone_attributes(&self.attributes, alloc)?,
-            ident: self.ident.clone_with(alloc)?,
-            ty: self.ty.clone_with(alloc)?,
-        })
     }
 }
 

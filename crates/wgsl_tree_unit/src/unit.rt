@@ -1,6 +1,6 @@
 //! Modules.
 
-ghost use Rattle.std.specs.Prelude.{◌≡◌, IfOk, [], Some, map};
+ghost use Rattle.std.specs.Prelude.{◌≡◌, [], Some, map};
 ghost use Rattle.wgsl_tree_unit.specs.View.{unit_view, global_directive_view};
 ghost use Rattle.std.specs.Fmt.{WritesOnOk};
 ghost use Rattle.wgsl_model.specs.Printed.Units.{print_directives, print_unit};
@@ -8,10 +8,10 @@ ghost use Rattle.wgsl_model.specs.Trees.EmptyItems.{full_unit};
 
 use crate::directive::GlobalDirective;
 use crate::global_declaration::GlobalDeclarationNode;
-use std::alloc::{AllocError, Global};
+use std::alloc::Global;
 use std::fmt;
 use std::fmt::Write;
-use wgsl_span::{CloneWith, retain_nodes};
+use wgsl_span::retain_nodes;
 use wgsl_writer::write_joined;
 
 /// A module: its directives, then its declarations.
@@ -40,23 +40,6 @@ impl TranslationUnit {
             declaration.remove_voids();
             !declaration.is_void()
         });
-    }
-
-    pub fn clone(&self, alloc: Global) -> Result<Self, AllocError>
-        ensures { IfOk result (λ copy. unit_view copy ≡ unit_view self.now) }
-    {
-        self.clone_with(alloc)
-    }
-}
-
-impl CloneWith for TranslationUnit {
-    ghost copies = { λ unit copy. unit_view copy ≡ unit_view unit };
-
-    fn clone_with(&self, alloc: Global) -> Result<Self, AllocError> {
-        Ok(TranslationUnit {
-            global_directives: self.global_directives.clone_with(alloc)?,
-            global_declarations: self.global_declarations.clone_with(alloc)?,
-        })
     }
 }
 

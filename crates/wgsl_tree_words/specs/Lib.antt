@@ -1,1 +1,2 @@
+pub mod ViewNodes
 pub mod View

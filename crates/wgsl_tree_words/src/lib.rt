@@ -1,14 +1,9 @@
 //! The values that stand for words of their own, and the operators.
 #![tactic(auto)]
 
-mod builtin;
-mod interpolation;
-mod memory;
-mod operators;
-mod severity;
+mod words_nodes;
 
-pub use builtin::BuiltinValue;
-pub use interpolation::{InterpolationSampling, InterpolationType};
-pub use memory::{AccessMode, AddressSpace};
-pub use operators::{AssignmentOperator, BinaryOperator, UnaryOperator};
-pub use severity::DiagnosticSeverity;
+pub use words_nodes::{
+    AccessMode, AddressSpace, AssignmentOperator, BinaryOperator, BuiltinValue, DiagnosticSeverity,
+    InterpolationSampling, InterpolationType, UnaryOperator,
+};

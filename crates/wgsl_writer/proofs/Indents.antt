@@ -6,12 +6,16 @@ use Rattle.std.specs.List.{slice_range}
 use Rattle.wgsl_model.specs.Printed.Indentation.{after_line_ends}
 use Rattle.wgsl_writer.specs.LineEnds.{IsLineEnd, is_one_line}
 
-pub after_append : (gap xs ys : List ℕ) → after_line_ends gap (xs ++ ys) ≡ after_line_ends gap xs ++ after_line_ends gap ys
+pub after_append : (gap xs ys : List ℕ)
+    → after_line_ends gap (xs ++ ys) ≡ after_line_ends gap xs ++ after_line_ends gap ys
 after_append gap [] ys = refl
-after_append gap (x ∷ xs) ys = elim (x == 10) as (λ t. (if t then x ∷ (gap ++ after_line_ends gap (xs ++ ys)) else x ∷ after_line_ends gap (xs ++ ys)) ≡ (if t then x ∷ (gap ++ after_line_ends gap xs) else x ∷ after_line_ends gap xs) ++ after_line_ends gap ys) [
-  | true ↦ ap (λ u. x ∷ (gap ++ u)) (after_append gap xs ys) ∙ ap (λ u. x ∷ u) (sym (append_assoc gap (after_line_ends gap xs) (after_line_ends gap ys)))
-  | false ↦ ap (λ u. x ∷ u) (after_append gap xs ys)
-]
+after_append gap (x ∷ xs) ys = elim (x == 10) as (λ t.
+    (if t then x ∷ (gap ++ after_line_ends gap (xs ++ ys)) else x ∷ after_line_ends gap (xs ++ ys))
+    ≡ (if t then x ∷ (gap ++ after_line_ends gap xs) else x ∷ after_line_ends gap xs) ++ after_line_ends gap ys) [
+      | true ↦ ap (λ u. x ∷ (gap ++ u)) (after_append gap xs ys)
+          ∙ ap (λ u. x ∷ u) (sym (append_assoc gap (after_line_ends gap xs) (after_line_ends gap ys)))
+      | false ↦ ap (λ u. x ∷ u) (after_append gap xs ys)
+    ]
 
 -- a text without an LF stays, and one with an LF is cut there
 pub after_none : (gap bs : List ℕ) → ((i : ℕ) → i < length bs → get_or bs i 0 ≢ 10) → after_line_ends gap bs ≡ bs

@@ -10,8 +10,12 @@ use Rattle.wgsl_editorconfig.proofs.read.Goals as goal
 
 pub returns : goal.returns
 returns c =
-    fold_from_yields_List _ (λ so_far line. after so_far (line_of (trim line))) c.nothing.result c.fold.result c.fold.ensures.ran
-    (YieldsList-from_str_split 10 c.without_mark.result.now (lit< tt) c.split.ensures.text c.split.ensures.has_more c.split.ensures.pattern)
+    fold_from_yields_List _ (λ so_far line. after so_far (line_of (trim line))) c.nothing.result
+    c.fold.result c.fold.ensures.ran
+    (YieldsList-from_str_split 10 c.without_mark.result.now
+    (lit< tt) c.split.ensures.text c.split.ensures.has_more c.split.ensures.pattern)
     (λ a x b q k. search (rules, tests))
-    ∙ ap (λ init. fold (λ so_far line. after so_far (line_of (trim line))) init (slice_split is_newline c.without_mark.result.now)) c.nothing.ensures
-    ∙ ap (λ text. fold (λ so_far line. after so_far (line_of (trim line))) nothing (slice_split is_newline text)) c.without_mark.ensures
+    ∙ ap (λ init. fold (λ so_far line. after so_far (line_of (trim line))) init
+    (slice_split is_newline c.without_mark.result.now)) c.nothing.ensures
+    ∙ ap (λ text. fold (λ so_far line. after so_far (line_of (trim line))) nothing
+    (slice_split is_newline text)) c.without_mark.ensures

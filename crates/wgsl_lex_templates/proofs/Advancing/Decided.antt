@@ -25,24 +25,30 @@ no_tokens [] e = refl
 no_tokens (t ∷ ts) e = absurd cc
 
 -- a symbol leaves nothing of the classes just where it is derived from the tokens
-decided_by : (n : Symbol) → is_of_expressions (of n) ≡ true → (cs : List ℕ) (ts : List Token) → classes_of ts ≡ cs → (is_whole (advances (of n) cs) ≡ true) ↔ ((v : Value n) × Derives checking written n v ts)
+decided_by : (n : Symbol) → is_of_expressions (of n) ≡ true → (cs : List ℕ) (ts : List Token)
+    → classes_of ts ≡ cs
+    → (is_whole (advances (of n) cs) ≡ true) ↔ ((v : Value n) × Derives checking written n v ts)
 decided_by n h cs ts e =
     let read = read_all tables checking body rank_limit (of n) ts in
     let left : classes_left read ≡ advances (of n) cs = read_advances (of n) h ts ∙ ap (advances (of n)) e in (
       (λ w. let o = left_some read [] (left ∙ nothing_left (advances (of n) cs) w) in
           (o.0, (written_exact checking n o.0 ts).0 (o.2 ∙ ap (λ (us : List Token). ok o.0 us) (no_tokens o.1 o.3)))),
-      (λ d. ap is_whole (sym left ∙ ap (λ (m : Outcome (FactoredValue (of n))). classes_left m) ((written_exact checking n d.0 ts).1 d.1))),
+      (λ d. ap is_whole (sym left ∙ ap (λ (m : Outcome (FactoredValue (of n))). classes_left m)
+          ((written_exact checking n d.0 ts).1 d.1))),
     )
 
 pub decided : (cs : List ℕ) (ts : List Token) → classes_of ts ≡ cs → (whole_list cs ≡ true) ↔ IsExpressionList ts
 unfolding whole_list
 decided = decided_by expressions refl
 
-pub one_decided : (cs : List ℕ) (ts : List Token) → classes_of ts ≡ cs → (is_whole (advances (of expression) cs) ≡ true) ↔ IsOne ts
+pub one_decided : (cs : List ℕ) (ts : List Token) → classes_of ts ≡ cs
+    → (is_whole (advances (of expression) cs) ≡ true) ↔ IsOne ts
 one_decided = decided_by expression refl
 
-pub one_by : (cs : List ℕ) (ts : List Token) (b : Bool) → classes_of ts ≡ cs → is_whole (advances (of expression) cs) ≡ b → IsTrue b ↔ IsOne ts
+pub one_by : (cs : List ℕ) (ts : List Token) (b : Bool) → classes_of ts ≡ cs
+    → is_whole (advances (of expression) cs) ≡ b → IsTrue b ↔ IsOne ts
 one_by cs ts b e f = subst (λ (x : Bool). (x ≡ true) ↔ IsOne ts) f (one_decided cs ts e)
 
-pub refused : (cs : List ℕ) (ts : List Token) → classes_of ts ≡ cs → whole_list cs ≡ false → IsTrue false ↔ IsExpressionList ts
+pub refused : (cs : List ℕ) (ts : List Token) → classes_of ts ≡ cs → whole_list cs ≡ false
+    → IsTrue false ↔ IsExpressionList ts
 refused cs ts e f = subst (λ (b : Bool). (b ≡ true) ↔ IsExpressionList ts) f (decided cs ts e)

@@ -3,7 +3,7 @@ use Rattle.std.proofs.Common.{◌≡◌, Bool, true, false, refl, List, [], ◌�
 use Rattle.grammar.specs.Tokens.{Token}
 use Rattle.grammar.specs.Grammar.{Mode.checking}
 use Rattle.grammar.specs.Reading.{Outcome, Outcome.ok, Outcome.stuck, Outcome.bad, Outcome.out, read_all}
-use Rattle.wgsl_model.specs.Tokens.Classes.{TemplateArgsStart, TemplateArgsEnd, Ident}
+use Rattle.wgsl_model.specs.Tokens.ClassTable.{TemplateArgsStart, TemplateArgsEnd, Ident}
 use Rattle.wgsl_model.specs.Tokens.Kind.{plain, placed}
 use Rattle.wgsl_model.specs.Trees.Expressions.{ExpressionNode}
 use Rattle.wgsl_model.specs.Grammar.Symbols.{Symbol.expressions}
@@ -26,7 +26,8 @@ abbrev is_read : Outcome (List ExpressionNode) → Bool
 is_read (ok v []) = true
 is_read o = false
 
-read_list : (ts : List Token) (o : Outcome (List ExpressionNode)) → read_all tables checking body rank_limit (of expressions) ts ≡ o → is_read o ≡ true → IsList ts
+read_list : (ts : List Token) (o : Outcome (List ExpressionNode))
+    → read_all tables checking body rank_limit (of expressions) ts ≡ o → is_read o ≡ true → IsList ts
 read_list ts (ok v []) e r = (v, (written_exact checking expressions v ts).0 e)
 read_list ts (ok v (t ∷ us)) e r = absurd cc
 read_list ts (stuck us) e r = absurd cc
@@ -35,4 +36,5 @@ read_list ts out e r = absurd cc
 
 -- one name is a list of expressions
 pub name_list : IsList (one_name ∷ [])
-name_list = read_list (one_name ∷ []) (read_all tables checking body rank_limit (of expressions) (one_name ∷ [])) refl refl
+name_list = read_list (one_name ∷ [])
+    (read_all tables checking body rank_limit (of expressions) (one_name ∷ [])) refl refl

@@ -4,7 +4,7 @@ use Rattle.std.proofs.lemmas.List.{append-nil, append_assoc}
 use Rattle.std.proofs.lemmas.Nat.{pow_pos}
 use Rattle.std.proofs.lemmas.Grind.{pow_more}
 use Rattle.std.proofs.Math.Nat.{pow-le-pow_right}
-use Rattle.wgsl_lex_token.specs.declared.kind.TokenKind.{TokenKind}
+use Rattle.wgsl_lex_token.specs.declared.kind_table.TokenKind.{TokenKind}
 use Rattle.wgsl_lex_token.specs.View.{class_of_kind}
 use Rattle.wgsl_lex_templates.specs.declared.kept.Piece.{Piece}
 use Rattle.wgsl_lex_templates.specs.declared.kept.Piece.TheVariants.{Token, Stretch}
@@ -25,22 +25,31 @@ held_left ps at to rs = held ps at to ++ rests_held ps rs
 -- one rest more
 rests_more : (ps : List Piece) (rs : List Rest) (r : Rest) → rests_held ps (rs ++ r ∷ []) ≡ held_left ps r.at r.to rs
 rests_more ps [] r = sym (append-nil (held ps r.at r.to))
-rests_more ps (q ∷ qs) r = ap (λ u. u ++ held ps q.at q.to) (rests_more ps qs r) ∙ append_assoc (held ps r.at r.to) (rests_held ps qs) (held ps q.at q.to)
+rests_more ps (q ∷ qs) r = ap (λ u. u ++ held ps q.at q.to) (rests_more ps qs r)
+    ∙ append_assoc (held ps r.at r.to) (rests_held ps qs) (held ps q.at q.to)
 
 -- the last rest takes the place of a stretch that is at its end
-pub rest_begun : (ps : List Piece) (at to : ℕ) (rs now : List Rest) (r : Rest) → to ≤ at → rs ≡ now ++ r ∷ [] → held_left ps at to rs ≡ held_left ps r.at r.to now
-rest_begun ps at to rs now r l e = ap (λ u. u ++ rests_held ps rs) (held_past ps at to l) ∙ ap (rests_held ps) e ∙ rests_more ps now r
+pub rest_begun : (ps : List Piece) (at to : ℕ) (rs now : List Rest) (r : Rest) → to ≤ at
+    → rs ≡ now ++ r ∷ [] → held_left ps at to rs ≡ held_left ps r.at r.to now
+rest_begun ps at to rs now r l e = ap (λ u. u ++ rests_held ps rs) (held_past ps at to l)
+    ∙ ap (rests_held ps) e ∙ rests_more ps now r
 
 -- a token at the front
-pub token_taken : (ps : List Piece) (at to : ℕ) (rs : List Rest) (p : Piece) (k : TokenKind) → at < to → to ≤ length ps → p ≡ get_or ps at p → p ≡ Token k → held_left ps at to rs ≡ class_of_kind k ∷ held_left ps (at + 1) to rs
+pub token_taken : (ps : List Piece) (at to : ℕ) (rs : List Rest) (p : Piece) (k : TokenKind)
+    → at < to → to ≤ length ps → p ≡ get_or ps at p → p ≡ Token k
+    → held_left ps at to rs ≡ class_of_kind k ∷ held_left ps (at + 1) to rs
 token_taken ps at to rs p k l m e is = ap (λ u. u ++ rests_held ps rs) (token_first ps at to p k l m e is)
 
 -- a stretch that stands last
-pub last_begun : (ps : List Piece) (at to : ℕ) (rs : List Rest) (p : Piece) (b c : ℕ) → at + 1 ≡ to → to ≤ length ps → c ≤ at → p ≡ get_or ps at p → p ≡ Stretch b c → held_left ps at to rs ≡ held_left ps b c rs
+pub last_begun : (ps : List Piece) (at to : ℕ) (rs : List Rest) (p : Piece) (b c : ℕ) → at + 1 ≡ to
+    → to ≤ length ps → c ≤ at → p ≡ get_or ps at p → p ≡ Stretch b c
+    → held_left ps at to rs ≡ held_left ps b c rs
 last_begun ps at to rs p b c s m n e is = ap (λ u. u ++ rests_held ps rs) (stretch_last ps at to p b c s m n e is)
 
 -- a stretch at the front, with the rest behind it
-pub stretch_begun : (ps : List Piece) (at to : ℕ) (rs now : List Rest) (p : Piece) (b c : ℕ) → at < to → to ≤ length ps → c ≤ at → p ≡ get_or ps at p → p ≡ Stretch b c → now ≡ rs ++ record { at = at + 1; to = to } ∷ [] → held_left ps at to rs ≡ held_left ps b c now
+pub stretch_begun : (ps : List Piece) (at to : ℕ) (rs now : List Rest) (p : Piece) (b c : ℕ)
+    → at < to → to ≤ length ps → c ≤ at → p ≡ get_or ps at p → p ≡ Stretch b c
+    → now ≡ rs ++ record { at = at + 1; to = to } ∷ [] → held_left ps at to rs ≡ held_left ps b c now
 stretch_begun ps at to rs now p b c l m n e is more =
     ap (λ u. u ++ rests_held ps rs) (stretch_first ps at to p b c l m n e is)
     ∙ append_assoc (held ps b c) (held ps (at + 1) to) (rests_held ps rs)
@@ -73,7 +82,8 @@ weight_less at to b c l m =
     omega (arith, before, behind, pow_more 2 at, pow_pos at, pow_pos b)
 
 -- the last rest takes the place of a stretch that is at its end
-pub less_at_rest : (at to : ℕ) (rs now : List Rest) (r : Rest) → rs ≡ now ++ r ∷ [] → left_to_do r.at r.to now < left_to_do at to rs
+pub less_at_rest : (at to : ℕ) (rs now : List Rest) (r : Rest) → rs ≡ now ++ r ∷ []
+    → left_to_do r.at r.to now < left_to_do at to rs
 less_at_rest at to rs now r e = let t = ap rests_weight e ∙ rests_weight_more now r in omega (arith, t)
 
 -- a piece more
@@ -85,7 +95,8 @@ pub less_at_last : (at to : ℕ) (rs : List Rest) (b c : ℕ) → at < to → c 
 less_at_last at to rs b c l m = let t = weight_less at to b c l m in omega (arith, t)
 
 -- a stretch, with the rest behind it
-pub less_at_stretch : (at to : ℕ) (rs now : List Rest) (b c : ℕ) → at < to → c ≤ at → now ≡ rs ++ record { at = at + 1; to = to } ∷ [] → left_to_do b c now < left_to_do at to rs
+pub less_at_stretch : (at to : ℕ) (rs now : List Rest) (b c : ℕ) → at < to → c ≤ at
+    → now ≡ rs ++ record { at = at + 1; to = to } ∷ [] → left_to_do b c now < left_to_do at to rs
 less_at_stretch at to rs now b c l m more =
     let t = weight_less at to b c l m in
     let u = ap rests_weight more ∙ rests_weight_more rs (record { at = at + 1; to = to }) in

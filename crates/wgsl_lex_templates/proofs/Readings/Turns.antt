@@ -19,8 +19,10 @@ IsTurn depth class turn.Refutes = is_among class in_no_expression ≡ true
 IsTurn depth class (turn.Takes behind) = IsTaken depth class behind
 
 -- by the tests on the class
-by_tests : (depth c : ℕ) (o l g s m : Bool) → is_opening c ≡ o → is_closing c ≡ l → begins_with_greater c ≡ g → is_short_circuit c ≡ s → is_among c in_no_expression ≡ m
-    → IsTurn depth c (turn_by depth (if o then role.Opening else if l then role.Closing else if g then role.Greater else if s then role.ShortCircuit else if m then role.Stranger else role.Other))
+by_tests : (depth c : ℕ) (o l g s m : Bool) → is_opening c ≡ o → is_closing c ≡ l
+    → begins_with_greater c ≡ g → is_short_circuit c ≡ s → is_among c in_no_expression ≡ m
+    → IsTurn depth c (turn_by depth (if o then role.Opening else if l then role.Closing else if g
+    then role.Greater else if s then role.ShortCircuit else if m then role.Stranger else role.Other))
 by_tests depth c true l g s m eo el eg es em = inl (eo, refl)
 by_tests zero c false true g s m eo el eg es em = (refl, inl el)
 by_tests (suc depth) c false true g s m eo el eg es em = inr (inl (el, refl))
@@ -33,7 +35,8 @@ by_tests zero c false false false false false eo el eg es em = inr (inr (goes_on
 by_tests (suc depth) c false false false false false eo el eg es em = inr (inr (goes_on_deeper depth c eo el, refl))
 
 turn_is : (depth c : ℕ) → IsTurn depth c (turn depth c)
-turn_is depth c = by_tests depth c (is_opening c) (is_closing c) (begins_with_greater c) (is_short_circuit c) (is_among c in_no_expression) refl refl refl refl refl
+turn_is depth c = by_tests depth c (is_opening c) (is_closing c) (begins_with_greater c)
+    (is_short_circuit c) (is_among c in_no_expression) refl refl refl refl refl
 
 pub turned : (depth c d : ℕ) (t : Turn) → c ≡ d → t ≡ turn depth c → IsTurn depth d t
 turned depth c d t e is = subst (λ x. IsTurn depth x t) e (subst (IsTurn depth c) (sym is) (turn_is depth c))

@@ -11,7 +11,8 @@ use Rattle.wgsl_lex_scanner.specs.View.{lexeme_view, scanned_view, IsShorter}
 use Rattle.wgsl_theory_grammar.proofs.Tokens.Cuts.{EndsWith, cut_at, behind_token}
 use Rattle.wgsl_lex_templates.proofs.TextLists.Fronts.{raw_again}
 
--- a token of a kind is the first of a text; it begins one end of the text, and another stands behind it
+-- a token of a kind is the first of a text; it begins one end of the text, and another stands
+-- behind it
 pub record Taken (text from after : List ℕ) (kind : Kind) : Type 0 where
   pub front : raw (chars text) ≡ token kind (chars from) (chars after)
   pub again : raw (chars from) ≡ token kind (chars from) (chars after)
@@ -19,7 +20,9 @@ pub record Taken (text from after : List ℕ) (kind : Kind) : Type 0 where
   pub leaves : EndsWith (chars text) (chars after)
   pub shorter : (length from ≤ length text) × (length after < length text)
 
-pub taken : (text : List ℕ) (s : Scanned) (lexeme : Lexeme) (from after : Bor (List ℕ)) → s ≡ scanned.Found lexeme from after → scanned_view s ≡ raw (chars text) → IsShorter (length text) s → Taken text from.now after.now (lexeme_view lexeme)
+pub taken : (text : List ℕ) (s : Scanned) (lexeme : Lexeme) (from after : Bor (List ℕ))
+    → s ≡ scanned.Found lexeme from after → scanned_view s ≡ raw (chars text)
+    → IsShorter (length text) s → Taken text from.now after.now (lexeme_view lexeme)
 taken text s lexeme from after is view shorter =
     let front = sym (subst (λ x. scanned_view x ≡ raw (chars text)) is view) in
     record {
@@ -30,7 +33,9 @@ taken text s lexeme from after is view shorter =
       shorter = subst (IsShorter (length text)) is shorter;
     }
 
-pub no_token : (s : Scanned) → ((lexeme : Lexeme) (from after : Bor (List ℕ)) → s ≡ scanned.Found lexeme from after → ⊥) → (kind : Kind) (from after : List ℕ) → scanned_view s ≡ token kind from after → ⊥
+pub no_token : (s : Scanned)
+    → ((lexeme : Lexeme) (from after : Bor (List ℕ)) → s ≡ scanned.Found lexeme from after → ⊥)
+    → (kind : Kind) (from after : List ℕ) → scanned_view s ≡ token kind from after → ⊥
 no_token scanned.NoneLeft n kind from after e = cc
 no_token (scanned.Invalid f a) n kind from after e = cc
 no_token (scanned.Found lexeme f a) n kind from after e = n lexeme f a refl

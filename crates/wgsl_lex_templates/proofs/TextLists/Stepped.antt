@@ -6,7 +6,7 @@ use Rattle.std.specs.Str.Pattern.{RFindsChar, SplitsAroundMatch}
 use Rattle.std.proofs.lemmas.List.{take-append-drop}
 use Rattle.std.proofs.lemmas.List.Sums.{count_by-le-length}
 use Rattle.std.proofs.lemmas.Str.{IsUtf8-take, IsUtf8-drop, IsUtf8-past_char, IsCharBoundary-before_ascii, chars-append, chars_past_char, chars_from_encodes, length-le-encodes}
-use Rattle.wgsl_model.specs.Tokens.Classes.{SymLessThan}
+use Rattle.wgsl_model.specs.Tokens.ClassTable.{SymLessThan}
 use Rattle.wgsl_model.specs.Tokens.Kind.{Kind}
 use Rattle.wgsl_model.specs.Tokens.Raw.{raw, token}
 use Rattle.wgsl_model.specs.Tokens.Places.{place, width}
@@ -35,7 +35,8 @@ none_pass [] n (b ∷ before) behind e = absurd cc
 none_pass (c ∷ cs) n [] behind e = let same : c ≡ 60 = cc in absurd (no_sign c n.0 same) where
   no_sign : (c : ℕ) → (c == 60) ≡ false → c ≡ 60 → ⊥
   no_sign c f e = let g : (60 == 60) ≡ false = subst (λ x. (x == 60) ≡ false) e f in absurd cc
-none_pass (c ∷ cs) n (b ∷ before) behind e = let tails : cs ≡ before ++ (60 ∷ behind) = cc in none_pass cs n.1 before behind tails
+none_pass (c ∷ cs) n (b ∷ before) behind e =
+    let tails : cs ≡ before ++ (60 ∷ behind) = cc in none_pass cs n.1 before behind tails
 
 pub no_less : (bs : List ℕ) → IsUtf8 bs → NoCharPasses (λ d. d == 60) bs → HasNoLess (chars bs)
 no_less bs u (cs, e, n) = subst HasNoLess (chars_from_encodes cs bs u e) (none_pass cs n)
@@ -47,7 +48,8 @@ pub record Split (left before : List ℕ) : Type 0 where
   pub parts : chars left ≡ chars before ++ (60 ∷ back)
   pub text : IsUtf8 before
 
-pub split_last : (left before back : List ℕ) → IsUtf8 left → SplitsAroundMatch (RFindsChar 60) left before back → Split left before
+pub split_last : (left before back : List ℕ) → IsUtf8 left
+    → SplitsAroundMatch (RFindsChar 60) left before back → Split left before
 split_last left before back u (i, j, (none, at), front, behind, l, size, more) =
     let less : i < length left = omega (arith, at.ends, more) in
     let boundary = IsCharBoundary-before_ascii left i less (omega (arith, at.byte (omega arith))) in
@@ -55,8 +57,10 @@ split_last left before back u (i, j, (none, at), front, behind, l, size, more) =
     record {
       back = chars (drop j left);
       clear = no_less (drop j left) (IsUtf8-past_char (drop i left) (drop j left) 60 rest at.split) none;
-      parts = ap chars (sym (take-append-drop i left)) ∙ chars-append (take i left) (drop i left) (IsUtf8-take left i u boundary)
-          ∙ ap (λ x. chars x ++ chars (drop i left)) (sym front) ∙ ap (λ x. chars before ++ x) (chars_past_char (drop i left) (drop j left) 60 rest at.split);
+      parts = ap chars (sym (take-append-drop i left))
+          ∙ chars-append (take i left) (drop i left) (IsUtf8-take left i u boundary)
+          ∙ ap (λ x. chars x ++ chars (drop i left)) (sym front)
+          ∙ ap (λ x. chars before ++ x) (chars_past_char (drop i left) (drop j left) 60 rest at.split);
       text = subst IsUtf8 (sym front) (IsUtf8-take left i u boundary);
     }
 
@@ -73,10 +77,13 @@ pub record Cut (source before : List ℕ) (spans : List Span) (attempts : ℕ) :
   pub fits : width (60 ∷ (back ++ done)) ≤ length source
   pub at : length before ≡ place (length source) (60 ∷ (back ++ done))
 
-pub cut : (source left before back : List ℕ) (spans : List Span) (attempts : ℕ) → IsUtf8 source → IsUtf8 left → Done (length source) (chars source) (chars left) spans attempts → SplitsAroundMatch (RFindsChar 60) left before back → Cut source before spans attempts
+pub cut : (source left before back : List ℕ) (spans : List Span) (attempts : ℕ) → IsUtf8 source
+    → IsUtf8 left → Done (length source) (chars source) (chars left) spans attempts
+    → SplitsAroundMatch (RFindsChar 60) left before back → Cut source before spans attempts
 cut source left before back spans attempts u v d s =
     let m = split_last left before back v s in
-    let parts : chars source ≡ chars before ++ (60 ∷ (m.back ++ d.behind)) = d.parts ∙ ap (λ x. x ++ d.behind) m.parts ∙ append_assoc (chars before) (60 ∷ m.back) d.behind in
+    let parts : chars source ≡ chars before ++ (60 ∷ (m.back ++ d.behind)) = d.parts
+    ∙ ap (λ x. x ++ d.behind) m.parts ∙ append_assoc (chars before) (60 ∷ m.back) d.behind in
     let ends = cut_end source (chars before) (60 ∷ (m.back ++ d.behind)) u parts in
     let size = bytes_width before m.text in
     record {
@@ -93,43 +100,66 @@ cut source left before back spans attempts u v d s =
     }
 
 -- what is known of the lists behind that `<`
-pub told_behind : (source before text : List ℕ) (spans : List Span) (attempts : ℕ) → Cut source before spans attempts → text ≡ drop (length before) source → TellLists (length source) spans (drop 1 (chars text))
+pub told_behind : (source before text : List ℕ) (spans : List Span) (attempts : ℕ)
+    → Cut source before spans attempts → text ≡ drop (length before) source
+    → TellLists (length source) spans (drop 1 (chars text))
 told_behind source before text spans attempts k e =
-    let narrow : width k.done ≤ length source = omega (arith, k.fits, within (60 ∷ (k.back ++ k.done)) k.done (60 ∷ k.back, refl)) in
-    subst (λ x. TellLists (length source) spans (drop 1 x)) (sym (ap chars e ∙ k.text)) (told_more (length source) spans k.back k.done k.clear (told (length source) spans k.done narrow k.lists))
+    let narrow : width k.done ≤ length source =
+    omega (arith, k.fits, within (60 ∷ (k.back ++ k.done)) k.done (60 ∷ k.back, refl)) in
+    subst (λ x. TellLists (length source) spans (drop 1 x)) (sym (ap chars e ∙ k.text))
+    (told_more (length source) spans k.back k.done k.clear (told (length source) spans k.done narrow k.lists))
 
 -- one attempt more is no more than there are bytes
-pub attempts_fit : (source before : List ℕ) (spans : List Span) (attempts : ℕ) → Cut source before spans attempts → attempts + 1 ≤ length source
+pub attempts_fit : (source before : List ℕ) (spans : List Span) (attempts : ℕ)
+    → Cut source before spans attempts → attempts + 1 ≤ length source
 attempts_fit source before spans attempts k =
-    omega (arith, k.few, k.fits, one_sign_more k.back k.done, count_by-le-length (λ c. c == 60) (60 ∷ (k.back ++ k.done)), length-le-encodes (60 ∷ (k.back ++ k.done)))
+    omega (
+      arith,
+      k.few,
+      k.fits,
+      one_sign_more k.back k.done,
+      count_by-le-length (λ c. c == 60) (60 ∷ (k.back ++ k.done)),
+      length-le-encodes (60 ∷ (k.back ++ k.done)),
+    )
 
 -- and so many reads fit
-pub reads_fit : (reads attempts n text : ℕ) → n < 2 ^ 64 → attempts + 1 ≤ n → reads ≤ attempts * (n + 1) → text ≤ n → reads + text + 1 < 2 ^ 128
+pub reads_fit : (reads attempts n text : ℕ) → n < 2 ^ 64 → attempts + 1 ≤ n
+    → reads ≤ attempts * (n + 1) → text ≤ n → reads + text + 1 < 2 ^ 128
 reads_fit reads attempts n text small few some less =
     let most : attempts * (n + 1) ≤ attempts * 2 ^ 64 = mul-le-mul_left attempts (omega arith) in
     omega (arith, most)
 
-pub reads_more : (reads now attempts n text : ℕ) → reads ≤ attempts * (n + 1) → text ≤ n → now ≤ reads + text + 1 → now ≤ (attempts + 1) * (n + 1)
+pub reads_more : (reads now attempts n text : ℕ) → reads ≤ attempts * (n + 1) → text ≤ n
+    → now ≤ reads + text + 1 → now ≤ (attempts + 1) * (n + 1)
 reads_more reads now attempts n text some less more = grind arith
 
 -- the source ends with the text from there on
-pub ends_source : (source before text : List ℕ) (spans : List Span) (attempts : ℕ) → Cut source before spans attempts → text ≡ drop (length before) source → EndsWith (chars source) (chars text)
-ends_source source before text spans attempts k e = (chars before, k.parts ∙ ap (λ x. chars before ++ x) (sym (ap chars e ∙ k.text)))
+pub ends_source : (source before text : List ℕ) (spans : List Span) (attempts : ℕ)
+    → Cut source before spans attempts → text ≡ drop (length before) source
+    → EndsWith (chars source) (chars text)
+ends_source source before text spans attempts k e =
+    (chars before, k.parts ∙ ap (λ x. chars before ++ x) (sym (ap chars e ∙ k.text)))
 
 -- what was tried, where no list begins
-pub tried_none : (source before text : List ℕ) (spans : List Span) (attempts : ℕ) → Cut source before spans attempts → text ≡ drop (length before) source → NoTemplate (Template (length source)) (chars text)
+pub tried_none : (source before text : List ℕ) (spans : List Span) (attempts : ℕ)
+    → Cut source before spans attempts → text ≡ drop (length before) source
+    → NoTemplate (Template (length source)) (chars text)
     → Done (length source) (chars source) (chars before) spans (attempts + 1)
 tried_none source before text spans attempts k e none = record {
   behind = 60 ∷ (k.back ++ k.done);
   parts = k.parts;
   lists = none_more (length source) spans k.back k.done k.clear
-      (λ end ends. let list = subst (λ x. ListEnds (length source) x end) (sym (ap chars e ∙ k.text)) ends in none list.0 list.1 list.2) k.lists;
+      (λ end ends. let list = subst (λ x. ListEnds (length source) x end)
+      (sym (ap chars e ∙ k.text)) ends in none list.0 list.1 list.2) k.lists;
   few = omega (arith, k.few, one_sign_more k.back k.done);
 }
 
 -- and where one does
-pub tried_one : (source before text : List ℕ) (spans now : List Span) (attempts start at : ℕ) → Cut source before spans attempts → text ≡ drop (length before) source → ListEnds (length source) (chars text) at → start ≡ length before
-    → now ≡ spans ++ record { start = start; end = at } ∷ [] → Done (length source) (chars source) (chars before) now (attempts + 1)
+pub tried_one : (source before text : List ℕ) (spans now : List Span) (attempts start at : ℕ)
+    → Cut source before spans attempts → text ≡ drop (length before) source
+    → ListEnds (length source) (chars text) at → start ≡ length before
+    → now ≡ spans ++ record { start = start; end = at } ∷ []
+    → Done (length source) (chars source) (chars before) now (attempts + 1)
 tried_one source before text spans now attempts start at k e one s more =
     let first : start ≡ place (length source) (60 ∷ (k.back ++ k.done)) = s ∙ k.at in
     let list = subst (λ x. ListEnds (length source) x at) (ap chars e ∙ k.text) one in
@@ -140,38 +170,64 @@ tried_one source before text spans now attempts start at k e one s more =
     record {
       behind = 60 ∷ (k.back ++ k.done);
       parts = k.parts;
-      lists = subst (λ x. AreLists (length source) x (60 ∷ (k.back ++ k.done))) (sym (more ∙ ap (λ x. spans ++ record { start = x; end = at } ∷ []) first)) all;
+      lists = subst (λ x. AreLists (length source) x (60 ∷ (k.back ++ k.done)))
+          (sym (more ∙ ap (λ x. spans ++ record { start = x; end = at } ∷ []) first)) all;
       few = omega (arith, k.few, one_sign_more k.back k.done);
     }
 
 -- what a list begins with, and where the text behind it does
-list_place : (total : ℕ) (text from after end : List ℕ) (kind : Kind) (at : ℕ) → width after ≤ total → raw text ≡ token kind from after → kind.class ≡ SymLessThan → EndsAt total after end → at ≡ place total end → ListEnds total text (at + 1)
-list_place total text from after end kind at fits e less k p =
-    (marked total from after k.0 end, drop 1 end, front_list total text from after end kind e less k, omega (arith, p, end_place total after k.0 end fits k.1))
+list_place : (total : ℕ) (text from after end : List ℕ) (kind : Kind) (at : ℕ) → width after ≤ total
+    → raw text ≡ token kind from after → kind.class ≡ SymLessThan → EndsAt total after end
+    → at ≡ place total end → ListEnds total text (at + 1)
+list_place total text from after end kind at fits e less k p = (
+  marked total from after k.0 end,
+  drop 1 end,
+  front_list total text from after end kind e less k,
+  omega (arith, p, end_place total after k.0 end fits k.1),
+)
 
 -- what was found of the `<`
-pub tried_found : (source before text : List ℕ) (spans now : List Span) (attempts start : ℕ) (pieces : List Piece) (from after : List ℕ) (kind : Kind) (f : Finding) → Cut source before spans attempts → text ≡ drop (length before) source
-    → raw (chars text) ≡ token kind from after → kind.class ≡ SymLessThan → width after ≤ length source → IsFinding (length source) pieces after f → start ≡ length before → now ≡ spans ++ begun_list start f → Done (length source) (chars source) (chars before) now (attempts + 1)
+pub tried_found : (source before text : List ℕ) (spans now : List Span) (attempts start : ℕ)
+    (pieces : List Piece) (from after : List ℕ) (kind : Kind) (f : Finding)
+    → Cut source before spans attempts → text ≡ drop (length before) source
+    → raw (chars text) ≡ token kind from after → kind.class ≡ SymLessThan
+    → width after ≤ length source → IsFinding (length source) pieces after f → start ≡ length before
+    → now ≡ spans ++ begun_list start f
+    → Done (length source) (chars source) (chars before) now (attempts + 1)
 tried_found source before text spans now attempts start pieces from after kind Around k e r less fits h s more =
-    subst (λ (x : List Span). Done (length source) (chars source) (chars before) x (attempts + 1)) (sym (more ∙ append-nil spans)) (tried_none source before text spans attempts k e (none_begins (length source) (chars text) from after kind r (λ l. h.0)))
-tried_found source before text spans now attempts start pieces from after kind (GoesOn false at b c) k e r less fits (end, p, none, g) s more =
-    subst (λ (x : List Span). Done (length source) (chars source) (chars before) x (attempts + 1)) (sym (more ∙ append-nil spans)) (tried_none source before text spans attempts k e (none_begins (length source) (chars text) from after kind r (λ l. none)))
-tried_found source before text spans now attempts start pieces from after kind (GoesOn true at b c) k e r less fits (end, p, list, g) s more =
-    tried_one source before text spans now attempts start (at + 1) k e (list_place (length source) (chars text) from after end kind at fits r less list p) s more
+    subst (λ (x : List Span). Done (length source) (chars source) (chars before) x (attempts + 1))
+    (sym (more ∙ append-nil spans)) (tried_none source before text spans attempts k e
+    (none_begins (length source) (chars text) from after kind r (λ l. h.0)))
+tried_found source before text spans now attempts start pieces from after kind
+    (GoesOn false at b c) k e r less fits (end, p, none, g) s more =
+    subst (λ (x : List Span). Done (length source) (chars source) (chars before) x (attempts + 1))
+    (sym (more ∙ append-nil spans)) (tried_none source before text spans attempts k e
+    (none_begins (length source) (chars text) from after kind r (λ l. none)))
+tried_found source before text spans now attempts start pieces from after kind
+    (GoesOn true at b c) k e r less fits (end, p, list, g) s more =
+    tried_one source before text spans now attempts start (at + 1) k e
+    (list_place (length source) (chars text) from after end kind at fits r less list p) s more
 
 -- its `>` stands in the source
-pub greater_fits : (total : ℕ) (pieces : List Piece) (after : List ℕ) (f : Finding) → width after ≤ total → IsFinding total pieces after f → 0 < total → greater_place f + 1 ≤ total
+pub greater_fits : (total : ℕ) (pieces : List Piece) (after : List ℕ) (f : Finding)
+    → width after ≤ total → IsFinding total pieces after f → 0 < total → greater_place f + 1 ≤ total
 greater_fits total pieces after Around fits h some = omega (arith, some)
 greater_fits total pieces after (GoesOn false at b c) fits h some = omega (arith, some)
-greater_fits total pieces after (GoesOn true at b c) fits (end, p, (ts, i, l), g) some = omega (arith, p, end_place total after ts end fits i)
+greater_fits total pieces after (GoesOn true at b c) fits (end, p, (ts, i, l), g) some =
+    omega (arith, p, end_place total after ts end fits i)
 
 -- how many lists that are
-pub listed_costs : (start : ℕ) (f : Finding) → (costs (Some f) ≡ 2 * length (begun_list start f)) × (length (begun_list start f) ≤ 1)
+pub listed_costs : (start : ℕ) (f : Finding)
+    → (costs (Some f) ≡ 2 * length (begun_list start f)) × (length (begun_list start f) ≤ 1)
 listed_costs start Around = (refl, omega arith)
 listed_costs start (GoesOn false at b c) = (refl, omega arith)
 listed_costs start (GoesOn true at b c) = (refl, omega arith)
 
 -- behind what has no `<`, all lists are known
-pub all_done : (source left : List ℕ) (spans : List Span) (attempts : ℕ) → IsUtf8 source → IsUtf8 left → NoCharPasses (λ d. d == 60) left → Done (length source) (chars source) (chars left) spans attempts → AreLists (width (chars source)) spans (chars source)
+pub all_done : (source left : List ℕ) (spans : List Span) (attempts : ℕ) → IsUtf8 source → IsUtf8 left
+    → NoCharPasses (λ d. d == 60) left → Done (length source) (chars source) (chars left) spans attempts
+    → AreLists (width (chars source)) spans (chars source)
 all_done source left spans attempts u v n d =
-    subst (λ t. AreLists t spans (chars source)) (sym (bytes_width source u)) (subst (AreLists (length source) spans) (sym d.parts) (all_lists (length source) spans (chars left) d.behind (no_less left v n) d.lists))
+    subst (λ t. AreLists t spans (chars source)) (sym (bytes_width source u))
+    (subst (AreLists (length source) spans) (sym d.parts)
+    (all_lists (length source) spans (chars left) d.behind (no_less left v n) d.lists))

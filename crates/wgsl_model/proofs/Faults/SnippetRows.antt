@@ -13,11 +13,13 @@ row source start end = snippet (codes "invalid token") source (record { start = 
 abbrev text : List ℕ → List ℕ
 text characters = encode_utf8_all characters
 
-pub one_character : row (codes "const x = 1 #;") 12 13 ≡ text (codes "error: invalid token\n --> line 1, column 13\nconst x = 1 #;\n            ^")
+pub one_character : row (codes "const x = 1 #;") 12 13
+    ≡ text (codes "error: invalid token\n --> line 1, column 13\nconst x = 1 #;\n            ^")
 unfolding digits encode
 one_character = refl
 
-pub several_characters : row (codes "let abc;") 4 7 ≡ text (codes "error: invalid token\n --> line 1, column 5\nlet abc;\n    ^^^")
+pub several_characters : row (codes "let abc;") 4 7
+    ≡ text (codes "error: invalid token\n --> line 1, column 5\nlet abc;\n    ^^^")
 unfolding digits encode
 several_characters = refl
 
@@ -45,7 +47,8 @@ pub behind_the_last_line_end : row (codes "ab\n") 3 4 ≡ text (codes "error: in
 unfolding digits encode
 behind_the_last_line_end = refl
 
-pub before_a_carriage_return : row (codes "a\r\nb") 1 4 ≡ text (codes "error: invalid token\n --> line 1, column 2\na\r\n ^")
+pub before_a_carriage_return : row (codes "a\r\nb") 1 4
+    ≡ text (codes "error: invalid token\n --> line 1, column 2\na\r\n ^")
 unfolding digits encode
 before_a_carriage_return = refl
 

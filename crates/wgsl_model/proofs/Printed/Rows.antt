@@ -29,30 +29,41 @@ block (s ∷ ss) = compound_statement [] (statement_before (statement_node s no_
   statements [] = no_statements
   statements (s ∷ ss) = statement_before (statement_node s no_span) (statements ss)
 
-pub negated_product : print_expression (binary subtraction (node (name (codes "x"))) (node (binary multiplication (node (unary negation (node (name (codes "y"))))) (node (name (codes "z")))))) ≡ codes "x - -y * z"
+pub negated_product : print_expression (binary subtraction (node (name (codes "x")))
+    (node (binary multiplication (node (unary negation (node (name (codes "y"))))) (node (name (codes "z"))))))
+    ≡ codes "x - -y * z"
 negated_product = refl
 
 pub two_minuses : print_expression (unary negation (node (unary negation (node (name (codes "x")))))) ≡ codes "- -x"
 two_minuses = refl
 
-pub component_of_integer : print_expression (named_component (number 1) (codes "k")) ≡ signed_decimal (pos 1) ++ codes " ." ++ codes "k"
+pub component_of_integer : print_expression (named_component (number 1) (codes "k"))
+    ≡ signed_decimal (pos 1) ++ codes " ." ++ codes "k"
 component_of_integer = refl
 
-pub component_of_unsigned : print_expression (named_component (node (literal (u32 1))) (codes "x")) ≡ decimal 1 ++ codes "u" ++ codes "." ++ codes "x"
+pub component_of_unsigned : print_expression (named_component (node (literal (u32 1))) (codes "x"))
+    ≡ decimal 1 ++ codes "u" ++ codes "." ++ codes "x"
 component_of_unsigned = refl
 
 -- a call of a name that holds a line end
-pub line_end_in_a_name : print_statement (block_statement (block (unattributed (function_call_statement (record { call = call (type_expression (codes "a\nb") no_template) no_expressions })) ∷ []))) ≡ codes "{\n    a\n    b();\n}"
+pub line_end_in_a_name : print_statement (block_statement (block (unattributed (function_call_statement
+    (record { call = call (type_expression (codes "a\nb") no_template) no_expressions })) ∷ [])))
+    ≡ codes "{\n    a\n    b();\n}"
 line_end_in_a_name = refl
 
 -- an empty statement in a loop and in its `continuing`
 abbrev empty_loop : Statement
-empty_loop = unattributed (loop_statement (repeat (block (unattributed void ∷ [])) (one_continuing (continuing [] (block (unattributed void ∷ [])) (Some (without_attributes (record { expression = node (literal (boolean true)) })))))))
+empty_loop = unattributed (loop_statement (repeat (block (unattributed void ∷ []))
+    (one_continuing (continuing [] (block (unattributed void ∷ []))
+    (Some (without_attributes (record { expression = node (literal (boolean true)) })))))))
 
-pub empty_lines : print_statement (block_statement (block (empty_loop ∷ []))) ≡ codes "{\n    loop {\n    \n        continuing {\n        \n            break if true;\n        }\n    }\n}"
+pub empty_lines : print_statement (block_statement (block (empty_loop ∷ [])))
+    ≡ codes "{\n    loop {\n    \n        continuing {\n        \n            break if true;\n        }\n    }\n}"
 empty_lines = refl
 
-pub without_empty_statements : full_statement empty_loop ≡ unattributed (loop_statement (repeat (block []) (one_continuing (continuing [] (block []) (Some (without_attributes (record { expression = node (literal (boolean true)) })))))))
+pub without_empty_statements : full_statement empty_loop
+    ≡ unattributed (loop_statement (repeat (block []) (one_continuing (continuing [] (block [])
+    (Some (without_attributes (record { expression = node (literal (boolean true)) })))))))
 without_empty_statements = refl
 
 -- attributes before statements and their parts
@@ -60,20 +71,28 @@ abbrev attribute : List ℕ → Attributes
 attribute text = spanned (custom (record { name = text; arguments = None })) no_span ∷ []
 
 abbrev attributed_loop : Statement
-attributed_loop = unattributed (loop_statement (repeat (block []) (one_continuing (continuing (attribute (codes "a")) (block []) (Some (with_attributes (attribute (codes "b")) (record { expression = node (name (codes "c")) })))))))
+attributed_loop = unattributed
+    (loop_statement (repeat (block []) (one_continuing (continuing (attribute (codes "a")) (block [])
+    (Some (with_attributes (attribute (codes "b")) (record { expression = node (name (codes "c")) })))))))
 
-pub attributes_in_a_loop : print_statement attributed_loop ≡ codes "loop {\n\n    @a\n    continuing {\n    \n        @b\n        break if c;\n    }\n}"
+pub attributes_in_a_loop : print_statement attributed_loop
+    ≡ codes "loop {\n\n    @a\n    continuing {\n    \n        @b\n        break if c;\n    }\n}"
 attributes_in_a_loop = refl
 
 abbrev attributed_for : Statement
-attributed_for = unattributed (for_statement (repeat_for (one_statement (statement_node (statement (attribute (codes "a")) (assignment (record { operator = equal; lhs = node (name (codes "i")); rhs = node (name (codes "j")) }))) no_span)) None
-    (one_statement (statement_node (statement (attribute (codes "b")) (increment (record { expression = node (name (codes "i")) }))) no_span)) (block [])))
+attributed_for = unattributed
+    (for_statement (repeat_for (one_statement (statement_node (statement (attribute (codes "a")) (assignment
+    (record { operator = equal; lhs = node (name (codes "i")); rhs = node (name (codes "j")) }))) no_span)) None
+    (one_statement (statement_node (statement (attribute (codes "b"))
+    (increment (record { expression = node (name (codes "i")) }))) no_span)) (block [])))
 
 pub attributes_in_a_header : print_statement attributed_for ≡ codes "for (@a\ni = j; ; @b\ni++) {\n\n}"
 attributes_in_a_header = refl
 
 abbrev attributed_if : Statement
-attributed_if = unattributed (if_statement (if_else (if_clause (node (name (codes "a"))) (block [])) (else_if_before (else_if_clause (attribute (codes "b")) (node (name (codes "c"))) (block [])) no_else_ifs) (one_else (else_clause (attribute (codes "d")) (block [])))))
+attributed_if = unattributed (if_statement (if_else (if_clause (node (name (codes "a"))) (block []))
+    (else_if_before (else_if_clause (attribute (codes "b")) (node (name (codes "c"))) (block []))
+    no_else_ifs) (one_else (else_clause (attribute (codes "d")) (block [])))))
 
 pub attributes_before_else : print_statement attributed_if ≡ codes "if a {\n\n}\n@b\nelse if c {\n\n}\n@d\nelse {\n\n}"
 attributes_before_else = refl

@@ -1,4 +1,5 @@
--- Tests of characters: what passes a test is no character that fails it, and a digit begins no word.
+-- Tests of characters: what passes a test is no character that fails it, and a digit begins no
+-- word.
 use Rattle.std.proofs.Common.{◌≡◌, ℕ, ◌<◌, Bool, true, false, ◌==◌, ap, ◌∙◌, arith}
 use Rattle.std.specs.Char.{is_ascii_digit, is_ascii_alphabetic}
 use Rattle.std.proofs.lemmas.Bool.{eqb-true, false_from_ne_true}

@@ -22,7 +22,8 @@ reads_name = refl
 pub reads_supers : read_path (codes "super::super::a") ≡ Ok (path (relative 2) (codes "a" ∷ []))
 reads_supers = refl
 
-pub reads_empty_components : read_path (codes "a::::b::") ≡ Ok (path (of_package (codes "a")) ([] ∷ codes "b" ∷ [] ∷ []))
+pub reads_empty_components : read_path (codes "a::::b::")
+    ≡ Ok (path (of_package (codes "a")) ([] ∷ codes "b" ∷ [] ∷ []))
 reads_empty_components = refl
 
 pub three_colons : path_parts (codes "a:::b") ≡ codes "a" ∷ codes ":b" ∷ []

@@ -62,7 +62,8 @@ unexpected_token t = record { kind = unexpected_token_kind; texts = token_text t
 
 -- the tokens end where more is wanted; the fault is one byte long, from where the last token ends
 abbrev pub unexpected_end : ℕ → Fault
-unexpected_end place = record { kind = unexpected_end_kind; texts = []; span = record { start = place; end = next_place place } }
+unexpected_end place =
+    record { kind = unexpected_end_kind; texts = []; span = record { start = place; end = next_place place } }
 
 -- a severity that is none
 abbrev pub diagnostic_severity : Span → Fault
@@ -97,8 +98,10 @@ message kind texts =
     else if kind == reserved_word_kind then codes "use of a reserved word " ++ quoted (first_text texts)
     else if kind == unexpected_token_kind then codes "unexpected token " ++ quoted (first_text texts)
     else if kind == unexpected_end_kind then codes "unexpected end of file"
-    else if kind == extra_token_kind then codes "extra token " ++ quoted (first_text texts) ++ codes " at the end of the file"
+    else if kind == extra_token_kind
+    then codes "extra token " ++ quoted (first_text texts) ++ codes " at the end of the file"
     else if kind == diagnostic_severity_kind then codes "invalid diagnostic severity"
-    else if kind == attribute_kind then codes "invalid " ++ quoted (first_text texts) ++ codes " attribute, " ++ second_text texts
+    else if kind == attribute_kind
+    then codes "invalid " ++ quoted (first_text texts) ++ codes " attribute, " ++ second_text texts
     else if kind == var_template_kind then codes "invalid `var` template arguments, " ++ first_text texts
     else codes "out of memory"

@@ -1,4 +1,5 @@
--- The snippet of a message at a span: the line of the source in which the span starts, and below it a line that marks the span. The source is its characters; the message and the snippet are bytes.
+-- The snippet of a message at a span: the line of the source in which the span starts, and below it
+-- a line that marks the span. The source is its characters; the message and the snippet are bytes.
 use Rattle.std.specs.Prelude.{ℕ, ◌+◌, ◌-◌, ◌==◌, nat_le, max, if◌then◌else◌, Bool, List, [], ◌∷◌, ◌++◌, length, drop, replicate, count_by, codes}
 use Rattle.std.specs.Char.{len_utf8}
 use Rattle.std.specs.Str.{encode_utf8_all}
@@ -6,10 +7,12 @@ use Rattle.std.specs.List.{before_first, after_last}
 use Rattle.std.specs.Fmt.{decimal}
 use Rattle.grammar.specs.Tokens.{Span}
 
--- the characters of a text that end at a place or before it: all of them where the place is past the end, and of a place inside a character those before that character
+-- the characters of a text that end at a place or before it: all of them where the place is past
+-- the end, and of a place inside a character those before that character
 abbrev pub characters_before : ℕ → List ℕ → List ℕ
 characters_before place [] = []
-characters_before place (c ∷ cs) = if nat_le (len_utf8 c) place then c ∷ characters_before (place - len_utf8 c) cs else []
+characters_before place (c ∷ cs) = if nat_le (len_utf8 c) place
+    then c ∷ characters_before (place - len_utf8 c) cs else []
 
 -- lines end at an LF, and at nothing else
 abbrev pub is_line_feed : ℕ → Bool
@@ -43,12 +46,15 @@ line_text source span = line_front source span ++ before_first is_line_feed (tex
 abbrev pub mark_count : List ℕ → Span → ℕ
 mark_count source span = length (before_first is_line_feed (text_within source span))
 
--- a space for each character before the span, and then carets (the byte 94): one for each character of the span, and one at least
+-- a space for each character before the span, and then carets (the byte 94): one for each character
+-- of the span, and one at least
 abbrev pub marker_line : List ℕ → Span → List ℕ
-marker_line source span = replicate (length (line_front source span)) 32 ++ replicate (max (mark_count source span) 1) 94
+marker_line source span = replicate (length (line_front source span)) 32
+    ++ replicate (max (mark_count source span) 1) 94
 
 -- the message, the place, the line and the marker line, with an LF between each two
 abbrev pub snippet : List ℕ → List ℕ → Span → List ℕ
 snippet message source span =
-    codes "error: " ++ message ++ codes "\n --> line " ++ decimal (line_number source span) ++ codes ", column " ++ decimal (1 + length (line_front source span))
+    codes "error: " ++ message ++ codes "\n --> line " ++ decimal (line_number source span)
+    ++ codes ", column " ++ decimal (1 + length (line_front source span))
     ++ codes "\n" ++ encode_utf8_all (line_text source span) ++ codes "\n" ++ marker_line source span

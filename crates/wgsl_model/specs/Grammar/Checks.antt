@@ -1,7 +1,8 @@
--- The checks of names, severities, attributes and `var` templates (WGSL, "Diagnostics", "Attributes", "Address Spaces", "Memory Access Mode"): a value, or the text of the fault.
+-- The checks of names, severities, attributes and `var` templates (WGSL, "Diagnostics",
+-- "Attributes", "Address Spaces", "Memory Access Mode"): a value, or the text of the fault.
 use Rattle.std.specs.Prelude.{ℕ, ◌==◌, if◌then◌else◌, List, [], ◌∷◌, ◌++◌, Option, Some, None, option_map, option_and_then, codes}
 use Rattle.grammar.specs.Tokens.{Token, Span, Fault}
-use Rattle.wgsl_model.specs.Tokens.Classes.{ReservedWord}
+use Rattle.wgsl_model.specs.Tokens.ClassTable.{ReservedWord}
 use Rattle.wgsl_model.specs.Tokens.Words.{look_up}
 use Rattle.wgsl_model.specs.Faults.Kinds.{span_of_token, reserved_word, diagnostic_severity, invalid_attribute, invalid_var_template}
 use Rattle.wgsl_model.specs.Trees.Operators.{BinaryOperator.bitwise_or}
@@ -49,7 +50,8 @@ fault_unless (Some a) fault = None
 
 -- an identifier names a severity; a reserved word is a fault of its own
 abbrev pub severity_fault : Token → Option Fault
-severity_fault t = if t.class == ReservedWord then None else fault_unless (look_up severities (text_of t)) (diagnostic_severity (span_of_token t))
+severity_fault t = if t.class == ReservedWord then None
+    else fault_unless (look_up severities (text_of t)) (diagnostic_severity (span_of_token t))
 
 -- the severity that an identifier names
 abbrev pub severity_of : Token → DiagnosticSeverity
@@ -71,7 +73,8 @@ untemplated_word words e = option_and_then (λ name. look_up words name) (untemp
 
 -- the name of a diagnostic rule that an expression is: one name, or two with `.` between
 abbrev pub rule_name_in : Expression → Option (List ℕ)
-rule_name_in (named_component base component) = option_map (λ name. name ++ (codes "." ++ component)) (untemplated_name base)
+rule_name_in (named_component base component) =
+    option_map (λ name. name ++ (codes "." ++ component)) (untemplated_name base)
 rule_name_in e = untemplated_name_in e
 
 -- the name of a diagnostic rule that a node is
@@ -81,7 +84,8 @@ rule_name (expression_node e s) = rule_name_in e
 -- a type expression, or a left chain of them by `|`
 abbrev pub variants_in : Expression → Option (List TypeExpression)
 variants_in (type_or_identifier ty) = Some (ty ∷ [])
-variants_in (binary bitwise_or (expression_node left s) (expression_node (type_or_identifier ty) u)) = option_map (λ types. types ++ (ty ∷ [])) (variants_in left)
+variants_in (binary bitwise_or (expression_node left s) (expression_node (type_or_identifier ty) u)) =
+    option_map (λ types. types ++ (ty ∷ [])) (variants_in left)
 variants_in e = None
 
 -- the types that a node lists
@@ -92,13 +96,15 @@ variants (expression_node e s) = variants_in e
 -- an access mode behind an address space, which only storage can have
 abbrev pub space_and_mode : Option AddressSpace → ExpressionNode → Checked (AddressSpace × Option AccessMode)
 space_and_mode None e = wrong (codes "invalid address space")
-space_and_mode (Some storage) e = right_or (untemplated_word access_modes e) (λ mode. (storage, Some mode)) (codes "invalid access mode")
+space_and_mode (Some storage) e = right_or (untemplated_word access_modes e)
+    (λ mode. (storage, Some mode)) (codes "invalid access mode")
 space_and_mode (Some space) e = wrong (codes "only variables with `storage` address space can have an access mode")
 
 -- one or two arguments: an address space, and an access mode
 abbrev pub space_in_template : List ExpressionNode → Checked (AddressSpace × Option AccessMode)
 space_in_template [] = wrong (codes "template is empty")
-space_in_template (e ∷ []) = right_or (untemplated_word address_spaces e) (λ space. (space, None)) (codes "invalid address space")
+space_in_template (e ∷ []) = right_or (untemplated_word address_spaces e) (λ space. (space, None))
+    (codes "invalid address space")
 space_in_template (e ∷ (m ∷ [])) = space_and_mode (untemplated_word address_spaces e) m
 space_in_template (e ∷ (m ∷ (n ∷ es))) = wrong (codes "template is empty")
 
@@ -129,7 +135,8 @@ with_none attribute (Some es) = wrong (codes "expected 0 arguments")
 
 -- a list of one: the name of a built-in value
 abbrev pub builtin_attribute : Arguments → Checked Attribute
-builtin_attribute (Some (e ∷ [])) = right_or (untemplated_word builtin_values e) builtin (codes "the argument is not a valid built-in value name")
+builtin_attribute (Some (e ∷ [])) = right_or (untemplated_word builtin_values e) builtin
+    (codes "the argument is not a valid built-in value name")
 builtin_attribute arguments = wrong (codes "expected 1 argument")
 
 -- a list of two: a severity and the name of a rule
@@ -149,8 +156,10 @@ type_and_sampling ty sampling = wrong (codes "invalid arguments")
 
 -- a list of one or two, an interpolation type and a sampling
 abbrev pub interpolate_attribute : Arguments → Checked Attribute
-interpolate_attribute (Some (e ∷ [])) = right_or (untemplated_word interpolation_types e) (λ ty. interpolate (record { ty = ty; sampling = None })) (codes "invalid arguments")
-interpolate_attribute (Some (e ∷ (s ∷ []))) = type_and_sampling (untemplated_word interpolation_types e) (untemplated_word interpolation_samplings s)
+interpolate_attribute (Some (e ∷ [])) = right_or (untemplated_word interpolation_types e)
+    (λ ty. interpolate (record { ty = ty; sampling = None })) (codes "invalid arguments")
+interpolate_attribute (Some (e ∷ (s ∷ []))) = type_and_sampling (untemplated_word interpolation_types e)
+    (untemplated_word interpolation_samplings s)
 interpolate_attribute arguments = wrong (codes "invalid arguments")
 
 -- a list of one to three
@@ -174,8 +183,11 @@ type_attribute arguments = wrong (codes "expected 2 arguments")
 -- what each name makes of its arguments
 abbrev pub attribute_names : WordTable (Arguments → Checked Attribute)
 attribute_names =
-    words_of one_argument_text (λ name. with_one (with_argument name)) one_argument_attributes ++ (words_of no_argument_text (λ name. with_none (without_argument name)) no_argument_attributes ++
-    ((codes "builtin", builtin_attribute) ∷ (codes "diagnostic", diagnostic_attribute) ∷ (codes "interpolate", interpolate_attribute) ∷ (codes "workgroup_size", workgroup_size_attribute) ∷ (codes "type", type_attribute) ∷ []))
+    words_of one_argument_text (λ name. with_one (with_argument name)) one_argument_attributes
+    ++ (words_of no_argument_text (λ name. with_none (without_argument name)) no_argument_attributes ++
+    ((codes "builtin", builtin_attribute) ∷ (codes "diagnostic", diagnostic_attribute)
+    ∷ (codes "interpolate", interpolate_attribute)
+    ∷ (codes "workgroup_size", workgroup_size_attribute) ∷ (codes "type", type_attribute) ∷ []))
 
 -- any other name keeps its arguments as they are
 abbrev pub named_attribute : Option (Arguments → Checked Attribute) → List ℕ → Arguments → Checked Attribute
@@ -189,7 +201,8 @@ pub record AttributeParts : Type 0 where
 
 -- the parts of an attribute and where it stands
 abbrev pub attribute_parts : Token × Arguments → Span → Spanned AttributeParts
-attribute_parts (name, arguments) span = record { node = record { name = text_of name; arguments = arguments }; span = span }
+attribute_parts (name, arguments) span =
+    record { node = record { name = text_of name; arguments = arguments }; span = span }
 
 -- the attribute that a name makes of its arguments
 abbrev pub attribute_of : AttributeParts → Checked Attribute
@@ -201,4 +214,8 @@ attribute_fault a span = fault_in (attribute_of a.node) (λ text. invalid_attrib
 
 -- the attribute that is right; unchecked, one that is wrong stays a name with its arguments
 abbrev pub attribute_node : Spanned AttributeParts → Spanned Attribute
-attribute_node a = record { node = given_or (custom (record { name = a.node.name; arguments = a.node.arguments })) (right_in (attribute_of a.node)); span = a.span }
+attribute_node a = record {
+  node = given_or (custom (record { name = a.node.name; arguments = a.node.arguments }))
+      (right_in (attribute_of a.node));
+  span = a.span;
+}

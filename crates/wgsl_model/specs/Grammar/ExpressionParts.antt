@@ -3,7 +3,7 @@ use Rattle.std.specs.Prelude.{ℕ, List, Option}
 use Rattle.grammar.specs.Tokens.{Token, Span}
 use Rattle.grammar.specs.Grammar.{Grammar.symbol, Grammar.left_chain}
 use Rattle.grammar.specs.Notation.{◌means◌, ◌or◌, ◌then◌, ◌gives◌, ◌makes◌}
-use Rattle.wgsl_model.specs.Tokens.Classes.{SymAnd, SymBang, SymEqualEqual, SymForwardSlash, SymGreaterThan, SymGreaterThanEqual, SymLessThan, SymLessThanEqual, SymMinus, SymModulo, SymNotEqual, SymPlus, SymStar, SymTilde}
+use Rattle.wgsl_model.specs.Tokens.ClassTable.{SymAnd, SymBang, SymEqualEqual, SymForwardSlash, SymGreaterThan, SymGreaterThanEqual, SymLessThan, SymLessThanEqual, SymMinus, SymModulo, SymNotEqual, SymPlus, SymStar, SymTilde}
 use Rattle.wgsl_model.specs.Faults.Kinds.{next_place}
 use Rattle.wgsl_model.specs.Trees.Operators.{UnaryOperator, UnaryOperator.logical_negation, UnaryOperator.negation, UnaryOperator.bitwise_complement, UnaryOperator.address_of, UnaryOperator.indirection, BinaryOperator, BinaryOperator.addition, BinaryOperator.subtraction, BinaryOperator.multiplication, BinaryOperator.division, BinaryOperator.remainder, BinaryOperator.equality, BinaryOperator.inequality, BinaryOperator.less_than, BinaryOperator.less_than_equal, BinaryOperator.greater_than, BinaryOperator.greater_than_equal}
 use Rattle.wgsl_model.specs.Trees.Expressions.{ExpressionNode, ExpressionNode.expression_node, Expression, Expression.named_component, Expression.indexing, Expression.unary, Expression.binary, Expression.type_or_identifier, FunctionCall, FunctionCall.call, TypeExpression, TypeExpression.type_expression, TemplateArguments.no_template, expressions_of, template_of}
@@ -64,7 +64,8 @@ negated_product_of left p span = binary_of left p (later span)
 
 -- the operators before an operand
 abbrev pub unary_operator : Rule UnaryOperator
-unary_operator = SymMinus means negation or SymBang means logical_negation or SymTilde means bitwise_complement or SymStar means indirection or SymAnd means address_of
+unary_operator = SymMinus means negation or SymBang means logical_negation
+    or SymTilde means bitwise_complement or SymStar means indirection or SymAnd means address_of
 
 -- the operators of products
 abbrev pub multiplicative_operator : Rule BinaryOperator
@@ -77,14 +78,17 @@ additive_operator = SymPlus means addition or SymMinus means subtraction
 -- what a sum goes on with
 abbrev pub summand : Dialect → Rule (BinaryOperator × ExpressionNode)
 -- ("+" "-") Mul / NegMul, a subtraction by the first minus
-summand parsed = additive_operator then symbol multiplicative_expression or symbol negated_expression gives λ e. (subtraction, e)
+summand parsed = additive_operator then symbol multiplicative_expression
+    or symbol negated_expression gives λ e. (subtraction, e)
 -- ("+" "-") Mul
 summand recognized = additive_operator then symbol multiplicative_expression
 
 -- the operators of comparisons
 abbrev pub relational_operator : Rule BinaryOperator
-relational_operator = SymLessThan means less_than or SymGreaterThan means greater_than or SymLessThanEqual means less_than_equal
-    or SymGreaterThanEqual means greater_than_equal or SymEqualEqual means equality or SymNotEqual means inequality
+relational_operator = SymLessThan means less_than or SymGreaterThan means greater_than
+    or SymLessThanEqual means less_than_equal
+    or SymGreaterThanEqual means greater_than_equal or SymEqualEqual means equality
+    or SymNotEqual means inequality
 
 -- X operator X
 abbrev pub two : ℕ → BinaryOperator → Rule ExpressionNode → Rule ExpressionNode

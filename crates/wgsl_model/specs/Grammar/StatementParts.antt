@@ -3,7 +3,7 @@ use Rattle.std.specs.Prelude.{List, [], codes}
 use Rattle.grammar.specs.Tokens.{Token, Span}
 use Rattle.grammar.specs.Grammar.{Grammar.empty, Grammar.symbol, Grammar.left_chain}
 use Rattle.grammar.specs.Notation.{◌means◌, ◌or◌, ◌then◌, ◌gives◌, ◌makes◌, ◌▹◌, ◌◃◌, many}
-use Rattle.wgsl_model.specs.Tokens.Classes.{SymAnd, SymAndEqual, SymDivisionEqual, SymEqual, SymMinusEqual, SymModuloEqual, SymOrEqual, SymParenLeft, SymParenRight, SymPlusEqual, SymSemicolon, SymShiftLeftAssign, SymShiftRightAssign, SymStar, SymTimesEqual, SymXorEqual, KwBreak, KwElse, KwIf}
+use Rattle.wgsl_model.specs.Tokens.ClassTable.{SymAnd, SymAndEqual, SymDivisionEqual, SymEqual, SymMinusEqual, SymModuloEqual, SymOrEqual, SymParenLeft, SymParenRight, SymPlusEqual, SymSemicolon, SymShiftLeftAssign, SymShiftRightAssign, SymStar, SymTimesEqual, SymXorEqual, KwBreak, KwElse, KwIf}
 use Rattle.wgsl_model.specs.Trees.Operators.{UnaryOperator.address_of, UnaryOperator.indirection, AssignmentOperator, AssignmentOperator.equal, AssignmentOperator.plus_equal, AssignmentOperator.minus_equal, AssignmentOperator.times_equal, AssignmentOperator.division_equal, AssignmentOperator.modulo_equal, AssignmentOperator.and_equal, AssignmentOperator.or_equal, AssignmentOperator.xor_equal, AssignmentOperator.shift_right_assign, AssignmentOperator.shift_left_assign}
 use Rattle.wgsl_model.specs.Trees.Expressions.{ExpressionNode, ExpressionNode.expression_node, Expression.parenthesized}
 use Rattle.wgsl_model.specs.Trees.Attributes.{Attributes}
@@ -50,9 +50,12 @@ var_kind = symbol var_template gives var_kind_of
 
 -- "=" or a compound operator
 abbrev pub assignment_operator : Rule AssignmentOperator
-assignment_operator = SymEqual means equal or SymPlusEqual means plus_equal or SymMinusEqual means minus_equal or SymTimesEqual means times_equal
-    or SymDivisionEqual means division_equal or SymModuloEqual means modulo_equal or SymAndEqual means and_equal or SymOrEqual means or_equal
-    or SymXorEqual means xor_equal or SymShiftRightAssign means shift_right_assign or SymShiftLeftAssign means shift_left_assign
+assignment_operator = SymEqual means equal or SymPlusEqual means plus_equal
+    or SymMinusEqual means minus_equal or SymTimesEqual means times_equal
+    or SymDivisionEqual means division_equal or SymModuloEqual means modulo_equal
+    or SymAndEqual means and_equal or SymOrEqual means or_equal
+    or SymXorEqual means xor_equal or SymShiftRightAssign means shift_right_assign
+    or SymShiftLeftAssign means shift_left_assign
 
 -- the left side of a phony assignment: the identifier `_`
 abbrev pub underscore_at : Token → Span → ExpressionNode
@@ -74,7 +77,8 @@ open_left_side = left_chain with_component (symbol ident makes variable_at) (sym
 
 -- "(" Lhs ")" Component*
 abbrev pub parenthesized_left_side : Rule ExpressionNode
-parenthesized_left_side = left_chain with_component (SymParenLeft ▹ symbol lhs_expression ◃ SymParenRight makes parenthesized_at) (symbol component)
+parenthesized_left_side = left_chain with_component
+    (SymParenLeft ▹ symbol lhs_expression ◃ SymParenRight makes parenthesized_at) (symbol component)
 
 -- a left side, which has no attributes where it begins with "("
 abbrev pub left_side : Dialect → Rule (Attributes × ExpressionNode)
@@ -82,7 +86,8 @@ left_side L = leading L then open_left_side or parenthesized_left_side gives λ 
 
 -- `else if` Expression Block
 abbrev pub else_if : Rule ElseIfClause
-else_if = KwElse ▹ KwIf ▹ symbol expression then symbol compound_statement gives λ (condition, block). tree.else_if_clause [] condition block
+else_if = KwElse ▹ KwIf ▹ symbol expression then symbol compound_statement
+    gives λ (condition, block). tree.else_if_clause [] condition block
 
 -- `else` Block
 abbrev pub else_block : Rule ElseClause

@@ -15,14 +15,19 @@ pub data Dialect : Type 0 where
 
 -- the symbols, in the order of the grammar
 pub data Symbol : Type 0 where
-  ident type_specifier template_list expressions call arguments literal primary_expression singular_expression component : Symbol
-  unary_expression multiplicative_expression negated_expression additive_expression shift_expression relational_expression expression lhs_expression : Symbol
+  ident type_specifier template_list expressions call arguments literal primary_expression
+      singular_expression component : Symbol
+  unary_expression multiplicative_expression negated_expression additive_expression shift_expression
+      relational_expression expression lhs_expression : Symbol
   attribute compound_statement statement : Symbol
-  return_statement if_statement switch_statement loop_statement for_statement while_statement call_statement var_statement value_statement : Symbol
-  break_statement continue_statement discard_statement assignment phony_assignment increment decrement const_assert : Symbol
+  return_statement if_statement switch_statement loop_statement for_statement while_statement
+      call_statement var_statement value_statement : Symbol
+  break_statement continue_statement discard_statement assignment phony_assignment increment
+      decrement const_assert : Symbol
   switch_clause case_selector continuing_statement for_init for_update : Symbol
   var_template typed_ident struct_member formal_parameter : Symbol
-  global_declaration var_declaration const_declaration override_declaration alias_declaration struct_declaration function_declaration : Symbol
+  global_declaration var_declaration const_declaration override_declaration alias_declaration
+      struct_declaration function_declaration : Symbol
   diagnostic_severity global_directive enable_directive requires_directive diagnostic_directive unit : Symbol
 
 -- the type of what each symbol derives
@@ -92,7 +97,8 @@ Value unit = TranslationUnit
 abbrev pub Rule : Type 0 → Type 1
 Rule A = Grammar Symbol Value A
 
--- the symbols that are read by themselves: a module, a directive, a declaration, a statement, an expression, a literal and a template list
+-- the symbols that are read by themselves: a module, a directive, a declaration, a statement, an
+-- expression, a literal and a template list
 abbrev pub is_read_alone : Symbol → Bool
 is_read_alone unit = true
 is_read_alone global_directive = true

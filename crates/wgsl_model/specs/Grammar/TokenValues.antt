@@ -1,7 +1,7 @@
 -- What a token says: a name, a number or a literal.
 use Rattle.std.specs.Prelude.{ℕ, ℤ, pos, negsuc, true, false, ◌==◌, if◌then◌else◌, List, []}
 use Rattle.grammar.specs.Tokens.{Token, Payload, Payload.nothing, Payload.name, Payload.number}
-use Rattle.wgsl_model.specs.Tokens.Classes.{KwTrue, KwFalse, AbstractInt, I32, U32, AbstractFloat, F32, keywords}
+use Rattle.wgsl_model.specs.Tokens.ClassTable.{KwTrue, KwFalse, AbstractInt, I32, U32, AbstractFloat, F32, keywords}
 use Rattle.wgsl_model.specs.Tokens.Texts.{word_in}
 use Rattle.wgsl_model.specs.Trees.Expressions.{LiteralExpression, boolean, abstract_int, i32, u32, abstract_float, f32, f16}
 

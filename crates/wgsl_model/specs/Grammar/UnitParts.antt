@@ -1,9 +1,10 @@
--- The trees that the rules of declarations and directives make, and the parts that these rules share.
+-- The trees that the rules of declarations and directives make, and the parts that these rules
+-- share.
 use Rattle.std.specs.Prelude.{ℕ, List, [], ◌∷◌, ◌++◌, Option, Some, None, codes}
 use Rattle.grammar.specs.Tokens.{Token, Span}
 use Rattle.grammar.specs.Grammar.{Grammar.symbol}
 use Rattle.grammar.specs.Notation.{◌then◌, ◌▹◌, ◌◃◌}
-use Rattle.wgsl_model.specs.Tokens.Classes.{SymArrow, SymColon}
+use Rattle.wgsl_model.specs.Tokens.ClassTable.{SymArrow, SymColon}
 use Rattle.wgsl_model.specs.Trees.Spanned.{Spanned, spanned}
 use Rattle.wgsl_model.specs.Trees.Expressions.{ExpressionNode, TypeExpression}
 use Rattle.wgsl_model.specs.Trees.Attributes.{Attributes}
@@ -22,7 +23,8 @@ attributed_ident = attributes then symbol ident ◃ SymColon then symbol type_sp
 
 -- a member of a structure
 abbrev pub member_of : Attributes × (Token × TypeExpression) → Span → Spanned StructMember
-member_of (attributes, (name, ty)) span = spanned (record { attributes = attributes; ident = text_of name; ty = ty }) span
+member_of (attributes, (name, ty)) span =
+    spanned (record { attributes = attributes; ident = text_of name; ty = ty }) span
 
 -- a parameter of a function
 abbrev pub parameter_of : Attributes × (Token × TypeExpression) → FormalParameter
@@ -49,14 +51,22 @@ abbrev pub return_part : Rule (Attributes × TypeExpression)
 return_part = SymArrow ▹ attributes then symbol type_specifier
 
 -- a function with its parameters, what it returns, and its body
-abbrev pub function_parts : Token → List FormalParameter → Option (Attributes × TypeExpression) → CompoundStatement → Function
+abbrev pub function_parts : Token → List FormalParameter → Option (Attributes × TypeExpression)
+    → CompoundStatement → Function
 function_parts name parameters None block =
     record { ident = text_of name; parameters = parameters; return_attributes = []; return_type = None; body = block }
 function_parts name parameters (Some (attributes, ty)) block =
-    record { ident = text_of name; parameters = parameters; return_attributes = attributes; return_type = Some ty; body = block }
+    record {
+      ident = text_of name;
+      parameters = parameters;
+      return_attributes = attributes;
+      return_type = Some ty;
+      body = block;
+    }
 
 -- a function as a declaration
-abbrev pub function_of : Token → List FormalParameter → Option (Attributes × TypeExpression) → CompoundStatement → UnattributedDeclaration
+abbrev pub function_of : Token → List FormalParameter → Option (Attributes × TypeExpression)
+    → CompoundStatement → UnattributedDeclaration
 function_of name parameters returned block = tree.function (function_parts name parameters returned block)
 
 -- names as texts
@@ -79,4 +89,5 @@ rule_of first (Some second) = text_of first ++ (codes "." ++ text_of second)
 
 -- `diagnostic` with a severity and the name of a rule
 abbrev pub diagnostic_of : Token → Token → Option Token → UnattributedDirective
-diagnostic_of severity first second = tree.diagnostic (record { severity = severity_of severity; rule_name = rule_of first second })
+diagnostic_of severity first second =
+    tree.diagnostic (record { severity = severity_of severity; rule_name = rule_of first second })

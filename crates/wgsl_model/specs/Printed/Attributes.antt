@@ -24,7 +24,8 @@ abbrev pub print_interpolate : InterpolateAttribute → List ℕ
 print_interpolate i = codes "@interpolate(" ++ interpolation_type_text i.ty ++ print_sampling i.sampling ++ codes ")"
 
 abbrev pub print_workgroup_size : WorkgroupSizeAttribute → List ℕ
-print_workgroup_size w = codes "@workgroup_size(" ++ print_expression_node w.x ++ print_further w.y ++ print_further w.z ++ codes ")"
+print_workgroup_size w = codes "@workgroup_size(" ++ print_expression_node w.x ++ print_further w.y
+    ++ print_further w.z ++ codes ")"
 
 -- a name, and the types that it may stand for
 abbrev pub print_type_constraint : TypeConstraint → List ℕ
@@ -39,7 +40,8 @@ abbrev pub print_custom : CustomAttribute → List ℕ
 print_custom c = codes "@" ++ c.name ++ print_arguments c.arguments
 
 abbrev pub print_attribute : Attribute → List ℕ
-print_attribute (with_argument name e) = codes "@" ++ one_argument_text name ++ codes "(" ++ print_expression_node e ++ codes ")"
+print_attribute (with_argument name e) = codes "@" ++ one_argument_text name ++ codes "("
+    ++ print_expression_node e ++ codes ")"
 print_attribute (without_argument name) = codes "@" ++ no_argument_text name
 print_attribute (builtin value) = codes "@builtin(" ++ builtin_value_text value ++ codes ")"
 print_attribute (diagnostic d) = print_diagnostic_attribute d
@@ -51,7 +53,8 @@ print_attribute (custom c) = print_custom c
 -- attributes with a space between each two, and an end behind them if there are any
 abbrev pub print_attributes : List ℕ → Attributes → List ℕ
 print_attributes end [] = []
-print_attributes end (a ∷ more) = joined (codes " ") (map (λ (b : Spanned Attribute). print_attribute b.node) (a ∷ more)) ++ end
+print_attributes end (a ∷ more) =
+    joined (codes " ") (map (λ (b : Spanned Attribute). print_attribute b.node) (a ∷ more)) ++ end
 
 -- attributes on a line of their own
 abbrev pub print_attribute_line : Attributes → List ℕ

@@ -53,7 +53,8 @@ abbrev pub unended_declaration : Declaration → List ℕ
 unended_declaration d = print_kind d.kind ++ codes " " ++ d.ident ++ print_typed d.ty ++ print_initializer d.initializer
 
 abbrev pub unended_assignment : AssignmentStatement → List ℕ
-unended_assignment a = print_expression_node a.lhs ++ codes " " ++ assignment_operator_text a.operator ++ codes " " ++ print_expression_node a.rhs
+unended_assignment a = print_expression_node a.lhs ++ codes " "
+    ++ assignment_operator_text a.operator ++ codes " " ++ print_expression_node a.rhs
 
 abbrev pub unended_increment : IncrementStatement → List ℕ
 unended_increment i = print_expression_node i.expression ++ codes "++"

@@ -40,10 +40,14 @@ abbrev mutual
   pub print_expression : Expression → List ℕ
   print_expression (literal l) = print_literal l
   print_expression (parenthesized e) = codes "(" ++ print_expression_node e ++ codes ")"
-  print_expression (named_component base component) = print_expression_node base ++ (if is_abstract_int (expression_in base) then codes " ." else codes ".") ++ component
-  print_expression (indexing base index) = print_expression_node base ++ codes "[" ++ print_expression_node index ++ codes "]"
-  print_expression (unary operator operand) = unary_operator_text operator ++ (if fuses operator (expression_in operand) then codes " " else []) ++ print_expression_node operand
-  print_expression (binary operator left right) = print_expression_node left ++ codes " " ++ binary_operator_text operator ++ codes " " ++ print_expression_node right
+  print_expression (named_component base component) = print_expression_node base
+      ++ (if is_abstract_int (expression_in base) then codes " ." else codes ".") ++ component
+  print_expression (indexing base index) = print_expression_node base ++ codes "["
+      ++ print_expression_node index ++ codes "]"
+  print_expression (unary operator operand) = unary_operator_text operator
+      ++ (if fuses operator (expression_in operand) then codes " " else []) ++ print_expression_node operand
+  print_expression (binary operator left right) = print_expression_node left ++ codes " "
+      ++ binary_operator_text operator ++ codes " " ++ print_expression_node right
   print_expression (function_call c) = print_call c
   print_expression (type_or_identifier t) = print_type t
 
@@ -56,8 +60,10 @@ abbrev mutual
   expression_texts (expression_before e es) = print_expression_node e ∷ expression_texts es
 
   pub print_call : FunctionCall → List ℕ
-  print_call (call ty arguments) = print_type ty ++ codes "(" ++ joined (codes ", ") (expression_texts arguments) ++ codes ")"
+  print_call (call ty arguments) = print_type ty ++ codes "("
+      ++ joined (codes ", ") (expression_texts arguments) ++ codes ")"
 
   pub print_type : TypeExpression → List ℕ
   print_type (type_expression name no_template) = name
-  print_type (type_expression name (template arguments)) = name ++ codes "<" ++ joined (codes ", ") (expression_texts arguments) ++ codes ">"
+  print_type (type_expression name (template arguments)) = name ++ codes "<"
+      ++ joined (codes ", ") (expression_texts arguments) ++ codes ">"

@@ -64,11 +64,13 @@ abbrev mutual
   -- the texts of the statements that are not empty
   pub statement_texts : StatementNodes → List (List ℕ)
   statement_texts no_statements = []
-  statement_texts (statement_before (statement_node s span) ss) = if is_void s then statement_texts ss else (unended s ++ terminator_of s) ∷ statement_texts ss
+  statement_texts (statement_before (statement_node s span) ss) = if is_void s
+      then statement_texts ss else (unended s ++ terminator_of s) ∷ statement_texts ss
 
   -- a block: attributes, and statements in braces
   pub print_compound : CompoundStatement → List ℕ
-  print_compound (compound_statement attributes statements) = print_attribute_line attributes ++ braced (statement_texts statements)
+  print_compound (compound_statement attributes statements) = print_attribute_line attributes
+      ++ braced (statement_texts statements)
 
   pub print_if : IfStatement → List ℕ
   print_if (if_else first others last) = print_if_clause first ++ print_else_ifs others ++ print_else last
@@ -77,7 +79,8 @@ abbrev mutual
   print_if_clause (if_clause e block) = codes "if " ++ print_expression_node e ++ codes " " ++ print_compound block
 
   pub print_else_if_clause : ElseIfClause → List ℕ
-  print_else_if_clause (else_if_clause attributes e block) = print_attribute_line attributes ++ codes "else if " ++ print_expression_node e ++ codes " " ++ print_compound block
+  print_else_if_clause (else_if_clause attributes e block) = print_attribute_line attributes
+      ++ codes "else if " ++ print_expression_node e ++ codes " " ++ print_compound block
 
   -- each on a line of its own
   pub print_else_ifs : ElseIfClauses → List ℕ
@@ -85,7 +88,8 @@ abbrev mutual
   print_else_ifs (else_if_before c cs) = codes "\n" ++ print_else_if_clause c ++ print_else_ifs cs
 
   pub print_else_clause : ElseClause → List ℕ
-  print_else_clause (else_clause attributes block) = print_attribute_line attributes ++ codes "else " ++ print_compound block
+  print_else_clause (else_clause attributes block) = print_attribute_line attributes
+      ++ codes "else " ++ print_compound block
 
   -- the last `else`, if there is one
   pub print_else : MaybeElseClause → List ℕ
@@ -94,7 +98,8 @@ abbrev mutual
 
   pub print_switch : SwitchStatement → List ℕ
   print_switch (switch e body_attributes cs) =
-      codes "switch " ++ print_expression_node e ++ codes " " ++ print_attribute_line body_attributes ++ braced (clause_texts cs)
+      codes "switch " ++ print_expression_node e ++ codes " "
+      ++ print_attribute_line body_attributes ++ braced (clause_texts cs)
 
   -- the texts of clauses
   pub clause_texts : SwitchClauses → List (List ℕ)
@@ -103,11 +108,13 @@ abbrev mutual
 
   pub print_switch_clause : SwitchClause → List ℕ
   print_switch_clause (switch_clause attributes selectors block) =
-      print_attribute_line attributes ++ codes "case " ++ joined (codes ", ") (map print_selector selectors) ++ codes " " ++ print_compound block
+      print_attribute_line attributes ++ codes "case "
+      ++ joined (codes ", ") (map print_selector selectors) ++ codes " " ++ print_compound block
 
   -- the lines of a body up to its closing brace
   pub print_opened : CompoundStatement → List ℕ
-  print_opened (compound_statement attributes statements) = print_attribute_line attributes ++ codes "{\n" ++ indented_line (joined (codes "\n") (statement_texts statements))
+  print_opened (compound_statement attributes statements) = print_attribute_line attributes
+      ++ codes "{\n" ++ indented_line (joined (codes "\n") (statement_texts statements))
 
   pub print_loop : LoopStatement → List ℕ
   print_loop (repeat body last) = codes "loop " ++ print_opened body ++ continuing_line last ++ codes "}"
@@ -118,11 +125,13 @@ abbrev mutual
   continuing_line (one_continuing c) = indented_line (print_continuing c)
 
   pub print_continuing : ContinuingStatement → List ℕ
-  print_continuing (continuing attributes body condition) = print_attribute_line attributes ++ codes "continuing " ++ print_opened body ++ break_if_line condition ++ codes "}"
+  print_continuing (continuing attributes body condition) = print_attribute_line attributes
+      ++ codes "continuing " ++ print_opened body ++ break_if_line condition ++ codes "}"
 
   pub print_for : ForStatement → List ℕ
   print_for (repeat_for init condition update block) =
-      codes "for (" ++ unended_part init ++ codes "; " ++ print_condition condition ++ codes "; " ++ unended_part update ++ codes ") " ++ print_compound block
+      codes "for (" ++ unended_part init ++ codes "; " ++ print_condition condition ++ codes "; "
+      ++ unended_part update ++ codes ") " ++ print_compound block
 
   -- a part of a `for` header, if it is there, without the `;` that ends it
   pub unended_part : MaybeStatement → List ℕ

@@ -40,7 +40,9 @@ print_member m = print_attribute_line m.attributes ++ m.ident ++ codes ": " ++ p
 
 -- members with `,` and a line end between each two, four spaces in
 abbrev pub print_struct : Struct → List ℕ
-print_struct s = codes "struct " ++ s.ident ++ codes " {\n" ++ indented (joined (codes ",\n") (map (λ (m : Spanned StructMember). print_member m.node) s.members)) ++ codes "\n}"
+print_struct s = codes "struct " ++ s.ident ++ codes " {\n"
+    ++ indented (joined (codes ",\n") (map (λ (m : Spanned StructMember). print_member m.node) s.members))
+    ++ codes "\n}"
 
 abbrev pub print_parameter : FormalParameter → List ℕ
 print_parameter p = print_attributes_before p.attributes ++ p.ident ++ codes ": " ++ print_type p.ty
@@ -79,13 +81,16 @@ is_void d = is_void_declaration d.node
 -- the texts of the declarations that are not empty
 abbrev pub declaration_texts : List (Spanned GlobalDeclaration) → List (List ℕ)
 declaration_texts [] = []
-declaration_texts (d ∷ ds) = if is_void d.node then declaration_texts ds else print_global_declaration d.node ∷ declaration_texts ds
+declaration_texts (d ∷ ds) = if is_void d.node then declaration_texts ds
+    else print_global_declaration d.node ∷ declaration_texts ds
 
 -- directives on lines of their own, and an empty line behind them if there are any
 abbrev pub print_directives : List GlobalDirective → List ℕ
 print_directives [] = []
 print_directives (d ∷ ds) = joined (codes "\n") (map print_directive (d ∷ ds)) ++ codes "\n\n"
 
--- a module: its directives, then the declarations that are not empty with an empty line between each two, then a line end
+-- a module: its directives, then the declarations that are not empty with an empty line between
+-- each two, then a line end
 abbrev pub print_unit : TranslationUnit → List ℕ
-print_unit u = print_directives u.global_directives ++ joined (codes "\n\n") (declaration_texts u.global_declarations) ++ codes "\n"
+print_unit u = print_directives u.global_directives
+    ++ joined (codes "\n\n") (declaration_texts u.global_declarations) ++ codes "\n"

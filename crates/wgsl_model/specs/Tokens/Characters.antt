@@ -1,4 +1,5 @@
--- Blank space and line breaks (WGSL, "Blankspace and Line Breaks"). Blank space is wider here than in the draft, which has Unicode's pattern white space.
+-- Blank space and line breaks (WGSL, "Blankspace and Line Breaks"). Blank space is wider here than
+-- in the draft, which has Unicode's pattern white space.
 use Rattle.std.specs.Prelude.{ℕ, Bool, ◌||◌, ◌==◌}
 use Rattle.std.specs.Char.{is_whitespace}
 

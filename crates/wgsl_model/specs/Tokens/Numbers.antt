@@ -1,9 +1,10 @@
--- The spellings of numbers and what they stand for (WGSL, "Numeric Literals"). More than in the draft, the digits before the suffix `f` or `h` may begin with 0, as in `01f`.
+-- The spellings of numbers and what they stand for (WGSL, "Numeric Literals"). More than in the
+-- draft, the digits before the suffix `f` or `h` may begin with 0, as in `01f`.
 use Rattle.std.specs.Prelude.{ℕ, ◌+◌, ◌*◌, ◌^◌, Bool, not, ◌&&◌, ◌||◌, ◌==◌, nat_lt, if◌then◌else◌, List, [], ◌∷◌, Option, Some, None, pos}
 use Rattle.std.specs.Char.{is_ascii_digit, is_ascii_hexdigit, digit_value}
 use Rattle.std.specs.Str.{encode_utf8_all}
 use Rattle.grammar.specs.Tokens.{Payload.number}
-use Rattle.wgsl_model.specs.Tokens.Classes.{AbstractInt, I32, U32, AbstractFloat, F32, F16}
+use Rattle.wgsl_model.specs.Tokens.ClassTable.{AbstractInt, I32, U32, AbstractFloat, F32, F16}
 use Rattle.wgsl_model.specs.Tokens.Pattern.{Pattern, empty, one, any, ◌then◌, ◌or◌, code, spells}
 use Rattle.wgsl_model.specs.Tokens.Kind.{Kind, named}
 
@@ -74,8 +75,10 @@ exponent is_letter = one is_letter then (at_most_one (one is_sign) then digits i
 -- a float without suffix: it has a `.` or an exponent
 abbrev pub abstract_float : Pattern
 abstract_float =
-    (digits_with_point is_ascii_digit then at_most_one (exponent is_e)) or (digits is_ascii_digit then exponent is_e)
-    or hexadecimal ((digits_with_point is_ascii_hexdigit then at_most_one (exponent is_p)) or (digits is_ascii_hexdigit then exponent is_p))
+    (digits_with_point is_ascii_digit then at_most_one (exponent is_e))
+    or (digits is_ascii_digit then exponent is_e)
+    or hexadecimal ((digits_with_point is_ascii_hexdigit then at_most_one (exponent is_p))
+    or (digits is_ascii_hexdigit then exponent is_p))
 
 -- a float with a suffix: a hexadecimal one has an exponent before it
 abbrev pub float : Pattern → Pattern

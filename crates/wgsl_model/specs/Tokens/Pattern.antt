@@ -84,4 +84,5 @@ pub record IsLongest (p : List ℕ → Bool) (text front rest : List ℕ) : Type
 -- what was found follows the longest front that passes; where nothing was found, no front passes
 abbrev pub FollowsLongest : (List ℕ → Bool) → List ℕ → Option (List ℕ) → Type 0
 FollowsLongest p text found =
-    MatchOption found ((other more : List ℕ) → text ≡ other ++ more → p other ≡ true → ⊥) (λ rest. (front : List ℕ) × IsLongest p text front rest)
+    MatchOption found ((other more : List ℕ) → text ≡ other ++ more → p other ≡ true → ⊥)
+    (λ rest. (front : List ℕ) × IsLongest p text front rest)

@@ -4,7 +4,7 @@ use Rattle.std.specs.Str.{encode_utf8_all}
 use Rattle.std.specs.Char.{is_ascii_digit}
 use Rattle.unicode_ident.specs.Ident.{is_xid_start}
 use Rattle.grammar.specs.Tables.{is_empty}
-use Rattle.wgsl_model.specs.Tokens.Classes.{Ident, ReservedWord, SymUnderscore, symbols, keywords}
+use Rattle.wgsl_model.specs.Tokens.ClassTable.{Ident, ReservedWord, SymUnderscore, symbols, keywords}
 use Rattle.wgsl_model.specs.Tokens.Kind.{Kind, plain, named}
 use Rattle.wgsl_model.specs.Tokens.Words.{look_up, is_word_among, reserved_words}
 use Rattle.wgsl_model.specs.Tokens.Numbers.{number_of}
@@ -27,9 +27,11 @@ keyword_or_name None word = other_word word
 
 -- the token of a word, by its bytes: the symbol `_`, a keyword, a reserved word or an identifier
 abbrev pub kind_of_word : List ℕ → Kind
-kind_of_word word = if bytes_eq word (codes "_") then plain SymUnderscore else keyword_or_name (look_up keywords word) word
+kind_of_word word = if bytes_eq word (codes "_") then plain SymUnderscore
+    else keyword_or_name (look_up keywords word) word
 
--- the token of a spelling, by its first character: a word, a number, which may begin with `.`, or a symbol; none where a whole number does not fit its type
+-- the token of a spelling, by its first character: a word, a number, which may begin with `.`, or a
+-- symbol; none where a whole number does not fit its type
 abbrev pub kind_of_spelling : List ℕ → Option Kind
 kind_of_spelling [] = None
 kind_of_spelling (c ∷ cs) =
@@ -37,7 +39,8 @@ kind_of_spelling (c ∷ cs) =
     else if is_ascii_digit c || (c == 46 && not (is_empty cs)) then number_of (c ∷ cs)
     else option_map plain (look_up symbols (c ∷ cs))
 
--- the token at the front of a text: none, an invalid one or one of a kind; each with the text from its start and the text after it
+-- the token at the front of a text: none, an invalid one or one of a kind; each with the text from
+-- its start and the text after it
 pub data Raw : Type 0 where
   none_left : Raw
   invalid : List ℕ → List ℕ → Raw
@@ -48,7 +51,8 @@ abbrev pub valued : List ℕ → List ℕ → Option Kind → Raw
 valued text rest None = invalid text rest
 valued text rest (Some kind) = token kind text rest
 
--- the token of the longest spelling, by what follows it; where there is no spelling, one character is an invalid token
+-- the token of the longest spelling, by what follows it; where there is no spelling, one character
+-- is an invalid token
 abbrev pub spelled : List ℕ → List ℕ → Option (List ℕ) → Raw
 spelled text cs None = invalid text cs
 spelled text cs (Some rest) = valued text rest (kind_of_spelling (front text rest))

@@ -1,13 +1,16 @@
--- Every spelling of a token (WGSL, "Tokens", "Identifiers"; identifiers by Unicode Standard Annex 31).
+-- Every spelling of a token (WGSL, "Tokens", "Identifiers"; identifiers by Unicode Standard Annex
+-- 31).
 use Rattle.std.specs.Prelude.{ℕ, List, map}
 use Rattle.unicode_ident.specs.Ident.{is_xid_start, is_xid_continue}
 use Rattle.wgsl_model.specs.Tokens.Pattern.{Pattern, one, any, ◌then◌, ◌or◌, code, any_of}
 use Rattle.wgsl_model.specs.Tokens.Numbers.{number_spelling}
-use Rattle.wgsl_model.specs.Tokens.Classes.{symbols}
+use Rattle.wgsl_model.specs.Tokens.ClassTable.{symbols}
 
--- a character that may start an identifier and those that may continue it, or `_` with at least one of these behind it
+-- a character that may start an identifier and those that may continue it, or `_` with at least one
+-- of these behind it
 abbrev pub identifier : Pattern
-identifier = (one is_xid_start then any is_xid_continue) or (code 95 then (one is_xid_continue then any is_xid_continue))
+identifier = (one is_xid_start then any is_xid_continue)
+    or (code 95 then (one is_xid_continue then any is_xid_continue))
 
 -- one of the symbols
 abbrev pub syntactic_token : Pattern

@@ -2,7 +2,8 @@
 use Rattle.std.specs.Prelude.{ℕ, ◌==◌, if◌then◌else◌, List, [], ◌∷◌, ◌++◌, codes}
 use Rattle.std.specs.Fmt.{signed_decimal}
 use Rattle.grammar.specs.Tokens.{Token, Payload, Payload.nothing, Payload.name, Payload.number}
-use Rattle.wgsl_model.specs.Tokens.Classes.{Ident, ReservedWord, AbstractInt, I32, U32, AbstractFloat, F32, F16, TemplateArgsStart, TemplateArgsEnd, LineComment, BlockComment, symbols, keywords}
+use Rattle.wgsl_model.specs.Tokens.ClassTable.{Ident, ReservedWord, AbstractInt, I32, U32, AbstractFloat, F32, F16, symbols, keywords}
+pub use Rattle.wgsl_model.specs.Tokens.ClassTable.{special_texts}
 
 -- the word of a class in a table
 abbrev pub word_in : List (List ℕ × ℕ) → ℕ → List ℕ
@@ -14,12 +15,6 @@ abbrev pub text_held : Payload → List ℕ
 text_held nothing = []
 text_held (name text) = text
 text_held (number n) = signed_decimal n
-
--- the texts of the tokens that stand for no word of their own
-abbrev pub special_texts : List (List ℕ × ℕ)
-special_texts =
-    (codes "start of template", TemplateArgsStart) ∷ (codes "end of template", TemplateArgsEnd) ∷
-    (codes "// line comment", LineComment) ∷ (codes "/* block comment */", BlockComment) ∷ []
 
 -- a symbol or a keyword by its spelling, the others by what they are and hold
 abbrev pub kind_text : ℕ → Payload → List ℕ

@@ -8,14 +8,20 @@ use Rattle.wgsl_model.specs.Faults.Kinds.{invalid_token}
 use Rattle.wgsl_model.specs.Tokens.Templates.{is_word, NoTemplate, Template}
 pub use Rattle.wgsl_model.specs.Tokens.Places.{width, place}
 
--- The tokens of a text that ends a source of so many bytes, and how they end: with the text, or with the first invalid token. A template list behind a word is taken whole; every other token stands for itself.
+-- The tokens of a text that ends a source of so many bytes, and how they end: with the text, or
+-- with the first invalid token. A template list behind a word is taken whole; every other token
+-- stands for itself.
 pub data TokensOf (total : ℕ) : List ℕ → List Token → Ending → Type 0 where
   at_end : (text : List ℕ) → raw text ≡ none_left → TokensOf total text [] finished
   at_fault : (text from after : List ℕ) → raw text ≡ invalid from after
       → TokensOf total text [] (carried (invalid_token (record { start = place total from; end = place total after })))
-  before_template : (text from after rest : List ℕ) (kind : Kind) (us ts : List Token) (e : Ending) → raw text ≡ token kind from after → is_word kind.class ≡ true → Template total after us rest → TokensOf total rest ts e
+  before_template : (text from after rest : List ℕ) (kind : Kind) (us ts : List Token) (e : Ending)
+      → raw text ≡ token kind from after → is_word kind.class ≡ true → Template total after us rest
+      → TokensOf total rest ts e
       → TokensOf total text (placed kind (place total from) (place total after) ∷ (us ++ ts)) e
-  before_more : (text from after : List ℕ) (kind : Kind) (ts : List Token) (e : Ending) → raw text ≡ token kind from after → (is_word kind.class ≡ true → NoTemplate (Template total) after) → TokensOf total after ts e
+  before_more : (text from after : List ℕ) (kind : Kind) (ts : List Token) (e : Ending)
+      → raw text ≡ token kind from after
+      → (is_word kind.class ≡ true → NoTemplate (Template total) after) → TokensOf total after ts e
       → TokensOf total text (placed kind (place total from) (place total after) ∷ ts) e
 
 -- the tokens of a source, and how they end

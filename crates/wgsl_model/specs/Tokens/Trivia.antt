@@ -23,7 +23,9 @@ abbrev pub first_or_zero : List ℕ → ℕ
 first_or_zero [] = 0
 first_or_zero (c ∷ cs) = c
 
--- What follows the blank space and the comments at the front. A line comment ends before a line break; block comments nest. One that is not closed, which the draft does not allow, runs to the end.
+-- What follows the blank space and the comments at the front. A line comment ends before a line
+-- break; block comments nest. One that is not closed, which the draft does not allow, runs to the
+-- end.
 unfoldable pub after_trivia : Place → List ℕ → List ℕ
 after_trivia p [] = []
 after_trivia outside (c ∷ cs) =

@@ -48,7 +48,8 @@ one_argument_text elif_attribute = codes "elif"
 
 -- the attributes with one argument
 abbrev pub one_argument_attributes : List OneArgument
-one_argument_attributes = align ∷ binding ∷ blend_src ∷ group ∷ id ∷ location ∷ size ∷ if_attribute ∷ elif_attribute ∷ []
+one_argument_attributes = align ∷ binding ∷ blend_src ∷ group ∷ id ∷ location ∷ size ∷ if_attribute
+    ∷ elif_attribute ∷ []
 
 -- an attribute without arguments
 pub data NoArgument : Type 0 where

@@ -1,4 +1,6 @@
--- Trees without the empty items of their lists. An empty item is a `;` alone where a statement or a declaration may stand (`void`). One that is itself the value, or the part of a `for` header, stays.
+-- Trees without the empty items of their lists. An empty item is a `;` alone where a statement or a
+-- declaration may stand (`void`). One that is itself the value, or the part of a `for` header,
+-- stays.
 use Rattle.std.specs.Prelude.{Bool, List, [], ◌∷◌, if◌then◌else◌}
 use Rattle.wgsl_model.specs.Trees.Spanned.{Spanned}
 use Rattle.wgsl_model.specs.Trees.Attributed.{Attributed}
@@ -91,7 +93,8 @@ full_declaration = full_attributed full_unattributed_declaration
 -- the declarations that are not empty
 abbrev pub full_declarations : List (Spanned GlobalDeclaration) → List (Spanned GlobalDeclaration)
 full_declarations [] = []
-full_declarations (d ∷ ds) = if units.is_void d.node then full_declarations ds else record d { node = full_declaration d.node } ∷ full_declarations ds
+full_declarations (d ∷ ds) = if units.is_void d.node then full_declarations ds
+    else record d { node = full_declaration d.node } ∷ full_declarations ds
 
 abbrev pub full_unit : TranslationUnit → TranslationUnit
 full_unit u = record u { global_declarations = full_declarations u.global_declarations }

@@ -91,7 +91,8 @@ interpolation_samplings = with_words interpolation_sampling_text (center ∷ cen
 -- what a stage is given or gives (WGSL, "Built-in Inputs and Outputs")
 pub data BuiltinValue : Type 0 where
   vertex_index instance_index clip_distances position front_facing frag_depth sample_index sample_mask : BuiltinValue
-  local_invocation_id local_invocation_index global_invocation_id workgroup_id num_workgroups subgroup_invocation_id subgroup_size : BuiltinValue
+  local_invocation_id local_invocation_index global_invocation_id workgroup_id num_workgroups
+      subgroup_invocation_id subgroup_size : BuiltinValue
 
 -- the word of a built-in value
 abbrev pub builtin_value_text : BuiltinValue → List ℕ
@@ -114,5 +115,7 @@ builtin_value_text subgroup_size = codes "subgroup_size"
 -- the words of built-in values
 abbrev pub builtin_values : WordTable BuiltinValue
 builtin_values = with_words builtin_value_text
-    (vertex_index ∷ instance_index ∷ clip_distances ∷ position ∷ front_facing ∷ frag_depth ∷ sample_index ∷ sample_mask ∷
-    local_invocation_id ∷ local_invocation_index ∷ global_invocation_id ∷ workgroup_id ∷ num_workgroups ∷ subgroup_invocation_id ∷ subgroup_size ∷ [])
+    (vertex_index ∷ instance_index ∷ clip_distances ∷ position ∷ front_facing ∷ frag_depth
+    ∷ sample_index ∷ sample_mask ∷
+    local_invocation_id ∷ local_invocation_index ∷ global_invocation_id ∷ workgroup_id
+    ∷ num_workgroups ∷ subgroup_invocation_id ∷ subgroup_size ∷ [])

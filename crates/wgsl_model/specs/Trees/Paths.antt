@@ -37,7 +37,8 @@ path_parts (a ∷ (b ∷ bs)) = if is_colon a && is_colon b then [] ∷ path_par
 
 -- the words that only begin a path, each with the fault of standing elsewhere
 abbrev pub first_words : List (List ℕ × PathFault)
-first_words = (codes "package", misplaced_package) ∷ (codes "self", misplaced_self) ∷ (codes "super", misplaced_super) ∷ []
+first_words = (codes "package", misplaced_package) ∷ (codes "self", misplaced_self)
+    ∷ (codes "super", misplaced_super) ∷ []
 
 -- a path unless there are faults, and else the first of them
 abbrev pub unless_faults : List PathFault → ModulePath → Result ModulePath PathFault
@@ -46,7 +47,8 @@ unless_faults (fault ∷ faults) path = Err fault
 
 -- the parts behind an origin are components, and none is one of the words
 abbrev pub path_from : PathOrigin → List (List ℕ) → Result ModulePath PathFault
-path_from origin parts = unless_faults (filter_map (look_up first_words) parts) (record { origin = origin; components = parts })
+path_from origin parts = unless_faults (filter_map (look_up first_words) parts)
+    (record { origin = origin; components = parts })
 
 -- how many `super` stand first
 abbrev pub levels : List (List ℕ) → ℕ
@@ -58,7 +60,8 @@ path_of_parts [] = Err empty
 path_of_parts (part ∷ parts) =
     if bytes_eq part (codes "package") then path_from absolute parts
     else if bytes_eq part (codes "self") then path_from (relative 0) parts
-    else if bytes_eq part (codes "super") then path_from (relative (levels (part ∷ parts))) (drop (levels (part ∷ parts)) (part ∷ parts))
+    else if bytes_eq part (codes "super")
+    then path_from (relative (levels (part ∷ parts))) (drop (levels (part ∷ parts)) (part ∷ parts))
     else if bytes_eq part [] then Err empty
     else path_from (of_package part) parts
 
@@ -85,12 +88,14 @@ extended path names = record path { components = path.components ++ names }
 abbrev pub without_last_names : ℕ → List (List ℕ) → List (List ℕ)
 without_last_names n names = take (length names - n) names
 
--- What a suffix keeps of the components of the path that it stands behind: none, or all but as many as it goes up.
+-- What a suffix keeps of the components of the path that it stands behind: none, or all but as many
+-- as it goes up.
 abbrev pub kept : List (List ℕ) → PathOrigin → List (List ℕ)
 kept names (relative n) = without_last_names n names
 kept names origin = []
 
--- Where two joined paths begin, by their origins and how many components the first has. A package within a package is named by both, with `/` between.
+-- Where two joined paths begin, by their origins and how many components the first has. A package
+-- within a package is named by both, with `/` between.
 abbrev pub joined_origin : PathOrigin → ℕ → PathOrigin → PathOrigin
 joined_origin (of_package p) count absolute = of_package p
 joined_origin (of_package p) count (of_package q) = of_package (p ++ codes "/" ++ q)
@@ -115,4 +120,5 @@ JoinFits path suffix = CountFits (join_paths path suffix).origin
 
 -- a path begins as the other does, and has its components first
 abbrev pub StartsWith : ModulePath → ModulePath → Type 0
-StartsWith path start = (path.origin ≡ start.origin) × ((rest : List (List ℕ)) × (path.components ≡ start.components ++ rest))
+StartsWith path start = (path.origin ≡ start.origin)
+    × ((rest : List (List ℕ)) × (path.components ≡ start.components ++ rest))

@@ -1,4 +1,5 @@
--- A node and where it stands. The trees are plain data: no pointers, no capacities; names and texts are their bytes.
+-- A node and where it stands. The trees are plain data: no pointers, no capacities; names and texts
+-- are their bytes.
 use Rattle.grammar.specs.Tokens.{Span}
 
 -- a node and where it stands

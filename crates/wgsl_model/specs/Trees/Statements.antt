@@ -1,4 +1,5 @@
--- The trees of statements, and of the declarations of values (WGSL, "Statements", "Variable and Value Declarations"), and how they are made and changed.
+-- The trees of statements, and of the declarations of values (WGSL, "Statements", "Variable and
+-- Value Declarations"), and how they are made and changed.
 use Rattle.std.specs.Prelude.{Bool, ℕ, List, [], ◌∷◌, Option, Some, None, if◌then◌else◌}
 use Rattle.grammar.specs.Tokens.{Span}
 use Rattle.wgsl_model.specs.Trees.Operators.{AssignmentOperator}
@@ -7,7 +8,8 @@ use Rattle.wgsl_model.specs.Trees.Expressions.{ExpressionNode, TypeExpression, F
 use Rattle.wgsl_model.specs.Trees.Attributes.{Attributes}
 use Rattle.wgsl_model.specs.Trees.Attributed.{Attributed}
 
--- which kind of value a declaration declares: `const`, `override`, `let`, or `var` with its address space and access mode
+-- which kind of value a declaration declares: `const`, `override`, `let`, or `var` with its address
+-- space and access mode
 pub data DeclarationKind : Type 0 where
   const_kind override_kind let_kind : DeclarationKind
   var_kind : Option (AddressSpace × Option AccessMode) → DeclarationKind
@@ -63,7 +65,8 @@ mutual
   pub data Statement : Type 0 where
     statement : Attributes → UnattributedStatement → Statement
 
-  -- what stands behind the attributes of a statement; an empty one is a `;` alone, a compound one has statements in braces
+  -- what stands behind the attributes of a statement; an empty one is a `;` alone, a compound one
+  -- has statements in braces
   pub data UnattributedStatement : Type 0 where
     void : UnattributedStatement
     compound : StatementNodes → UnattributedStatement
@@ -239,7 +242,8 @@ return_of e = return_statement (record { expression = e })
 
 -- a condition and a block, the clauses with `else if`, and the block of a last `else`
 abbrev pub if_of : ExpressionNode → CompoundStatement → List ElseIfClause × Option ElseClause → UnattributedStatement
-if_of condition block (else_ifs, last) = if_statement (if_else (if_clause condition block) (else_ifs_of else_ifs) (else_of last))
+if_of condition block (else_ifs, last) =
+    if_statement (if_else (if_clause condition block) (else_ifs_of else_ifs) (else_of last))
 
 -- `const_assert` of an expression
 abbrev pub assert_of : ExpressionNode → ConstAssert
@@ -259,19 +263,23 @@ switch_of selected body_attributes clauses = switch_statement (switch selected b
 
 -- the attributes and statements of the body, and its `continuing`
 abbrev pub loop_of : Attributes → List StatementNode → Option ContinuingStatement → UnattributedStatement
-loop_of body_attributes statements last = loop_statement (repeat (compound_of body_attributes statements) (continuing_of last))
+loop_of body_attributes statements last =
+    loop_statement (repeat (compound_of body_attributes statements) (continuing_of last))
 
 -- `break if` with its condition
 abbrev pub break_if_of : ExpressionNode → BreakIfStatement
 break_if_of e = record { expression = e }
 
 -- attributes, the body, and its `break if`
-abbrev pub continuing_statement_of : Attributes → CompoundStatement × Option (Attributed BreakIfStatement) → ContinuingStatement
+abbrev pub continuing_statement_of : Attributes
+    → CompoundStatement × Option (Attributed BreakIfStatement) → ContinuingStatement
 continuing_statement_of attributes (body, break_if) = continuing attributes body break_if
 
 -- the three parts of the header, and the block
-abbrev pub for_of : Option StatementNode → Option ExpressionNode → Option StatementNode → CompoundStatement → UnattributedStatement
-for_of init condition update block = for_statement (repeat_for (maybe_statement init) condition (maybe_statement update) block)
+abbrev pub for_of : Option StatementNode → Option ExpressionNode → Option StatementNode
+    → CompoundStatement → UnattributedStatement
+for_of init condition update block =
+    for_statement (repeat_for (maybe_statement init) condition (maybe_statement update) block)
 
 -- the condition and the block
 abbrev pub while_of : ExpressionNode → CompoundStatement → UnattributedStatement
@@ -311,40 +319,47 @@ abbrev mutual
   -- the statements that are not left out
   pub changed_statements : Change → StatementNodes → StatementNodes
   changed_statements c no_statements = no_statements
-  changed_statements c (statement_before s ss) = if c.leaves_out s then changed_statements c ss else statement_before (changed_node c s) (changed_statements c ss)
+  changed_statements c (statement_before s ss) = if c.leaves_out s then changed_statements c ss
+      else statement_before (changed_node c s) (changed_statements c ss)
 
   pub changed_compound : Change → CompoundStatement → CompoundStatement
-  changed_compound c (compound_statement attributes ss) = compound_statement (c.attributes attributes) (changed_statements c ss)
+  changed_compound c (compound_statement attributes ss) =
+      compound_statement (c.attributes attributes) (changed_statements c ss)
 
   pub changed_if : Change → IfStatement → IfStatement
-  changed_if c (if_else first others last) = if_else (changed_if_clause c first) (changed_else_ifs c others) (changed_else c last)
+  changed_if c (if_else first others last) = if_else (changed_if_clause c first)
+      (changed_else_ifs c others) (changed_else c last)
 
   pub changed_if_clause : Change → IfClause → IfClause
   changed_if_clause c (if_clause e block) = if_clause (c.expression e) (changed_compound c block)
 
   pub changed_else_if_clause : Change → ElseIfClause → ElseIfClause
-  changed_else_if_clause c (else_if_clause attributes e block) = else_if_clause (c.attributes attributes) (c.expression e) (changed_compound c block)
+  changed_else_if_clause c (else_if_clause attributes e block) =
+      else_if_clause (c.attributes attributes) (c.expression e) (changed_compound c block)
 
   pub changed_else_ifs : Change → ElseIfClauses → ElseIfClauses
   changed_else_ifs c no_else_ifs = no_else_ifs
   changed_else_ifs c (else_if_before e es) = else_if_before (changed_else_if_clause c e) (changed_else_ifs c es)
 
   pub changed_else_clause : Change → ElseClause → ElseClause
-  changed_else_clause c (else_clause attributes block) = else_clause (c.attributes attributes) (changed_compound c block)
+  changed_else_clause c (else_clause attributes block) = else_clause (c.attributes attributes)
+      (changed_compound c block)
 
   pub changed_else : Change → MaybeElseClause → MaybeElseClause
   changed_else c no_else = no_else
   changed_else c (one_else e) = one_else (changed_else_clause c e)
 
   pub changed_switch : Change → SwitchStatement → SwitchStatement
-  changed_switch c (switch e body_attributes clauses) = switch (c.expression e) (c.attributes body_attributes) (changed_clauses c clauses)
+  changed_switch c (switch e body_attributes clauses) = switch (c.expression e)
+      (c.attributes body_attributes) (changed_clauses c clauses)
 
   pub changed_clauses : Change → SwitchClauses → SwitchClauses
   changed_clauses c no_clauses = no_clauses
   changed_clauses c (clause_before s ss) = clause_before (changed_switch_clause c s) (changed_clauses c ss)
 
   pub changed_switch_clause : Change → SwitchClause → SwitchClause
-  changed_switch_clause c (switch_clause attributes selectors block) = switch_clause (c.attributes attributes) (c.selectors selectors) (changed_compound c block)
+  changed_switch_clause c (switch_clause attributes selectors block) =
+      switch_clause (c.attributes attributes) (c.selectors selectors) (changed_compound c block)
 
   pub changed_loop : Change → LoopStatement → LoopStatement
   changed_loop c (repeat body last) = repeat (changed_compound c body) (changed_maybe_continuing c last)
@@ -354,10 +369,12 @@ abbrev mutual
   changed_maybe_continuing c (one_continuing last) = one_continuing (changed_continuing c last)
 
   pub changed_continuing : Change → ContinuingStatement → ContinuingStatement
-  changed_continuing c (continuing attributes body condition) = continuing (c.attributes attributes) (changed_compound c body) (c.break_if condition)
+  changed_continuing c (continuing attributes body condition) = continuing (c.attributes attributes)
+      (changed_compound c body) (c.break_if condition)
 
   pub changed_for : Change → ForStatement → ForStatement
-  changed_for c (repeat_for init condition update block) = repeat_for (changed_part c init) (c.condition condition) (changed_part c update) (changed_compound c block)
+  changed_for c (repeat_for init condition update block) = repeat_for (changed_part c init)
+      (c.condition condition) (changed_part c update) (changed_compound c block)
 
   pub changed_part : Change → MaybeStatement → MaybeStatement
   changed_part c no_statement = no_statement

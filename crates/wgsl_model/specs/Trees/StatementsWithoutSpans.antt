@@ -11,7 +11,8 @@ abbrev pub bare_attributed : {Node : Type 0} → (Node → Node) → Attributed 
 bare_attributed bare a = record { attributes = bare_attributes a.attributes; node = bare a.node }
 
 abbrev pub bare_declaration : Declaration → Declaration
-bare_declaration d = record d { ty = option_map bare_type d.ty; initializer = option_map bare_expression_node d.initializer }
+bare_declaration d =
+    record d { ty = option_map bare_type d.ty; initializer = option_map bare_expression_node d.initializer }
 
 abbrev pub bare_assignment : AssignmentStatement → AssignmentStatement
 bare_assignment a = record a { lhs = bare_expression_node a.lhs; rhs = bare_expression_node a.rhs }

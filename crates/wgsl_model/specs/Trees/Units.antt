@@ -1,4 +1,5 @@
--- The trees of modules, their directives and their declarations (WGSL, "Directives", "Structure Types", "Functions").
+-- The trees of modules, their directives and their declarations (WGSL, "Directives", "Structure
+-- Types", "Functions").
 use Rattle.std.specs.Prelude.{ℕ, List, Option}
 use Rattle.wgsl_model.specs.Trees.NamedValues.{DiagnosticSeverity}
 use Rattle.wgsl_model.specs.Trees.Spanned.{Spanned}

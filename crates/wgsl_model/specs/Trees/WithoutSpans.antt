@@ -21,7 +21,8 @@ abbrev mutual
   bare_expression (named_component base component) = named_component (bare_expression_node base) component
   bare_expression (indexing base index) = indexing (bare_expression_node base) (bare_expression_node index)
   bare_expression (unary operator operand) = unary operator (bare_expression_node operand)
-  bare_expression (binary operator left right) = binary operator (bare_expression_node left) (bare_expression_node right)
+  bare_expression (binary operator left right) = binary operator (bare_expression_node left)
+      (bare_expression_node right)
   bare_expression (function_call c) = function_call (bare_call c)
   bare_expression (type_or_identifier t) = type_or_identifier (bare_type t)
 
@@ -44,7 +45,11 @@ abbrev mutual
 
 -- attributes
 abbrev pub bare_workgroup_size : WorkgroupSizeAttribute → WorkgroupSizeAttribute
-bare_workgroup_size w = record { x = bare_expression_node w.x; y = option_map bare_expression_node w.y; z = option_map bare_expression_node w.z }
+bare_workgroup_size w = record {
+  x = bare_expression_node w.x;
+  y = option_map bare_expression_node w.y;
+  z = option_map bare_expression_node w.z;
+}
 
 abbrev pub bare_type_constraint : TypeConstraint → TypeConstraint
 bare_type_constraint t = record t { variants = map bare_type t.variants }

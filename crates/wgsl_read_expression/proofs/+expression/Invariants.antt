@@ -94,37 +94,47 @@ decreases-unary::parse_unary_expression l = 9 * length (state l.tokens.now).rest
 abbrev pub invariant-arguments::parse_arguments-arguments : goal.invariant-arguments::parse_arguments-arguments
 invariant-arguments::parse_arguments-arguments l =
     record {
-      whole : arguments_from (map expression_node_view l.arguments.items) (state l.tokens) ≡ reader (further argument_rest) (state l.initial.tokens);
+      whole : arguments_from (map expression_node_view l.arguments.items) (state l.tokens)
+          ≡ reader (further argument_rest) (state l.initial.tokens);
       shorter : length (state l.tokens).rest ≤ length (state l.initial.tokens).rest;
     }
 
 abbrev pub decreases-arguments::parse_arguments-arguments : goal.decreases-arguments::parse_arguments-arguments
 decreases-arguments::parse_arguments-arguments l = length (state l.tokens).rest
 
-abbrev pub invariant-expression::parse_bitwise_operands-operands : goal.invariant-expression::parse_bitwise_operands-operands
+abbrev pub invariant-expression::parse_bitwise_operands-operands :
+    goal.invariant-expression::parse_bitwise_operands-operands
 invariant-expression::parse_bitwise_operands-operands l =
     record {
-      whole : bitwise_behind (class_of_kind l.kind) (binary_operator_view l.operator) (expression_node_view l.left) (state l.tokens) ≡ bitwise_behind (class_of_kind l.kind) (binary_operator_view l.operator) (expression_node_view l.fn.left) (state l.fn.tokens);
+      whole : bitwise_behind (class_of_kind l.kind) (binary_operator_view l.operator)
+          (expression_node_view l.left) (state l.tokens) ≡ bitwise_behind (class_of_kind l.kind)
+          (binary_operator_view l.operator) (expression_node_view l.fn.left) (state l.fn.tokens);
       shorter : length (state l.tokens).rest ≤ length (state l.fn.tokens).rest;
     }
 
-abbrev pub decreases-expression::parse_bitwise_operands-operands : goal.decreases-expression::parse_bitwise_operands-operands
+abbrev pub decreases-expression::parse_bitwise_operands-operands :
+    goal.decreases-expression::parse_bitwise_operands-operands
 decreases-expression::parse_bitwise_operands-operands l = length (state l.tokens).rest
 
-abbrev pub invariant-expression::parse_logical_operands-operands : goal.invariant-expression::parse_logical_operands-operands
+abbrev pub invariant-expression::parse_logical_operands-operands :
+    goal.invariant-expression::parse_logical_operands-operands
 invariant-expression::parse_logical_operands-operands l =
     record {
-      whole : logical_behind (class_of_kind l.kind) (binary_operator_view l.operator) (expression_node_view l.left) (state l.tokens) ≡ logical_behind (class_of_kind l.kind) (binary_operator_view l.operator) (expression_node_view l.fn.left) (state l.fn.tokens);
+      whole : logical_behind (class_of_kind l.kind) (binary_operator_view l.operator)
+          (expression_node_view l.left) (state l.tokens) ≡ logical_behind (class_of_kind l.kind)
+          (binary_operator_view l.operator) (expression_node_view l.fn.left) (state l.fn.tokens);
       shorter : length (state l.tokens).rest ≤ length (state l.fn.tokens).rest;
     }
 
-abbrev pub decreases-expression::parse_logical_operands-operands : goal.decreases-expression::parse_logical_operands-operands
+abbrev pub decreases-expression::parse_logical_operands-operands :
+    goal.decreases-expression::parse_logical_operands-operands
 decreases-expression::parse_logical_operands-operands l = length (state l.tokens).rest
 
 abbrev pub invariant-primary::parse_components-components : goal.invariant-primary::parse_components-components
 invariant-primary::parse_components-components l =
     record {
-      whole : components_behind (expression_node_view l.base) (state l.tokens) ≡ components_behind (expression_node_view l.fn.base) (state l.fn.tokens);
+      whole : components_behind (expression_node_view l.base) (state l.tokens)
+          ≡ components_behind (expression_node_view l.fn.base) (state l.fn.tokens);
       shorter : length (state l.tokens).rest ≤ length (state l.fn.tokens).rest;
     }
 
@@ -134,7 +144,8 @@ decreases-primary::parse_components-components l = length (state l.tokens).rest
 abbrev pub invariant-sums::parse_factors-factors : goal.invariant-sums::parse_factors-factors
 invariant-sums::parse_factors-factors l =
     record {
-      whole : factors_behind (expression_node_view l.left) (state l.tokens) ≡ factors_behind (expression_node_view l.fn.left) (state l.fn.tokens);
+      whole : factors_behind (expression_node_view l.left) (state l.tokens)
+          ≡ factors_behind (expression_node_view l.fn.left) (state l.fn.tokens);
       shorter : length (state l.tokens).rest ≤ length (state l.fn.tokens).rest;
     }
 
@@ -144,7 +155,8 @@ decreases-sums::parse_factors-factors l = length (state l.tokens).rest
 abbrev pub invariant-sums::parse_product_rest-factors : goal.invariant-sums::parse_product_rest-factors
 invariant-sums::parse_product_rest-factors l =
     record {
-      whole : products_from l.start (expression_node_view l.left) (state l.tokens) ≡ products_from l.start (expression_node_view l.fn.left) (state l.fn.tokens);
+      whole : products_from l.start (expression_node_view l.left) (state l.tokens)
+          ≡ products_from l.start (expression_node_view l.fn.left) (state l.fn.tokens);
       shorter : length (state l.tokens).rest ≤ length (state l.fn.tokens).rest;
     }
 
@@ -154,7 +166,8 @@ decreases-sums::parse_product_rest-factors l = length (state l.tokens).rest
 abbrev pub invariant-sums::parse_summands-summands : goal.invariant-sums::parse_summands-summands
 invariant-sums::parse_summands-summands l =
     record {
-      whole : summands_behind (expression_node_view l.left) (state l.tokens) ≡ summands_behind (expression_node_view l.fn.left) (state l.fn.tokens);
+      whole : summands_behind (expression_node_view l.left) (state l.tokens)
+          ≡ summands_behind (expression_node_view l.fn.left) (state l.fn.tokens);
       shorter : length (state l.tokens).rest ≤ length (state l.fn.tokens).rest;
     }
 
@@ -164,7 +177,8 @@ decreases-sums::parse_summands-summands l = length (state l.tokens).rest
 abbrev pub invariant-types::parse_template_list-arguments : goal.invariant-types::parse_template_list-arguments
 invariant-types::parse_template_list-arguments l =
     record {
-      whole : template_items_from (map template_arg_view l.arguments.items) (state l.tokens) ≡ reader (further template_items) (state l.initial.tokens);
+      whole : template_items_from (map template_arg_view l.arguments.items) (state l.tokens)
+          ≡ reader (further template_items) (state l.initial.tokens);
       shorter : length (state l.tokens).rest ≤ length (state l.initial.tokens).rest;
     }
 

@@ -68,7 +68,8 @@ decreases-loops::parse_continuing_part l = 9 * length (state l.tokens.now).rest
 abbrev pub invariant-block::parse_statement_rest-statements : goal.invariant-block::parse_statement_rest-statements
 invariant-block::parse_statement_rest-statements l =
     record {
-      whole : statements_from (map statement_node_view l.statements.items) (state l.tokens) ≡ reader (further statement_rest) (state l.fn.tokens);
+      whole : statements_from (map statement_node_view l.statements.items) (state l.tokens)
+          ≡ reader (further statement_rest) (state l.fn.tokens);
       shorter : length (state l.tokens).rest ≤ length (state l.fn.tokens).rest;
     }
 
@@ -78,7 +79,8 @@ decreases-block::parse_statement_rest-statements l = length (state l.tokens).res
 abbrev pub invariant-if_chain::parse_else_rest-clauses : goal.invariant-if_chain::parse_else_rest-clauses
 invariant-if_chain::parse_else_rest-clauses l =
     record {
-      whole : elses_from (map else_if_clause_view l.clauses.items) (state l.tokens) ≡ reader (further else_rest) (state l.fn.tokens);
+      whole : elses_from (map else_if_clause_view l.clauses.items) (state l.tokens)
+          ≡ reader (further else_rest) (state l.fn.tokens);
       shorter : length (state l.tokens).rest ≤ length (state l.fn.tokens).rest;
     }
 
@@ -98,7 +100,8 @@ decreases-switch::parse_clauses-clauses l = length (state l.tokens).rest
 abbrev pub invariant-loops::parse_loop_rest-statements : goal.invariant-loops::parse_loop_rest-statements
 invariant-loops::parse_loop_rest-statements l =
     record {
-      whole : loop_items_from (map statement_node_view l.statements.items) (state l.tokens) ≡ reader (further loop_rest) (state l.fn.tokens);
+      whole : loop_items_from (map statement_node_view l.statements.items) (state l.tokens)
+          ≡ reader (further loop_rest) (state l.fn.tokens);
       shorter : length (state l.tokens).rest ≤ length (state l.fn.tokens).rest;
     }
 
@@ -108,7 +111,8 @@ decreases-loops::parse_loop_rest-statements l = length (state l.tokens).rest
 abbrev pub invariant-loops::parse_continuing_rest-statements : goal.invariant-loops::parse_continuing_rest-statements
 invariant-loops::parse_continuing_rest-statements l =
     record {
-      whole : continuing_items_from (map statement_node_view l.statements.items) (state l.tokens) ≡ reader (further continuing_rest) (state l.fn.tokens);
+      whole : continuing_items_from (map statement_node_view l.statements.items) (state l.tokens)
+          ≡ reader (further continuing_rest) (state l.fn.tokens);
       shorter : length (state l.tokens).rest ≤ length (state l.fn.tokens).rest;
     }
 

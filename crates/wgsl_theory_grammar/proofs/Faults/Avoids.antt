@@ -33,7 +33,8 @@ abbrev pub none_of : (cs : List ℕ) → ClassTest (λ (c : ℕ). is_among c cs 
 none_of cs = record { test = λ s. disjoint s cs; passed = λ c s e m. apart c s cs e m }
 
 -- a part takes tokens of classes that pass the test alone, where the symbols K do
-abbrev pub takes_only : {N : Type 0} {Value : N → Type 0} (test : List ℕ → Bool) (K : N → Bool) {A : Type 0} → Grammar N Value A → Bool
+abbrev pub takes_only : {N : Type 0} {Value : N → Type 0} (test : List ℕ → Bool) (K : N → Bool) {A : Type 0}
+    → Grammar N Value A → Bool
 takes_only test K (empty a) = true
 takes_only test K (token s) = test s
 takes_only test K (sequence g h) = takes_only test K g && takes_only test K h
@@ -45,16 +46,21 @@ takes_only test K (symbol n) = K n
 takes_only test K (left_chain f g h) = takes_only test K g && takes_only test K h
 
 abbrev pub TakingOnly : {A : Type 0} → (ℕ → Type 0) → (A → List Token → List Token → Type 0) → Type 0
-TakingOnly {A} Q P = (v : A) (xs ys : List Token) → P v xs ys → (p : List Token) × (xs ≡ p ++ ys) × AllOf (λ (t : Token). Q t.class) p
+TakingOnly {A} Q P = (v : A) (xs ys : List Token) → P v xs ys
+    → (p : List Token) × (xs ≡ p ++ ys) × AllOf (λ (t : Token). Q t.class) p
 
-only_chain : (Q : ℕ → Type 0) {A B : Type 0} (f : A → B → Span → A) (P : A → List Token → List Token → Type 0) (R : B → List Token → List Token → Type 0) → TakingOnly Q P → TakingOnly Q R
-    → (xs : List Token) (v : A) (ys : List Token) → Chain f P R xs v ys → (p : List Token) × (xs ≡ p ++ ys) × AllOf (λ (t : Token). Q t.class) p
+only_chain : (Q : ℕ → Type 0) {A B : Type 0} (f : A → B → Span → A) (P : A → List Token → List Token
+    → Type 0) (R : B → List Token → List Token → Type 0) → TakingOnly Q P → TakingOnly Q R
+    → (xs : List Token) (v : A) (ys : List Token) → Chain f P R xs v ys
+    → (p : List Token) × (xs ≡ p ++ ys) × AllOf (λ (t : Token). Q t.class) p
 only_chain Q f P R H K xs _ _ (base v ys d) = H v xs ys d
 only_chain Q f P R H K xs _ _ (more a b ys zs c d) =
     let w = only_chain Q f P R H K xs a ys c in let u = K b ys zs d in
     (w.0 ++ u.0, joined w.0 u.0 xs ys zs w.1 u.1, all_append (λ (t : Token). Q t.class) w.0 u.0 w.2 u.2)
 
-pub taking_only : {N : Type 0} {Value : N → Type 0} (M : Mode) (D : (n : N) → Value n → List Token → List Token → Type 0) {Q : ℕ → Type 0} (T : ClassTest Q) (K : N → Bool) → ((n : N) → K n ≡ true → TakingOnly Q (D n))
+pub taking_only : {N : Type 0} {Value : N → Type 0} (M : Mode) (D : (n : N) → Value n → List Token
+    → List Token → Type 0) {Q : ℕ → Type 0} (T : ClassTest Q) (K : N → Bool)
+    → ((n : N) → K n ≡ true → TakingOnly Q (D n))
     → {A : Type 0} (g : Grammar N Value A) → takes_only T.test K g ≡ true → TakingOnly Q (Means M D g)
 taking_only M D T K H (empty a) e v xs ys d = ([], d.1, tt)
 taking_only M D T K H (token s) e v xs ys d = (v ∷ [], d.1, (T.passed v.class s e d.0, tt))
@@ -62,22 +68,29 @@ taking_only M D {Q} T K H (sequence g h) e v xs ys (ms, d, i) =
     let t = and_true (takes_only T.test K g) (takes_only T.test K h) e in
     let w = taking_only M D T K H g t.0 v.0 xs ms d in let u = taking_only M D T K H h t.1 v.1 ms ys i in
     (w.0 ++ u.0, joined w.0 u.0 xs ms ys w.1 u.1, all_append (λ (t : Token). Q t.class) w.0 u.0 w.2 u.2)
-taking_only M D T K H (choice g h) e v xs ys (inl d) = taking_only M D T K H g (and_true (takes_only T.test K g) (takes_only T.test K h) e).0 v xs ys d
-taking_only M D T K H (choice g h) e v xs ys (inr d) = taking_only M D T K H h (and_true (takes_only T.test K g) (takes_only T.test K h) e).1 v xs ys d
+taking_only M D T K H (choice g h) e v xs ys (inl d) = taking_only M D T K H g
+    (and_true (takes_only T.test K g) (takes_only T.test K h) e).0 v xs ys d
+taking_only M D T K H (choice g h) e v xs ys (inr d) = taking_only M D T K H h
+    (and_true (takes_only T.test K g) (takes_only T.test K h) e).1 v xs ys d
 taking_only M D T K H (mapped f g) e v xs ys d = taking_only M D T K H g e d.0 xs ys d.2
 taking_only M D T K H (node f g) e v xs ys d = taking_only M D T K H g e d.0 xs ys d.2
 taking_only M D T K H (checked f g) e v xs ys d = taking_only M D T K H g e v xs ys d.1
 taking_only M D T K H (symbol n) e v xs ys d = H n e v xs ys d
 taking_only M D {Q} T K H (left_chain f g h) e v xs ys d =
     let t = and_true (takes_only T.test K g) (takes_only T.test K h) e in
-    only_chain Q f (Means M D g) (Means M D h) (λ a us vs q. taking_only M D T K H g t.0 a us vs q) (λ a us vs q. taking_only M D T K H h t.1 a us vs q) xs v ys d
+    only_chain Q f (Means M D g) (Means M D h) (λ a us vs q. taking_only M D T K H g t.0 a us vs q)
+    (λ a us vs q. taking_only M D T K H h t.1 a us vs q) xs v ys d
 
 -- what the symbols K derive, where their rules, or rules that derive no less, pass
-pub only_part : {N : Type 0} {Value : N → Type 0} (M : Mode) (body rule : (n : N) → Grammar N Value (Value n)) {Q : ℕ → Type 0} (T : ClassTest Q) (K : N → Bool)
-    → ((D : (n : N) → Value n → List Token → List Token → Type 0) (n : N) → Kept (Means M D (body n)) (Means M D (rule n)))
-    → ((n : N) → (not (K n) || takes_only T.test K (rule n)) ≡ true) → (n : N) → K n ≡ true → TakingOnly Q (Part M body n)
+pub only_part : {N : Type 0} {Value : N → Type 0} (M : Mode)
+    (body rule : (n : N) → Grammar N Value (Value n)) {Q : ℕ → Type 0} (T : ClassTest Q) (K : N → Bool)
+    → ((D : (n : N) → Value n → List Token → List Token → Type 0) (n : N)
+    → Kept (Means M D (body n)) (Means M D (rule n)))
+    → ((n : N) → (not (K n) || takes_only T.test K (rule n)) ≡ true) → (n : N) → K n ≡ true
+    → TakingOnly Q (Part M body n)
 only_part {N} {Value} M body rule {Q} T K R H n e v xs ys d =
-    least M body Holds (λ m w us vs i k. taking_only M Holds T K (λ o f x ws zs j. j f) (rule m) (implied (K m) (takes_only T.test K (rule m)) (H m) k) w us vs (R Holds m w us vs i)) n v xs ys d e
+    least M body Holds (λ m w us vs i k. taking_only M Holds T K (λ o f x ws zs j. j f) (rule m)
+    (implied (K m) (takes_only T.test K (rule m)) (H m) k) w us vs (R Holds m w us vs i)) n v xs ys d e
   where
     Holds : (n : N) → Value n → List Token → List Token → Type 0
     Holds n v xs ys = K n ≡ true → (p : List Token) × (xs ≡ p ++ ys) × AllOf (λ (t : Token). Q t.class) p
@@ -88,7 +101,8 @@ abbrev pub EndsWith : List ℕ → List Token → Type 0
 EndsWith cs p = (p ≡ []) ⊎ (is_among (last_class 0 p) cs ≡ true)
 
 -- a part ends so, where the symbols K do, and the symbols J surely take a token
-abbrev pub ends : {N : Type 0} {Value : N → Type 0} (cs : List ℕ) (K J : N → Bool) {A : Type 0} → Grammar N Value A → Bool
+abbrev pub ends : {N : Type 0} {Value : N → Type 0} (cs : List ℕ) (K J : N → Bool) {A : Type 0}
+    → Grammar N Value A → Bool
 ends cs K J (empty a) = true
 ends cs K J (token s) = subset s cs
 ends cs K J (sequence g h) = ends cs K J h && (surely_takes J h || ends cs K J g)
@@ -118,20 +132,24 @@ not_empty q ms ys w l e =
     let b : length q ≡ 0 = ap (λ (z : List Token). length z) e in
     absurd (omega (arith, a, b, l))
 
-ending_chain : (cs : List ℕ) {A B : Type 0} (f : A → B → Span → A) (P : A → List Token → List Token → Type 0) (Q : B → List Token → List Token → Type 0) → Ending cs P → Ending cs Q
-    → (xs : List Token) (v : A) (ys : List Token) → Chain f P Q xs v ys → (p : List Token) × (xs ≡ p ++ ys) × EndsWith cs p
+ending_chain : (cs : List ℕ) {A B : Type 0} (f : A → B → Span → A) (P : A → List Token → List Token
+    → Type 0) (Q : B → List Token → List Token → Type 0) → Ending cs P → Ending cs Q
+    → (xs : List Token) (v : A) (ys : List Token) → Chain f P Q xs v ys
+    → (p : List Token) × (xs ≡ p ++ ys) × EndsWith cs p
 ending_chain cs f P Q H K xs _ _ (base v ys d) = H v xs ys d
 ending_chain cs f P Q H K xs _ _ (more a b ys zs c d) =
     let w = ending_chain cs f P Q H K xs a ys c in let u = K b ys zs d in
     (w.0 ++ u.0, joined w.0 u.0 xs ys zs w.1 u.1, ends_append cs w.0 u.0 w.2 u.2)
 
 -- what is known of the symbols
-record Known {N : Type 0} {Value : N → Type 0} (D : (n : N) → Value n → List Token → List Token → Type 0) (cs : List ℕ) (K J : N → Bool) : Type 0 where
+record Known {N : Type 0} {Value : N → Type 0} (D : (n : N) → Value n → List Token → List Token → Type 0)
+    (cs : List ℕ) (K J : N → Bool) : Type 0 where
   pub frames : (n : N) → Framed (D n)
   pub takes : (n : N) → J n ≡ true → Shorter (D n)
   pub end_so : (n : N) → K n ≡ true → Ending cs (D n)
 
-ending : {N : Type 0} {Value : N → Type 0} (M : Mode) (D : (n : N) → Value n → List Token → List Token → Type 0) (cs : List ℕ) (K J : N → Bool) → Known D cs K J
+ending : {N : Type 0} {Value : N → Type 0} (M : Mode) (D : (n : N) → Value n → List Token
+    → List Token → Type 0) (cs : List ℕ) (K J : N → Bool) → Known D cs K J
     → {A : Type 0} (g : Grammar N Value A) → ends cs K J g ≡ true → Ending cs (Means M D g)
 ending M D cs K J H (empty a) e v xs ys d = ([], d.1, inl refl)
 ending M D cs K J H (token s) e v xs ys d = (v ∷ [], d.1, inr (in_subset v.class s cs e d.0))
@@ -140,30 +158,46 @@ ending M D cs K J H (sequence g h) e v xs ys (ms, d, i) =
     let u = ending M D cs K J H h t.0 v.1 ms ys i in
     elim (either (surely_takes J h) (ends cs K J g) t.1) [
       | inl k ↦
-          let w = framed M D H.frames g v.0 xs ms d in
-          (w.0 ++ u.0, joined w.0 u.0 xs ms ys w.1 u.1, ends_behind cs w.0 u.0 u.2 (not_empty u.0 ms ys u.1 (shorter M D H.frames J H.takes h k v.1 ms ys i)))
+          let w = framed M D H.frames g v.0 xs ms d in (
+            w.0 ++ u.0,
+            joined w.0 u.0 xs ms ys w.1 u.1,
+            ends_behind cs w.0 u.0 u.2
+                (not_empty u.0 ms ys u.1 (shorter M D H.frames J H.takes h k v.1 ms ys i)),
+          )
       | inr k ↦
           let w = ending M D cs K J H g k v.0 xs ms d in
           (w.0 ++ u.0, joined w.0 u.0 xs ms ys w.1 u.1, ends_append cs w.0 u.0 w.2 u.2)
     ]
-ending M D cs K J H (choice g h) e v xs ys (inl d) = ending M D cs K J H g (and_true (ends cs K J g) (ends cs K J h) e).0 v xs ys d
-ending M D cs K J H (choice g h) e v xs ys (inr d) = ending M D cs K J H h (and_true (ends cs K J g) (ends cs K J h) e).1 v xs ys d
+ending M D cs K J H (choice g h) e v xs ys (inl d) = ending M D cs K J H g
+    (and_true (ends cs K J g) (ends cs K J h) e).0 v xs ys d
+ending M D cs K J H (choice g h) e v xs ys (inr d) = ending M D cs K J H h
+    (and_true (ends cs K J g) (ends cs K J h) e).1 v xs ys d
 ending M D cs K J H (mapped f g) e v xs ys d = ending M D cs K J H g e d.0 xs ys d.2
 ending M D cs K J H (node f g) e v xs ys d = ending M D cs K J H g e d.0 xs ys d.2
 ending M D cs K J H (checked f g) e v xs ys d = ending M D cs K J H g e v xs ys d.1
 ending M D cs K J H (symbol n) e v xs ys d = H.end_so n e v xs ys d
 ending M D cs K J H (left_chain f g h) e v xs ys d =
     let t = and_true (ends cs K J g) (ends cs K J h) e in
-    ending_chain cs f (Means M D g) (Means M D h) (λ a us vs q. ending M D cs K J H g t.0 a us vs q) (λ a us vs q. ending M D cs K J H h t.1 a us vs q) xs v ys d
+    ending_chain cs f (Means M D g) (Means M D h) (λ a us vs q. ending M D cs K J H g t.0 a us vs q)
+    (λ a us vs q. ending M D cs K J H h t.1 a us vs q) xs v ys d
 
-ending_within : {N : Type 0} {Value : N → Type 0} (M : Mode) (body : (n : N) → Grammar N Value (Value n)) (cs : List ℕ) (K J : N → Bool)
-    → ((n : N) → J n ≡ true → surely_takes J (body n) ≡ true) → ((n : N) → K n ≡ true → ends cs K J (body n) ≡ true)
+ending_within : {N : Type 0} {Value : N → Type 0} (M : Mode)
+    (body : (n : N) → Grammar N Value (Value n)) (cs : List ℕ) (K J : N → Bool)
+    → ((n : N) → J n ≡ true → surely_takes J (body n) ≡ true)
+    → ((n : N) → K n ≡ true → ends cs K J (body n) ≡ true)
     → (k : ℕ) (n : N) → K n ≡ true → Ending cs (Within M body k n)
 ending_within M body cs K J T H zero n e v xs ys d = absurd d
 ending_within M body cs K J T H (suc k) n e v xs ys d =
-    ending M (Within M body k) cs K J (record { frames = framed_within M body k; takes = shorter_within M body J T k; end_so = ending_within M body cs K J T H k }) (body n) (H n e) v xs ys d
+    ending M (Within M body k) cs K J (record {
+      frames = framed_within M body k;
+      takes = shorter_within M body J T k;
+      end_so = ending_within M body cs K J T H k;
+    }) (body n) (H n e) v xs ys d
 
-pub ending_part : {N : Type 0} {Value : N → Type 0} (M : Mode) (body : (n : N) → Grammar N Value (Value n)) (cs : List ℕ) (K J : N → Bool)
-    → ((n : N) → J n ≡ true → surely_takes J (body n) ≡ true) → ((n : N) → K n ≡ true → ends cs K J (body n) ≡ true)
-    → (n : N) → K n ≡ true → (v : Value n) (xs ys : List Token) → Part M body n v xs ys → (p : List Token) × (xs ≡ p ++ ys) × EndsWith cs p
+pub ending_part : {N : Type 0} {Value : N → Type 0} (M : Mode)
+    (body : (n : N) → Grammar N Value (Value n)) (cs : List ℕ) (K J : N → Bool)
+    → ((n : N) → J n ≡ true → surely_takes J (body n) ≡ true)
+    → ((n : N) → K n ≡ true → ends cs K J (body n) ≡ true)
+    → (n : N) → K n ≡ true → (v : Value n) (xs ys : List Token) → Part M body n v xs ys
+    → (p : List Token) × (xs ≡ p ++ ys) × EndsWith cs p
 ending_part M body cs K J T H n e v xs ys (k, d) = ending_within M body cs K J T H k n e v xs ys d

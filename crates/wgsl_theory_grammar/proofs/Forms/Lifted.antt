@@ -16,7 +16,8 @@ FactoredRelation = (n : FactoredSymbol) → FactoredValue n → List Token → L
 abbrev Taken : FactoredRelation → WrittenRelation
 Taken E n v xs ys = E (of n) v xs ys
 
-pub lifted_in : (M : Mode) (E : FactoredRelation) {A : Type 0} (g : Rule A) → Kept (Means M (Taken E) g) (Means M E (lifted g))
+pub lifted_in : (M : Mode) (E : FactoredRelation) {A : Type 0} (g : Rule A)
+    → Kept (Means M (Taken E) g) (Means M E (lifted g))
 lifted_in M E (empty a) v xs ys d = d
 lifted_in M E (token s) v xs ys d = d
 lifted_in M E (sequence g h) v xs ys (ms, d, e) = (ms, lifted_in M E g v.0 xs ms d, lifted_in M E h v.1 ms ys e)
@@ -27,9 +28,11 @@ lifted_in M E (node f g) v xs ys (a, e, d) = (a, e, lifted_in M E g a xs ys d)
 lifted_in M E (checked f g) v xs ys (e, d) = (e, lifted_in M E g v xs ys d)
 lifted_in M E (symbol n) v xs ys d = d
 lifted_in M E (left_chain f g h) v xs ys d =
-    chain_mono f (Means M (Taken E) g) (Means M E (lifted g)) (Means M (Taken E) h) (Means M E (lifted h)) (lifted_in M E g) (lifted_in M E h) xs v ys d
+    chain_mono f (Means M (Taken E) g) (Means M E (lifted g)) (Means M (Taken E) h)
+    (Means M E (lifted h)) (lifted_in M E g) (lifted_in M E h) xs v ys d
 
-pub lifted_out : (M : Mode) (E : FactoredRelation) {A : Type 0} (g : Rule A) → Kept (Means M E (lifted g)) (Means M (Taken E) g)
+pub lifted_out : (M : Mode) (E : FactoredRelation) {A : Type 0} (g : Rule A)
+    → Kept (Means M E (lifted g)) (Means M (Taken E) g)
 lifted_out M E (empty a) v xs ys d = d
 lifted_out M E (token s) v xs ys d = d
 lifted_out M E (sequence g h) v xs ys (ms, d, e) = (ms, lifted_out M E g v.0 xs ms d, lifted_out M E h v.1 ms ys e)
@@ -40,4 +43,5 @@ lifted_out M E (node f g) v xs ys (a, e, d) = (a, e, lifted_out M E g a xs ys d)
 lifted_out M E (checked f g) v xs ys (e, d) = (e, lifted_out M E g v xs ys d)
 lifted_out M E (symbol n) v xs ys d = d
 lifted_out M E (left_chain f g h) v xs ys d =
-    chain_mono f (Means M E (lifted g)) (Means M (Taken E) g) (Means M E (lifted h)) (Means M (Taken E) h) (lifted_out M E g) (lifted_out M E h) xs v ys d
+    chain_mono f (Means M E (lifted g)) (Means M (Taken E) g) (Means M E (lifted h))
+    (Means M (Taken E) h) (lifted_out M E g) (lifted_out M E h) xs v ys d

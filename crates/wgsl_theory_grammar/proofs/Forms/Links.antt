@@ -2,7 +2,7 @@
 use Rattle.grammar.specs.Grammar.{Grammar.symbol, Mode, Means, Part}
 use Rattle.grammar.specs.Notation.{◌gives◌, ◌means◌}
 use Rattle.grammar.proofs.Reading.Depth.{Kept, same_mode, means_mono, roll, unroll, least}
-use Rattle.wgsl_model.specs.Tokens.Classes.{SymBraceRight, SymParenRight, SymSemicolon, TemplateArgsEnd, KwBreak, KwContinue, KwDiscard}
+use Rattle.wgsl_model.specs.Tokens.ClassTable.{SymBraceRight, SymParenRight, SymSemicolon, TemplateArgsEnd, KwBreak, KwContinue, KwDiscard}
 use Rattle.wgsl_model.specs.Trees.Attributes.{Attributes}
 use Rattle.wgsl_model.specs.Trees.Attributed.{with_attributes}
 use Rattle.wgsl_model.specs.Trees.Statements.{statement, UnattributedStatement, call_statement_of, clause_of, continuing_statement_of}
@@ -21,7 +21,8 @@ use Rattle.wgsl_theory_grammar.proofs.Forms.StatementLinks.{statement_in, statem
 use Rattle.wgsl_theory_grammar.proofs.Forms.UnitLinks.{declaration_in, declaration_out, directive_in, directive_out, front_in, front_out}
 use Rattle.wgsl_theory_grammar.proofs.Forms.BlockLinks.{switch_part_in, switch_part_out, loop_rest_in, loop_rest_out, continuing_rest_in, continuing_rest_out, else_rest_in, else_rest_out}
 
--- ---- what a further symbol means, it derives: those that refer to no other of these, or to their own list alone
+-- ---- what a further symbol means, it derives: those that refer to no other of these, or to their
+-- own list alone
 abbrev Based : Dialect → Mode → FactoredRelation
 Based L M (of n) v xs ys = Part M (factored L) (of n) v xs ys
 Based L M (further template_items) v xs ys = Meant L M (ReadPart L M) (further template_items) v xs ys
@@ -69,37 +70,80 @@ Based L M (further alias_part) v xs ys = Meant L M (ReadPart L M) (further alias
 Based L M (further diagnostic_part) v xs ys = Meant L M (ReadPart L M) (further diagnostic_part) v xs ys
 Based L M n v xs ys = ⊥
 
-template_closing : (L : Dialect) (M : Mode) → Closing M (Part M (factored L)) TemplateArgsEnd (symbol (of expression)) (symbol (further template_rest)) (symbol (further template_more))
-template_closing L M = record { to_rest = roll M (factored L) (further template_rest); to_more = roll M (factored L) (further template_more) }
+template_closing : (L : Dialect) (M : Mode) → Closing M (Part M (factored L)) TemplateArgsEnd
+    (symbol (of expression)) (symbol (further template_rest)) (symbol (further template_more))
+template_closing L M = record {
+  to_rest = roll M (factored L) (further template_rest);
+  to_more = roll M (factored L) (further template_more);
+}
 
-argument_closing : (L : Dialect) (M : Mode) → Closing M (Part M (factored L)) SymParenRight (symbol (of expression)) (symbol (further argument_rest)) (symbol (further argument_more))
-argument_closing L M = record { to_rest = roll M (factored L) (further argument_rest); to_more = roll M (factored L) (further argument_more) }
+argument_closing : (L : Dialect) (M : Mode) → Closing M (Part M (factored L)) SymParenRight
+    (symbol (of expression)) (symbol (further argument_rest)) (symbol (further argument_more))
+argument_closing L M = record {
+  to_rest = roll M (factored L) (further argument_rest);
+  to_more = roll M (factored L) (further argument_more);
+}
 
-member_closing : (L : Dialect) (M : Mode) → Closing M (Part M (factored L)) SymBraceRight (symbol (of struct_member)) (symbol (further member_rest)) (symbol (further member_more))
-member_closing L M = record { to_rest = roll M (factored L) (further member_rest); to_more = roll M (factored L) (further member_more) }
+member_closing : (L : Dialect) (M : Mode) → Closing M (Part M (factored L)) SymBraceRight
+    (symbol (of struct_member)) (symbol (further member_rest)) (symbol (further member_more))
+member_closing L M =
+    record { to_rest = roll M (factored L) (further member_rest); to_more = roll M (factored L) (further member_more) }
 
-parameter_closing : (L : Dialect) (M : Mode) → Closing M (Part M (factored L)) SymParenRight (symbol (of formal_parameter)) (symbol (further parameter_rest)) (symbol (further parameter_more))
-parameter_closing L M = record { to_rest = roll M (factored L) (further parameter_rest); to_more = roll M (factored L) (further parameter_more) }
+parameter_closing : (L : Dialect) (M : Mode) → Closing M (Part M (factored L)) SymParenRight
+    (symbol (of formal_parameter)) (symbol (further parameter_rest)) (symbol (further parameter_more))
+parameter_closing L M = record {
+  to_rest = roll M (factored L) (further parameter_rest);
+  to_more = roll M (factored L) (further parameter_more);
+}
 
-name_closing : (L : Dialect) (M : Mode) → Closing M (Part M (factored L)) SymSemicolon (symbol (of ident)) (symbol (further name_rest)) (symbol (further name_more))
-name_closing L M = record { to_rest = roll M (factored L) (further name_rest); to_more = roll M (factored L) (further name_more) }
+name_closing : (L : Dialect) (M : Mode) → Closing M (Part M (factored L)) SymSemicolon
+    (symbol (of ident)) (symbol (further name_rest)) (symbol (further name_more))
+name_closing L M =
+    record { to_rest = roll M (factored L) (further name_rest); to_more = roll M (factored L) (further name_more) }
 
 based_in : (L : Dialect) (M : Mode) (n : FactoredSymbol) → Kept (Based L M n) (Part M (factored L) n)
 based_in L M (of n) v xs ys d = d
-based_in L M (further template_items) v xs ys d = roll M (factored L) (further template_items) v xs ys (items_in M (Part M (factored L)) TemplateArgsEnd (symbol (of expression)) (symbol (further template_rest)) (symbol (further template_more)) (template_closing L M) v xs ys d)
-based_in L M (further template_rest) v xs ys d = rest_in M (Part M (factored L)) TemplateArgsEnd (symbol (of expression)) (symbol (further template_rest)) (symbol (further template_more)) (template_closing L M) v xs ys d
-based_in L M (further template_more) v xs ys d = more_in M (Part M (factored L)) TemplateArgsEnd (symbol (of expression)) (symbol (further template_rest)) (symbol (further template_more)) (template_closing L M) v xs ys d
-based_in L M (further argument_rest) v xs ys d = rest_in M (Part M (factored L)) SymParenRight (symbol (of expression)) (symbol (further argument_rest)) (symbol (further argument_more)) (argument_closing L M) v xs ys d
-based_in L M (further argument_more) v xs ys d = more_in M (Part M (factored L)) SymParenRight (symbol (of expression)) (symbol (further argument_rest)) (symbol (further argument_more)) (argument_closing L M) v xs ys d
-based_in L M (further member_items) v xs ys d = roll M (factored L) (further member_items) v xs ys (items_in M (Part M (factored L)) SymBraceRight (symbol (of struct_member)) (symbol (further member_rest)) (symbol (further member_more)) (member_closing L M) v xs ys d)
-based_in L M (further member_rest) v xs ys d = rest_in M (Part M (factored L)) SymBraceRight (symbol (of struct_member)) (symbol (further member_rest)) (symbol (further member_more)) (member_closing L M) v xs ys d
-based_in L M (further member_more) v xs ys d = more_in M (Part M (factored L)) SymBraceRight (symbol (of struct_member)) (symbol (further member_rest)) (symbol (further member_more)) (member_closing L M) v xs ys d
-based_in L M (further parameter_rest) v xs ys d = rest_in M (Part M (factored L)) SymParenRight (symbol (of formal_parameter)) (symbol (further parameter_rest)) (symbol (further parameter_more)) (parameter_closing L M) v xs ys d
-based_in L M (further parameter_more) v xs ys d = more_in M (Part M (factored L)) SymParenRight (symbol (of formal_parameter)) (symbol (further parameter_rest)) (symbol (further parameter_more)) (parameter_closing L M) v xs ys d
-based_in L M (further name_items) v xs ys d = roll M (factored L) (further name_items) v xs ys (items_in M (Part M (factored L)) SymSemicolon (symbol (of ident)) (symbol (further name_rest)) (symbol (further name_more)) (name_closing L M) v xs ys d)
-based_in L M (further name_rest) v xs ys d = rest_in M (Part M (factored L)) SymSemicolon (symbol (of ident)) (symbol (further name_rest)) (symbol (further name_more)) (name_closing L M) v xs ys d
-based_in L M (further name_more) v xs ys d = more_in M (Part M (factored L)) SymSemicolon (symbol (of ident)) (symbol (further name_rest)) (symbol (further name_more)) (name_closing L M) v xs ys d
-based_in L M (further selectors) v xs ys d = listed_in M (Part M (factored L)) (symbol (of case_selector)) (symbol (further selectors)) (roll M (factored L) (further selectors)) v xs ys d
+based_in L M (further template_items) v xs ys d = roll M (factored L) (further template_items) v xs ys
+    (items_in M (Part M (factored L)) TemplateArgsEnd (symbol (of expression))
+    (symbol (further template_rest)) (symbol (further template_more)) (template_closing L M) v xs ys d)
+based_in L M (further template_rest) v xs ys d = rest_in M (Part M (factored L)) TemplateArgsEnd
+    (symbol (of expression)) (symbol (further template_rest)) (symbol (further template_more))
+    (template_closing L M) v xs ys d
+based_in L M (further template_more) v xs ys d = more_in M (Part M (factored L)) TemplateArgsEnd
+    (symbol (of expression)) (symbol (further template_rest)) (symbol (further template_more))
+    (template_closing L M) v xs ys d
+based_in L M (further argument_rest) v xs ys d = rest_in M (Part M (factored L)) SymParenRight
+    (symbol (of expression)) (symbol (further argument_rest)) (symbol (further argument_more))
+    (argument_closing L M) v xs ys d
+based_in L M (further argument_more) v xs ys d = more_in M (Part M (factored L)) SymParenRight
+    (symbol (of expression)) (symbol (further argument_rest)) (symbol (further argument_more))
+    (argument_closing L M) v xs ys d
+based_in L M (further member_items) v xs ys d = roll M (factored L) (further member_items) v xs ys
+    (items_in M (Part M (factored L)) SymBraceRight (symbol (of struct_member))
+    (symbol (further member_rest)) (symbol (further member_more)) (member_closing L M) v xs ys d)
+based_in L M (further member_rest) v xs ys d = rest_in M (Part M (factored L)) SymBraceRight
+    (symbol (of struct_member)) (symbol (further member_rest)) (symbol (further member_more))
+    (member_closing L M) v xs ys d
+based_in L M (further member_more) v xs ys d = more_in M (Part M (factored L)) SymBraceRight
+    (symbol (of struct_member)) (symbol (further member_rest)) (symbol (further member_more))
+    (member_closing L M) v xs ys d
+based_in L M (further parameter_rest) v xs ys d = rest_in M (Part M (factored L)) SymParenRight
+    (symbol (of formal_parameter)) (symbol (further parameter_rest))
+    (symbol (further parameter_more)) (parameter_closing L M) v xs ys d
+based_in L M (further parameter_more) v xs ys d = more_in M (Part M (factored L)) SymParenRight
+    (symbol (of formal_parameter)) (symbol (further parameter_rest))
+    (symbol (further parameter_more)) (parameter_closing L M) v xs ys d
+based_in L M (further name_items) v xs ys d = roll M (factored L) (further name_items) v xs ys
+    (items_in M (Part M (factored L)) SymSemicolon (symbol (of ident)) (symbol (further name_rest))
+    (symbol (further name_more)) (name_closing L M) v xs ys d)
+based_in L M (further name_rest) v xs ys d = rest_in M (Part M (factored L)) SymSemicolon
+    (symbol (of ident)) (symbol (further name_rest)) (symbol (further name_more))
+    (name_closing L M) v xs ys d
+based_in L M (further name_more) v xs ys d = more_in M (Part M (factored L)) SymSemicolon
+    (symbol (of ident)) (symbol (further name_rest)) (symbol (further name_more))
+    (name_closing L M) v xs ys d
+based_in L M (further selectors) v xs ys d = listed_in M (Part M (factored L)) (symbol (of case_selector))
+    (symbol (further selectors)) (roll M (factored L) (further selectors)) v xs ys d
 based_in L M (further components) v xs ys d = roll M (factored L) (further components) v xs ys d
 based_in L M (further factors) v xs ys d = roll M (factored L) (further factors) v xs ys d
 based_in L M (further summands) v xs ys d = summands_read L M v xs ys d
@@ -112,13 +156,20 @@ based_in L M (further bitwise_xor_rest) v xs ys d = roll M (factored L) (further
 based_in L M (further attribute_list) v xs ys d = roll M (factored L) (further attribute_list) v xs ys d
 based_in L M (further left_side_rest) v xs ys d = roll M (factored L) (further left_side_rest) v xs ys d
 based_in L M (further declaration_list) v xs ys d = roll M (factored L) (further declaration_list) v xs ys d
-based_in L M (further statement_rest) v xs ys d = until_in M (Part M (factored L)) SymBraceRight (symbol (of statement)) (symbol (further statement_rest)) (roll M (factored L) (further statement_rest)) v xs ys d
-based_in L M (further clause_rest) v xs ys d = until_in M (Part M (factored L)) SymBraceRight (symbol (of switch_clause)) (symbol (further clause_rest)) (roll M (factored L) (further clause_rest)) v xs ys d
+based_in L M (further statement_rest) v xs ys d = until_in M (Part M (factored L)) SymBraceRight
+    (symbol (of statement)) (symbol (further statement_rest))
+    (roll M (factored L) (further statement_rest)) v xs ys d
+based_in L M (further clause_rest) v xs ys d = until_in M (Part M (factored L)) SymBraceRight
+    (symbol (of switch_clause)) (symbol (further clause_rest))
+    (roll M (factored L) (further clause_rest)) v xs ys d
 based_in L M (further loop_rest) v xs ys d = loop_rest_in L M v xs ys d
 based_in L M (further else_rest) v xs ys d = else_rest_in L M v xs ys d
-based_in L M (further init_part) v xs ys d = roll M (factored L) (further init_part) v xs ys (optional_in M (Part M (factored L)) SymSemicolon (symbol (of for_init)) v xs ys d)
-based_in L M (further condition_part) v xs ys d = roll M (factored L) (further condition_part) v xs ys (optional_in M (Part M (factored L)) SymSemicolon (symbol (of expression)) v xs ys d)
-based_in L M (further update_part) v xs ys d = roll M (factored L) (further update_part) v xs ys (optional_in M (Part M (factored L)) SymParenRight (symbol (of for_update)) v xs ys d)
+based_in L M (further init_part) v xs ys d = roll M (factored L) (further init_part) v xs ys
+    (optional_in M (Part M (factored L)) SymSemicolon (symbol (of for_init)) v xs ys d)
+based_in L M (further condition_part) v xs ys d = roll M (factored L) (further condition_part) v xs ys
+    (optional_in M (Part M (factored L)) SymSemicolon (symbol (of expression)) v xs ys d)
+based_in L M (further update_part) v xs ys d = roll M (factored L) (further update_part) v xs ys
+    (optional_in M (Part M (factored L)) SymParenRight (symbol (of for_update)) v xs ys d)
 based_in L M (further continuing_rest) v xs ys d = continuing_rest_in L M v xs ys d
 based_in L M (further returning_part) v xs ys d = roll M (factored L) (further returning_part) v xs ys d
 based_in L M (further local_part) v xs ys d = roll M (factored L) (further local_part) v xs ys d
@@ -143,8 +194,10 @@ Met L M (further led_part) v xs ys = ⊥
 Met L M (further directive_part) v xs ys = ⊥
 Met L M n v xs ys = Meant L M (ReadPart L M) n v xs ys
 
-part_in : (L : Dialect) (M : Mode) (n : FactoredSymbol) → Kept (Means M (Based L M) (factored L n)) (Part M (factored L) n)
-part_in L M n v xs ys d = roll M (factored L) n v xs ys (means_mono M M (same_mode M) (Based L M) (Part M (factored L)) (based_in L M) (factored L n) v xs ys d)
+part_in : (L : Dialect) (M : Mode) (n : FactoredSymbol)
+    → Kept (Means M (Based L M) (factored L n)) (Part M (factored L) n)
+part_in L M n v xs ys d = roll M (factored L) n v xs ys
+    (means_mono M M (same_mode M) (Based L M) (Part M (factored L)) (based_in L M) (factored L n) v xs ys d)
 
 met_in : (L : Dialect) (M : Mode) (n : FactoredSymbol) → Kept (Met L M n) (Part M (factored L) n)
 met_in L M (of n) v xs ys d = d
@@ -208,23 +261,30 @@ met_in L M n v xs ys d = part_in L M n v xs ys d
 
 -- a rule whose two forms are alike
 alike_in : (L : Dialect) (M : Mode) (n : Symbol) → Kept (Means M (Met L M) (factored L (of n))) (ReadPart L M n)
-alike_in L M n v xs ys d = roll M (factored L) (of n) v xs ys (means_mono M M (same_mode M) (Met L M) (Part M (factored L)) (met_in L M) (factored L (of n)) v xs ys d)
+alike_in L M n v xs ys d = roll M (factored L) (of n) v xs ys
+    (means_mono M M (same_mode M) (Met L M) (Part M (factored L)) (met_in L M) (factored L (of n)) v xs ys d)
 
 -- a rule of a part behind attributes, which may be left out in a dialect
-behind_in : (L : Dialect) (M : Mode) {A B : Type 0} (make : Attributes → A → B) (g : Rule A) (h : FactoredRule A) → Kept (Means M (ReadPart L M) g) (Means M (Part M (factored L)) h)
+behind_in : (L : Dialect) (M : Mode) {A B : Type 0} (make : Attributes → A → B) (g : Rule A)
+    (h : FactoredRule A) → Kept (Means M (ReadPart L M) g) (Means M (Part M (factored L)) h)
     → Kept (Means M (ReadPart L M) (led L make g)) (Means M (Part M (factored L)) (leading_before L make h))
 behind_in L M make g h H = led_to L M (ReadPart L M) (Part M (factored L)) (read_list L M) make g h H
 
 rule_in : (L : Dialect) (M : Mode) (n : Symbol) → Kept (Means M (ReadPart L M) (rules L n)) (ReadPart L M n)
 rule_in L M ident v xs ys d = alike_in L M ident v xs ys (lifted_in M (Met L M) (rules L ident) v xs ys d)
 rule_in L M attribute v xs ys d = alike_in L M attribute v xs ys (lifted_in M (Met L M) (rules L attribute) v xs ys d)
-rule_in L M var_template v xs ys d = alike_in L M var_template v xs ys (lifted_in M (Met L M) (rules L var_template) v xs ys d)
-rule_in L M diagnostic_severity v xs ys d = alike_in L M diagnostic_severity v xs ys (lifted_in M (Met L M) (rules L diagnostic_severity) v xs ys d)
-rule_in L M additive_expression v xs ys d = alike_in L M additive_expression v xs ys (lifted_in M (Met L M) (rules L additive_expression) v xs ys d)
-rule_in L M assignment v xs ys d = alike_in L M assignment v xs ys (lifted_in M (Met L M) (rules L assignment) v xs ys d)
+rule_in L M var_template v xs ys d = alike_in L M var_template v xs ys
+    (lifted_in M (Met L M) (rules L var_template) v xs ys d)
+rule_in L M diagnostic_severity v xs ys d = alike_in L M diagnostic_severity v xs ys
+    (lifted_in M (Met L M) (rules L diagnostic_severity) v xs ys d)
+rule_in L M additive_expression v xs ys d = alike_in L M additive_expression v xs ys
+    (lifted_in M (Met L M) (rules L additive_expression) v xs ys d)
+rule_in L M assignment v xs ys d = alike_in L M assignment v xs ys
+    (lifted_in M (Met L M) (rules L assignment) v xs ys d)
 rule_in L M increment v xs ys d = alike_in L M increment v xs ys (lifted_in M (Met L M) (rules L increment) v xs ys d)
 rule_in L M decrement v xs ys d = alike_in L M decrement v xs ys (lifted_in M (Met L M) (rules L decrement) v xs ys d)
-rule_in L M expressions v xs ys d = listed_in M (Part M (factored L)) (symbol (of expression)) (symbol (of expressions)) (roll M (factored L) (of expressions)) v xs ys d
+rule_in L M expressions v xs ys d = listed_in M (Part M (factored L)) (symbol (of expression))
+    (symbol (of expressions)) (roll M (factored L) (of expressions)) v xs ys d
 rule_in L M primary_expression v xs ys d = primary_in L M v xs ys d
 rule_in L M singular_expression v xs ys d = singular_derived L M v xs ys d
 rule_in L M shift_expression v xs ys d = shift_derived L M v xs ys d
@@ -236,23 +296,52 @@ rule_in L M for_init v xs ys d = init_in L M v xs ys d
 rule_in L M for_update v xs ys d = update_in L M v xs ys d
 rule_in L M global_declaration v xs ys d = declaration_in L M v xs ys d
 rule_in L M global_directive v xs ys d = directive_in L M v xs ys d
-rule_in L M return_statement v xs ys d = roll M (factored L) (of return_statement) v xs ys (behind_in L M statement return_kind (symbol (further returning_part)) (met_in L M (further returning_part)) v xs ys d)
-rule_in L M call_statement v xs ys d = roll M (factored L) (of call_statement) v xs ys (behind_in L M statement (symbol call gives call_statement_of) (symbol (of call) gives call_statement_of) (λ u us vs s. s) v xs ys d)
-rule_in L M var_statement v xs ys d = roll M (factored L) (of var_statement) v xs ys (behind_in L M statement local_kind (symbol (further local_part)) (met_in L M (further local_part)) v xs ys d)
-rule_in L M value_statement v xs ys d = roll M (factored L) (of value_statement) v xs ys (behind_in L M statement value_kind (symbol (further value_part)) (met_in L M (further value_part)) v xs ys d)
-rule_in L M break_statement v xs ys d = roll M (factored L) (of break_statement) v xs ys (behind_in L M statement (KwBreak means UnattributedStatement.break_statement) (KwBreak means UnattributedStatement.break_statement) (λ u us vs s. s) v xs ys d)
-rule_in L M continue_statement v xs ys d = roll M (factored L) (of continue_statement) v xs ys (behind_in L M statement (KwContinue means UnattributedStatement.continue_statement) (KwContinue means UnattributedStatement.continue_statement) (λ u us vs s. s) v xs ys d)
-rule_in L M discard_statement v xs ys d = roll M (factored L) (of discard_statement) v xs ys (behind_in L M statement (KwDiscard means UnattributedStatement.discard_statement) (KwDiscard means UnattributedStatement.discard_statement) (λ u us vs s. s) v xs ys d)
-rule_in L M phony_assignment v xs ys d = roll M (factored L) (of phony_assignment) v xs ys (behind_in L M statement phony_kind (symbol (further phony_part)) (met_in L M (further phony_part)) v xs ys d)
-rule_in L M const_assert v xs ys d = roll M (factored L) (of const_assert) v xs ys (behind_in L M with_attributes assert_kind (symbol (further assert_part)) (met_in L M (further assert_part)) v xs ys d)
-rule_in L M switch_clause v xs ys d = roll M (factored L) (of switch_clause) v xs ys (behind_in L M clause_of clause_kinds (symbol (further clause_part)) (met_in L M (further clause_part)) v xs ys d)
-rule_in L M continuing_statement v xs ys d = roll M (factored L) (of continuing_statement) v xs ys (behind_in L M continuing_statement_of (continuing_kind L) (symbol (further continuing_part)) (met_in L M (further continuing_part)) v xs ys d)
-rule_in L M const_declaration v xs ys d = roll M (factored L) (of const_declaration) v xs ys (behind_in L M with_attributes global_const_kind (symbol (further const_part)) (met_in L M (further const_part)) v xs ys d)
-rule_in L M alias_declaration v xs ys d = roll M (factored L) (of alias_declaration) v xs ys (behind_in L M with_attributes alias_kind (symbol (further alias_part)) (met_in L M (further alias_part)) v xs ys d)
-rule_in L M struct_declaration v xs ys d = roll M (factored L) (of struct_declaration) v xs ys (behind_in L M with_attributes struct_kind (symbol (further struct_part)) (met_in L M (further struct_part)) v xs ys d)
-rule_in L M enable_directive v xs ys d = roll M (factored L) (of enable_directive) v xs ys (behind_in L M with_attributes enable_kind (symbol (further enable_part)) (met_in L M (further enable_part)) v xs ys d)
-rule_in L M requires_directive v xs ys d = roll M (factored L) (of requires_directive) v xs ys (behind_in L M with_attributes requires_kind (symbol (further requires_part)) (met_in L M (further requires_part)) v xs ys d)
-rule_in L M diagnostic_directive v xs ys d = roll M (factored L) (of diagnostic_directive) v xs ys (behind_in L M with_attributes diagnostic_kind (symbol (further diagnostic_part)) (met_in L M (further diagnostic_part)) v xs ys d)
+rule_in L M return_statement v xs ys d = roll M (factored L) (of return_statement) v xs ys
+    (behind_in L M statement return_kind (symbol (further returning_part))
+    (met_in L M (further returning_part)) v xs ys d)
+rule_in L M call_statement v xs ys d = roll M (factored L) (of call_statement) v xs ys
+    (behind_in L M statement (symbol call gives call_statement_of)
+    (symbol (of call) gives call_statement_of) (λ u us vs s. s) v xs ys d)
+rule_in L M var_statement v xs ys d = roll M (factored L) (of var_statement) v xs ys (behind_in L M
+    statement local_kind (symbol (further local_part)) (met_in L M (further local_part)) v xs ys d)
+rule_in L M value_statement v xs ys d = roll M (factored L) (of value_statement) v xs ys
+    (behind_in L M statement value_kind (symbol (further value_part)) (met_in L M (further value_part)) v xs ys d)
+rule_in L M break_statement v xs ys d = roll M (factored L) (of break_statement) v xs ys
+    (behind_in L M statement (KwBreak means UnattributedStatement.break_statement)
+    (KwBreak means UnattributedStatement.break_statement) (λ u us vs s. s) v xs ys d)
+rule_in L M continue_statement v xs ys d = roll M (factored L) (of continue_statement) v xs ys
+    (behind_in L M statement (KwContinue means UnattributedStatement.continue_statement)
+    (KwContinue means UnattributedStatement.continue_statement) (λ u us vs s. s) v xs ys d)
+rule_in L M discard_statement v xs ys d = roll M (factored L) (of discard_statement) v xs ys
+    (behind_in L M statement (KwDiscard means UnattributedStatement.discard_statement)
+    (KwDiscard means UnattributedStatement.discard_statement) (λ u us vs s. s) v xs ys d)
+rule_in L M phony_assignment v xs ys d = roll M (factored L) (of phony_assignment) v xs ys
+    (behind_in L M statement phony_kind (symbol (further phony_part)) (met_in L M (further phony_part)) v xs ys d)
+rule_in L M const_assert v xs ys d = roll M (factored L) (of const_assert) v xs ys
+    (behind_in L M with_attributes assert_kind (symbol (further assert_part))
+    (met_in L M (further assert_part)) v xs ys d)
+rule_in L M switch_clause v xs ys d = roll M (factored L) (of switch_clause) v xs ys (behind_in L M
+    clause_of clause_kinds (symbol (further clause_part)) (met_in L M (further clause_part)) v xs ys d)
+rule_in L M continuing_statement v xs ys d = roll M (factored L) (of continuing_statement) v xs ys
+    (behind_in L M continuing_statement_of (continuing_kind L) (symbol (further continuing_part))
+    (met_in L M (further continuing_part)) v xs ys d)
+rule_in L M const_declaration v xs ys d = roll M (factored L) (of const_declaration) v xs ys
+    (behind_in L M with_attributes global_const_kind (symbol (further const_part))
+    (met_in L M (further const_part)) v xs ys d)
+rule_in L M alias_declaration v xs ys d = roll M (factored L) (of alias_declaration) v xs ys
+    (behind_in L M with_attributes alias_kind (symbol (further alias_part)) (met_in L M (further alias_part)) v xs ys d)
+rule_in L M struct_declaration v xs ys d = roll M (factored L) (of struct_declaration) v xs ys
+    (behind_in L M with_attributes struct_kind (symbol (further struct_part))
+    (met_in L M (further struct_part)) v xs ys d)
+rule_in L M enable_directive v xs ys d = roll M (factored L) (of enable_directive) v xs ys
+    (behind_in L M with_attributes enable_kind (symbol (further enable_part))
+    (met_in L M (further enable_part)) v xs ys d)
+rule_in L M requires_directive v xs ys d = roll M (factored L) (of requires_directive) v xs ys
+    (behind_in L M with_attributes requires_kind (symbol (further requires_part))
+    (met_in L M (further requires_part)) v xs ys d)
+rule_in L M diagnostic_directive v xs ys d = roll M (factored L) (of diagnostic_directive) v xs ys
+    (behind_in L M with_attributes diagnostic_kind (symbol (further diagnostic_part))
+    (met_in L M (further diagnostic_part)) v xs ys d)
 rule_in L M n v xs ys d = alike_in L M n v xs ys d
 
 -- what the written grammar derives, the factored one does
@@ -260,30 +349,51 @@ pub written_is_factored : (L : Dialect) (M : Mode) (n : Symbol) → Kept (Part M
 written_is_factored L M = least M (rules L) (ReadPart L M) (rule_in L M)
 
 -- ---- and back
-behind_out : (L : Dialect) (M : Mode) {A B : Type 0} (make : Attributes → A → B) (g : Rule A) (h : FactoredRule A) → Kept (Means M (Meant L M (WrittenPart L M)) h) (Means M (WrittenPart L M) g)
+behind_out : (L : Dialect) (M : Mode) {A B : Type 0} (make : Attributes → A → B) (g : Rule A) (h : FactoredRule A)
+    → Kept (Means M (Meant L M (WrittenPart L M)) h) (Means M (WrittenPart L M) g)
     → Kept (Means M (Meant L M (WrittenPart L M)) (leading_before L make h)) (Means M (WrittenPart L M) (led L make g))
 behind_out L M make g h H = led_from L M (WrittenPart L M) (Meant L M (WrittenPart L M)) (meant_list L M) make g h H
 
-rule_out : (L : Dialect) (M : Mode) (n : FactoredSymbol) → Kept (Means M (Meant L M (WrittenPart L M)) (factored L n)) (Meant L M (WrittenPart L M) n)
-rule_out L M (further template_items) v xs ys d = items_out M (Meant L M (WrittenPart L M)) TemplateArgsEnd (symbol (of expression)) (symbol (further template_more)) (λ v xs ys d. d) v xs ys d
-rule_out L M (further template_rest) v xs ys d = rest_out M (Meant L M (WrittenPart L M)) TemplateArgsEnd (symbol (of expression)) (symbol (further template_more)) (λ v xs ys d. d) v xs ys d
-rule_out L M (further template_more) v xs ys d = more_out M (Meant L M (WrittenPart L M)) TemplateArgsEnd (symbol (of expression)) (symbol (further template_rest)) (λ v xs ys d. d) v xs ys d
-rule_out L M (further argument_rest) v xs ys d = rest_out M (Meant L M (WrittenPart L M)) SymParenRight (symbol (of expression)) (symbol (further argument_more)) (λ v xs ys d. d) v xs ys d
-rule_out L M (further argument_more) v xs ys d = more_out M (Meant L M (WrittenPart L M)) SymParenRight (symbol (of expression)) (symbol (further argument_rest)) (λ v xs ys d. d) v xs ys d
-rule_out L M (further member_items) v xs ys d = items_out M (Meant L M (WrittenPart L M)) SymBraceRight (symbol (of struct_member)) (symbol (further member_more)) (λ v xs ys d. d) v xs ys d
-rule_out L M (further member_rest) v xs ys d = rest_out M (Meant L M (WrittenPart L M)) SymBraceRight (symbol (of struct_member)) (symbol (further member_more)) (λ v xs ys d. d) v xs ys d
-rule_out L M (further member_more) v xs ys d = more_out M (Meant L M (WrittenPart L M)) SymBraceRight (symbol (of struct_member)) (symbol (further member_rest)) (λ v xs ys d. d) v xs ys d
-rule_out L M (further parameter_rest) v xs ys d = rest_out M (Meant L M (WrittenPart L M)) SymParenRight (symbol (of formal_parameter)) (symbol (further parameter_more)) (λ v xs ys d. d) v xs ys d
-rule_out L M (further parameter_more) v xs ys d = more_out M (Meant L M (WrittenPart L M)) SymParenRight (symbol (of formal_parameter)) (symbol (further parameter_rest)) (λ v xs ys d. d) v xs ys d
-rule_out L M (further name_items) v xs ys d = items_out M (Meant L M (WrittenPart L M)) SymSemicolon (symbol (of ident)) (symbol (further name_more)) (λ v xs ys d. d) v xs ys d
-rule_out L M (further name_rest) v xs ys d = rest_out M (Meant L M (WrittenPart L M)) SymSemicolon (symbol (of ident)) (symbol (further name_more)) (λ v xs ys d. d) v xs ys d
-rule_out L M (further name_more) v xs ys d = more_out M (Meant L M (WrittenPart L M)) SymSemicolon (symbol (of ident)) (symbol (further name_rest)) (λ v xs ys d. d) v xs ys d
-rule_out L M (further selectors) v xs ys d = listed_out M (Meant L M (WrittenPart L M)) (symbol (of case_selector)) (symbol (further selectors)) (λ v xs ys d. d) v xs ys d
-rule_out L M (further statement_rest) v xs ys d = until_out M (Meant L M (WrittenPart L M)) SymBraceRight (symbol (of statement)) (symbol (further statement_rest)) (λ v xs ys d. d) v xs ys d
-rule_out L M (further clause_rest) v xs ys d = until_out M (Meant L M (WrittenPart L M)) SymBraceRight (symbol (of switch_clause)) (symbol (further clause_rest)) (λ v xs ys d. d) v xs ys d
-rule_out L M (further init_part) v xs ys d = optional_out M (Meant L M (WrittenPart L M)) SymSemicolon (symbol (of for_init)) v xs ys d
-rule_out L M (further condition_part) v xs ys d = optional_out M (Meant L M (WrittenPart L M)) SymSemicolon (symbol (of expression)) v xs ys d
-rule_out L M (further update_part) v xs ys d = optional_out M (Meant L M (WrittenPart L M)) SymParenRight (symbol (of for_update)) v xs ys d
+rule_out : (L : Dialect) (M : Mode) (n : FactoredSymbol)
+    → Kept (Means M (Meant L M (WrittenPart L M)) (factored L n)) (Meant L M (WrittenPart L M) n)
+rule_out L M (further template_items) v xs ys d = items_out M (Meant L M (WrittenPart L M))
+    TemplateArgsEnd (symbol (of expression)) (symbol (further template_more)) (λ v xs ys d. d) v xs ys d
+rule_out L M (further template_rest) v xs ys d = rest_out M (Meant L M (WrittenPart L M)) TemplateArgsEnd
+    (symbol (of expression)) (symbol (further template_more)) (λ v xs ys d. d) v xs ys d
+rule_out L M (further template_more) v xs ys d = more_out M (Meant L M (WrittenPart L M)) TemplateArgsEnd
+    (symbol (of expression)) (symbol (further template_rest)) (λ v xs ys d. d) v xs ys d
+rule_out L M (further argument_rest) v xs ys d = rest_out M (Meant L M (WrittenPart L M)) SymParenRight
+    (symbol (of expression)) (symbol (further argument_more)) (λ v xs ys d. d) v xs ys d
+rule_out L M (further argument_more) v xs ys d = more_out M (Meant L M (WrittenPart L M)) SymParenRight
+    (symbol (of expression)) (symbol (further argument_rest)) (λ v xs ys d. d) v xs ys d
+rule_out L M (further member_items) v xs ys d = items_out M (Meant L M (WrittenPart L M)) SymBraceRight
+    (symbol (of struct_member)) (symbol (further member_more)) (λ v xs ys d. d) v xs ys d
+rule_out L M (further member_rest) v xs ys d = rest_out M (Meant L M (WrittenPart L M)) SymBraceRight
+    (symbol (of struct_member)) (symbol (further member_more)) (λ v xs ys d. d) v xs ys d
+rule_out L M (further member_more) v xs ys d = more_out M (Meant L M (WrittenPart L M)) SymBraceRight
+    (symbol (of struct_member)) (symbol (further member_rest)) (λ v xs ys d. d) v xs ys d
+rule_out L M (further parameter_rest) v xs ys d = rest_out M (Meant L M (WrittenPart L M)) SymParenRight
+    (symbol (of formal_parameter)) (symbol (further parameter_more)) (λ v xs ys d. d) v xs ys d
+rule_out L M (further parameter_more) v xs ys d = more_out M (Meant L M (WrittenPart L M)) SymParenRight
+    (symbol (of formal_parameter)) (symbol (further parameter_rest)) (λ v xs ys d. d) v xs ys d
+rule_out L M (further name_items) v xs ys d = items_out M (Meant L M (WrittenPart L M)) SymSemicolon
+    (symbol (of ident)) (symbol (further name_more)) (λ v xs ys d. d) v xs ys d
+rule_out L M (further name_rest) v xs ys d = rest_out M (Meant L M (WrittenPart L M)) SymSemicolon
+    (symbol (of ident)) (symbol (further name_more)) (λ v xs ys d. d) v xs ys d
+rule_out L M (further name_more) v xs ys d = more_out M (Meant L M (WrittenPart L M)) SymSemicolon
+    (symbol (of ident)) (symbol (further name_rest)) (λ v xs ys d. d) v xs ys d
+rule_out L M (further selectors) v xs ys d = listed_out M (Meant L M (WrittenPart L M))
+    (symbol (of case_selector)) (symbol (further selectors)) (λ v xs ys d. d) v xs ys d
+rule_out L M (further statement_rest) v xs ys d = until_out M (Meant L M (WrittenPart L M))
+    SymBraceRight (symbol (of statement)) (symbol (further statement_rest)) (λ v xs ys d. d) v xs ys d
+rule_out L M (further clause_rest) v xs ys d = until_out M (Meant L M (WrittenPart L M)) SymBraceRight
+    (symbol (of switch_clause)) (symbol (further clause_rest)) (λ v xs ys d. d) v xs ys d
+rule_out L M (further init_part) v xs ys d = optional_out M
+    (Meant L M (WrittenPart L M)) SymSemicolon (symbol (of for_init)) v xs ys d
+rule_out L M (further condition_part) v xs ys d = optional_out M
+    (Meant L M (WrittenPart L M)) SymSemicolon (symbol (of expression)) v xs ys d
+rule_out L M (further update_part) v xs ys d = optional_out M
+    (Meant L M (WrittenPart L M)) SymParenRight (symbol (of for_update)) v xs ys d
 rule_out L M (further loop_rest) v xs ys d = loop_rest_out L M v xs ys d
 rule_out L M (further else_rest) v xs ys d = else_rest_out L M v xs ys d
 rule_out L M (further continuing_rest) v xs ys d = continuing_rest_out L M v xs ys d
@@ -293,32 +403,64 @@ rule_out L M (further simple_part) v xs ys d = simple_part_out L M v xs ys d
 rule_out L M (further front) v xs ys d = front_out L M v xs ys d
 rule_out L M (further summands) v xs ys d = lifted_out M (Meant L M (WrittenPart L M)) (meaning L summands) v xs ys d
 rule_out L M (further x) v xs ys d = d
-rule_out L M (of ident) v xs ys d = roll M (rules L) ident v xs ys (lifted_out M (Meant L M (WrittenPart L M)) (rules L ident) v xs ys d)
-rule_out L M (of attribute) v xs ys d = roll M (rules L) attribute v xs ys (lifted_out M (Meant L M (WrittenPart L M)) (rules L attribute) v xs ys d)
-rule_out L M (of var_template) v xs ys d = roll M (rules L) var_template v xs ys (lifted_out M (Meant L M (WrittenPart L M)) (rules L var_template) v xs ys d)
-rule_out L M (of diagnostic_severity) v xs ys d = roll M (rules L) diagnostic_severity v xs ys (lifted_out M (Meant L M (WrittenPart L M)) (rules L diagnostic_severity) v xs ys d)
-rule_out L M (of assignment) v xs ys d = roll M (rules L) assignment v xs ys (lifted_out M (Meant L M (WrittenPart L M)) (rules L assignment) v xs ys d)
-rule_out L M (of increment) v xs ys d = roll M (rules L) increment v xs ys (lifted_out M (Meant L M (WrittenPart L M)) (rules L increment) v xs ys d)
-rule_out L M (of decrement) v xs ys d = roll M (rules L) decrement v xs ys (lifted_out M (Meant L M (WrittenPart L M)) (rules L decrement) v xs ys d)
-rule_out L M (of return_statement) v xs ys d = roll M (rules L) return_statement v xs ys (behind_out L M statement return_kind (symbol (further returning_part)) (λ u us vs s. s) v xs ys d)
-rule_out L M (of call_statement) v xs ys d = roll M (rules L) call_statement v xs ys (behind_out L M statement (symbol call gives call_statement_of) (symbol (of call) gives call_statement_of) (λ u us vs s. s) v xs ys d)
-rule_out L M (of var_statement) v xs ys d = roll M (rules L) var_statement v xs ys (behind_out L M statement local_kind (symbol (further local_part)) (λ u us vs s. s) v xs ys d)
-rule_out L M (of value_statement) v xs ys d = roll M (rules L) value_statement v xs ys (behind_out L M statement value_kind (symbol (further value_part)) (λ u us vs s. s) v xs ys d)
-rule_out L M (of break_statement) v xs ys d = roll M (rules L) break_statement v xs ys (behind_out L M statement (KwBreak means UnattributedStatement.break_statement) (KwBreak means UnattributedStatement.break_statement) (λ u us vs s. s) v xs ys d)
-rule_out L M (of continue_statement) v xs ys d = roll M (rules L) continue_statement v xs ys (behind_out L M statement (KwContinue means UnattributedStatement.continue_statement) (KwContinue means UnattributedStatement.continue_statement) (λ u us vs s. s) v xs ys d)
-rule_out L M (of discard_statement) v xs ys d = roll M (rules L) discard_statement v xs ys (behind_out L M statement (KwDiscard means UnattributedStatement.discard_statement) (KwDiscard means UnattributedStatement.discard_statement) (λ u us vs s. s) v xs ys d)
-rule_out L M (of phony_assignment) v xs ys d = roll M (rules L) phony_assignment v xs ys (behind_out L M statement phony_kind (symbol (further phony_part)) (λ u us vs s. s) v xs ys d)
-rule_out L M (of const_assert) v xs ys d = roll M (rules L) const_assert v xs ys (behind_out L M with_attributes assert_kind (symbol (further assert_part)) (λ u us vs s. s) v xs ys d)
-rule_out L M (of switch_clause) v xs ys d = roll M (rules L) switch_clause v xs ys (behind_out L M clause_of clause_kinds (symbol (further clause_part)) (λ u us vs s. s) v xs ys d)
-rule_out L M (of continuing_statement) v xs ys d = roll M (rules L) continuing_statement v xs ys (behind_out L M continuing_statement_of (continuing_kind L) (symbol (further continuing_part)) (λ u us vs s. s) v xs ys d)
-rule_out L M (of const_declaration) v xs ys d = roll M (rules L) const_declaration v xs ys (behind_out L M with_attributes global_const_kind (symbol (further const_part)) (λ u us vs s. s) v xs ys d)
-rule_out L M (of alias_declaration) v xs ys d = roll M (rules L) alias_declaration v xs ys (behind_out L M with_attributes alias_kind (symbol (further alias_part)) (λ u us vs s. s) v xs ys d)
-rule_out L M (of struct_declaration) v xs ys d = roll M (rules L) struct_declaration v xs ys (behind_out L M with_attributes struct_kind (symbol (further struct_part)) (λ u us vs s. s) v xs ys d)
-rule_out L M (of enable_directive) v xs ys d = roll M (rules L) enable_directive v xs ys (behind_out L M with_attributes enable_kind (symbol (further enable_part)) (λ u us vs s. s) v xs ys d)
-rule_out L M (of requires_directive) v xs ys d = roll M (rules L) requires_directive v xs ys (behind_out L M with_attributes requires_kind (symbol (further requires_part)) (λ u us vs s. s) v xs ys d)
-rule_out L M (of diagnostic_directive) v xs ys d = roll M (rules L) diagnostic_directive v xs ys (behind_out L M with_attributes diagnostic_kind (symbol (further diagnostic_part)) (λ u us vs s. s) v xs ys d)
-rule_out L M (of additive_expression) v xs ys d = roll M (rules L) additive_expression v xs ys (lifted_out M (Meant L M (WrittenPart L M)) (rules L additive_expression) v xs ys d)
-rule_out L M (of expressions) v xs ys d = roll M (rules L) expressions v xs ys (listed_out M (Meant L M (WrittenPart L M)) (symbol (of expression)) (symbol (of expressions)) (λ v xs ys d. unroll M (rules L) expressions v xs ys d) v xs ys d)
+rule_out L M (of ident) v xs ys d = roll M (rules L) ident v xs ys
+    (lifted_out M (Meant L M (WrittenPart L M)) (rules L ident) v xs ys d)
+rule_out L M (of attribute) v xs ys d = roll M (rules L) attribute v xs ys
+    (lifted_out M (Meant L M (WrittenPart L M)) (rules L attribute) v xs ys d)
+rule_out L M (of var_template) v xs ys d = roll M (rules L) var_template v xs ys
+    (lifted_out M (Meant L M (WrittenPart L M)) (rules L var_template) v xs ys d)
+rule_out L M (of diagnostic_severity) v xs ys d = roll M (rules L) diagnostic_severity v xs ys
+    (lifted_out M (Meant L M (WrittenPart L M)) (rules L diagnostic_severity) v xs ys d)
+rule_out L M (of assignment) v xs ys d = roll M (rules L) assignment v xs ys
+    (lifted_out M (Meant L M (WrittenPart L M)) (rules L assignment) v xs ys d)
+rule_out L M (of increment) v xs ys d = roll M (rules L) increment v xs ys
+    (lifted_out M (Meant L M (WrittenPart L M)) (rules L increment) v xs ys d)
+rule_out L M (of decrement) v xs ys d = roll M (rules L) decrement v xs ys
+    (lifted_out M (Meant L M (WrittenPart L M)) (rules L decrement) v xs ys d)
+rule_out L M (of return_statement) v xs ys d = roll M (rules L) return_statement v xs ys
+    (behind_out L M statement return_kind (symbol (further returning_part)) (λ u us vs s. s) v xs ys d)
+rule_out L M (of call_statement) v xs ys d = roll M (rules L) call_statement v xs ys
+    (behind_out L M statement (symbol call gives call_statement_of)
+    (symbol (of call) gives call_statement_of) (λ u us vs s. s) v xs ys d)
+rule_out L M (of var_statement) v xs ys d = roll M (rules L) var_statement v xs ys
+    (behind_out L M statement local_kind (symbol (further local_part)) (λ u us vs s. s) v xs ys d)
+rule_out L M (of value_statement) v xs ys d = roll M (rules L) value_statement v xs ys
+    (behind_out L M statement value_kind (symbol (further value_part)) (λ u us vs s. s) v xs ys d)
+rule_out L M (of break_statement) v xs ys d = roll M (rules L) break_statement v xs ys
+    (behind_out L M statement (KwBreak means UnattributedStatement.break_statement)
+    (KwBreak means UnattributedStatement.break_statement) (λ u us vs s. s) v xs ys d)
+rule_out L M (of continue_statement) v xs ys d = roll M (rules L) continue_statement v xs ys
+    (behind_out L M statement (KwContinue means UnattributedStatement.continue_statement)
+    (KwContinue means UnattributedStatement.continue_statement) (λ u us vs s. s) v xs ys d)
+rule_out L M (of discard_statement) v xs ys d = roll M (rules L) discard_statement v xs ys
+    (behind_out L M statement (KwDiscard means UnattributedStatement.discard_statement)
+    (KwDiscard means UnattributedStatement.discard_statement) (λ u us vs s. s) v xs ys d)
+rule_out L M (of phony_assignment) v xs ys d = roll M (rules L) phony_assignment v xs ys
+    (behind_out L M statement phony_kind (symbol (further phony_part)) (λ u us vs s. s) v xs ys d)
+rule_out L M (of const_assert) v xs ys d = roll M (rules L) const_assert v xs ys
+    (behind_out L M with_attributes assert_kind (symbol (further assert_part)) (λ u us vs s. s) v xs ys d)
+rule_out L M (of switch_clause) v xs ys d = roll M (rules L) switch_clause v xs ys
+    (behind_out L M clause_of clause_kinds (symbol (further clause_part)) (λ u us vs s. s) v xs ys d)
+rule_out L M (of continuing_statement) v xs ys d = roll M (rules L) continuing_statement v xs ys
+    (behind_out L M continuing_statement_of (continuing_kind L) (symbol (further continuing_part))
+    (λ u us vs s. s) v xs ys d)
+rule_out L M (of const_declaration) v xs ys d = roll M (rules L) const_declaration v xs ys
+    (behind_out L M with_attributes global_const_kind (symbol (further const_part)) (λ u us vs s. s) v xs ys d)
+rule_out L M (of alias_declaration) v xs ys d = roll M (rules L) alias_declaration v xs ys
+    (behind_out L M with_attributes alias_kind (symbol (further alias_part)) (λ u us vs s. s) v xs ys d)
+rule_out L M (of struct_declaration) v xs ys d = roll M (rules L) struct_declaration v xs ys
+    (behind_out L M with_attributes struct_kind (symbol (further struct_part)) (λ u us vs s. s) v xs ys d)
+rule_out L M (of enable_directive) v xs ys d = roll M (rules L) enable_directive v xs ys
+    (behind_out L M with_attributes enable_kind (symbol (further enable_part)) (λ u us vs s. s) v xs ys d)
+rule_out L M (of requires_directive) v xs ys d = roll M (rules L) requires_directive v xs ys
+    (behind_out L M with_attributes requires_kind (symbol (further requires_part)) (λ u us vs s. s) v xs ys d)
+rule_out L M (of diagnostic_directive) v xs ys d = roll M (rules L) diagnostic_directive v xs ys
+    (behind_out L M with_attributes diagnostic_kind (symbol (further diagnostic_part)) (λ u us vs s. s) v xs ys d)
+rule_out L M (of additive_expression) v xs ys d = roll M (rules L) additive_expression v xs ys
+    (lifted_out M (Meant L M (WrittenPart L M)) (rules L additive_expression) v xs ys d)
+rule_out L M (of expressions) v xs ys d = roll M (rules L) expressions v xs ys
+    (listed_out M (Meant L M (WrittenPart L M)) (symbol (of expression)) (symbol (of expressions))
+    (λ v xs ys d. unroll M (rules L) expressions v xs ys d) v xs ys d)
 rule_out L M (of primary_expression) v xs ys d = primary_out L M v xs ys d
 rule_out L M (of singular_expression) v xs ys d = singular_back L M v xs ys d
 rule_out L M (of shift_expression) v xs ys d = shift_back L M v xs ys d

@@ -17,7 +17,8 @@ unfolding after_trivia
 over_blank c cs e = rw e refl
 
 -- a character that begins neither
-bare_at : (c : ℕ) (cs : List ℕ) → is_blank c ≡ false → (c == 47 && first_or_zero cs == 47) ≡ false → (c == 47 && first_or_zero cs == 42) ≡ false → IsBare (c ∷ cs)
+bare_at : (c : ℕ) (cs : List ℕ) → is_blank c ≡ false → (c == 47 && first_or_zero cs == 47) ≡ false
+    → (c == 47 && first_or_zero cs == 42) ≡ false → IsBare (c ∷ cs)
 unfolding after_trivia
 bare_at c cs b l k = rw (b, l, k) refl
 
@@ -27,9 +28,13 @@ behind_trivia p [] = refl
 behind_trivia outside (c ∷ cs) =
     either_bare (is_blank c) _ _ (λ e. behind_trivia outside cs) (λ b.
     either_bare (c == 47 && first_or_zero cs == 47) _ _ (λ e. behind_trivia (second in_line) cs) (λ l.
-    either_bare (c == 47 && first_or_zero cs == 42) _ _ (λ e. behind_trivia (second (in_block 0)) cs) (λ k. bare_at c cs b l k)))
-behind_trivia in_line (c ∷ cs) = either_bare (is_line_break c) _ _ (λ e. behind_trivia outside cs) (λ e. behind_trivia in_line cs)
+    either_bare (c == 47 && first_or_zero cs == 42) _ _
+    (λ e. behind_trivia (second (in_block 0)) cs) (λ k. bare_at c cs b l k)))
+behind_trivia in_line (c ∷ cs) = either_bare (is_line_break c) _ _ (λ e. behind_trivia outside cs)
+    (λ e. behind_trivia in_line cs)
 behind_trivia (in_block n) (c ∷ cs) =
-    either_bare (c == 47 && first_or_zero cs == 42) _ _ (λ e. behind_trivia (second (in_block (suc n))) cs) (λ l.
-    either_bare (c == 42 && first_or_zero cs == 47) _ _ (λ e. behind_trivia (second (out_of_block n)) cs) (λ k. behind_trivia (in_block n) cs))
+    either_bare (c == 47 && first_or_zero cs == 42) _ _
+    (λ e. behind_trivia (second (in_block (suc n))) cs) (λ l.
+    either_bare (c == 42 && first_or_zero cs == 47) _ _
+    (λ e. behind_trivia (second (out_of_block n)) cs) (λ k. behind_trivia (in_block n) cs))
 behind_trivia (second p) (c ∷ cs) = behind_trivia p cs

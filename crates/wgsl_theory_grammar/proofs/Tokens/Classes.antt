@@ -4,7 +4,7 @@ use Rattle.std.proofs.lemmas.Bool.{false_from_ne_true}
 use Rattle.grammar.specs.Grammar.{is_among}
 use Rattle.grammar.specs.Tables.{disjoint}
 use Rattle.grammar.proofs.Reading.Sets.{and_true, apart, clash, cond_either}
-use Rattle.wgsl_model.specs.Tokens.Classes.{SymAndAnd, SymBracketLeft, SymBracketRight, SymGreaterThan, SymGreaterThanEqual, SymShiftRight, SymOrOr, SymParenLeft, SymParenRight, SymShiftRightAssign}
+use Rattle.wgsl_model.specs.Tokens.ClassTable.{SymAndAnd, SymBracketLeft, SymBracketRight, SymGreaterThan, SymGreaterThanEqual, SymShiftRight, SymOrOr, SymParenLeft, SymParenRight, SymShiftRightAssign}
 use Rattle.wgsl_model.specs.Tokens.Templates.{is_word, is_opening, is_closing, begins_with_greater, is_short_circuit, goes_on}
 
 -- a test passes on all classes of a list
@@ -27,7 +27,9 @@ pub in_both : (c : ℕ) (r s : List ℕ) → disjoint r s ≡ true → is_among 
 in_both c r s e m n = clash _ n (apart c r s e m)
 
 no_word : (c : ℕ) (s : List ℕ) → all_pass (λ d. not (is_word d)) s ≡ true → is_among c s ≡ true → is_word c ≡ true → ⊥
-no_word c s e m w = let p = passes_on (λ d. not (is_word d)) c s e m in let q : not (is_word c) ≡ false = ap not w in clash _ p q
+no_word c s e m w =
+    let p = passes_on (λ d. not (is_word d)) c s e m in
+    let q : not (is_word c) ≡ false = ap not w in clash _ p q
 
 abbrev opening : List ℕ
 opening = SymParenLeft ∷ SymBracketLeft ∷ []
@@ -78,15 +80,20 @@ none_of_four a b c d h = absurd cc
 
 -- what a list goes on behind is no bracket
 pub no_bracket : (depth c : ℕ) → goes_on depth c ≡ true → (is_opening c ≡ false) × (is_closing c ≡ false)
-no_bracket zero c g = let t = none_of_four (is_opening c) (is_closing c) (begins_with_greater c) (is_short_circuit c) g in (t.0, t.1)
+no_bracket zero c g =
+    let t = none_of_four (is_opening c) (is_closing c) (begins_with_greater c) (is_short_circuit c) g in
+    (t.0, t.1)
 no_bracket (suc depth) c g = none_of_two (is_opening c) (is_closing c) g
 
 -- nor, outside brackets, what ends it or breaks it off
 pub no_end : (c : ℕ) → goes_on 0 c ≡ true → (begins_with_greater c ≡ false) × (is_short_circuit c ≡ false)
-no_end c g = let t = none_of_four (is_opening c) (is_closing c) (begins_with_greater c) (is_short_circuit c) g in (t.2, t.3)
+no_end c g =
+    let t = none_of_four (is_opening c) (is_closing c) (begins_with_greater c) (is_short_circuit c) g in
+    (t.2, t.3)
 
 -- a list goes on behind what is none of these
-pub goes_on_zero : (c : ℕ) → is_opening c ≡ false → is_closing c ≡ false → begins_with_greater c ≡ false → is_short_circuit c ≡ false → goes_on 0 c ≡ true
+pub goes_on_zero : (c : ℕ) → is_opening c ≡ false → is_closing c ≡ false
+    → begins_with_greater c ≡ false → is_short_circuit c ≡ false → goes_on 0 c ≡ true
 goes_on_zero c o l g s = rw (o, l, g, s) refl
 
 pub goes_on_deeper : (depth c : ℕ) → is_opening c ≡ false → is_closing c ≡ false → goes_on (suc depth) c ≡ true
@@ -95,5 +102,8 @@ goes_on_deeper depth c o l = rw (o, l) refl
 -- and so behind words
 pub word_goes_on : (depth c : ℕ) → is_word c ≡ true → goes_on depth c ≡ true
 word_goes_on zero c w =
-    goes_on_zero c (false_from_ne_true _ (λ o. opening_word c o w)) (false_from_ne_true _ (λ o. closing_word c o w)) (false_from_ne_true _ (λ o. greater_word c o w)) (false_from_ne_true _ (λ o. short_circuit_word c o w))
-word_goes_on (suc depth) c w = goes_on_deeper depth c (false_from_ne_true _ (λ o. opening_word c o w)) (false_from_ne_true _ (λ o. closing_word c o w))
+    goes_on_zero c (false_from_ne_true _ (λ o. opening_word c o w))
+    (false_from_ne_true _ (λ o. closing_word c o w)) (false_from_ne_true _ (λ o. greater_word c o w))
+    (false_from_ne_true _ (λ o. short_circuit_word c o w))
+word_goes_on (suc depth) c w = goes_on_deeper depth c
+    (false_from_ne_true _ (λ o. opening_word c o w)) (false_from_ne_true _ (λ o. closing_word c o w))

@@ -49,20 +49,24 @@ longest-ends : (p : List ℕ → Bool) (text rest : List ℕ) → after_longest 
 unfolding after_longest
 longest-ends p [] rest e = here-ends (p []) [] rest e
 longest-ends p (c ∷ cs) rest e =
-    either-ends c cs rest (after_longest (λ front. p (c ∷ front)) cs) (p []) (λ r k. longest-ends (λ front. p (c ∷ front)) cs r k) e
+    either-ends c cs rest (after_longest (λ front. p (c ∷ front)) cs) (p [])
+    (λ r k. longest-ends (λ front. p (c ∷ front)) cs r k) e
 
 -- what is found behind its first character alone stands behind some character
-either-passes : (c : ℕ) (cs rest : List ℕ) (o : Option (List ℕ)) (b : Bool) → b ≡ false → ((r : List ℕ) → o ≡ Some r → EndsWith cs r)
+either-passes : (c : ℕ) (cs rest : List ℕ) (o : Option (List ℕ)) (b : Bool) → b ≡ false
+    → ((r : List ℕ) → o ≡ Some r → EndsWith cs r)
     → or_else o (cond b (Some (c ∷ cs)) None) ≡ Some rest → EndsPast (c ∷ cs) rest
 either-passes c cs rest None true n h e = absurd (cc)
 either-passes c cs rest None false n h e = absurd (cc)
 either-passes c cs rest (Some r) b n h e = past c cs rest (h rest e)
 
 -- where the empty front does not pass, at least one character stands before
-longest-passes : (p : List ℕ → Bool) (c : ℕ) (cs rest : List ℕ) → p [] ≡ false → after_longest p (c ∷ cs) ≡ Some rest → EndsPast (c ∷ cs) rest
+longest-passes : (p : List ℕ → Bool) (c : ℕ) (cs rest : List ℕ) → p [] ≡ false
+    → after_longest p (c ∷ cs) ≡ Some rest → EndsPast (c ∷ cs) rest
 unfolding after_longest
 longest-passes p c cs rest n e =
-    either-passes c cs rest (after_longest (λ front. p (c ∷ front)) cs) (p []) n (λ r k. longest-ends (λ front. p (c ∷ front)) cs r k) e
+    either-passes c cs rest (after_longest (λ front. p (c ∷ front)) cs) (p []) n
+    (λ r k. longest-ends (λ front. p (c ∷ front)) cs r k) e
 
 -- nothing is no spelling of a token
 empty-spells : spells spelling [] ≡ false
@@ -80,9 +84,11 @@ valued-cuts text rest None h = (([], refl), h)
 valued-cuts text rest (Some kind) h = (([], refl), h)
 
 -- and a text with no spelling is cut behind one character
-spelled-cuts : (c : ℕ) (cs : List ℕ) (o : Option (List ℕ)) → after_spelling spelling (c ∷ cs) ≡ o → IsCut (c ∷ cs) (spelled (c ∷ cs) cs o)
+spelled-cuts : (c : ℕ) (cs : List ℕ) (o : Option (List ℕ)) → after_spelling spelling (c ∷ cs) ≡ o
+    → IsCut (c ∷ cs) (spelled (c ∷ cs) cs o)
 spelled-cuts c cs None e = (([], refl), (c, [], refl))
-spelled-cuts c cs (Some rest) e = valued-cuts (c ∷ cs) rest (kind_of_spelling (front (c ∷ cs) rest)) (spelling-passes c cs rest e)
+spelled-cuts c cs (Some rest) e = valued-cuts (c ∷ cs) rest (kind_of_spelling (front (c ∷ cs) rest))
+    (spelling-passes c cs rest e)
 
 -- the token at the front of a text without trivia cuts it
 raw_at-cuts : (text : List ℕ) → IsCut text (raw_at text)
@@ -102,12 +108,16 @@ trivia-ends outside (c ∷ cs) =
     let text : List ℕ = c ∷ cs in
     chosen (is_blank c) text _ _ (longer c cs _ (trivia-ends outside cs)) (
     chosen (c == 47 && first_or_zero cs == 47) text _ _ (longer c cs _ (trivia-ends (second in_line) cs)) (
-    chosen (c == 47 && first_or_zero cs == 42) text _ _ (longer c cs _ (trivia-ends (second (in_block 0)) cs)) ([], refl)))
+    chosen (c == 47 && first_or_zero cs == 42) text _ _
+    (longer c cs _ (trivia-ends (second (in_block 0)) cs)) ([], refl)))
 trivia-ends in_line (c ∷ cs) =
-    chosen (is_line_break c) (c ∷ cs) _ _ (longer c cs _ (trivia-ends outside cs)) (longer c cs _ (trivia-ends in_line cs))
+    chosen (is_line_break c) (c ∷ cs) _ _ (longer c cs _ (trivia-ends outside cs))
+    (longer c cs _ (trivia-ends in_line cs))
 trivia-ends (in_block n) (c ∷ cs) =
-    chosen (c == 47 && first_or_zero cs == 42) (c ∷ cs) _ _ (longer c cs _ (trivia-ends (second (in_block (suc n))) cs)) (
-    chosen (c == 42 && first_or_zero cs == 47) (c ∷ cs) _ _ (longer c cs _ (trivia-ends (second (out_of_block n)) cs)) (longer c cs _ (trivia-ends (in_block n) cs)))
+    chosen (c == 47 && first_or_zero cs == 42) (c ∷ cs) _ _
+    (longer c cs _ (trivia-ends (second (in_block (suc n))) cs)) (
+    chosen (c == 42 && first_or_zero cs == 47) (c ∷ cs) _ _ (longer c cs _
+    (trivia-ends (second (out_of_block n)) cs)) (longer c cs _ (trivia-ends (in_block n) cs)))
 trivia-ends (second p) (c ∷ cs) = longer c cs _ (trivia-ends p cs)
 
 -- an end of an end is an end
@@ -122,7 +132,8 @@ cut-joined text middle (token kind from after) h k = (joined text middle from h 
 
 -- the token at the front of a text cuts it
 pub raw-cuts : (text : List ℕ) → IsCut text (raw text)
-raw-cuts text = cut-joined text (after_trivia outside text) (raw text) (trivia-ends outside text) (raw_at-cuts (after_trivia outside text))
+raw-cuts text = cut-joined text (after_trivia outside text) (raw text) (trivia-ends outside text)
+    (raw_at-cuts (after_trivia outside text))
 
 -- what a token is cut from, and what follows it
 pub cut_at : (text from after : List ℕ) (kind : Kind) → raw text ≡ token kind from after → CutsIn text from after

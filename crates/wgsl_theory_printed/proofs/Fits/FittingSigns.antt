@@ -3,7 +3,7 @@ use Rattle.std.proofs.Common.{◌≡◌, ℕ, true, false, refl, sym, subst, Lis
 use Rattle.std.specs.Prelude.{codes}
 use Rattle.std.specs.Str.{chars}
 use Rattle.std.proofs.lemmas.Str.{chars-IsAscii}
-use Rattle.wgsl_model.specs.Tokens.Classes.{SymAnd, SymAndAnd, SymBang, SymBracketLeft, SymBracketRight, SymComma, SymEqualEqual, SymGreaterThan, SymGreaterThanEqual, SymLessThan, SymLessThanEqual, SymMinus, SymModulo, SymNotEqual, SymOr, SymOrOr, SymParenLeft, SymParenRight, SymPlus, SymShiftLeft, SymShiftRight, SymStar, SymTilde, SymXor}
+use Rattle.wgsl_model.specs.Tokens.ClassTable.{SymAnd, SymAndAnd, SymBang, SymBracketLeft, SymBracketRight, SymComma, SymEqualEqual, SymGreaterThan, SymGreaterThanEqual, SymLessThan, SymLessThanEqual, SymMinus, SymModulo, SymNotEqual, SymOr, SymOrOr, SymParenLeft, SymParenRight, SymPlus, SymShiftLeft, SymShiftRight, SymStar, SymTilde, SymXor}
 use Rattle.wgsl_model.specs.Tokens.Kind.{plain}
 use Rattle.wgsl_model.specs.Trees.Operators.{UnaryOperator, logical_negation, negation, bitwise_complement, address_of, indirection, BinaryOperator, short_circuit_or, short_circuit_and, addition, subtraction, multiplication, division, remainder, equality, inequality, less_than, less_than_equal, greater_than, greater_than_equal, bitwise_or, bitwise_and, bitwise_xor, shift_left, shift_right}
 use Rattle.wgsl_model.specs.Printed.Operators.{unary_operator_text, binary_operator_text}
@@ -20,7 +20,8 @@ pub as_text : (P : List ℕ → Type 0) (w rest : List ℕ) → plain_text w ≡
 as_text P w rest p h = subst (λ x. P (x ++ rest)) (sym (chars-IsAscii w (plain_ascii w p))) h
 
 -- what holds before any character that begins a name holds before a name
-pub before_name : (P : List ℕ → Type 0) (bytes rest : List ℕ) → IsNameText bytes → ((c : ℕ) (cs : List ℕ) → begins_name c ≡ true → P (c ∷ cs)) → P (chars bytes ++ rest)
+pub before_name : (P : List ℕ → Type 0) (bytes rest : List ℕ) → IsNameText bytes
+    → ((c : ℕ) (cs : List ℕ) → begins_name c ≡ true → P (c ∷ cs)) → P (chars bytes ++ rest)
 before_name P bytes rest n h = subst (λ x. P (x ++ rest)) (sym n.characters) (h n.first (n.others ++ rest) n.begins)
 
 -- ---- symbols that fit before everything
@@ -43,7 +44,8 @@ comma_fits rest = sign_fits 44 [] SymComma rest refl refl refl tt (not_on (codes
 -- ---- operators
 
 -- between operands, before a space
-pub binary_operator_fits : (o : BinaryOperator) (rest : List ℕ) → FitsBefore (binary_operator_text o) (plain (binary_operator_class o)) (32 ∷ rest)
+pub binary_operator_fits : (o : BinaryOperator) (rest : List ℕ)
+    → FitsBefore (binary_operator_text o) (plain (binary_operator_class o)) (32 ∷ rest)
 binary_operator_fits short_circuit_or rest = sign_fits 124 (124 ∷ []) SymOrOr (32 ∷ rest) refl refl refl tt refl
 binary_operator_fits short_circuit_and rest = sign_fits 38 (38 ∷ []) SymAndAnd (32 ∷ rest) refl refl refl tt refl
 binary_operator_fits addition rest = sign_fits 43 [] SymPlus (32 ∷ rest) refl refl refl tt refl
@@ -56,7 +58,8 @@ binary_operator_fits inequality rest = sign_fits 33 (61 ∷ []) SymNotEqual (32 
 binary_operator_fits less_than rest = sign_fits 60 [] SymLessThan (32 ∷ rest) refl refl refl tt refl
 binary_operator_fits less_than_equal rest = sign_fits 60 (61 ∷ []) SymLessThanEqual (32 ∷ rest) refl refl refl tt refl
 binary_operator_fits greater_than rest = sign_fits 62 [] SymGreaterThan (32 ∷ rest) refl refl refl tt refl
-binary_operator_fits greater_than_equal rest = sign_fits 62 (61 ∷ []) SymGreaterThanEqual (32 ∷ rest) refl refl refl tt refl
+binary_operator_fits greater_than_equal rest = sign_fits 62 (61 ∷ []) SymGreaterThanEqual
+    (32 ∷ rest) refl refl refl tt refl
 binary_operator_fits bitwise_or rest = sign_fits 124 [] SymOr (32 ∷ rest) refl refl refl tt refl
 binary_operator_fits bitwise_and rest = sign_fits 38 [] SymAnd (32 ∷ rest) refl refl refl tt refl
 binary_operator_fits bitwise_xor rest = sign_fits 94 [] SymXor (32 ∷ rest) refl refl refl tt refl
@@ -64,7 +67,8 @@ binary_operator_fits shift_left rest = sign_fits 60 (60 ∷ []) SymShiftLeft (32
 binary_operator_fits shift_right rest = sign_fits 62 (62 ∷ []) SymShiftRight (32 ∷ rest) refl refl refl tt refl
 
 -- before an operand, before what makes no other symbol
-pub unary_operator_fits : (o : UnaryOperator) (rest : List ℕ) → NotOn (unary_operator_text o) rest → FitsBefore (unary_operator_text o) (plain (unary_operator_class o)) rest
+pub unary_operator_fits : (o : UnaryOperator) (rest : List ℕ) → NotOn (unary_operator_text o) rest
+    → FitsBefore (unary_operator_text o) (plain (unary_operator_class o)) rest
 unary_operator_fits logical_negation rest n = sign_fits 33 [] SymBang rest refl refl refl tt n
 unary_operator_fits negation rest n = sign_fits 45 [] SymMinus rest refl refl refl tt n
 unary_operator_fits bitwise_complement rest n = sign_fits 126 [] SymTilde rest refl refl refl tt n
@@ -88,10 +92,12 @@ operand_not_on address_of text h = free_not_on 38 [] text h
 operand_not_on indirection text h = free_not_on 42 [] text h
 
 -- an operator before another, with a space between two that would be one
-pub operator_not_on : (o i : UnaryOperator) (rest : List Piece) → NotOn (unary_operator_text o) (render (gap (fuse o i) (sign (unary_operator_text i) (unary_operator_class i) rest)))
+pub operator_not_on : (o i : UnaryOperator) (rest : List Piece) → NotOn (unary_operator_text o)
+    (render (gap (fuse o i) (sign (unary_operator_text i) (unary_operator_class i) rest)))
 operator_not_on negation negation rest = refl
 operator_not_on address_of address_of rest = refl
 operator_not_on logical_negation logical_negation rest = as_text (NotOn (codes "!")) (codes "!") (render rest) refl refl
-operator_not_on bitwise_complement logical_negation rest = as_text (NotOn (codes "~")) (codes "!") (render rest) refl refl
+operator_not_on bitwise_complement logical_negation rest = as_text (NotOn (codes "~")) (codes "!")
+    (render rest) refl refl
 operator_not_on indirection logical_negation rest = as_text (NotOn (codes "*")) (codes "!") (render rest) refl refl
 operator_not_on o i rest = as_text (NotOn (unary_operator_text o)) (unary_operator_text i) (render rest) refl refl

@@ -9,7 +9,7 @@ use Rattle.unicode_ident.specs.Ident.{is_xid_start, is_xid_continue}
 use Rattle.unicode_ident.proofs.IdentLemmas.{is_xid_start-ascii, is_xid_continue-ascii}
 use Rattle.grammar.specs.Grammar.{is_among}
 use Rattle.grammar.specs.Tables.{is_empty}
-use Rattle.wgsl_model.specs.Tokens.Classes.{Ident, ReservedWord, AbstractInt, TemplateArgsStart, TemplateArgsEnd, KwTrue, KwFalse, SymShiftRightAssign, SymUnderscore, SymForwardSlash, SymDivisionEqual, SymPeriod, symbols, keywords}
+use Rattle.wgsl_model.specs.Tokens.ClassTable.{Ident, ReservedWord, AbstractInt, TemplateArgsStart, TemplateArgsEnd, KwTrue, KwFalse, SymShiftRightAssign, SymUnderscore, SymForwardSlash, SymDivisionEqual, SymPeriod, symbols, keywords}
 use Rattle.wgsl_model.specs.Tokens.Kind.{plain, named}
 use Rattle.wgsl_model.specs.Tokens.Pattern.{begins, begins_any, spells}
 use Rattle.wgsl_model.specs.Tokens.Numbers.{number_spelling}
@@ -37,15 +37,22 @@ line_taken : takes 10 spelling ≡ false
 line_taken = rw (is_xid_start-ascii 10 (lit< tt), is_xid_continue-ascii 10 (lit< tt)) refl
 
 -- the bytes of a spelling are on one line
-pub spelled_on_one_line : (text cs : List ℕ) → IsUtf8 text → chars text ≡ cs → spells spelling cs ≡ true → OnOneLine text
+pub spelled_on_one_line : (text cs : List ℕ) → IsUtf8 text → chars text ≡ cs
+    → spells spelling cs ≡ true → OnOneLine text
 spelled_on_one_line text cs u e h =
-    let none : NoCharPasses (λ c. c == 10) text = (cs, ap encode_utf8_all (sym e) ∙ encodes-chars text u, none_pass 10 cs (spelled_each (differs 10) spelling (lets_differs 10 spelling line_taken) cs h)) in
+    let none : NoCharPasses (λ c. c == 10) text = (
+      cs,
+      ap encode_utf8_all (sym e) ∙ encodes-chars text u,
+      none_pass 10 cs (spelled_each (differs 10) spelling (lets_differs 10 spelling line_taken) cs h),
+    ) in
     on_one_line text (λ i l. false_from_ne_true (get_or text i 0 == 10) (λ t.
-    (let ten : get_or text i 0 ≡ 10 = eqb-true (get_or text i 0) 10 t in true≢false (sym t ∙ NoCharPasses-byte (λ c. c == 10) text i none l (omega (arith, ten))))))
+    (let ten : get_or text i 0 ≡ 10 = eqb-true (get_or text i 0) 10 t in
+    true≢false (sym t ∙ NoCharPasses-byte (λ c. c == 10) text i none l (omega (arith, ten))))))
 
 -- ---- names
 
-ordinary_role : (a b d e f g i j : Bool) → IsOrdinaryRole (cond a name (cond b keyword (cond d greater_stop (cond e greater (cond f opening (cond g closing (cond i short_circuit (cond j other stop))))))))
+ordinary_role : (a b d e f g i j : Bool) → IsOrdinaryRole (cond a name (cond b keyword (cond d greater_stop
+    (cond e greater (cond f opening (cond g closing (cond i short_circuit (cond j other stop))))))))
 ordinary_role true b d e f g i j = tt
 ordinary_role false true d e f g i j = tt
 ordinary_role false false true e f g i j = tt
@@ -62,14 +69,17 @@ not_equal c n h = false_from_ne_true (c == n) (λ e. (let same : c ≡ n = eqb-t
 -- a class that is no end of a template list
 ordinary_class : (c : ℕ) → c < TemplateArgsStart → IsOrdinaryRole (role c)
 ordinary_class c h =
-    rw (not_equal c TemplateArgsStart h, not_equal c TemplateArgsEnd (omega (arith, h))) (ordinary_role (is_among c (Ident ∷ KwTrue ∷ KwFalse ∷ [])) (is_word c) (is_among c (SymShiftRightAssign ∷ [])) (begins_with_greater c) (is_opening c) (is_closing c) (is_short_circuit c) (is_of_expressions c))
+    rw (not_equal c TemplateArgsStart h, not_equal c TemplateArgsEnd (omega (arith, h)))
+    (ordinary_role (is_among c (Ident ∷ KwTrue ∷ KwFalse ∷ [])) (is_word c) (is_among c (SymShiftRightAssign ∷ []))
+    (begins_with_greater c) (is_opening c) (is_closing c) (is_short_circuit c) (is_of_expressions c))
 
 -- each class of a table is below that of identifiers
 abbrev pub all_below : List (List ℕ × ℕ) → Bool
 all_below [] = true
 all_below (e ∷ es) = nat_lt e.1 Ident && all_below es
 
-pub looked_up_below : (es : List (List ℕ × ℕ)) (w : List ℕ) (c : ℕ) → all_below es ≡ true → look_up es w ≡ Some c → c < Ident
+pub looked_up_below : (es : List (List ℕ × ℕ)) (w : List ℕ) (c : ℕ) → all_below es ≡ true
+    → look_up es w ≡ Some c → c < Ident
 looked_up_below [] w c s h = absurd (cc)
 looked_up_below (e ∷ es) w c s h = go (looked_up_below es w c parts.1) (bytes_eq e.0 w) h
   where
@@ -77,7 +87,9 @@ looked_up_below (e ∷ es) w c s h = go (looked_up_below es w c parts.1) (bytes_
     parts = and_parts (nat_lt e.1 Ident) (all_below es) s
 
     go : (look_up es w ≡ Some c → c < Ident) → (b : Bool) → cond b (Some e.1) (look_up es w) ≡ Some c → c < Ident
-    go more true k = let same : e.1 ≡ c = cc in let low : e.1 < Ident = ltb-true e.1 Ident parts.0 in omega (arith, same, low)
+    go more true k =
+        let same : e.1 ≡ c = cc in let low : e.1 < Ident = ltb-true e.1 Ident parts.0 in
+        omega (arith, same, low)
     go more false k = more k
 
 -- the class of a word is below those of numbers
@@ -92,7 +104,8 @@ word_class bytes = by_underscore (bytes_eq bytes (codes "_"))
     by_keyword (Some c) e = omega (arith, looked_up_below keywords bytes c refl e)
     by_keyword None e = by_reserved (is_word_among reserved_words bytes)
 
-    by_underscore : (b : Bool) → (cond b (plain SymUnderscore) (keyword_or_name (look_up keywords bytes) bytes)).class < AbstractInt
+    by_underscore : (b : Bool)
+        → (cond b (plain SymUnderscore) (keyword_or_name (look_up keywords bytes) bytes)).class < AbstractInt
     by_underscore true = omega arith
     by_underscore false = by_keyword (look_up keywords bytes) refl
 
@@ -182,13 +195,21 @@ plain_line (c ∷ cs) h =
     (not-true (c == 10) (and_parts (nat_lt c 128) _ parts.0).1, plain_line cs parts.1)
 
 -- what stands fits
-text_fits : (w : List ℕ) (class : ℕ) (rest : List ℕ) → plain_text w ≡ true → IsOrdinary (plain class) → Stands w (plain class) rest → FitsBefore w (plain class) rest
+text_fits : (w : List ℕ) (class : ℕ) (rest : List ℕ) → plain_text w ≡ true
+    → IsOrdinary (plain class) → Stands w (plain class) rest → FitsBefore w (plain class) rest
 text_fits w class rest p o s =
     let ascii : IsAscii w = plain_ascii w p in
-    record { ordinary = o; stands = subst (λ x. Stands x (plain class) rest) (sym (chars-IsAscii w ascii)) s; utf8 = IsUtf8-from_ascii w ascii; on_one_line = plain_line w p }
+    record {
+      ordinary = o;
+      stands = subst (λ x. Stands x (plain class) rest) (sym (chars-IsAscii w ascii)) s;
+      utf8 = IsUtf8-from_ascii w ascii;
+      on_one_line = plain_line w p;
+    }
 
 -- a symbol that begins no name, no number and no comment
-pub sign_fits : (c : ℕ) (cs : List ℕ) (class : ℕ) (rest : List ℕ) → begins_sign c ≡ true → look_up symbols (c ∷ cs) ≡ Some class → plain_text (c ∷ cs) ≡ true → IsOrdinary (plain class) → NotOn (c ∷ cs) rest
+pub sign_fits : (c : ℕ) (cs : List ℕ) (class : ℕ) (rest : List ℕ) → begins_sign c ≡ true
+    → look_up symbols (c ∷ cs) ≡ Some class → plain_text (c ∷ cs) ≡ true → IsOrdinary (plain class)
+    → NotOn (c ∷ cs) rest
     → FitsBefore (c ∷ cs) (plain class) rest
 sign_fits c cs class rest b l p o n = text_fits (c ∷ cs) class rest p o (sign_stands c cs class rest b l n)
 
@@ -205,13 +226,17 @@ pub slash_fits : (rest : List ℕ) → FitsBefore (codes "/") (plain SymForwardS
 unfolding after_trivia
 slash_fits rest =
     text_fits (codes "/") SymForwardSlash (32 ∷ rest) refl tt
-    (spelling_at 47 [] (32 ∷ rest) (plain SymForwardSlash) (spelled_symbol (codes "/") (looked_up symbols (codes "/") SymForwardSlash refl)) (rw (is_xid_start-ascii 47 (lit< tt)) refl) (slash_end [] (32 ∷ rest) refl))
+    (spelling_at 47 [] (32 ∷ rest) (plain SymForwardSlash)
+    (spelled_symbol (codes "/") (looked_up symbols (codes "/") SymForwardSlash refl))
+    (rw (is_xid_start-ascii 47 (lit< tt)) refl) (slash_end [] (32 ∷ rest) refl))
 
 pub slash_equal_fits : (rest : List ℕ) → FitsBefore (codes "/=") (plain SymDivisionEqual) (32 ∷ rest)
 unfolding after_trivia
 slash_equal_fits rest =
     text_fits (codes "/=") SymDivisionEqual (32 ∷ rest) refl tt
-    (spelling_at 47 (61 ∷ []) (32 ∷ rest) (plain SymDivisionEqual) (spelled_symbol (codes "/=") (looked_up symbols (codes "/=") SymDivisionEqual refl)) (rw (is_xid_start-ascii 47 (lit< tt)) refl) (slash_end (61 ∷ []) (32 ∷ rest) refl))
+    (spelling_at 47 (61 ∷ []) (32 ∷ rest) (plain SymDivisionEqual)
+    (spelled_symbol (codes "/=") (looked_up symbols (codes "/=") SymDivisionEqual refl))
+    (rw (is_xid_start-ascii 47 (lit< tt)) refl) (slash_end (61 ∷ []) (32 ∷ rest) refl))
 
 -- `.` before a name
 pub point_number : (c : ℕ) (z : List ℕ) → is_ascii_digit c ≡ false → spells number_spelling (46 ∷ (c ∷ z)) ≡ false
@@ -224,7 +249,8 @@ no_digit c b = false_from_ne_true (is_ascii_digit c) (λ d. name_no_number c b (
 point_ends : (c : ℕ) (cs : List ℕ) → begins_name c ≡ true → EndsBefore (46 ∷ []) (c ∷ cs)
 point_ends c cs b z h =
     one_of_three (46 ∷ (c ∷ z)) h
-    (λ k. true≢false (sym (spelled_first begins_name identifier identifier_begins 46 (c ∷ z) k) ∙ rw (is_xid_start-ascii 46 (lit< tt)) refl))
+    (λ k. true≢false (sym (spelled_first begins_name identifier identifier_begins 46 (c ∷ z) k)
+    ∙ rw (is_xid_start-ascii 46 (lit< tt)) refl))
     (λ k. true≢false (sym k ∙ point_number c z (no_digit c b)))
     (λ k. no_longer_symbol (46 ∷ []) c refl z k)
 
@@ -232,4 +258,5 @@ pub point_fits : (c : ℕ) (cs : List ℕ) → begins_name c ≡ true → FitsBe
 unfolding after_trivia
 point_fits c cs b =
     text_fits (codes ".") SymPeriod (c ∷ cs) refl tt
-    (spelling_at 46 [] (c ∷ cs) (plain SymPeriod) (spelled_symbol (codes ".") (looked_up symbols (codes ".") SymPeriod refl)) (rw (is_xid_start-ascii 46 (lit< tt)) refl) (point_ends c cs b))
+    (spelling_at 46 [] (c ∷ cs) (plain SymPeriod) (spelled_symbol (codes ".") (looked_up symbols
+    (codes ".") SymPeriod refl)) (rw (is_xid_start-ascii 46 (lit< tt)) refl) (point_ends c cs b))

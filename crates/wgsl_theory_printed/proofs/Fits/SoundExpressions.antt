@@ -3,7 +3,7 @@ use Rattle.std.proofs.Common.{◌≡◌, ℕ, ◌==◌, ◌&&◌, true, false, n
 use Rattle.std.specs.Prelude.{codes}
 use Rattle.std.specs.Str.{IsUtf8, chars}
 use Rattle.std.proofs.lemmas.Bool.{and_parts, not-true}
-use Rattle.wgsl_model.specs.Tokens.Classes.{AbstractInt}
+use Rattle.wgsl_model.specs.Tokens.ClassTable.{AbstractInt}
 use Rattle.wgsl_model.specs.Tokens.Kind.{Kind}
 use Rattle.wgsl_model.specs.Tokens.Numbers.{number_spelling, number_of}
 use Rattle.wgsl_model.specs.Trees.Expressions.{LiteralExpression, boolean, abstract_int, i32, u32, abstract_float, f32, f16, ExpressionNode, expression_node, Expression, literal, parenthesized, named_component, indexing, unary, binary, function_call, type_or_identifier, FunctionCall, call, TypeExpression, type_expression, TemplateArguments, no_template, template, ExpressionNodes, no_expressions, expression_before}
@@ -34,7 +34,8 @@ abbrev pub EndsAtPoint : List ℕ → Type 0
 EndsAtPoint [] = Unit {0}
 EndsAtPoint (c ∷ cs) = (takes c number_spelling ≡ false) ⊎ (c ≡ 46)
 
-number_fits_before : (k : Kind) (bytes rest : List ℕ) → IsOrdinary k → (n : IsNumberText k bytes) → EndsBefore (n.first ∷ n.others) rest → FitsBefore bytes k rest
+number_fits_before : (k : Kind) (bytes rest : List ℕ) → IsOrdinary k → (n : IsNumberText k bytes)
+    → EndsBefore (n.first ∷ n.others) rest → FitsBefore bytes k rest
 number_fits_before k bytes rest o n e = record {
   ordinary = o;
   stands = subst (λ w. Stands w k rest) (sym n.characters) (spelling_stands k (n.first ∷ n.others) rest n.spelling e);
@@ -42,18 +43,23 @@ number_fits_before k bytes rest o n e = record {
   on_one_line = spelled_on_one_line bytes (n.first ∷ n.others) n.utf8 n.characters n.spelling.spelled;
 }
 
-number_fits : (k : Kind) (bytes rest : List ℕ) → IsOrdinary k → IsNumberText k bytes → EndsNumber rest → FitsBefore bytes k rest
-number_fits k bytes rest o n e = number_fits_before k bytes rest o n (number_ends_before n.first n.others rest n.begins e)
+number_fits : (k : Kind) (bytes rest : List ℕ) → IsOrdinary k → IsNumberText k bytes
+    → EndsNumber rest → FitsBefore bytes k rest
+number_fits k bytes rest o n e = number_fits_before k bytes rest o n
+    (number_ends_before n.first n.others rest n.begins e)
 
-point_ends : (k : Kind) (bytes rest : List ℕ) → (n : IsNumberText k bytes) → (k.class == AbstractInt) ≡ false → EndsAtPoint rest → EndsBefore (n.first ∷ n.others) rest
+point_ends : (k : Kind) (bytes rest : List ℕ) → (n : IsNumberText k bytes)
+    → (k.class == AbstractInt) ≡ false → EndsAtPoint rest → EndsBefore (n.first ∷ n.others) rest
 point_ends k bytes [] n a e = tt
 point_ends k bytes (c ∷ cs) n a (inl e) = number_ends_before n.first n.others (c ∷ cs) n.begins e
-point_ends k bytes (c ∷ cs) n a (inr e) = subst (λ d. EndsBefore (n.first ∷ n.others) (d ∷ cs)) (sym e) (λ z h. one_of_three ((n.first ∷ n.others) ++ (46 ∷ z)) h
+point_ends k bytes (c ∷ cs) n a (inr e) = subst (λ d. EndsBefore (n.first ∷ n.others) (d ∷ cs))
+    (sym e) (λ z h. one_of_three ((n.first ∷ n.others) ++ (46 ∷ z)) h
     (λ s. number_no_name n.first (n.others ++ (46 ∷ z)) n.begins s)
     (λ s. no_point_behind (n.first ∷ n.others) k n.numbered a z s)
     (λ s. number_no_symbol n.first n.others 46 z n.begins s))
 
-number_fits_at_point : (k : Kind) (bytes rest : List ℕ) → IsOrdinary k → IsNumberText k bytes → (k.class == AbstractInt) ≡ false → EndsAtPoint rest → FitsBefore bytes k rest
+number_fits_at_point : (k : Kind) (bytes rest : List ℕ) → IsOrdinary k → IsNumberText k bytes
+    → (k.class == AbstractInt) ≡ false → EndsAtPoint rest → FitsBefore bytes k rest
 number_fits_at_point k bytes rest o n a e = number_fits_before k bytes rest o n (point_ends k bytes rest n a e)
 
 -- a literal is spelled as it is printed
@@ -67,19 +73,23 @@ EndsLiteral (boolean b) rest = EndsName rest
 EndsLiteral (abstract_int n) rest = EndsNumber rest
 EndsLiteral l rest = EndsAtPoint rest
 
-pub literal_fits : (l : LiteralExpression) (rest : List ℕ) → IsSoundLiteral l → EndsLiteral l rest → FitsBefore (print_literal l) (literal_token l) rest
+pub literal_fits : (l : LiteralExpression) (rest : List ℕ) → IsSoundLiteral l → EndsLiteral l rest
+    → FitsBefore (print_literal l) (literal_token l) rest
 literal_fits (boolean true) rest s e = name_fits (codes "true") rest (word_name (codes "true") refl) e
 literal_fits (boolean false) rest s e = name_fits (codes "false") rest (word_name (codes "false") refl) e
-literal_fits (abstract_int n) rest s e = number_fits (literal_token (abstract_int n)) (print_literal (abstract_int n)) rest tt s e
+literal_fits (abstract_int n) rest s e = number_fits (literal_token (abstract_int n))
+    (print_literal (abstract_int n)) rest tt s e
 literal_fits (i32 n) rest s e = number_fits_at_point (literal_token (i32 n)) (print_literal (i32 n)) rest tt s refl e
 literal_fits (u32 n) rest s e = number_fits_at_point (literal_token (u32 n)) (print_literal (u32 n)) rest tt s refl e
-literal_fits (abstract_float t) rest s e = number_fits_at_point (literal_token (abstract_float t)) (print_literal (abstract_float t)) rest tt s refl e
+literal_fits (abstract_float t) rest s e = number_fits_at_point (literal_token (abstract_float t))
+    (print_literal (abstract_float t)) rest tt s refl e
 literal_fits (f32 t) rest s e = number_fits_at_point (literal_token (f32 t)) (print_literal (f32 t)) rest tt s refl e
 literal_fits (f16 t) rest s e = number_fits_at_point (literal_token (f16 t)) (print_literal (f16 t)) rest tt s refl e
 
 -- ---- expressions
 
--- an expression that begins with no operator: a literal, a call, a type or an expression in parentheses, with components behind it
+-- an expression that begins with no operator: a literal, a call, a type or an expression in
+-- parentheses, with components behind it
 abbrev mutual
   pub IsPrimary : Expression → Type 0
   IsPrimary (named_component base component) = IsPrimaryNode base
@@ -100,7 +110,8 @@ abbrev pub IsOperandNode : ExpressionNode → Type 0
 IsOperandNode (expression_node e span) = IsOperand e
 
 abbrev mutual
-  -- names and literals are spelled, operators stand before operands, and names of components behind what begins with no operator
+  -- names and literals are spelled, operators stand before operands, and names of components behind
+  -- what begins with no operator
   pub IsSoundExpression : Expression → Type 0
   IsSoundExpression (literal l) = IsSoundLiteral l
   IsSoundExpression (parenthesized e) = IsSoundNode e

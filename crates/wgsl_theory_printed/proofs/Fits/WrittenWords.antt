@@ -1,9 +1,10 @@
--- The words that are written out in printed modules are names: keywords, names of attributes and of values.
+-- The words that are written out in printed modules are names: keywords, names of attributes and of
+-- values.
 use Rattle.std.proofs.Common.{◌≡◌, ℕ, Bool, true, false, cond, ◌&&◌, List, [], ◌∷◌, Some, bytes_eq, refl, sym, ap, subst, ◌∙◌}
 use Rattle.std.specs.Prelude.{codes}
 use Rattle.std.proofs.lemmas.Bool.{and_parts, true≢false}
 use Rattle.std.proofs.lemmas.Slice.Eq.{bytes_eq-Decides}
-use Rattle.wgsl_model.specs.Tokens.Classes.{SymUnderscore, keywords}
+use Rattle.wgsl_model.specs.Tokens.ClassTable.{SymUnderscore, keywords}
 use Rattle.wgsl_model.specs.Tokens.Kind.{plain}
 use Rattle.wgsl_model.specs.Tokens.Words.{look_up}
 use Rattle.wgsl_model.specs.Tokens.Raw.{kind_of_word, keyword_or_name}
@@ -71,14 +72,16 @@ abbrev are_words : List (List ℕ × ℕ) → Bool
 are_words [] = true
 are_words (e ∷ es) = is_ascii_word e.0 && are_words es
 
-looked_up_word : (es : List (List ℕ × ℕ)) (w : List ℕ) (c : ℕ) → are_words es ≡ true → look_up es w ≡ Some c → is_ascii_word w ≡ true
+looked_up_word : (es : List (List ℕ × ℕ)) (w : List ℕ) (c : ℕ) → are_words es ≡ true
+    → look_up es w ≡ Some c → is_ascii_word w ≡ true
 looked_up_word [] w c s h = absurd (cc)
 looked_up_word (e ∷ es) w c s h = go (looked_up_word es w c parts.1) (bytes_eq e.0 w) refl h
   where
     parts : (is_ascii_word e.0 ≡ true) × (are_words es ≡ true)
     parts = and_parts (is_ascii_word e.0) (are_words es) s
 
-    go : (look_up es w ≡ Some c → is_ascii_word w ≡ true) → (b : Bool) → bytes_eq e.0 w ≡ b → cond b (Some e.1) (look_up es w) ≡ Some c → is_ascii_word w ≡ true
+    go : (look_up es w ≡ Some c → is_ascii_word w ≡ true) → (b : Bool) → bytes_eq e.0 w ≡ b
+        → cond b (Some e.1) (look_up es w) ≡ Some c → is_ascii_word w ≡ true
     go more true q k = subst (λ x. is_ascii_word x ≡ true) ((bytes_eq-Decides e.0 w).0 q) parts.0
     go more false q k = more k
 
@@ -86,12 +89,14 @@ looked_up_word (e ∷ es) w c s h = go (looked_up_word es w c parts.1) (bytes_eq
 keyword_kind : (w : List ℕ) (c : ℕ) → is_ascii_word w ≡ true → look_up keywords w ≡ Some c → kind_of_word w ≡ plain c
 keyword_kind w c n h = go (bytes_eq w (codes "_")) refl
   where
-    go : (b : Bool) → bytes_eq w (codes "_") ≡ b → cond b (plain SymUnderscore) (keyword_or_name (look_up keywords w) w) ≡ plain c
+    go : (b : Bool) → bytes_eq w (codes "_") ≡ b
+        → cond b (plain SymUnderscore) (keyword_or_name (look_up keywords w) w) ≡ plain c
     go true q = absurd (true≢false (sym n ∙ ap is_ascii_word ((bytes_eq-Decides w (codes "_")).0 q)))
     go false q = ap (λ o. keyword_or_name o w) h
 
 -- a keyword fits before what no name goes on with
-pub keyword_fits : {w : List ℕ} {c : ℕ} (rest : List ℕ) → look_up keywords w ≡ Some c → EndsName rest → FitsBefore w (plain c) rest
+pub keyword_fits : {w : List ℕ} {c : ℕ} (rest : List ℕ) → look_up keywords w ≡ Some c
+    → EndsName rest → FitsBefore w (plain c) rest
 keyword_fits {w} {c} rest h e =
     let n = looked_up_word keywords w c refl h in
     subst (λ k. FitsBefore w k rest) (keyword_kind w c n h) (name_fits w rest (word_name w n) e)

@@ -1,45 +1,46 @@
--- What a text derives is sound: its names and literals are spelled as they are printed, and it is printed as it is read.
+-- What parts of a text derive is sound, with rules that RuleTerms leaves out: names and literals
+-- are
+-- spelled as they are printed, and a text is printed as it is read.
 use Rattle.std.proofs.Common.{◌≡◌, ℕ, ◌==◌, Bool, true, false, cond, refl, List, [], ◌∷◌, Option, Some, None, lit<}
 use Rattle.std.specs.Prelude.{codes}
 use Rattle.std.proofs.lemmas.Str.{IsUtf8-from_ascii, chars-IsAscii}
 use Rattle.unicode_ident.proofs.IdentLemmas.{is_xid_start-ascii}
 use Rattle.grammar.specs.Tokens.{Token}
-use Rattle.grammar.specs.Grammar.{Grammar.symbol, Grammar.left_chain, Grammar.token}
-use Rattle.grammar.specs.Notation.{◌or◌, ◌means◌, list}
-use Rattle.wgsl_model.specs.Tokens.Classes.{SymBraceLeft, SymBraceRight, SymSemicolon, SymEqual, KwConst, KwElse, KwFor, KwIf, KwLet, KwLoop, KwReturn, KwSwitch, KwWhile, SymAnd, SymAndAnd, SymAttr, SymBracketLeft, SymBracketRight, SymComma, SymMinusMinus, SymOr, SymOrOr, SymParenLeft, SymParenRight, SymPeriod, SymShiftLeft, SymShiftRight, SymStar, SymXor, Ident, ReservedWord, TemplateArgsStart, TemplateArgsEnd, SymPlusPlus, SymUnderscore, KwBreak, KwContinue, KwDiscard, symbols}
-use Rattle.wgsl_model.specs.Trees.Operators.{address_of, indirection, BinaryOperator, short_circuit_or, short_circuit_and, subtraction, bitwise_or, bitwise_and, bitwise_xor, shift_left, shift_right, AssignmentOperator.equal}
+use Rattle.grammar.specs.Grammar.{Grammar.symbol, Grammar.left_chain}
+use Rattle.grammar.specs.Notation.{one_token, ◌or◌, ◌means◌, ◌gives◌, ◌makes◌, ◌◃◌, list}
+use Rattle.wgsl_model.specs.Tokens.ClassTable.{SymSemicolon, SymEqual, KwConst, KwElse, KwIf, KwLet, SymAnd, SymAndAnd, SymAttr, SymBracketLeft, SymBracketRight, SymComma, SymMinusMinus, SymOr, SymOrOr, SymParenLeft, SymParenRight, SymPeriod, SymShiftLeft, SymShiftRight, SymStar, SymXor, Ident, ReservedWord, SymUnderscore, symbols}
+use Rattle.wgsl_model.specs.Trees.Operators.{address_of, indirection, AssignmentOperator, BinaryOperator, short_circuit_or, short_circuit_and, subtraction, bitwise_or, bitwise_and, bitwise_xor, shift_left, shift_right}
 use Rattle.wgsl_model.specs.Trees.Spanned.{Spanned}
 use Rattle.wgsl_model.specs.Trees.Expressions.{ExpressionNode, expression_node, Expression, expressions_of, template_of}
 use Rattle.wgsl_model.specs.Trees.Attributes.{Attribute}
 use Rattle.wgsl_model.specs.Trees.Statements as tree
-use Rattle.wgsl_model.specs.Trees.Statements.{DeclarationKind, StatementNode, statement_node, UnattributedStatement, CompoundStatement, ElseIfClause, ElseClause, else_clause, SwitchClause, ContinuingStatement, statements_of, else_ifs_of, else_of, clauses_of, continuing_of, maybe_statement, local_of, compound_of, assignment_of, call_statement_of, return_of, if_of, assert_statement, switch_of, loop_of, for_of, while_of, increment_of, decrement_of}
+use Rattle.wgsl_model.specs.Trees.Statements.{DeclarationKind, Statement, StatementNode, statement_node, UnattributedStatement, CompoundStatement, ElseIfClause, ElseClause, else_clause, SwitchClause, ContinuingStatement, statements_of, else_ifs_of, else_of, clauses_of, continuing_of, maybe_statement, assert_statement}
 use Rattle.wgsl_model.specs.Grammar.TokenValues.{text_of, literal_of}
 use Rattle.wgsl_model.specs.Grammar.Checks.{unreserved, attribute_parts, attribute_fault, attribute_node}
-use Rattle.wgsl_model.specs.Grammar.ExpressionParts.{placed_expression, type_of, call_of, index_of, component_of, with_component, unary_of, binary_of, operation_of, negation_of, negated_product_of, two, two_or_more, unary_operator, multiplicative_operator, additive_operator, relational_operator}
-use Rattle.wgsl_model.specs.Grammar.StatementParts.{placed_statement, variable_at, parenthesized_at, attributed, attributes, statements, initializer, var_kind, assignment_operator, else_if, else_block, open_left_side, parenthesized_left_side, left_side, underscore_at, led}
+use Rattle.wgsl_model.specs.Grammar.ExpressionParts.{placed_expression, index_of, component_of, with_component, unary_of, binary_of, operation_of, negation_of, negated_product_of, two, two_or_more, unary_operator, multiplicative_operator, additive_operator, relational_operator}
+use Rattle.wgsl_model.specs.Grammar.StatementParts.{placed_statement, variable_at, parenthesized_at, attributed, attributes, statements, initializer, var_kind, assignment_operator, else_if, else_block, open_left_side, parenthesized_left_side, left_side, underscore_at}
 use Rattle.wgsl_model.specs.Grammar.UnitParts.{rule_of, texts_of}
-use Rattle.wgsl_model.specs.Grammar.Symbols.{Dialect.parsed, Symbol, Rule, ident, type_specifier, template_list, call, arguments, literal, primary_expression, singular_expression, component, unary_expression, multiplicative_expression, negated_expression, additive_expression, shift_expression, relational_expression, expression, lhs_expression, attribute, compound_statement, statement, return_statement, if_statement, switch_statement, loop_statement, for_statement, while_statement, call_statement, var_statement, value_statement, break_statement, continue_statement, discard_statement, assignment, phony_assignment, increment, decrement, const_assert, switch_clause, continuing_statement, for_init, for_update, typed_ident}
+use Rattle.wgsl_model.specs.Grammar.Symbols.{Dialect.parsed, Rule, ident, type_specifier, call, arguments, literal, primary_expression, singular_expression, component, unary_expression, multiplicative_expression, negated_expression, additive_expression, shift_expression, relational_expression, expression, lhs_expression, attribute, compound_statement, statement, const_assert}
 use Rattle.wgsl_model.specs.Grammar.Written.{written}
-use Rattle.wgsl_theory_reread.proofs.Again.{IsKind}
 use Rattle.wgsl_theory_reread.proofs.EachRule.ExpressionRules.{literal_classes}
 use Rattle.wgsl_theory_printed.proofs.Spelling.Signs.{looked_up, spelled_symbol}
 use Rattle.wgsl_theory_printed.proofs.Spelling.Ends.{IsNameText}
 use Rattle.wgsl_theory_printed.proofs.Fits.FittingWords.{plain_ascii}
-use Rattle.wgsl_theory_printed.proofs.Fits.SoundExpressions.{IsSoundLiteral, IsPrimary, IsPrimaryNode, IsOperand, IsOperandNode, IsSoundExpression, IsSoundNode, IsSoundCall, AreSoundNodes, IsSoundTemplate, IsSoundType}
+use Rattle.wgsl_theory_printed.proofs.Fits.SoundExpressions.{IsSoundLiteral, IsPrimary, IsPrimaryNode, IsOperand, IsOperandNode, IsSoundExpression, IsSoundNode, AreSoundNodes, IsSoundTemplate}
 use Rattle.wgsl_theory_printed.proofs.Fits.FittingAttributes.{IfSome, Every, IsSoundRule, IsSoundAttribute, AreSoundAttributes}
 use Rattle.wgsl_theory_printed.proofs.Fits.FittingStatements.{EndsWithNameNode, IsSoundStatement, IsSoundUnattributed, AreSoundStatements, IsSoundCompound, AreSoundElseIfs, IsSoundElseIf, IsSoundElse, IsSoundElseClause, AreSoundClauses, IsSoundClause, IsSoundMaybeContinuing, IsSoundContinuing, IsSoundPart}
 use Rattle.wgsl_theory_printed.proofs.Sound.Scanned.{word_classes}
 use Rattle.wgsl_theory_printed.proofs.Sound.SoundAttributes.{one_name_rule, two_names_rule, attribute_sound}
-use Rattle.wgsl_theory_reread.proofs.Gives.{anything, token_sound, symbol_sound, then_sound, or_sound, gives_sound, makes_sound, check_sound, weaker_sound, chain_sound, sign_before, sign_behind, means_sound}
-use Rattle.wgsl_theory_printed.proofs.Sound.SoundRules.{IsSoundStatementNode, Sound, Gives, optional_sound, many_sound, several_sound, list_sound, list_or_none_sound}
+use Rattle.wgsl_theory_reread.proofs.Gives.{anything, token_sound, symbol_sound, then_sound, or_sound, gives_sound, makes_sound, check_sound, weaker_sound, chain_sound, sign_before, sign_behind}
+use Rattle.wgsl_theory_printed.proofs.Sound.SoundRules.{IsSoundStatementNode, Sound, Gives, optional_sound, many_sound, list_sound}
 
 -- ---- lists, as they stand in a tree
 
-nodes_sound : (es : List ExpressionNode) → Every IsSoundNode es → AreSoundNodes (expressions_of es)
+pub nodes_sound : (es : List ExpressionNode) → Every IsSoundNode es → AreSoundNodes (expressions_of es)
 nodes_sound [] h = tt
 nodes_sound (e ∷ es) h = (h.0, nodes_sound es h.1)
 
-template_sound : (o : Option (List ExpressionNode)) → IfSome (Every IsSoundNode) o → IsSoundTemplate (template_of o)
+pub template_sound : (o : Option (List ExpressionNode)) → IfSome (Every IsSoundNode) o → IsSoundTemplate (template_of o)
 template_sound None h = tt
 template_sound (Some es) h = nodes_sound es h
 
@@ -47,23 +48,24 @@ pub statements_sound : (ss : List StatementNode) → Every IsSoundStatementNode 
 statements_sound [] h = tt
 statements_sound (statement_node s span ∷ ss) h = (h.0, statements_sound ss h.1)
 
-else_ifs_sound : (cs : List ElseIfClause) → Every IsSoundElseIf cs → AreSoundElseIfs (else_ifs_of cs)
+pub else_ifs_sound : (cs : List ElseIfClause) → Every IsSoundElseIf cs → AreSoundElseIfs (else_ifs_of cs)
 else_ifs_sound [] h = tt
 else_ifs_sound (c ∷ cs) h = (h.0, else_ifs_sound cs h.1)
 
-else_sound : (o : Option ElseClause) → IfSome IsSoundElseClause o → IsSoundElse (else_of o)
+pub else_sound : (o : Option ElseClause) → IfSome IsSoundElseClause o → IsSoundElse (else_of o)
 else_sound None h = tt
 else_sound (Some c) h = h
 
-clauses_sound : (cs : List SwitchClause) → Every IsSoundClause cs → AreSoundClauses (clauses_of cs)
+pub clauses_sound : (cs : List SwitchClause) → Every IsSoundClause cs → AreSoundClauses (clauses_of cs)
 clauses_sound [] h = tt
 clauses_sound (c ∷ cs) h = (h.0, clauses_sound cs h.1)
 
-continuing_sound : (o : Option ContinuingStatement) → IfSome IsSoundContinuing o → IsSoundMaybeContinuing (continuing_of o)
+pub continuing_sound : (o : Option ContinuingStatement) → IfSome IsSoundContinuing o
+    → IsSoundMaybeContinuing (continuing_of o)
 continuing_sound None h = tt
 continuing_sound (Some c) h = h
 
-part_sound : (o : Option StatementNode) → IfSome IsSoundStatementNode o → IsSoundPart (maybe_statement o)
+pub part_sound : (o : Option StatementNode) → IfSome IsSoundStatementNode o → IsSoundPart (maybe_statement o)
 part_sound None h = tt
 part_sound (Some (statement_node s span)) h = h
 
@@ -71,38 +73,30 @@ pub texts_sound : (ts : List Token) → Every (λ (t : Token). IsNameText (text_
 texts_sound [] h = tt
 texts_sound (t ∷ ts) h = (h.0, texts_sound ts h.1)
 
-pub rule_of_sound : (first : Token) (second : Option Token) → IsNameText (text_of first) → IfSome (λ (t : Token). IsNameText (text_of t)) second → IsSoundRule [] (rule_of first second)
+pub rule_of_sound : (first : Token) (second : Option Token) → IsNameText (text_of first)
+    → IfSome (λ (t : Token). IsNameText (text_of t)) second → IsSoundRule [] (rule_of first second)
 rule_of_sound first None n h = one_name_rule (text_of first) n
 rule_of_sound first (Some t) n h = two_names_rule (text_of first) (text_of t) n h
 
 -- ---- expressions
 
-among_words : (a b : Bool) (rest : Bool) → cond a true (cond b true false) ≡ true → cond a true (cond b true rest) ≡ true
+among_words : (a b : Bool) (rest : Bool) → cond a true (cond b true false) ≡ true
+    → cond a true (cond b true rest) ≡ true
 among_words true b rest h = refl
 among_words false true rest h = refl
 among_words false false rest h = absurd (cc)
 
 pub ident_gives : Gives (written ident) (Sound ident)
-ident_gives = check_sound (token_sound (Ident ∷ ReservedWord ∷ []) (λ t. IsNameText (text_of t)) (λ t m h. h.words (among_words (t.class == Ident) (t.class == ReservedWord) _ m))) unreserved
-
-pub type_specifier_gives : Gives (written type_specifier) (Sound type_specifier)
-type_specifier_gives = gives_sound (then_sound (symbol_sound ident) (optional_sound (symbol_sound template_list))) type_of IsSoundType (λ p h. (h.0, template_sound p.1 h.1))
+ident_gives = check_sound (token_sound (Ident ∷ ReservedWord ∷ []) (λ t. IsNameText (text_of t))
+    (λ t m h. h.words (among_words (t.class == Ident) (t.class == ReservedWord) _ m))) unreserved
 
 -- list(Expression)
 pub list_gives : Gives (list SymComma (symbol expression)) (Every IsSoundNode)
 list_gives = list_sound SymComma (symbol_sound expression)
 
-pub template_list_gives : Gives (written template_list) (Sound template_list)
-template_list_gives = sign_before TemplateArgsStart (sign_behind TemplateArgsEnd list_gives)
-
-pub call_gives : Gives (written call) (Sound call)
-call_gives = gives_sound (then_sound (symbol_sound type_specifier) (symbol_sound arguments)) call_of IsSoundCall (λ p h. (h.0, nodes_sound p.1 h.1))
-
-pub arguments_gives : Gives (written arguments) (Sound arguments)
-arguments_gives = sign_before SymParenLeft (sign_behind SymParenRight (list_or_none_sound SymComma (symbol_sound expression)))
-
 pub literal_gives : Gives (written literal) (Sound literal)
-literal_gives = gives_sound (token_sound literal_classes (λ t. IsSoundLiteral (literal_of t)) (λ t m h. h.literals m)) literal_of IsSoundLiteral (λ t h. h)
+literal_gives = gives_sound (token_sound literal_classes (λ t. IsSoundLiteral (literal_of t))
+    (λ t m h. h.literals m)) literal_of IsSoundLiteral (λ t h. h)
 
 -- an expression that begins with no operator
 abbrev IsSoundPrimary : Expression → Type 0
@@ -112,19 +106,24 @@ abbrev IsSoundPrimaryNode : ExpressionNode → Type 0
 IsSoundPrimaryNode e = IsPrimaryNode e × IsSoundNode e
 
 pub primary_expression_gives : Gives (written primary_expression) (Sound primary_expression)
-primary_expression_gives = makes_sound (or_sound (gives_sound (symbol_sound type_specifier) Expression.type_or_identifier IsSoundPrimary (λ t h. (tt, h)))
+primary_expression_gives = makes_sound (or_sound (gives_sound (symbol_sound type_specifier)
+    Expression.type_or_identifier IsSoundPrimary (λ t h. (tt, h)))
     (or_sound (gives_sound (symbol_sound call) Expression.function_call IsSoundPrimary (λ c h. (tt, h)))
     (or_sound (gives_sound (symbol_sound literal) Expression.literal IsSoundPrimary (λ l h. (tt, h)))
-    (gives_sound (sign_before SymParenLeft (sign_behind SymParenRight (symbol_sound expression))) Expression.parenthesized IsSoundPrimary (λ e h. (tt, h))))))
+    (gives_sound (sign_before SymParenLeft (sign_behind SymParenRight (symbol_sound expression)))
+    Expression.parenthesized IsSoundPrimary (λ e h. (tt, h))))))
     placed_expression IsSoundPrimaryNode (λ e s h. h)
 
 pub singular_expression_gives : Gives (written singular_expression) (Sound singular_expression)
-singular_expression_gives = chain_sound (symbol_sound primary_expression) (symbol_sound component) with_component (λ a b s h k. (let x = k a h.0 h.1 in (x.0, x.2)))
+singular_expression_gives = chain_sound (symbol_sound primary_expression)
+    (symbol_sound component) with_component (λ a b s h k. (let x = k a h.0 h.1 in (x.0, x.2)))
 
 pub component_gives : Gives (written component) (Sound component)
 component_gives = or_sound
-    (gives_sound (sign_before SymBracketLeft (sign_behind SymBracketRight (symbol_sound expression))) index_of (Sound component) (λ i h base p s. (p, tt, (s, h))))
-    (gives_sound (sign_before SymPeriod (symbol_sound ident)) component_of (Sound component) (λ t h base p s. (p, tt, (p, s, h))))
+    (gives_sound (sign_before SymBracketLeft (sign_behind SymBracketRight (symbol_sound expression)))
+    index_of (Sound component) (λ i h base p s. (p, tt, (s, h))))
+    (gives_sound (sign_before SymPeriod (symbol_sound ident)) component_of (Sound component)
+    (λ t h base p s. (p, tt, (p, s, h))))
 
 primary_operand : (e : Expression) → IsPrimary e → IsOperand e
 primary_operand (Expression.unary operator operand) p = tt
@@ -140,8 +139,10 @@ primary_operand_node : (e : ExpressionNode) → IsPrimaryNode e → IsOperandNod
 primary_operand_node (expression_node e span) p = primary_operand e p
 
 pub unary_expression_gives : Gives (written unary_expression) (Sound unary_expression)
-unary_expression_gives = or_sound (weaker_sound (symbol_sound singular_expression) (Sound unary_expression) (λ e h. (primary_operand_node e h.0, h.1)))
-    (makes_sound (then_sound (anything unary_operator) (symbol_sound unary_expression)) unary_of (Sound unary_expression) (λ p s h. (tt, h.1)))
+unary_expression_gives = or_sound (weaker_sound (symbol_sound singular_expression)
+    (Sound unary_expression) (λ e h. (primary_operand_node e h.0, h.1)))
+    (makes_sound (then_sound (anything unary_operator) (symbol_sound unary_expression)) unary_of
+    (Sound unary_expression) (λ p s h. (tt, h.1)))
 
 -- a sound operand
 operand_gives : Gives (symbol unary_expression) IsSoundNode
@@ -152,47 +153,69 @@ abbrev IsSoundBehind : BinaryOperator × ExpressionNode → Type 0
 IsSoundBehind p = Unit {0} × IsSoundNode p.1
 
 pub multiplicative_expression_gives : Gives (written multiplicative_expression) (Sound multiplicative_expression)
-multiplicative_expression_gives = chain_sound operand_gives (then_sound (anything multiplicative_operator) operand_gives) binary_of (λ a b s h k. (h, k.1))
+multiplicative_expression_gives = chain_sound operand_gives
+    (then_sound (anything multiplicative_operator) operand_gives) binary_of (λ a b s h k. (h, k.1))
 
 pub negated_expression_gives : Gives (written negated_expression) (Sound negated_expression)
-negated_expression_gives = chain_sound (makes_sound (sign_before SymMinusMinus (symbol_sound unary_expression)) negation_of IsSoundNode (λ e s h. h)) (then_sound (anything multiplicative_operator) operand_gives) negated_product_of (λ a b s h k. (h, k.1))
+negated_expression_gives =
+    chain_sound (makes_sound (sign_before SymMinusMinus (symbol_sound unary_expression)) negation_of
+    IsSoundNode (λ e s h. h)) (then_sound (anything multiplicative_operator) operand_gives)
+    negated_product_of (λ a b s h k. (h, k.1))
 
 pub additive_expression_gives : Gives (written additive_expression) (Sound additive_expression)
 additive_expression_gives = chain_sound (symbol_sound multiplicative_expression)
-    (or_sound (then_sound (anything additive_operator) (symbol_sound multiplicative_expression)) (gives_sound (symbol_sound negated_expression) (λ (e : ExpressionNode). (subtraction, e)) IsSoundBehind (λ e h. (tt, h)))) binary_of (λ a b s h k. (h, k.1))
+    (or_sound (then_sound (anything additive_operator) (symbol_sound multiplicative_expression))
+    (gives_sound (symbol_sound negated_expression) (λ (e : ExpressionNode). (subtraction, e))
+    IsSoundBehind (λ e h. (tt, h)))) binary_of (λ a b s h k. (h, k.1))
 
-two_gives : (class : ℕ) (operator : BinaryOperator) {x : Rule ExpressionNode} → Gives x IsSoundNode → Gives (two class operator x) IsSoundNode
-two_gives class operator G = makes_sound (then_sound G (then_sound (anything (class means operator)) G)) operation_of IsSoundNode (λ p s h. (h.0, h.1.1))
+two_gives : (class : ℕ) (operator : BinaryOperator) {x : Rule ExpressionNode} → Gives x IsSoundNode
+    → Gives (two class operator x) IsSoundNode
+two_gives class operator G = makes_sound (then_sound G (then_sound (anything (class means operator)) G))
+    operation_of IsSoundNode (λ p s h. (h.0, h.1.1))
 
-two_or_more_gives : (class : ℕ) (operator : BinaryOperator) {x : Rule ExpressionNode} → Gives x IsSoundNode → Gives (two_or_more class operator x) IsSoundNode
-two_or_more_gives class operator G = chain_sound (two_gives class operator G) (then_sound (anything (class means operator)) G) binary_of (λ a b s h k. (h, k.1))
+two_or_more_gives : (class : ℕ) (operator : BinaryOperator) {x : Rule ExpressionNode}
+    → Gives x IsSoundNode → Gives (two_or_more class operator x) IsSoundNode
+two_or_more_gives class operator G = chain_sound (two_gives class operator G)
+    (then_sound (anything (class means operator)) G) binary_of (λ a b s h k. (h, k.1))
 
 pub shift_expression_gives : Gives (written shift_expression) (Sound shift_expression)
-shift_expression_gives = or_sound (symbol_sound additive_expression) (or_sound (two_gives SymShiftLeft shift_left operand_gives) (two_gives SymShiftRight shift_right operand_gives))
+shift_expression_gives = or_sound (symbol_sound additive_expression)
+    (or_sound (two_gives SymShiftLeft shift_left operand_gives) (two_gives SymShiftRight shift_right operand_gives))
 
 pub relational_expression_gives : Gives (written relational_expression) (Sound relational_expression)
 relational_expression_gives = or_sound (symbol_sound shift_expression)
-    (makes_sound (then_sound (symbol_sound shift_expression) (then_sound (anything relational_operator) (symbol_sound shift_expression))) operation_of IsSoundNode (λ p s h. (h.0, h.1.1)))
+    (makes_sound (then_sound (symbol_sound shift_expression) (then_sound (anything relational_operator)
+    (symbol_sound shift_expression))) operation_of IsSoundNode (λ p s h. (h.0, h.1.1)))
 
 pub expression_gives : Gives (written expression) (Sound expression)
 expression_gives = or_sound (symbol_sound relational_expression)
-    (or_sound (two_or_more_gives SymAndAnd short_circuit_and (symbol_sound relational_expression)) (or_sound (two_or_more_gives SymOrOr short_circuit_or (symbol_sound relational_expression))
-    (or_sound (two_or_more_gives SymAnd bitwise_and operand_gives) (or_sound (two_or_more_gives SymOr bitwise_or operand_gives) (two_or_more_gives SymXor bitwise_xor operand_gives)))))
+    (or_sound (two_or_more_gives SymAndAnd short_circuit_and (symbol_sound relational_expression))
+    (or_sound (two_or_more_gives SymOrOr short_circuit_or (symbol_sound relational_expression))
+    (or_sound (two_or_more_gives SymAnd bitwise_and operand_gives) (or_sound (two_or_more_gives SymOr
+    bitwise_or operand_gives) (two_or_more_gives SymXor bitwise_xor operand_gives)))))
 
 -- a left side that begins with no operator, and one that ends with a name or a bracket
 abbrev IsSoundLeft : ExpressionNode → Type 0
 IsSoundLeft e = IsPrimaryNode e × EndsWithNameNode e × IsSoundNode e
 
-left_chain_gives : {g : Rule ExpressionNode} → Gives g IsSoundLeft → Gives (left_chain with_component g (symbol component)) (Sound lhs_expression)
-left_chain_gives G = weaker_sound (chain_sound G (symbol_sound component) with_component (λ a b s h k. k a h.0 h.2)) (Sound lhs_expression) (λ e h. (primary_operand_node e h.0, h.1, h.2))
+left_chain_gives : {g : Rule ExpressionNode} → Gives g IsSoundLeft
+    → Gives (left_chain with_component g (symbol component)) (Sound lhs_expression)
+left_chain_gives G =
+    weaker_sound (chain_sound G (symbol_sound component) with_component (λ a b s h k. k a h.0 h.2))
+    (Sound lhs_expression) (λ e h. (primary_operand_node e h.0, h.1, h.2))
 
 pub open_left_side_gives : Gives open_left_side (Sound lhs_expression)
-open_left_side_gives = or_sound (left_chain_gives (makes_sound (symbol_sound ident) variable_at IsSoundLeft (λ t s h. (tt, tt, (h, tt)))))
-    (or_sound (makes_sound (then_sound (anything (SymStar means indirection)) (symbol_sound lhs_expression)) unary_of (Sound lhs_expression) (λ p s h. (tt, h.1.1, (h.1.0, h.1.2))))
-    (makes_sound (then_sound (anything (SymAnd means address_of)) (symbol_sound lhs_expression)) unary_of (Sound lhs_expression) (λ p s h. (tt, h.1.1, (h.1.0, h.1.2)))))
+open_left_side_gives = or_sound
+    (left_chain_gives (makes_sound (symbol_sound ident) variable_at IsSoundLeft (λ t s h. (tt, tt, (h, tt)))))
+    (or_sound (makes_sound (then_sound (anything (SymStar means indirection))
+    (symbol_sound lhs_expression)) unary_of (Sound lhs_expression) (λ p s h. (tt, h.1.1, (h.1.0, h.1.2))))
+    (makes_sound (then_sound (anything (SymAnd means address_of)) (symbol_sound lhs_expression))
+    unary_of (Sound lhs_expression) (λ p s h. (tt, h.1.1, (h.1.0, h.1.2)))))
 
 pub parenthesized_left_side_gives : Gives parenthesized_left_side (Sound lhs_expression)
-parenthesized_left_side_gives = left_chain_gives (makes_sound (sign_before SymParenLeft (sign_behind SymParenRight (symbol_sound lhs_expression))) parenthesized_at IsSoundLeft (λ e s h. (tt, tt, h.2)))
+parenthesized_left_side_gives =
+    left_chain_gives (makes_sound (sign_before SymParenLeft (sign_behind SymParenRight
+    (symbol_sound lhs_expression))) parenthesized_at IsSoundLeft (λ e s h. (tt, tt, h.2)))
 
 pub lhs_expression_gives : Gives (written lhs_expression) (Sound lhs_expression)
 lhs_expression_gives = or_sound open_left_side_gives parenthesized_left_side_gives
@@ -200,11 +223,14 @@ lhs_expression_gives = or_sound open_left_side_gives parenthesized_left_side_giv
 -- ---- attributes
 
 pub attribute_gives : Gives (written attribute) (Sound attribute)
-attribute_gives = check_sound (makes_sound (sign_before SymAttr (then_sound (token_sound word_classes (λ t. IsNameText (text_of t)) (λ t m h. h.words m)) (optional_sound (symbol_sound arguments))))
-    attribute_parts (Sound attribute) (λ p s h. attribute_sound (attribute_parts p s) h.0 h.1)) attribute_fault
+attribute_gives = check_sound (makes_sound (sign_before SymAttr (then_sound (token_sound word_classes
+    (λ t. IsNameText (text_of t)) (λ t m h. h.words m)) (optional_sound (symbol_sound arguments))))
+    attribute_parts (Sound attribute) (λ p s h. attribute_sound (attribute_parts p s) h.0 h.1))
+    attribute_fault
 
 pub attributes_give : Gives attributes AreSoundAttributes
-attributes_give = many_sound (gives_sound (symbol_sound attribute) attribute_node (λ (a : Spanned Attribute). IsSoundAttribute a.node) (λ a h. h))
+attributes_give = many_sound (gives_sound (symbol_sound attribute) attribute_node
+    (λ (a : Spanned Attribute). IsSoundAttribute a.node) (λ a h. h))
 
 -- ---- statements
 
@@ -214,94 +240,51 @@ statements_give = many_sound (symbol_sound statement)
 pub initializer_gives : Gives initializer IsSoundNode
 initializer_gives = sign_before SymEqual (symbol_sound expression)
 
-pub compound_statement_gives : Gives (written compound_statement) (Sound compound_statement)
-compound_statement_gives = gives_sound (then_sound attributes_give (sign_before SymBraceLeft (sign_behind SymBraceRight statements_give))) (λ p. compound_of p.0 p.1) IsSoundCompound (λ p h. (h.0, statements_sound p.1 h.1))
-
 block_sound : (b : CompoundStatement) → IsSoundCompound b → IsSoundStatement (tree.block_statement b)
 block_sound (tree.compound_statement _ _) h = h
 
-pub statement_gives : Gives (written statement) (Sound statement)
-statement_gives = makes_sound
-    (or_sound (means_sound SymSemicolon (tree.unattributed tree.void) IsSoundStatement (tt, tt))
-    (or_sound (sign_behind SymSemicolon (symbol_sound return_statement))
-    (or_sound (symbol_sound if_statement)
-    (or_sound (symbol_sound switch_statement)
-    (or_sound (symbol_sound loop_statement)
-    (or_sound (symbol_sound for_statement)
-    (or_sound (symbol_sound while_statement)
-    (or_sound (sign_behind SymSemicolon (symbol_sound call_statement))
-    (or_sound (sign_behind SymSemicolon (symbol_sound var_statement))
-    (or_sound (sign_behind SymSemicolon (symbol_sound value_statement))
-    (or_sound (sign_behind SymSemicolon (symbol_sound break_statement))
-    (or_sound (sign_behind SymSemicolon (symbol_sound continue_statement))
-    (or_sound (sign_behind SymSemicolon (symbol_sound discard_statement))
-    (or_sound (sign_behind SymSemicolon (symbol_sound assignment))
-    (or_sound (sign_behind SymSemicolon (symbol_sound phony_assignment))
-    (or_sound (sign_behind SymSemicolon (symbol_sound increment))
-    (or_sound (sign_behind SymSemicolon (symbol_sound decrement))
-    (or_sound (gives_sound (symbol_sound compound_statement) tree.block_statement IsSoundStatement block_sound)
-    (gives_sound (sign_behind SymSemicolon (symbol_sound const_assert)) assert_statement IsSoundStatement (λ c h. h))))))))))))))))))))
-    placed_statement IsSoundStatementNode (λ v s h. h)
+pub block_gives : Gives (symbol compound_statement gives tree.block_statement) IsSoundStatement
+block_gives = gives_sound (symbol_sound compound_statement) tree.block_statement IsSoundStatement block_sound
+
+pub assertion_gives : Gives (symbol const_assert ◃ SymSemicolon gives assert_statement) IsSoundStatement
+assertion_gives = gives_sound (sign_behind SymSemicolon (symbol_sound const_assert))
+    assert_statement IsSoundStatement (λ c h. h)
+
+-- a statement and where it stands
+pub item_gives : {g : Rule Statement} → Gives g IsSoundStatement → Gives (g makes placed_statement) IsSoundStatementNode
+item_gives G = makes_sound G placed_statement IsSoundStatementNode (λ v s h. h)
+
+-- the kind of a declaration, and the operator of an assignment
+pub var_kind_gives : Gives var_kind (λ (k : DeclarationKind). Unit {0})
+var_kind_gives = anything var_kind
+
+pub value_kind_gives : Gives (KwLet means DeclarationKind.let_kind or KwConst means DeclarationKind.const_kind)
+    (λ (k : DeclarationKind). Unit {0})
+value_kind_gives = anything (KwLet means DeclarationKind.let_kind or KwConst means DeclarationKind.const_kind)
+
+pub assignment_operator_gives : Gives assignment_operator (λ (o : AssignmentOperator). Unit {0})
+assignment_operator_gives = anything assignment_operator
 
 -- a statement behind attributes
-pub attributed_gives : {g : Rule UnattributedStatement} → Gives g IsSoundUnattributed → Gives (attributed tree.statement g) IsSoundStatement
-attributed_gives G = gives_sound (then_sound attributes_give G) (λ p. tree.statement p.0 p.1) IsSoundStatement (λ p h. h)
+pub attributed_gives : {g : Rule UnattributedStatement} → Gives g IsSoundUnattributed
+    → Gives (attributed tree.statement g) IsSoundStatement
+attributed_gives G = gives_sound (then_sound attributes_give G)
+    (λ p. tree.statement p.0 p.1) IsSoundStatement (λ p h. h)
 
-return_statement_gives : Gives (written return_statement) (Sound return_statement)
-return_statement_gives = attributed_gives (gives_sound (sign_before KwReturn (optional_sound (symbol_sound expression))) return_of IsSoundUnattributed (λ o h. h))
+pub else_if_gives : Gives else_if IsSoundElseIf
+else_if_gives = gives_sound (sign_before KwElse
+    (sign_before KwIf (then_sound (symbol_sound expression) (symbol_sound compound_statement))))
+    (λ p. tree.else_if_clause [] p.0 p.1) IsSoundElseIf (λ p h. (tt, h.0, h.1))
 
-else_if_gives : Gives else_if IsSoundElseIf
-else_if_gives = gives_sound (sign_before KwElse (sign_before KwIf (then_sound (symbol_sound expression) (symbol_sound compound_statement)))) (λ p. tree.else_if_clause [] p.0 p.1) IsSoundElseIf (λ p h. (tt, h.0, h.1))
-
-else_block_gives : Gives else_block IsSoundElseClause
-else_block_gives = gives_sound (sign_before KwElse (symbol_sound compound_statement)) (tree.else_clause []) IsSoundElseClause (λ b h. (tt, h))
-
-if_statement_gives : Gives (written if_statement) (Sound if_statement)
-if_statement_gives = attributed_gives (gives_sound
-    (sign_before KwIf (then_sound (symbol_sound expression) (then_sound (symbol_sound compound_statement) (then_sound (many_sound else_if_gives) (optional_sound else_block_gives)))))
-    (λ p. if_of p.0 p.1.0 p.1.1) IsSoundUnattributed (λ p h. ((h.0, h.1.0), else_ifs_sound p.1.1.0 h.1.1.0, else_sound p.1.1.1 h.1.1.1)))
-
-switch_statement_gives : Gives (written switch_statement) (Sound switch_statement)
-switch_statement_gives = attributed_gives (gives_sound
-    (sign_before KwSwitch (then_sound (symbol_sound expression) (then_sound attributes_give (sign_before SymBraceLeft (sign_behind SymBraceRight (several_sound (symbol_sound switch_clause)))))))
-    (λ p. switch_of p.0 p.1.0 p.1.1) IsSoundUnattributed (λ p h. (h.0, h.1.0, clauses_sound p.1.1 h.1.1)))
-
-loop_statement_gives : Gives (written loop_statement) (Sound loop_statement)
-loop_statement_gives = attributed_gives (gives_sound
-    (sign_before KwLoop (then_sound attributes_give (sign_before SymBraceLeft (sign_behind SymBraceRight (then_sound statements_give (optional_sound (symbol_sound continuing_statement)))))))
-    (λ p. loop_of p.0 p.1.0 p.1.1) IsSoundUnattributed (λ p h. ((h.0, statements_sound p.1.0 h.1.0), continuing_sound p.1.1 h.1.1)))
-
-for_statement_gives : Gives (written for_statement) (Sound for_statement)
-for_statement_gives = attributed_gives (gives_sound
-    (sign_before KwFor (sign_before SymParenLeft (then_sound (sign_behind SymSemicolon (optional_sound (symbol_sound for_init))) (then_sound (sign_behind SymSemicolon (optional_sound (symbol_sound expression)))
-    (then_sound (sign_behind SymParenRight (optional_sound (symbol_sound for_update))) (symbol_sound compound_statement))))))
-    (λ p. for_of p.0 p.1.0 p.1.1.0 p.1.1.1) IsSoundUnattributed (λ p h. (part_sound p.0 h.0, h.1.0, part_sound p.1.1.0 h.1.1.0, h.1.1.1)))
-
-while_statement_gives : Gives (written while_statement) (Sound while_statement)
-while_statement_gives = attributed_gives (gives_sound (sign_before KwWhile (then_sound (symbol_sound expression) (symbol_sound compound_statement))) (λ p. while_of p.0 p.1) IsSoundUnattributed (λ p h. h))
-
-call_statement_gives : Gives (written call_statement) (Sound call_statement)
-call_statement_gives = attributed_gives (gives_sound (symbol_sound call) call_statement_of IsSoundUnattributed (λ c h. h))
-
-var_statement_gives : Gives (written var_statement) (Sound var_statement)
-var_statement_gives = attributed_gives (gives_sound (then_sound (anything var_kind) (then_sound (symbol_sound typed_ident) (optional_sound initializer_gives)))
-    (λ p. local_of p.0 p.1.0 p.1.1) IsSoundUnattributed (λ p h. (h.1.0.0, h.1.0.1, h.1.1)))
-
-value_statement_gives : Gives (written value_statement) (Sound value_statement)
-value_statement_gives = attributed_gives (gives_sound (then_sound (anything (KwLet means DeclarationKind.let_kind or KwConst means DeclarationKind.const_kind)) (then_sound (symbol_sound typed_ident) initializer_gives))
-    (λ p. local_of p.0 p.1.0 (Some p.1.1)) IsSoundUnattributed (λ p h. (h.1.0.0, h.1.0.1, h.1.1)))
+pub else_block_gives : Gives else_block IsSoundElseClause
+else_block_gives = gives_sound (sign_before KwElse (symbol_sound compound_statement))
+    (tree.else_clause []) IsSoundElseClause (λ b h. (tt, h))
 
 -- a left side behind attributes
 pub left_side_gives : Gives (left_side parsed) (λ p. AreSoundAttributes p.0 × Sound lhs_expression p.1)
-left_side_gives = or_sound (then_sound attributes_give open_left_side_gives) (gives_sound parenthesized_left_side_gives (λ e. ([], e)) (λ p. AreSoundAttributes p.0 × Sound lhs_expression p.1) (λ e h. (tt, h)))
-
-assignment_gives : Gives (written assignment) (Sound assignment)
-assignment_gives = gives_sound (then_sound left_side_gives (then_sound (anything assignment_operator) (symbol_sound expression)))
-    (λ p. tree.statement p.0.0 (assignment_of p.0.1 p.1.0 p.1.1)) IsSoundStatement (λ p h. (h.0.0, (h.0.1.2, h.1.1)))
-
--- attributes and a word
-word_gives : (class : ℕ) (s : UnattributedStatement) → IsSoundUnattributed s → Gives (led parsed tree.statement (class means s)) IsSoundStatement
-word_gives class s h = attributed_gives (means_sound class s IsSoundUnattributed h)
+left_side_gives = or_sound (then_sound attributes_give open_left_side_gives)
+    (gives_sound parenthesized_left_side_gives (λ e. ([], e))
+    (λ p. AreSoundAttributes p.0 × Sound lhs_expression p.1) (λ e h. (tt, h)))
 
 -- the name `_`
 underscore_name : IsNameText (codes "_")
@@ -314,31 +297,7 @@ underscore_name = record {
   spelled = spelled_symbol (codes "_") (looked_up symbols (codes "_") SymUnderscore refl);
 }
 
-phony_assignment_gives : Gives (written phony_assignment) (Sound phony_assignment)
-phony_assignment_gives = attributed_gives (gives_sound (then_sound (makes_sound (anything (token (SymUnderscore ∷ []))) underscore_at IsSoundNode (λ t s h. (underscore_name, tt))) initializer_gives) (λ p. assignment_of p.0 equal p.1) IsSoundUnattributed (λ p h. h))
-
-increment_gives : Gives (written increment) (Sound increment)
-increment_gives = gives_sound (sign_behind SymPlusPlus left_side_gives) (λ p. tree.statement p.0 (increment_of p.1)) IsSoundStatement (λ p h. (h.0, (h.1.1, h.1.2)))
-
-decrement_gives : Gives (written decrement) (Sound decrement)
-decrement_gives = gives_sound (sign_behind SymMinusMinus left_side_gives) (λ p. tree.statement p.0 (decrement_of p.1)) IsSoundStatement (λ p h. (h.0, (h.1.1, h.1.2)))
-
--- each kind of statements
-pub kind_gives : (n : Symbol) → IsKind n → Gives (written n) (Sound n)
-kind_gives return_statement kind = return_statement_gives
-kind_gives if_statement kind = if_statement_gives
-kind_gives switch_statement kind = switch_statement_gives
-kind_gives loop_statement kind = loop_statement_gives
-kind_gives for_statement kind = for_statement_gives
-kind_gives while_statement kind = while_statement_gives
-kind_gives call_statement kind = call_statement_gives
-kind_gives var_statement kind = var_statement_gives
-kind_gives value_statement kind = value_statement_gives
-kind_gives break_statement kind = word_gives KwBreak UnattributedStatement.break_statement tt
-kind_gives continue_statement kind = word_gives KwContinue UnattributedStatement.continue_statement tt
-kind_gives discard_statement kind = word_gives KwDiscard UnattributedStatement.discard_statement tt
-kind_gives assignment kind = assignment_gives
-kind_gives phony_assignment kind = phony_assignment_gives
-kind_gives increment kind = increment_gives
-kind_gives decrement kind = decrement_gives
-kind_gives n kind = absurd kind
+-- the left side of a phony assignment
+pub underscore_gives : Gives (one_token SymUnderscore makes underscore_at) IsSoundNode
+underscore_gives = makes_sound (anything (one_token SymUnderscore)) underscore_at IsSoundNode
+    (λ t s h. (underscore_name, tt))

@@ -19,18 +19,22 @@ use Rattle.wgsl_theory_printed.proofs.Fits.FittingAttributes.{IfSome, Every, IsS
 
 one_name_from : (start left : List ℕ) → NoPeriod left → IsNameText (start ++ left) → IsSoundRule start left
 one_name_from start [] p n = subst IsNameText (append-nil start) n
-one_name_from start (c ∷ cs) p n = rw p.0 (one_name_from (start ++ (c ∷ [])) cs p.1 (subst IsNameText (sym (append_assoc start (c ∷ []) cs)) n))
+one_name_from start (c ∷ cs) p n = rw p.0
+    (one_name_from (start ++ (c ∷ [])) cs p.1 (subst IsNameText (sym (append_assoc start (c ∷ []) cs)) n))
 
 -- one name
 pub one_name_rule : (text : List ℕ) → IsNameText text → IsSoundRule [] text
 one_name_rule text n = one_name_from [] text (name_has_no_period text n) n
 
-two_names_from : (start left second : List ℕ) → NoPeriod left → IsNameText (start ++ left) → IsNameText second → IsSoundRule start (left ++ (46 ∷ second))
+two_names_from : (start left second : List ℕ) → NoPeriod left → IsNameText (start ++ left)
+    → IsNameText second → IsSoundRule start (left ++ (46 ∷ second))
 two_names_from start [] second p n m = (subst IsNameText (append-nil start) n, m)
-two_names_from start (c ∷ cs) second p n m = rw p.0 (two_names_from (start ++ (c ∷ [])) cs second p.1 (subst IsNameText (sym (append_assoc start (c ∷ []) cs)) n) m)
+two_names_from start (c ∷ cs) second p n m = rw p.0 (two_names_from (start ++ (c ∷ [])) cs second p.1
+    (subst IsNameText (sym (append_assoc start (c ∷ []) cs)) n) m)
 
 -- two names with `.` between
-pub two_names_rule : (first second : List ℕ) → IsNameText first → IsNameText second → IsSoundRule [] (first ++ (codes "." ++ second))
+pub two_names_rule : (first second : List ℕ) → IsNameText first → IsNameText second
+    → IsSoundRule [] (first ++ (codes "." ++ second))
 two_names_rule first second n m = two_names_from [] first second (name_has_no_period first n) n m
 
 -- ---- arguments
@@ -44,22 +48,27 @@ bare_name_sound : (e : ExpressionNode) → IsSoundNode e → IfSome IsNameText (
 bare_name_sound (expression_node e span) s = bare_name_in_sound e s
 
 -- the name of a rule
-mapped_sound : (component : List ℕ) (o : Option (List ℕ)) → IsNameText component → IfSome IsNameText o → IfSome (IsSoundRule []) (option_map (λ text. text ++ (codes "." ++ component)) o)
+mapped_sound : (component : List ℕ) (o : Option (List ℕ)) → IsNameText component → IfSome IsNameText o
+    → IfSome (IsSoundRule []) (option_map (λ text. text ++ (codes "." ++ component)) o)
 mapped_sound component None n s = tt
 mapped_sound component (Some text) n s = two_names_rule text component s n
 
 rule_name_sound : (r : ExpressionNode) → IsSoundNode r → IfSome (IsSoundRule []) (rule_name r)
-rule_name_sound (expression_node (named_component base component) span) s = mapped_sound component (untemplated_name base) s.2 (bare_name_sound base s.1)
-rule_name_sound (expression_node (type_or_identifier (type_expression text no_template)) span) s = one_name_rule text s.0
+rule_name_sound (expression_node (named_component base component) span) s = mapped_sound component
+    (untemplated_name base) s.2 (bare_name_sound base s.1)
+rule_name_sound (expression_node (type_or_identifier (type_expression text no_template)) span) s =
+    one_name_rule text s.0
 rule_name_sound (expression_node e span) s = tt
 
-more_variants : (o : Option (List TypeExpression)) (ty : TypeExpression) → IfSome (Every IsSoundType) o → IsSoundType ty → IfSome (Every IsSoundType) (option_map (λ types. types ++ (ty ∷ [])) o)
+more_variants : (o : Option (List TypeExpression)) (ty : TypeExpression) → IfSome (Every IsSoundType) o
+    → IsSoundType ty → IfSome (Every IsSoundType) (option_map (λ types. types ++ (ty ∷ [])) o)
 more_variants None ty s t = tt
 more_variants (Some types) ty s t = Every-behind IsSoundType types ty s t
 
 variants_in_sound : (e : Expression) → IsSoundExpression e → IfSome (Every IsSoundType) (variants_in e)
 variants_in_sound (type_or_identifier ty) s = (s, tt)
-variants_in_sound (binary bitwise_or (expression_node left x) (expression_node (type_or_identifier ty) u)) s = more_variants (variants_in left) ty (variants_in_sound left s.0) s.1
+variants_in_sound (binary bitwise_or (expression_node left x) (expression_node (type_or_identifier ty) u)) s =
+    more_variants (variants_in left) ty (variants_in_sound left s.0) s.1
 variants_in_sound e s = tt
 
 variants_sound : (e : ExpressionNode) → IsSoundNode e → IfSome (Every IsSoundType) (variants e)
@@ -88,7 +97,8 @@ none_makes : (name : NoArgument) → Makes (with_none (without_argument name))
 none_makes name None s = tt
 none_makes name (Some es) s = tt
 
-right_or_sound : {A : Type 0} (o : Option A) (f : A → Attribute) (text : List ℕ) → ((x : A) → IsSoundAttribute (f x)) → IsSoundChecked (right_or o f text)
+right_or_sound : {A : Type 0} (o : Option A) (f : A → Attribute) (text : List ℕ)
+    → ((x : A) → IsSoundAttribute (f x)) → IsSoundChecked (right_or o f text)
 right_or_sound None f text h = tt
 right_or_sound (Some x) f text h = h x
 
@@ -98,7 +108,8 @@ builtin_makes (Some []) s = tt
 builtin_makes (Some (e ∷ [])) s = right_or_sound (untemplated_word builtin_values e) builtin _ (λ x. tt)
 builtin_makes (Some (e ∷ (d ∷ es))) s = tt
 
-severity_and_rule_sound : (x : Option DiagnosticSeverity) (rule : Option (List ℕ)) → IfSome (IsSoundRule []) rule → IsSoundChecked (severity_and_rule x rule)
+severity_and_rule_sound : (x : Option DiagnosticSeverity) (rule : Option (List ℕ))
+    → IfSome (IsSoundRule []) rule → IsSoundChecked (severity_and_rule x rule)
 severity_and_rule_sound None rule s = tt
 severity_and_rule_sound (Some x) None s = tt
 severity_and_rule_sound (Some x) (Some rule) s = s
@@ -107,10 +118,12 @@ diagnostic_makes : Makes diagnostic_attribute
 diagnostic_makes None s = tt
 diagnostic_makes (Some []) s = tt
 diagnostic_makes (Some (e ∷ [])) s = tt
-diagnostic_makes (Some (e ∷ (r ∷ []))) s = severity_and_rule_sound (untemplated_word severities e) (rule_name r) (rule_name_sound r s.1.0)
+diagnostic_makes (Some (e ∷ (r ∷ []))) s = severity_and_rule_sound (untemplated_word severities e)
+    (rule_name r) (rule_name_sound r s.1.0)
 diagnostic_makes (Some (e ∷ (r ∷ (d ∷ es)))) s = tt
 
-type_and_sampling_sound : (x : Option InterpolationType) (y : Option InterpolationSampling) → IsSoundChecked (type_and_sampling x y)
+type_and_sampling_sound : (x : Option InterpolationType) (y : Option InterpolationSampling)
+    → IsSoundChecked (type_and_sampling x y)
 type_and_sampling_sound None y = tt
 type_and_sampling_sound (Some x) None = tt
 type_and_sampling_sound (Some x) (Some y) = tt
@@ -118,8 +131,10 @@ type_and_sampling_sound (Some x) (Some y) = tt
 interpolate_makes : Makes interpolate_attribute
 interpolate_makes None s = tt
 interpolate_makes (Some []) s = tt
-interpolate_makes (Some (e ∷ [])) s = right_or_sound (untemplated_word interpolation_types e) (λ ty. interpolate (record { ty = ty; sampling = None })) _ (λ x. tt)
-interpolate_makes (Some (e ∷ (r ∷ []))) s = type_and_sampling_sound (untemplated_word interpolation_types e) (untemplated_word interpolation_samplings r)
+interpolate_makes (Some (e ∷ [])) s = right_or_sound (untemplated_word interpolation_types e)
+    (λ ty. interpolate (record { ty = ty; sampling = None })) _ (λ x. tt)
+interpolate_makes (Some (e ∷ (r ∷ []))) s = type_and_sampling_sound
+    (untemplated_word interpolation_types e) (untemplated_word interpolation_samplings r)
 interpolate_makes (Some (e ∷ (r ∷ (d ∷ es)))) s = tt
 
 workgroup_size_makes : Makes workgroup_size_attribute
@@ -130,7 +145,8 @@ workgroup_size_makes (Some (x ∷ (y ∷ []))) s = (s.0, s.1.0, tt)
 workgroup_size_makes (Some (x ∷ (y ∷ (z ∷ [])))) s = (s.0, s.1.0, s.1.1.0)
 workgroup_size_makes (Some (x ∷ (y ∷ (z ∷ (d ∷ es))))) s = tt
 
-name_and_variants_sound : (x : Option (List ℕ)) (y : Option (List TypeExpression)) → IfSome IsNameText x → IfSome (Every IsSoundType) y → IsSoundChecked (name_and_variants x y)
+name_and_variants_sound : (x : Option (List ℕ)) (y : Option (List TypeExpression))
+    → IfSome IsNameText x → IfSome (Every IsSoundType) y → IsSoundChecked (name_and_variants x y)
 name_and_variants_sound None y s t = tt
 name_and_variants_sound (Some x) None s t = tt
 name_and_variants_sound (Some x) (Some y) s t = (s, t)
@@ -139,18 +155,26 @@ type_makes : Makes type_attribute
 type_makes None s = tt
 type_makes (Some []) s = tt
 type_makes (Some (e ∷ [])) s = tt
-type_makes (Some (e ∷ (r ∷ []))) s = name_and_variants_sound (untemplated_name e) (variants r) (bare_name_sound e s.0) (variants_sound r s.1.0)
+type_makes (Some (e ∷ (r ∷ []))) s = name_and_variants_sound (untemplated_name e) (variants r)
+    (bare_name_sound e s.0) (variants_sound r s.1.0)
 type_makes (Some (e ∷ (r ∷ (d ∷ es)))) s = tt
 
 -- whatever the name, which is sound itself
 name_makes : (name : List ℕ) → IsNameText name → Makes (named_attribute (look_up attribute_names name) name)
-name_makes = of_each_name (λ name check. IsNameText name → Makes check) (λ name n. one_makes name) (λ name n. none_makes name)
-    ((λ n. builtin_makes), ((λ n. diagnostic_makes), ((λ n. interpolate_makes), ((λ n. workgroup_size_makes), ((λ n. type_makes), tt))))) (λ name n a s. (n, s))
+name_makes = of_each_name (λ name check. IsNameText name → Makes check) (λ name n. one_makes name)
+    (λ name n. none_makes name) (
+      (λ n. builtin_makes),
+      ((λ n. diagnostic_makes), ((λ n. interpolate_makes), ((λ n. workgroup_size_makes), ((λ n. type_makes), tt)))),
+    ) (λ name n a s. (n, s))
 
 -- an attribute, or a name with its arguments
-given_sound : (c : Checked Attribute) (x : Attribute) → IsSoundChecked c → IsSoundAttribute x → IsSoundAttribute (given_or x (right_in c))
+given_sound : (c : Checked Attribute) (x : Attribute) → IsSoundChecked c → IsSoundAttribute x
+    → IsSoundAttribute (given_or x (right_in c))
 given_sound (right a) x s t = s
 given_sound (wrong text) x s t = t
 
-pub attribute_sound : (p : Spanned AttributeParts) → IsNameText p.node.name → AreSoundArguments p.node.arguments → IsSoundAttribute (attribute_node p).node
-attribute_sound p n s = given_sound (attribute_of p.node) (custom (record { name = p.node.name; arguments = p.node.arguments })) (name_makes p.node.name n p.node.arguments s) (n, s)
+pub attribute_sound : (p : Spanned AttributeParts) → IsNameText p.node.name
+    → AreSoundArguments p.node.arguments → IsSoundAttribute (attribute_node p).node
+attribute_sound p n s = given_sound (attribute_of p.node)
+    (custom (record { name = p.node.name; arguments = p.node.arguments }))
+    (name_makes p.node.name n p.node.arguments s) (n, s)

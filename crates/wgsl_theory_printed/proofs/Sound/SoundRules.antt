@@ -30,7 +30,8 @@ Sound arguments v = Every IsSoundNode v
 Sound literal v = IsSoundLiteral v
 Sound primary_expression v = IsPrimaryNode v × IsSoundNode v
 Sound singular_expression v = IsPrimaryNode v × IsSoundNode v
-Sound component v = (base : ExpressionNode) → IsPrimaryNode base → IsSoundNode base → IsPrimary (v base) × EndsWithName (v base) × IsSoundExpression (v base)
+Sound component v = (base : ExpressionNode) → IsPrimaryNode base → IsSoundNode base
+    → IsPrimary (v base) × EndsWithName (v base) × IsSoundExpression (v base)
 Sound unary_expression v = IsOperandNode v × IsSoundNode v
 Sound multiplicative_expression v = IsSoundNode v
 Sound negated_expression v = IsSoundNode v
@@ -75,19 +76,26 @@ abbrev pub Gives : {A : Type 0} → Rule A → (A → Type 0) → Type 0
 Gives g P = GivesBy IsFromText Sound g P
 
 pub optional_sound : {A : Type 0} {g : Rule A} {P : A → Type 0} → Gives g P → Gives (optional g) (IfSome P)
-optional_sound {A = A} {P = P} G = or_sound (gives_sound G (λ (a : A). Some a) (IfSome P) (λ a p. p)) (none_sound None (IfSome P) tt)
+optional_sound {A = A} {P = P} G = or_sound (gives_sound G (λ (a : A). Some a) (IfSome P) (λ a p. p))
+    (none_sound None (IfSome P) tt)
 
 pub many_sound : {A : Type 0} {g : Rule A} {P : A → Type 0} → Gives g P → Gives (many g) (Every P)
-many_sound {A = A} {P = P} G = chain_sound (none_sound [] (Every P) tt) G (λ (xs : List A) (x : A) s. xs ++ (x ∷ [])) (λ xs x s h k. Every-behind P xs x h k)
+many_sound {A = A} {P = P} G = chain_sound (none_sound [] (Every P) tt) G
+    (λ (xs : List A) (x : A) s. xs ++ (x ∷ [])) (λ xs x s h k. Every-behind P xs x h k)
 
 pub several_sound : {A : Type 0} {g : Rule A} {P : A → Type 0} → Gives g P → Gives (several g) (Every P)
-several_sound {A = A} {P = P} G = chain_sound (gives_sound G (λ (x : A). x ∷ []) (Every P) (λ a p. (p, tt))) G (λ (xs : List A) (x : A) s. xs ++ (x ∷ [])) (λ xs x s h k. Every-behind P xs x h k)
+several_sound {A = A} {P = P} G =
+    chain_sound (gives_sound G (λ (x : A). x ∷ []) (Every P) (λ a p. (p, tt))) G
+    (λ (xs : List A) (x : A) s. xs ++ (x ∷ [])) (λ xs x s h k. Every-behind P xs x h k)
 
 separated_sound : {A : Type 0} (c : ℕ) {g : Rule A} {P : A → Type 0} → Gives g P → Gives (separated c g) (Every P)
-separated_sound {A = A} c {P = P} G = chain_sound (gives_sound G (λ (x : A). x ∷ []) (Every P) (λ a p. (p, tt))) (sign_before c G) (λ (xs : List A) (x : A) s. xs ++ (x ∷ [])) (λ xs x s h k. Every-behind P xs x h k)
+separated_sound {A = A} c {P = P} G =
+    chain_sound (gives_sound G (λ (x : A). x ∷ []) (Every P) (λ a p. (p, tt))) (sign_before c G)
+    (λ (xs : List A) (x : A) s. xs ++ (x ∷ [])) (λ xs x s h k. Every-behind P xs x h k)
 
 pub list_sound : {A : Type 0} (c : ℕ) {g : Rule A} {P : A → Type 0} → Gives g P → Gives (list c g) (Every P)
 list_sound c G = or_sound (separated_sound c G) (sign_behind c (separated_sound c G))
 
-pub list_or_none_sound : {A : Type 0} (c : ℕ) {g : Rule A} {P : A → Type 0} → Gives g P → Gives (list_or_none c g) (Every P)
+pub list_or_none_sound : {A : Type 0} (c : ℕ) {g : Rule A} {P : A → Type 0} → Gives g P
+    → Gives (list_or_none c g) (Every P)
 list_or_none_sound c {P = P} G = or_sound (list_sound c G) (none_sound [] (Every P) tt)

@@ -3,7 +3,7 @@ use Rattle.std.proofs.Common.{◌≡◌, ℕ, Bool, true, false, ◌==◌, refl,
 use Rattle.std.specs.Str.{chars}
 use Rattle.wgsl_model.specs.Tokens.Characters.{is_blank}
 use Rattle.std.proofs.lemmas.Bool.{eqb-true}
-use Rattle.wgsl_model.specs.Tokens.Classes.{SymLessThan, SymGreaterThan, SymGreaterThanEqual, SymShiftRight, SymShiftRightAssign}
+use Rattle.wgsl_model.specs.Tokens.ClassTable.{SymLessThan, SymGreaterThan, SymGreaterThanEqual, SymShiftRight, SymShiftRightAssign}
 use Rattle.wgsl_model.specs.Tokens.Kind.{Kind, plain}
 use Rattle.wgsl_model.specs.Tokens.Raw.{Raw.none_left, Raw.token, raw}
 use Rattle.wgsl_model.specs.Tokens.Templates.{begins_with_greater}
@@ -32,22 +32,44 @@ assign_stands (d ∷ ds) = sign_stands 62 (62 ∷ (61 ∷ [])) SymShiftRightAssi
 
 -- `>>` or `>>=`
 behind_two : (text : List ℕ) → Greater (62 ∷ text)
-behind_two [] = record { kind = plain SymShiftRight; after = []; is_token = sign_stands 62 (62 ∷ []) SymShiftRight [] refl refl tt; greater = refl }
+behind_two [] = record {
+  kind = plain SymShiftRight;
+  after = [];
+  is_token = sign_stands 62 (62 ∷ []) SymShiftRight [] refl refl tt;
+  greater = refl;
+}
 behind_two (c ∷ cs) = go (c == 61) refl
   where
     go : (b : Bool) → (c == 61) ≡ b → Greater (62 ∷ (c ∷ cs))
-    go true e = subst (λ d. Greater (62 ∷ (d ∷ cs))) (sym (eqb-true c 61 e)) (record { kind = plain SymShiftRightAssign; after = cs; is_token = assign_stands cs; greater = refl })
-    go false e = record { kind = plain SymShiftRight; after = c ∷ cs; is_token = sign_stands 62 (62 ∷ []) SymShiftRight (c ∷ cs) refl refl (rw e refl); greater = refl }
+    go true e = subst (λ d. Greater (62 ∷ (d ∷ cs))) (sym (eqb-true c 61 e))
+        (record { kind = plain SymShiftRightAssign; after = cs; is_token = assign_stands cs; greater = refl })
+    go false e = record {
+      kind = plain SymShiftRight;
+      after = c ∷ cs;
+      is_token = sign_stands 62 (62 ∷ []) SymShiftRight (c ∷ cs) refl refl (rw e refl);
+      greater = refl;
+    }
 
 -- whatever follows
 pub behind_one : (text : List ℕ) → Greater text
-behind_one [] = record { kind = plain SymGreaterThan; after = []; is_token = sign_stands 62 [] SymGreaterThan [] refl refl tt; greater = refl }
+behind_one [] = record {
+  kind = plain SymGreaterThan;
+  after = [];
+  is_token = sign_stands 62 [] SymGreaterThan [] refl refl tt;
+  greater = refl;
+}
 behind_one (c ∷ cs) = go (c == 61) (c == 62) refl refl
   where
     go : (a b : Bool) → (c == 61) ≡ a → (c == 62) ≡ b → Greater (c ∷ cs)
-    go true b e f = subst (λ d. Greater (d ∷ cs)) (sym (eqb-true c 61 e)) (record { kind = plain SymGreaterThanEqual; after = cs; is_token = equal_stands cs; greater = refl })
+    go true b e f = subst (λ d. Greater (d ∷ cs)) (sym (eqb-true c 61 e))
+        (record { kind = plain SymGreaterThanEqual; after = cs; is_token = equal_stands cs; greater = refl })
     go false true e f = subst (λ d. Greater (d ∷ cs)) (sym (eqb-true c 62 f)) (behind_two cs)
-    go false false e f = record { kind = plain SymGreaterThan; after = c ∷ cs; is_token = sign_stands 62 [] SymGreaterThan (c ∷ cs) refl refl (rw (e, f) refl); greater = refl }
+    go false false e f = record {
+      kind = plain SymGreaterThan;
+      after = c ∷ cs;
+      is_token = sign_stands 62 [] SymGreaterThan (c ∷ cs) refl refl (rw (e, f) refl);
+      greater = refl;
+    }
 
 -- ---- pieces that fit
 
@@ -65,7 +87,8 @@ raw_nil : raw [] ≡ none_left
 unfolding after_trivia
 raw_nil = refl
 
-along_word : (k : Kind) (r : Role) (on : List ℕ → Type 0) (text rest : List ℕ) → IsOrdinaryRole r → raw text ≡ token k text rest → on rest → along_role r k on text
+along_word : (k : Kind) (r : Role) (on : List ℕ → Type 0) (text rest : List ℕ) → IsOrdinaryRole r
+    → raw text ≡ token k text rest → on rest → along_role r k on text
 along_word k template_start on text rest o e h = absurd o
 along_word k template_end on text rest o e h = absurd o
 along_word k r on text rest o e h = (text, rest, e, h)
@@ -75,6 +98,9 @@ pub along : (ps : List Piece) → Fits ps → Along (kinds ps) (render ps)
 along [] fits = raw_nil
 along (space ∷ ps) fits = along_blank 32 (kinds ps) (render ps) refl (along ps fits)
 along (line_end ∷ ps) fits = along_blank 10 (kinds ps) (render ps) refl (along ps fits)
-along (word w k ∷ ps) fits = along_word k (role k.class) (λ rest. Along (kinds ps) rest) (chars w ++ render ps) (render ps) fits.0.ordinary fits.0.stands (along ps fits.1)
+along (word w k ∷ ps) fits = along_word k (role k.class) (λ rest. Along (kinds ps) rest)
+    (chars w ++ render ps) (render ps) fits.0.ordinary fits.0.stands (along ps fits.1)
 along (opens ∷ ps) fits = (plain SymLessThan, 60 ∷ render ps, render ps, fits.0, refl, (refl, along ps fits.1))
-along (closes ∷ ps) fits = let g = behind_one (render ps) in (g.kind, 62 ∷ render ps, g.after, g.is_token, g.greater, (refl, along ps fits))
+along (closes ∷ ps) fits =
+    let g = behind_one (render ps) in
+    (g.kind, 62 ∷ render ps, g.after, g.is_token, g.greater, (refl, along ps fits))

@@ -21,18 +21,21 @@ scalar_ranges = (0, 0xD7FF) ∷ (0xE000, 0x10FFFF) ∷ []
 
 -- blank space, and `/`
 abbrev other_ranges : List Range
-other_ranges = (9, 13) ∷ (32, 32) ∷ (47, 47) ∷ (133, 133) ∷ (160, 160) ∷ (5760, 5760) ∷ (8192, 8202) ∷ (0x200E, 0x200F) ∷ (8232, 8233) ∷ (8239, 8239) ∷ (8287, 8287) ∷ (12288, 12288) ∷ []
+other_ranges = (9, 13) ∷ (32, 32) ∷ (47, 47) ∷ (133, 133) ∷ (160, 160) ∷ (5760, 5760) ∷ (8192, 8202)
+    ∷ (0x200E, 0x200F) ∷ (8232, 8233) ∷ (8239, 8239) ∷ (8287, 8287) ∷ (12288, 12288) ∷ []
 
 continues-in_ranges : (c : ℕ) → is_xid_continue c ≡ true → in_ranges scalar_ranges c ≡ true
 unfolding unicode_ident
 continues-in_ranges c h =
-    let both = zip_stepped (λ a b. not a || b) is_xid_continue (in_ranges scalar_ranges) is_xid_continue_stepped (of_ranges scalar_ranges refl) in
+    let both = zip_stepped (λ a b. not a || b) is_xid_continue
+    (in_ranges scalar_ranges) is_xid_continue_stepped (of_ranges scalar_ranges refl) in
     subst (λ a. (not a || in_ranges scalar_ranges c) ≡ true) h (Stepped-everywhere _ both refl c)
 
 continues-no_other : (c : ℕ) → is_xid_continue c ≡ true → not (in_ranges other_ranges c) ≡ true
 unfolding unicode_ident
 continues-no_other c h =
-    let both = zip_stepped (λ a b. not a || not b) is_xid_continue (in_ranges other_ranges) is_xid_continue_stepped (of_ranges other_ranges refl) in
+    let both = zip_stepped (λ a b. not a || not b) is_xid_continue
+    (in_ranges other_ranges) is_xid_continue_stepped (of_ranges other_ranges refl) in
     subst (λ a. (not a || not (in_ranges other_ranges c)) ≡ true) h (Stepped-everywhere _ both refl c)
 
 in_ranges-scalar : (c : ℕ) → in_ranges scalar_ranges c ≡ true → IsScalar c
@@ -50,4 +53,5 @@ pub xid_continue-in_words : (c : ℕ) → is_xid_continue c ≡ true → is_in_w
 xid_continue-in_words c h = in_ranges-in_words c (continues-no_other c h)
 
 pub xid_start-not_blank : (c : ℕ) → is_xid_start c ≡ true → is_blank c ≡ false
-xid_start-not_blank c h = not-true (is_blank c) (and_parts (not (is_blank c)) (not (c == 47)) (xid_continue-in_words c (is_xid_start-is_xid_continue c h))).0
+xid_start-not_blank c h = not-true (is_blank c) (and_parts (not (is_blank c)) (not (c == 47))
+    (xid_continue-in_words c (is_xid_start-is_xid_continue c h))).0

@@ -37,7 +37,8 @@ ends_continued c h =
     is_xid_continue-ascii c (ltb-true c 128 parts.0) ∙ not-true _ parts.1
 
 ends_started : (c : ℕ) → ends_name c ≡ true → is_xid_start c ≡ false
-ends_started c h = false_from_ne_true (is_xid_start c) (λ s. true≢false (sym (is_xid_start-is_xid_continue c s) ∙ ends_continued c h))
+ends_started c h = false_from_ne_true (is_xid_start c)
+    (λ s. true≢false (sym (is_xid_start-is_xid_continue c s) ∙ ends_continued c h))
 
 ends_taken : (c : ℕ) → ends_name c ≡ true → takes c identifier ≡ false
 ends_taken c h =
@@ -63,17 +64,21 @@ underscore_alone : (xs : List ℕ) (d : ℕ) (z : List ℕ) → spells syntactic
 underscore_alone [] d z h = true≢false (sym (stands_alone 95 syntactic_token refl 95 d z h).0)
 underscore_alone (x ∷ xs) d z h = true≢false (sym (stands_alone 95 syntactic_token refl 95 x (xs ++ (d ∷ z)) h).0)
 
-pub name_no_symbol : (x : ℕ) (xs : List ℕ) (d : ℕ) (z : List ℕ) → begins_name x ≡ true → spells syntactic_token ((x ∷ xs) ++ (d ∷ z)) ≡ true → ⊥
+pub name_no_symbol : (x : ℕ) (xs : List ℕ) (d : ℕ) (z : List ℕ) → begins_name x ≡ true
+    → spells syntactic_token ((x ∷ xs) ++ (d ∷ z)) ≡ true → ⊥
 name_no_symbol x xs d z b h = go (is_xid_start x) refl b
   where
     go : (s : Bool) → is_xid_start x ≡ s → (s || x == 95) ≡ true → ⊥
-    go true e f = true≢false (sym e ∙ sign_starts x (spelled_first is_sign syntactic_token symbol_begins x (xs ++ (d ∷ z)) h))
-    go false e f = underscore_alone xs d z (subst (λ y. spells syntactic_token ((y ∷ xs) ++ (d ∷ z)) ≡ true) (eqb-true x 95 f) h)
+    go true e f = true≢false
+        (sym e ∙ sign_starts x (spelled_first is_sign syntactic_token symbol_begins x (xs ++ (d ∷ z)) h))
+    go false e f = underscore_alone xs d z
+        (subst (λ y. spells syntactic_token ((y ∷ xs) ++ (d ∷ z)) ≡ true) (eqb-true x 95 f) h)
 
 name_ends : (x : ℕ) (xs : List ℕ) (d : ℕ) → begins_name x ≡ true → ends_name d ≡ true → EndsAt (x ∷ xs) d
 name_ends x xs d b e z h =
     one_of_three ((x ∷ xs) ++ (d ∷ z)) h
-    (λ k. no_such d (x ∷ xs) z (spelled_each (differs d) identifier (lets_differs d identifier (ends_taken d e)) ((x ∷ xs) ++ (d ∷ z)) k))
+    (λ k. no_such d (x ∷ xs) z (spelled_each (differs d) identifier
+    (lets_differs d identifier (ends_taken d e)) ((x ∷ xs) ++ (d ∷ z)) k))
     (λ k. name_no_number x b (spelled_first begins_number number_spelling number_begins x (xs ++ (d ∷ z)) k))
     (λ k. name_no_symbol x xs d z b k)
 
@@ -100,17 +105,25 @@ begins_word c h = go (is_xid_start c) refl h
 
 name_spelling : (bytes : List ℕ) → (n : IsNameText bytes) → IsSpelling (kind_of_word bytes) (n.first ∷ n.others)
 name_spelling bytes n =
-    let same : encode_utf8_all (n.first ∷ n.others) ≡ bytes = ap encode_utf8_all (sym n.characters) ∙ encodes-chars bytes n.utf8 in
-    record { spelled = n.spelled; valued = rw n.begins (ap (λ (b : List ℕ). Some (kind_of_word b)) same); begins = begins_word n.first n.begins }
+    let same : encode_utf8_all (n.first ∷ n.others) ≡ bytes = ap encode_utf8_all (sym n.characters)
+    ∙ encodes-chars bytes n.utf8 in
+    record {
+      spelled = n.spelled;
+      valued = rw n.begins (ap (λ (b : List ℕ). Some (kind_of_word b)) same);
+      begins = begins_word n.first n.begins;
+    }
 
 name_ends_before : (x : ℕ) (xs rest : List ℕ) → begins_name x ≡ true → EndsName rest → EndsBefore (x ∷ xs) rest
 name_ends_before x xs [] b e = tt
 name_ends_before x xs (d ∷ ds) b e = name_ends x xs d b e
 
 -- a name is the token at the front
-pub name_stands : (bytes rest : List ℕ) → IsNameText bytes → EndsName rest → Stands (chars bytes) (kind_of_word bytes) rest
+pub name_stands : (bytes rest : List ℕ) → IsNameText bytes → EndsName rest
+    → Stands (chars bytes) (kind_of_word bytes) rest
 name_stands bytes rest n e =
-    subst (λ w. Stands w (kind_of_word bytes) rest) (sym n.characters) (spelling_stands (kind_of_word bytes) (n.first ∷ n.others) rest (name_spelling bytes n) (name_ends_before n.first n.others rest n.begins e))
+    subst (λ w. Stands w (kind_of_word bytes) rest) (sym n.characters)
+    (spelling_stands (kind_of_word bytes) (n.first ∷ n.others) rest (name_spelling bytes n)
+    (name_ends_before n.first n.others rest n.begins e))
 
 -- ---- numbers
 
@@ -126,20 +139,27 @@ point_alone (x ∷ xs) d z h = true≢false (sym (stands_alone 46 syntactic_toke
 pub number_no_name : (x : ℕ) (xs : List ℕ) → begins_number x ≡ true → spells identifier (x ∷ xs) ≡ true → ⊥
 number_no_name x xs b h = name_no_number x (spelled_first begins_name identifier identifier_begins x xs h) b
 
-pub number_no_symbol : (x : ℕ) (xs : List ℕ) (d : ℕ) (z : List ℕ) → begins_number x ≡ true → spells syntactic_token ((x ∷ xs) ++ (d ∷ z)) ≡ true → ⊥
+pub number_no_symbol : (x : ℕ) (xs : List ℕ) (d : ℕ) (z : List ℕ) → begins_number x ≡ true
+    → spells syntactic_token ((x ∷ xs) ++ (d ∷ z)) ≡ true → ⊥
 number_no_symbol x xs d z b h = go (is_ascii_digit x) refl b
   where
     go : (s : Bool) → is_ascii_digit x ≡ s → (s || x == 46) ≡ true → ⊥
-    go true e f = (let sign : is_sign x ≡ true = spelled_first is_sign syntactic_token symbol_begins x (xs ++ (d ∷ z)) h in let none : is_ascii_digit x ≡ false = grind (arith, nat_tests) in true≢false (sym e ∙ none))
-    go false e f = point_alone xs d z (subst (λ y. spells syntactic_token ((y ∷ xs) ++ (d ∷ z)) ≡ true) (eqb-true x 46 f) h)
+    go true e f =
+        (let sign : is_sign x ≡ true = spelled_first is_sign syntactic_token symbol_begins x (xs ++ (d ∷ z)) h in
+        let none : is_ascii_digit x ≡ false = grind (arith, nat_tests) in true≢false (sym e ∙ none))
+    go false e f = point_alone xs d z
+        (subst (λ y. spells syntactic_token ((y ∷ xs) ++ (d ∷ z)) ≡ true) (eqb-true x 46 f) h)
 
-number_ends : (x : ℕ) (xs : List ℕ) (d : ℕ) → begins_number x ≡ true → takes d number_spelling ≡ false → EndsAt (x ∷ xs) d
+number_ends : (x : ℕ) (xs : List ℕ) (d : ℕ) → begins_number x ≡ true
+    → takes d number_spelling ≡ false → EndsAt (x ∷ xs) d
 number_ends x xs d b e z h =
     one_of_three ((x ∷ xs) ++ (d ∷ z)) h
     (λ k. number_no_name x (xs ++ (d ∷ z)) b k)
-    (λ k. no_such d (x ∷ xs) z (spelled_each (differs d) number_spelling (lets_differs d number_spelling e) ((x ∷ xs) ++ (d ∷ z)) k))
+    (λ k. no_such d (x ∷ xs) z (spelled_each (differs d) number_spelling
+    (lets_differs d number_spelling e) ((x ∷ xs) ++ (d ∷ z)) k))
     (λ k. number_no_symbol x xs d z b k)
 
-pub number_ends_before : (x : ℕ) (xs rest : List ℕ) → begins_number x ≡ true → EndsNumber rest → EndsBefore (x ∷ xs) rest
+pub number_ends_before : (x : ℕ) (xs rest : List ℕ) → begins_number x ≡ true → EndsNumber rest
+    → EndsBefore (x ∷ xs) rest
 number_ends_before x xs [] b e = tt
 number_ends_before x xs (d ∷ ds) b e = number_ends x xs d b e

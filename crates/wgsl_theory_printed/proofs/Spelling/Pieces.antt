@@ -3,13 +3,14 @@ use Rattle.std.proofs.Common.{◌≡◌, ℕ, ◌==◌, true, false, refl, List,
 use Rattle.std.specs.Prelude.{codes}
 use Rattle.std.specs.Str.{IsUtf8, chars}
 use Rattle.wgsl_model.specs.Tokens.Characters.{is_blank}
-use Rattle.wgsl_model.specs.Tokens.Classes.{SymLessThan, TemplateArgsStart, TemplateArgsEnd}
+use Rattle.wgsl_model.specs.Tokens.ClassTable.{SymLessThan, TemplateArgsStart, TemplateArgsEnd}
 use Rattle.wgsl_model.specs.Tokens.Kind.{Kind, plain}
 use Rattle.wgsl_model.specs.Tokens.Raw.{Raw.token, raw, raw_at}
 use Rattle.wgsl_model.specs.Tokens.Trivia.{after_trivia}
 use Rattle.wgsl_theory_templates.proofs.Reaching.Reach.{Role, template_start, template_end, role}
 
--- a space, a line end, a word with its bytes and its kind, and the `<` and the `>` of a template list
+-- a space, a line end, a word with its bytes and its kind, and the `<` and the `>` of a template
+-- list
 pub data Piece : Type 0 where
   space line_end opens closes : Piece
   word : List ℕ → Kind → Piece
@@ -66,7 +67,8 @@ pub record FitsBefore (w : List ℕ) (k : Kind) (rest : List ℕ) : Type 0 where
   pub utf8 : IsUtf8 w
   pub on_one_line : OnOneLine w
 
--- each word is the token at the front of what is left, and the `<` of each template list is a token of its own; the `>` may begin a longer token
+-- each word is the token at the front of what is left, and the `<` of each template list is a token
+-- of its own; the `>` may begin a longer token
 abbrev pub Fits : List Piece → Type 0
 Fits [] = Unit {0}
 Fits (space ∷ ps) = Fits ps
@@ -90,6 +92,7 @@ abbrev pub Begins : List ℕ → Type 0
 Begins [] = ⊥
 Begins (c ∷ cs) = (is_blank c ≡ false) × ((c == 47) ≡ false)
 
-pub stands : (w : List ℕ) (k : Kind) (rest : List ℕ) → Begins w → raw_at (w ++ rest) ≡ token k (w ++ rest) rest → Stands w k rest
+pub stands : (w : List ℕ) (k : Kind) (rest : List ℕ) → Begins w
+    → raw_at (w ++ rest) ≡ token k (w ++ rest) rest → Stands w k rest
 stands [] k rest b h = absurd b
 stands (c ∷ cs) k rest b h = raw_here c (cs ++ rest) b.0 b.1 ∙ h

@@ -12,7 +12,7 @@ use Rattle.wgsl_model.specs.Tokens.Pattern.{Pattern, empty, literal, any_of, spe
 use Rattle.wgsl_model.specs.Tokens.Numbers as numbers
 use Rattle.wgsl_model.specs.Tokens.Numbers.{is_nonzero_digit, is_x, is_e, is_p, is_sign, whole_number, i_suffix, u_suffix, f_suffix, h_suffix, abstract_float, float, number_spelling}
 use Rattle.wgsl_model.specs.Tokens.Spelling.{identifier, syntactic_token, spelling}
-use Rattle.wgsl_model.specs.Tokens.Classes.{symbols}
+use Rattle.wgsl_model.specs.Tokens.ClassTable.{symbols}
 use Rattle.wgsl_theory_grammar.proofs.Tokens.Classes.{all_pass}
 use Rattle.wgsl_theory_printed.proofs.Spelling.Characters.{xid_continue-scalar}
 use Rattle.wgsl_theory_printed.proofs.Spelling.Split.{Each, Lets, Stricter, wider, spelled_each}
@@ -54,7 +54,8 @@ zero_digit : Stricter (λ c. c == 48) is_numeral
 zero_digit c h = this_one is_numeral 48 c refl h
 
 whole_lets : (suffix : Pattern) → Lets is_numeral suffix → Lets is_numeral (whole_number suffix)
-whole_lets suffix h = (((zero_digit, h), (nonzero_digit, (digit, h))), (zero_digit, (x_letter, ((hexdigit, hexdigit), h))))
+whole_lets suffix h =
+    (((zero_digit, h), (nonzero_digit, (digit, h))), (zero_digit, (x_letter, ((hexdigit, hexdigit), h))))
 
 exponent_lets : (letter : ℕ → Bool) → Stricter letter is_numeral → Lets is_numeral (numbers.exponent letter)
 exponent_lets letter h = (h, ((a_sign, tt), (digit, digit)))
@@ -67,13 +68,19 @@ abstract_lets =
     let e = exponent_lets is_e e_letter in
     let p = exponent_lets is_p p_letter in (
       (point_lets is_ascii_digit digit, (e, tt)),
-      (((digit, digit), e), (zero_digit, (x_letter, ((point_lets is_ascii_hexdigit hexdigit, (p, tt)), ((hexdigit, hexdigit), p))))),
+      (
+        ((digit, digit), e),
+        (zero_digit, (x_letter, ((point_lets is_ascii_hexdigit hexdigit, (p, tt)), ((hexdigit, hexdigit), p)))),
+      ),
     )
 
 float_lets : (suffix : Pattern) → Lets is_numeral suffix → Lets is_numeral (float suffix)
 float_lets suffix h = (
   ((point_lets is_ascii_digit digit, (digit, digit)), ((exponent_lets is_e e_letter, tt), h)),
-  (zero_digit, (x_letter, ((point_lets is_ascii_hexdigit hexdigit, (hexdigit, hexdigit)), (exponent_lets is_p p_letter, h)))),
+  (
+    zero_digit,
+    (x_letter, ((point_lets is_ascii_hexdigit hexdigit, (hexdigit, hexdigit)), (exponent_lets is_p p_letter, h))),
+  ),
 )
 
 pub number_lets : Lets is_numeral number_spelling
@@ -83,7 +90,13 @@ number_lets = (
     whole_lets i_suffix (λ c h. this_one is_numeral 105 c refl h),
     (
       whole_lets u_suffix (λ c h. this_one is_numeral 117 c refl h),
-      (abstract_lets, (float_lets f_suffix (λ c h. this_one is_numeral 102 c refl h), float_lets h_suffix (λ c h. this_one is_numeral 104 c refl h))),
+      (
+        abstract_lets,
+        (
+          float_lets f_suffix (λ c h. this_one is_numeral 102 c refl h),
+          float_lets h_suffix (λ c h. this_one is_numeral 104 c refl h),
+        ),
+      ),
     ),
   ),
 )
@@ -128,4 +141,7 @@ scalars_of (c ∷ cs) h = and_from _ _ h.0 (scalars_of cs h.1)
 
 pub spelled_scalars : (word : List ℕ) → spells spelling word ≡ true → all_scalars word ≡ true
 spelled_scalars word h =
-    scalars_of word (spelled_each scalar spelling (identifier_lets scalar xid_continue-scalar refl, (wider is_numeral scalar numeral_scalar number_spelling number_lets, symbol_lets)) word h)
+    scalars_of word (spelled_each scalar spelling (
+      identifier_lets scalar xid_continue-scalar refl,
+      (wider is_numeral scalar numeral_scalar number_spelling number_lets, symbol_lets),
+    ) word h)

@@ -13,7 +13,7 @@ use Rattle.wgsl_model.specs.Tokens.Pattern.{Pattern, empty, begins, literal, any
 use Rattle.wgsl_model.specs.Tokens.Numbers.{number_spelling, is_nonzero_digit, whole_number, i_suffix, u_suffix, f_suffix, h_suffix, float}
 use Rattle.wgsl_model.specs.Tokens.Spelling.{identifier, syntactic_token, spelling}
 use Rattle.wgsl_model.specs.Tokens.Words.{look_up}
-use Rattle.wgsl_model.specs.Tokens.Classes.{symbols}
+use Rattle.wgsl_model.specs.Tokens.ClassTable.{symbols}
 use Rattle.wgsl_theory_printed.proofs.Spelling.Split.{Stricter, by_either}
 use Rattle.wgsl_theory_printed.proofs.Spelling.Fronts.{BeginsWith, spelled_first, words_begin}
 use Rattle.wgsl_theory_printed.proofs.Spelling.Pieces.{Stands}
@@ -53,7 +53,16 @@ float_begins : (suffix : Pattern) → BeginsWith begins_number (float suffix)
 float_begins suffix = (((digit_begins, point_begins), digit_begins), zero_begins)
 
 pub number_begins : BeginsWith begins_number number_spelling
-number_begins = (whole_begins empty, (whole_begins i_suffix, (whole_begins u_suffix, (((digit_begins, point_begins), (digit_begins, zero_begins)), (float_begins f_suffix, float_begins h_suffix)))))
+number_begins = (
+  whole_begins empty,
+  (
+    whole_begins i_suffix,
+    (
+      whole_begins u_suffix,
+      (((digit_begins, point_begins), (digit_begins, zero_begins)), (float_begins f_suffix, float_begins h_suffix)),
+    ),
+  ),
+)
 
 pub symbol_begins : BeginsWith is_sign syntactic_token
 symbol_begins = words_begin is_sign (map (λ (entry : List ℕ × ℕ). entry.0) symbols) refl
@@ -102,17 +111,21 @@ literal_is (c ∷ (d ∷ ds)) (x ∷ v) h =
     let tail : v ≡ d ∷ ds = literal_is (d ∷ ds) v parts.1 in
     cc
 
-some_front : (w z : List ℕ) (es : List (List ℕ × ℕ)) → spells (any_of (map (λ (entry : List ℕ × ℕ). entry.0) es)) (w ++ z) ≡ true → is_some_front w es ≡ true
+some_front : (w z : List ℕ) (es : List (List ℕ × ℕ))
+    → spells (any_of (map (λ (entry : List ℕ × ℕ). entry.0) es)) (w ++ z) ≡ true → is_some_front w es ≡ true
 unfolding begins
 some_front w z [] h = absurd (true≢false (sym h))
 some_front w z (e ∷ es) h = by_either (spells (literal e.0) (w ++ z)) _ h
-    (λ a. (let same : w ++ z ≡ e.0 = literal_is e.0 (w ++ z) a in or_left (is_front w e.0) _ (subst (λ x. is_front w x ≡ true) same (is_front-append w z))))
+    (λ a. (let same : w ++ z ≡ e.0 = literal_is e.0 (w ++ z) a in or_left (is_front w e.0) _
+    (subst (λ x. is_front w x ≡ true) same (is_front-append w z))))
     (λ b. or_right (is_front w e.0) (is_some_front w es) (some_front w z es b))
 
 -- where no symbol goes on, none is longer
-pub no_longer_symbol : (w : List ℕ) (c : ℕ) → goes_on w c ≡ false → (z : List ℕ) → spells syntactic_token (w ++ (c ∷ z)) ≡ true → ⊥
+pub no_longer_symbol : (w : List ℕ) (c : ℕ) → goes_on w c ≡ false → (z : List ℕ)
+    → spells syntactic_token (w ++ (c ∷ z)) ≡ true → ⊥
 no_longer_symbol w c n z h =
-    true≢false (sym (some_front (w ++ (c ∷ [])) z symbols (subst (λ x. spells syntactic_token x ≡ true) (sym (append_assoc w (c ∷ []) z)) h)) ∙ n)
+    true≢false (sym (some_front (w ++ (c ∷ [])) z symbols
+    (subst (λ x. spells syntactic_token x ≡ true) (sym (append_assoc w (c ∷ []) z)) h)) ∙ n)
 
 -- ---- the symbols that begin no name, no number and no comment
 
@@ -151,13 +164,18 @@ spelled_literal (c ∷ []) = rw (eq-eqb c c refl) refl
 spelled_literal (c ∷ (d ∷ ds)) = rw (eq-eqb c c refl) (spelled_literal (d ∷ ds))
 
 -- a word that a table has is one of its words
-pub looked_up : (es : List (List ℕ × ℕ)) (w : List ℕ) (class : ℕ) → look_up es w ≡ Some class → spells (any_of (map (λ (entry : List ℕ × ℕ). entry.0) es)) w ≡ true
+pub looked_up : (es : List (List ℕ × ℕ)) (w : List ℕ) (class : ℕ) → look_up es w ≡ Some class
+    → spells (any_of (map (λ (entry : List ℕ × ℕ). entry.0) es)) w ≡ true
 unfolding begins
 looked_up [] w class h = absurd (cc)
 looked_up (e ∷ es) w class h = go (looked_up es w class) (bytes_eq e.0 w) refl h
   where
-    go : (look_up es w ≡ Some class → spells (any_of (map (λ (entry : List ℕ × ℕ). entry.0) es)) w ≡ true) → (b : Bool) → bytes_eq e.0 w ≡ b → cond b (Some e.1) (look_up es w) ≡ Some class → (spells (literal e.0) w || spells (any_of (map (λ (entry : List ℕ × ℕ). entry.0) es)) w) ≡ true
-    go more true s k = let same : e.0 ≡ w = (bytes_eq-Decides e.0 w).0 s in or_left _ _ (subst (λ x. spells (literal x) w ≡ true) (sym same) (spelled_literal w))
+    go : (look_up es w ≡ Some class → spells (any_of (map (λ (entry : List ℕ × ℕ). entry.0) es)) w ≡ true)
+        → (b : Bool) → bytes_eq e.0 w ≡ b → cond b (Some e.1) (look_up es w) ≡ Some class
+        → (spells (literal e.0) w || spells (any_of (map (λ (entry : List ℕ × ℕ). entry.0) es)) w) ≡ true
+    go more true s k =
+        let same : e.0 ≡ w = (bytes_eq-Decides e.0 w).0 s in or_left _ _
+        (subst (λ x. spells (literal x) w ≡ true) (sym same) (spelled_literal w))
     go more false s k = or_right _ _ (more k)
 
 pub spelled_symbol : (w : List ℕ) → spells syntactic_token w ≡ true → spells spelling w ≡ true
@@ -165,7 +183,8 @@ unfolding begins
 spelled_symbol w h = or_right (spells identifier w) _ (or_right (spells number_spelling w) _ h)
 
 -- the spelling of a symbol
-sign_spelling : (c : ℕ) (cs : List ℕ) (class : ℕ) → begins_sign c ≡ true → look_up symbols (c ∷ cs) ≡ Some class → IsSpelling (plain class) (c ∷ cs)
+sign_spelling : (c : ℕ) (cs : List ℕ) (class : ℕ) → begins_sign c ≡ true
+    → look_up symbols (c ∷ cs) ≡ Some class → IsSpelling (plain class) (c ∷ cs)
 sign_spelling c cs class b l =
     let parts = sign_parts c b in
     record {
@@ -175,11 +194,13 @@ sign_spelling c cs class b l =
     }
 
 -- which spelling a word is
-pub one_of_three : {X : Type 0} (w : List ℕ) → spells spelling w ≡ true → (spells identifier w ≡ true → X) → (spells number_spelling w ≡ true → X) → (spells syntactic_token w ≡ true → X) → X
+pub one_of_three : {X : Type 0} (w : List ℕ) → spells spelling w ≡ true → (spells identifier w ≡ true → X)
+    → (spells number_spelling w ≡ true → X) → (spells syntactic_token w ≡ true → X) → X
 unfolding begins
 one_of_three w h f g k = by_either (spells identifier w) _ h f (λ e. by_either (spells number_spelling w) _ e g k)
 
-sign_ends : (c : ℕ) (cs : List ℕ) (d : ℕ) → begins_name c ≡ false → begins_number c ≡ false → goes_on (c ∷ cs) d ≡ false → EndsAt (c ∷ cs) d
+sign_ends : (c : ℕ) (cs : List ℕ) (d : ℕ) → begins_name c ≡ false → begins_number c ≡ false
+    → goes_on (c ∷ cs) d ≡ false → EndsAt (c ∷ cs) d
 sign_ends c cs d b m n z h =
     one_of_three ((c ∷ cs) ++ (d ∷ z)) h
     (λ e. true≢false (sym (spelled_first begins_name identifier identifier_begins c (cs ++ (d ∷ z)) e) ∙ b))
@@ -191,13 +212,17 @@ abbrev pub NotOn : List ℕ → List ℕ → Type 0
 NotOn w [] = Unit {0}
 NotOn w (d ∷ ds) = goes_on w d ≡ false
 
-pub sign_ends_before : (c : ℕ) (cs rest : List ℕ) → begins_name c ≡ false → begins_number c ≡ false → NotOn (c ∷ cs) rest → EndsBefore (c ∷ cs) rest
+pub sign_ends_before : (c : ℕ) (cs rest : List ℕ) → begins_name c ≡ false → begins_number c ≡ false
+    → NotOn (c ∷ cs) rest → EndsBefore (c ∷ cs) rest
 sign_ends_before c cs [] b m n = tt
 sign_ends_before c cs (d ∷ ds) b m n = sign_ends c cs d b m n
 
 -- a symbol is the token at the front
-pub sign_stands : (c : ℕ) (cs : List ℕ) (class : ℕ) (rest : List ℕ) → begins_sign c ≡ true → look_up symbols (c ∷ cs) ≡ Some class → NotOn (c ∷ cs) rest → Stands (c ∷ cs) (plain class) rest
-sign_stands c cs class rest b l n = let parts = sign_parts c b in spelling_stands (plain class) (c ∷ cs) rest (sign_spelling c cs class b l) (sign_ends_before c cs rest parts.no_name parts.no_number n)
+pub sign_stands : (c : ℕ) (cs : List ℕ) (class : ℕ) (rest : List ℕ) → begins_sign c ≡ true
+    → look_up symbols (c ∷ cs) ≡ Some class → NotOn (c ∷ cs) rest → Stands (c ∷ cs) (plain class) rest
+sign_stands c cs class rest b l n =
+    let parts = sign_parts c b in spelling_stands (plain class) (c ∷ cs) rest
+    (sign_spelling c cs class b l) (sign_ends_before c cs rest parts.no_name parts.no_number n)
 
 -- ---- characters with which no symbol goes on
 
@@ -214,19 +239,23 @@ abbrev go_on_with_operators : List (List ℕ × ℕ) → Bool
 go_on_with_operators [] = true
 go_on_with_operators (e ∷ es) = all_operators (drop 1 e.0) && go_on_with_operators es
 
-no_front : (xs ys : List ℕ) (c : ℕ) → is_operator c ≡ false → all_operators ys ≡ true → is_front (xs ++ (c ∷ [])) ys ≡ false
+no_front : (xs ys : List ℕ) (c : ℕ) → is_operator c ≡ false → all_operators ys ≡ true
+    → is_front (xs ++ (c ∷ [])) ys ≡ false
 no_front [] [] c n h = refl
 no_front [] (y ∷ ys) c n h =
     let here : is_operator y ≡ true = (and_parts (is_operator y) (all_operators ys) h).0 in
-    rw (false_from_ne_true (c == y) (λ e. (let same : c ≡ y = eqb-true c y e in true≢false (sym here ∙ sym (ap is_operator same) ∙ n)))) refl
+    rw (false_from_ne_true (c == y)
+    (λ e. (let same : c ≡ y = eqb-true c y e in true≢false (sym here ∙ sym (ap is_operator same) ∙ n)))) refl
 no_front (x ∷ xs) [] c n h = refl
-no_front (x ∷ xs) (y ∷ ys) c n h = rw (no_front xs ys c n (and_parts (is_operator y) (all_operators ys) h).1) (and_false (x == y))
+no_front (x ∷ xs) (y ∷ ys) c n h =
+    rw (no_front xs ys c n (and_parts (is_operator y) (all_operators ys) h).1) (and_false (x == y))
   where
     and_false : (b : Bool) → (b && false) ≡ false
     and_false true = refl
     and_false false = refl
 
-no_front_behind : (x : ℕ) (xs : List ℕ) (w : List ℕ) (c : ℕ) → is_operator c ≡ false → all_operators (drop 1 w) ≡ true → is_front ((x ∷ xs) ++ (c ∷ [])) w ≡ false
+no_front_behind : (x : ℕ) (xs : List ℕ) (w : List ℕ) (c : ℕ) → is_operator c ≡ false
+    → all_operators (drop 1 w) ≡ true → is_front ((x ∷ xs) ++ (c ∷ [])) w ≡ false
 no_front_behind x xs [] c n h = refl
 no_front_behind x xs (y ∷ ys) c n h = rw (no_front xs ys c n h) (and_false (x == y))
   where
@@ -234,7 +263,8 @@ no_front_behind x xs (y ∷ ys) c n h = rw (no_front xs ys c n h) (and_false (x 
     and_false true = refl
     and_false false = refl
 
-none_goes_on : (x : ℕ) (xs : List ℕ) (c : ℕ) (es : List (List ℕ × ℕ)) → is_operator c ≡ false → go_on_with_operators es ≡ true → is_some_front ((x ∷ xs) ++ (c ∷ [])) es ≡ false
+none_goes_on : (x : ℕ) (xs : List ℕ) (c : ℕ) (es : List (List ℕ × ℕ)) → is_operator c ≡ false
+    → go_on_with_operators es ≡ true → is_some_front ((x ∷ xs) ++ (c ∷ [])) es ≡ false
 none_goes_on x xs c [] n h = refl
 none_goes_on x xs c (e ∷ es) n h =
     let parts = and_parts (all_operators (drop 1 e.0)) (go_on_with_operators es) h in

@@ -9,7 +9,8 @@ use Rattle.wgsl_model.proofs.Tokens.Fronts.{after_longest_is}
 use Rattle.wgsl_theory_printed.proofs.Spelling.Cut.{found}
 use Rattle.wgsl_theory_printed.proofs.Spelling.Pieces.{Begins, Stands, stands}
 
--- the characters are the spelling of a token of a kind, and begin with no blank space and no comment
+-- the characters are the spelling of a token of a kind, and begin with no blank space and no
+-- comment
 pub record IsSpelling (k : Kind) (w : List ℕ) : Type 0 where
   pub spelled : spells spelling w ≡ true
   pub valued : kind_of_spelling w ≡ Some k
@@ -44,24 +45,30 @@ longer (c ∷ w) rest (d ∷ v) u e l =
     let m = longer w rest v u tail (omega (arith, l)) in
     record { more = m.more; front = ap₂ (λ (x : ℕ) (xs : List ℕ). x ∷ xs) (sym head) m.front; behind = m.behind }
 
-no_more : (w more u rest : List ℕ) → rest ≡ more ++ u → EndsBefore w rest → spells spelling (w ++ more) ≡ true → more ≡ []
+no_more : (w more u rest : List ℕ) → rest ≡ more ++ u → EndsBefore w rest
+    → spells spelling (w ++ more) ≡ true → more ≡ []
 no_more w [] u rest e k h = refl
 no_more w (d ∷ ds) u rest e k h = let ends : EndsAt w d = subst (EndsBefore w) e k in absurd (ends ds h)
 
 -- the word is the longest spelling
-after_word : (w rest : List ℕ) → spells spelling w ≡ true → EndsBefore w rest → after_spelling spelling (w ++ rest) ≡ Some rest
+after_word : (w rest : List ℕ) → spells spelling w ≡ true → EndsBefore w rest
+    → after_spelling spelling (w ++ rest) ≡ Some rest
 unfolding after_spelling
-after_word w rest h k = go (after_longest (spells spelling) (w ++ rest)) (after_longest_is (spells spelling) (w ++ rest))
+after_word w rest h k = go (after_longest (spells spelling) (w ++ rest))
+    (after_longest_is (spells spelling) (w ++ rest))
   where
     go : (o : Option (List ℕ)) → FollowsLongest (spells spelling) (w ++ rest) o → o ≡ Some rest
     go None f = absurd (f w rest refl h)
     go (Some u) (v, i) =
         let m = longer w rest v u i.whole (i.longest w rest refl h) in
-        let none = no_more w m.more u rest m.behind k (subst (λ (x : List ℕ). spells spelling x ≡ true) m.front i.passes) in
+        let none = no_more w m.more u rest m.behind k
+        (subst (λ (x : List ℕ). spells spelling x ≡ true) m.front i.passes) in
         ap Some (sym (m.behind ∙ ap (λ (x : List ℕ). x ++ u) none))
 
 -- the token at the front of a text that begins with a spelling
-pub spelling_at : (c : ℕ) (cs rest : List ℕ) (k : Kind) → spells spelling (c ∷ cs) ≡ true → kind_of_spelling (c ∷ cs) ≡ Some k → EndsBefore (c ∷ cs) rest → raw_at ((c ∷ cs) ++ rest) ≡ token k ((c ∷ cs) ++ rest) rest
+pub spelling_at : (c : ℕ) (cs rest : List ℕ) (k : Kind) → spells spelling (c ∷ cs) ≡ true
+    → kind_of_spelling (c ∷ cs) ≡ Some k → EndsBefore (c ∷ cs) rest
+    → raw_at ((c ∷ cs) ++ rest) ≡ token k ((c ∷ cs) ++ rest) rest
 spelling_at c cs rest k h v e = found c cs rest k (after_word (c ∷ cs) rest h e) v
 
 pub spelling_stands : (k : Kind) (w rest : List ℕ) → IsSpelling k w → EndsBefore w rest → Stands w k rest

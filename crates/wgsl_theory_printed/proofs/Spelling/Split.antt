@@ -1,4 +1,5 @@
--- The spellings of a pattern, taken apart: which characters its tests let through, and with which one they end.
+-- The spellings of a pattern, taken apart: which characters its tests let through, and with which
+-- one they end.
 use Rattle.std.proofs.Common.{◌≡◌, ℕ, Bool, true, false, ◌&&◌, ◌||◌, ◌==◌, not, refl, sym, ap, List, [], ◌∷◌, ◌++◌, ◌∙◌, append_assoc}
 use Rattle.std.proofs.lemmas.Bool.{and_parts, eqb-true, false_from_ne_true, true≢false, not-true}
 use Rattle.std.specs.Str.{NonePass}
@@ -53,17 +54,26 @@ pub by_either : {X : Type 0} (x y : Bool) → (x || y) ≡ true → (x ≡ true 
 by_either true y e f g = f refl
 by_either false y e f g = g e
 
-cut_any : (q p : ℕ → Bool) → Stricter p q → (k : List ℕ → Bool) (text : List ℕ) → begins_any p k text ≡ true → Cut q k text
+cut_any : (q p : ℕ → Bool) → Stricter p q → (k : List ℕ → Bool) (text : List ℕ)
+    → begins_any p k text ≡ true → Cut q k text
 unfolding begins_any
 cut_any q p s k [] h = record { front = []; rest = []; whole = refl; each = tt; passes = h }
 cut_any q p s k (c ∷ cs) h =
-    by_either (k (c ∷ cs)) (p c && begins_any p k cs) h (λ e. record { front = []; rest = c ∷ cs; whole = refl; each = tt; passes = e })
+    by_either (k (c ∷ cs)) (p c && begins_any p k cs) h
+    (λ e. record { front = []; rest = c ∷ cs; whole = refl; each = tt; passes = e })
     (λ e. (let parts = and_parts (p c) (begins_any p k cs) e in
     let more = cut_any q p s k cs parts.1 in
-    record { front = c ∷ more.front; rest = more.rest; whole = ap (λ x. c ∷ x) more.whole; each = (s c parts.0, more.each); passes = more.passes }))
+    record {
+      front = c ∷ more.front;
+      rest = more.rest;
+      whole = ap (λ x. c ∷ x) more.whole;
+      each = (s c parts.0, more.each);
+      passes = more.passes;
+    }))
 
 -- a front that a pattern spells
-pub cut : (q : ℕ → Bool) (p : Pattern) → Lets q p → (k : List ℕ → Bool) (text : List ℕ) → begins p k text ≡ true → Cut q k text
+pub cut : (q : ℕ → Bool) (p : Pattern) → Lets q p → (k : List ℕ → Bool) (text : List ℕ)
+    → begins p k text ≡ true → Cut q k text
 unfolding begins
 cut q nothing s k text h = absurd (true≢false (sym h))
 cut q empty s k text h = record { front = []; rest = text; whole = refl; each = tt; passes = h }
@@ -78,11 +88,13 @@ cut q (both a b) s k text h =
     record {
       front = first.front ++ second.front;
       rest = second.rest;
-      whole = first.whole ∙ ap (λ x. first.front ++ x) second.whole ∙ sym (append_assoc first.front second.front second.rest);
+      whole = first.whole ∙ ap (λ x. first.front ++ x) second.whole
+          ∙ sym (append_assoc first.front second.front second.rest);
       each = Each-append q first.front second.front first.each second.each;
       passes = second.passes;
     }
-cut q (either a b) s k text h = by_either (begins a k text) (begins b k text) h (λ e. cut q a s.0 k text e) (λ e. cut q b s.1 k text e)
+cut q (either a b) s k text h = by_either (begins a k text) (begins b k text) h
+    (λ e. cut q a s.0 k text e) (λ e. cut q b s.1 k text e)
 
 nil_is : (q : ℕ → Bool) (front rest : List ℕ) → is_empty rest ≡ true → Each q front → Each q (front ++ rest)
 nil_is q front [] e h = Each-append q front [] h tt
@@ -116,7 +128,8 @@ anything (either a b) = (anything a, anything b)
 abbrev pub HasLast : ℕ → List ℕ → Type 0
 HasLast d word = (before : List ℕ) × (word ≡ before ++ (d ∷ []))
 
-last_of_one : (p : ℕ → Bool) (d c : ℕ) (cs : List ℕ) → Stricter p (λ c. c == d) → (p c && is_empty cs) ≡ true → HasLast d (c ∷ cs)
+last_of_one : (p : ℕ → Bool) (d c : ℕ) (cs : List ℕ) → Stricter p (λ c. c == d)
+    → (p c && is_empty cs) ≡ true → HasLast d (c ∷ cs)
 last_of_one p d c [] s h = ([], ap (λ x. x ∷ []) (eqb-true c d (s c (and_parts (p c) true h).0)))
 last_of_one p d c (e ∷ es) s h = absurd (true≢false (sym (and_parts (p c) false h).1))
 
@@ -129,9 +142,12 @@ spelled_last d (one p) s [] h = absurd (true≢false (sym h))
 spelled_last d (one p) s (c ∷ cs) h = last_of_one p d c cs s h
 spelled_last d (both a b) s word h =
     let parts = cut (λ c. true) a (anything a) (begins b is_empty) word h in
-    let last = spelled_last d b s parts.rest parts.passes in
-    (parts.front ++ last.0, parts.whole ∙ ap (λ x. parts.front ++ x) last.1 ∙ sym (append_assoc parts.front last.0 (d ∷ [])))
-spelled_last d (either a b) s word h = by_either (begins a is_empty word) (begins b is_empty word) h (λ e. spelled_last d a s.0 word e) (λ e. spelled_last d b s.1 word e)
+    let last = spelled_last d b s parts.rest parts.passes in (
+      parts.front ++ last.0,
+      parts.whole ∙ ap (λ x. parts.front ++ x) last.1 ∙ sym (append_assoc parts.front last.0 (d ∷ [])),
+    )
+spelled_last d (either a b) s word h = by_either (begins a is_empty word) (begins b is_empty word) h
+    (λ e. spelled_last d a s.0 word e) (λ e. spelled_last d b s.1 word e)
 
 -- ---- a character that no spelling goes on with
 
@@ -159,15 +175,18 @@ abbrev pub differs : ℕ → ℕ → Bool
 differs c x = not (x == c)
 
 stricter_differs : (p : ℕ → Bool) (c : ℕ) → p c ≡ false → Stricter p (differs c)
-stricter_differs p c n x h = ap not (false_from_ne_true (x == c) (λ e. let same : x ≡ c = eqb-true x c e in true≢false (sym h ∙ ap p same ∙ n)))
+stricter_differs p c n x h = ap not (false_from_ne_true (x == c)
+    (λ e. let same : x ≡ c = eqb-true x c e in true≢false (sym h ∙ ap p same ∙ n)))
 
 pub lets_differs : (c : ℕ) (p : Pattern) → takes c p ≡ false → Lets (differs c) p
 lets_differs c nothing n = tt
 lets_differs c empty n = tt
 lets_differs c (one p) n = stricter_differs p c n
 lets_differs c (any p) n = stricter_differs p c n
-lets_differs c (both a b) n = let parts = or_none (takes c a) (takes c b) n in (lets_differs c a parts.0, lets_differs c b parts.1)
-lets_differs c (either a b) n = let parts = or_none (takes c a) (takes c b) n in (lets_differs c a parts.0, lets_differs c b parts.1)
+lets_differs c (both a b) n =
+    let parts = or_none (takes c a) (takes c b) n in (lets_differs c a parts.0, lets_differs c b parts.1)
+lets_differs c (either a b) n =
+    let parts = or_none (takes c a) (takes c b) n in (lets_differs c a parts.0, lets_differs c b parts.1)
 
 -- where no character is one, none passes the test for it
 pub none_pass : (c : ℕ) (cs : List ℕ) → Each (differs c) cs → NonePass (λ x. x == c) cs

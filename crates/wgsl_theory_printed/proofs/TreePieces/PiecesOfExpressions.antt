@@ -1,8 +1,9 @@
--- The pieces of a printed expression, written from its tree before the pieces that follow: they print it and have its tokens.
+-- The pieces of a printed expression, written from its tree before the pieces that follow: they
+-- print it and have its tokens.
 use Rattle.std.proofs.Common.{ℕ, Bool, true, false, cond, List, [], ◌∷◌, ◌++◌}
 use Rattle.std.specs.Prelude.{codes}
 use Rattle.std.specs.List.{flat_map}
-use Rattle.wgsl_model.specs.Tokens.Classes.{SymBracketLeft, SymBracketRight, SymComma, SymParenLeft, SymParenRight, SymPeriod}
+use Rattle.wgsl_model.specs.Tokens.ClassTable.{SymBracketLeft, SymBracketRight, SymComma, SymParenLeft, SymParenRight, SymPeriod}
 use Rattle.wgsl_model.specs.Tokens.Kind.{plain}
 use Rattle.wgsl_model.specs.Tokens.Raw.{kind_of_word}
 use Rattle.wgsl_model.specs.Printed.Operators.{unary_operator_text, binary_operator_text}
@@ -35,11 +36,18 @@ comma rest = word (codes ",") (plain SymComma) ∷ (space ∷ rest)
 abbrev mutual
   pub expression_pieces : Expression → List Piece → List Piece
   expression_pieces (literal l) rest = word (print_literal l) (literal_token l) ∷ rest
-  expression_pieces (parenthesized e) rest = sign (codes "(") SymParenLeft (expression_node_pieces e (sign (codes ")") SymParenRight rest))
-  expression_pieces (named_component base component) rest = expression_node_pieces base (gap (is_abstract_int (expression_in base)) (sign (codes ".") SymPeriod (name component rest)))
-  expression_pieces (indexing base index) rest = expression_node_pieces base (sign (codes "[") SymBracketLeft (expression_node_pieces index (sign (codes "]") SymBracketRight rest)))
-  expression_pieces (unary operator operand) rest = sign (unary_operator_text operator) (unary_operator_class operator) (gap (fuses operator (expression_in operand)) (expression_node_pieces operand rest))
-  expression_pieces (binary operator left right) rest = expression_node_pieces left (space ∷ sign (binary_operator_text operator) (binary_operator_class operator) (space ∷ expression_node_pieces right rest))
+  expression_pieces (parenthesized e) rest = sign (codes "(") SymParenLeft
+      (expression_node_pieces e (sign (codes ")") SymParenRight rest))
+  expression_pieces (named_component base component) rest = expression_node_pieces base
+      (gap (is_abstract_int (expression_in base)) (sign (codes ".") SymPeriod (name component rest)))
+  expression_pieces (indexing base index) rest = expression_node_pieces base
+      (sign (codes "[") SymBracketLeft (expression_node_pieces index (sign (codes "]") SymBracketRight rest)))
+  expression_pieces (unary operator operand) rest = sign (unary_operator_text operator)
+      (unary_operator_class operator)
+      (gap (fuses operator (expression_in operand)) (expression_node_pieces operand rest))
+  expression_pieces (binary operator left right) rest = expression_node_pieces left
+      (space ∷ sign (binary_operator_text operator) (binary_operator_class operator)
+      (space ∷ expression_node_pieces right rest))
   expression_pieces (function_call c) rest = call_pieces c rest
   expression_pieces (type_or_identifier t) rest = type_pieces t rest
 
@@ -47,7 +55,8 @@ abbrev mutual
   expression_node_pieces (expression_node e span) rest = expression_pieces e rest
 
   pub call_pieces : FunctionCall → List Piece → List Piece
-  call_pieces (call ty arguments) rest = type_pieces ty (sign (codes "(") SymParenLeft (expressions_pieces arguments (sign (codes ")") SymParenRight rest)))
+  call_pieces (call ty arguments) rest = type_pieces ty
+      (sign (codes "(") SymParenLeft (expressions_pieces arguments (sign (codes ")") SymParenRight rest)))
 
   pub type_pieces : TypeExpression → List Piece → List Piece
   type_pieces (type_expression text arguments) rest = name text (template_pieces arguments rest)
@@ -64,7 +73,8 @@ abbrev mutual
   -- further expressions, each behind a comma
   pub further_expressions_pieces : ExpressionNodes → List Piece → List Piece
   further_expressions_pieces no_expressions rest = rest
-  further_expressions_pieces (expression_before e es) rest = comma (expression_node_pieces e (further_expressions_pieces es rest))
+  further_expressions_pieces (expression_before e es) rest =
+      comma (expression_node_pieces e (further_expressions_pieces es rest))
 
 -- ---- they print the tree
 
@@ -74,7 +84,8 @@ name_prints text = word_prints
 pub comma_prints : {n : ℕ} → Prints n (codes ", ") comma (λ rest. plain SymComma ∷ rest)
 comma_prints = word_prints before space_prints
 
-point_prints : {n : ℕ} (b : Bool) → Prints n (cond b (codes " .") (codes ".")) (λ rest. gap b (sign (codes ".") SymPeriod rest)) (λ rest. plain SymPeriod ∷ rest)
+point_prints : {n : ℕ} (b : Bool) → Prints n (cond b (codes " .") (codes "."))
+    (λ rest. gap b (sign (codes ".") SymPeriod rest)) (λ rest. plain SymPeriod ∷ rest)
 point_prints true = space_prints before word_prints
 point_prints false = word_prints
 
@@ -83,30 +94,42 @@ gap_prints true = space_prints
 gap_prints false = none_prints
 
 mutual
-  pub expression_prints : {n : ℕ} (e : Expression) → Prints n (print_expression e) (expression_pieces e) (expression_tokens e)
+  pub expression_prints : {n : ℕ} (e : Expression)
+      → Prints n (print_expression e) (expression_pieces e) (expression_tokens e)
   expression_prints (literal l) = word_prints
   expression_prints (parenthesized e) = word_prints before expression_node_prints e before word_prints
-  expression_prints (named_component base component) = expression_node_prints base before point_prints (is_abstract_int (expression_in base)) before name_prints component
-  expression_prints (indexing base index) = expression_node_prints base before word_prints before expression_node_prints index before word_prints
-  expression_prints (unary operator operand) = word_prints before gap_prints (fuses operator (expression_in operand)) before expression_node_prints operand
-  expression_prints (binary operator left right) = expression_node_prints left before space_prints before word_prints before space_prints before expression_node_prints right
+  expression_prints (named_component base component) = expression_node_prints base before point_prints
+      (is_abstract_int (expression_in base)) before name_prints component
+  expression_prints (indexing base index) = expression_node_prints base before word_prints before
+      expression_node_prints index before word_prints
+  expression_prints (unary operator operand) = word_prints before gap_prints
+      (fuses operator (expression_in operand)) before expression_node_prints operand
+  expression_prints (binary operator left right) = expression_node_prints left before space_prints
+      before word_prints before space_prints before expression_node_prints right
   expression_prints (function_call c) = call_prints c
   expression_prints (type_or_identifier t) = type_prints t
 
-  pub expression_node_prints : {n : ℕ} (e : ExpressionNode) → Prints n (print_expression_node e) (expression_node_pieces e) (expression_node_tokens e)
+  pub expression_node_prints : {n : ℕ} (e : ExpressionNode)
+      → Prints n (print_expression_node e) (expression_node_pieces e) (expression_node_tokens e)
   expression_node_prints (expression_node e span) = expression_prints e
 
   pub call_prints : {n : ℕ} (c : FunctionCall) → Prints n (print_call c) (call_pieces c) (call_tokens c)
-  call_prints (call ty arguments) = type_prints ty before word_prints before expressions_prints arguments before word_prints
+  call_prints (call ty arguments) =
+      type_prints ty before word_prints before expressions_prints arguments before word_prints
 
   pub type_prints : {n : ℕ} (t : TypeExpression) → Prints n (print_type t) (type_pieces t) (type_tokens t)
   type_prints (type_expression text no_template) = name_prints text
-  type_prints (type_expression text (template arguments)) = name_prints text before opens_prints before expressions_prints arguments before closes_prints
+  type_prints (type_expression text (template arguments)) =
+      name_prints text before opens_prints before expressions_prints arguments before closes_prints
 
-  expressions_prints : {n : ℕ} (es : ExpressionNodes) → Prints n (joined (codes ", ") (expression_texts es)) (expressions_pieces es) (expressions_tokens es)
+  expressions_prints : {n : ℕ} (es : ExpressionNodes)
+      → Prints n (joined (codes ", ") (expression_texts es)) (expressions_pieces es) (expressions_tokens es)
   expressions_prints no_expressions = none_prints
   expressions_prints (expression_before e es) = expression_node_prints e before further_expressions_prints es
 
-  further_expressions_prints : {n : ℕ} (es : ExpressionNodes) → Prints n (flat_map (λ text. codes ", " ++ text) (expression_texts es)) (further_expressions_pieces es) (further_expressions_tokens es)
+  further_expressions_prints : {n : ℕ} (es : ExpressionNodes)
+      → Prints n (flat_map (λ text. codes ", " ++ text) (expression_texts es))
+      (further_expressions_pieces es) (further_expressions_tokens es)
   further_expressions_prints no_expressions = none_prints
-  further_expressions_prints (expression_before e es) = (comma_prints before expression_node_prints e) before further_expressions_prints es
+  further_expressions_prints (expression_before e es) =
+      (comma_prints before expression_node_prints e) before further_expressions_prints es

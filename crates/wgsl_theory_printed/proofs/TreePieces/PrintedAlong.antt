@@ -1,4 +1,5 @@
--- A printed module whose pieces fit is UTF-8, and is read along the tokens that are written from its tree.
+-- A printed module whose pieces fit is UTF-8, and is read along the tokens that are written from
+-- its tree.
 use Rattle.std.proofs.Common.{◌≡◌, ℕ, refl, sym, ap, ap₂, subst, List, [], ◌∷◌, ◌++◌, ◌∙◌}
 use Rattle.std.specs.Str.{IsUtf8, chars}
 use lib.Utf8.{encode}
@@ -49,7 +50,8 @@ reads (space ∷ ps) fits = Reads-append (32 ∷ []) (bytes_of ps) (32 ∷ []) (
 reads (line_end ∷ ps) fits = Reads-append (10 ∷ []) (bytes_of ps) (10 ∷ []) (render ps) line_end_reads (reads ps fits)
 reads (opens ∷ ps) fits = Reads-append (60 ∷ []) (bytes_of ps) (60 ∷ []) (render ps) opens_reads (reads ps fits.1)
 reads (closes ∷ ps) fits = Reads-append (62 ∷ []) (bytes_of ps) (62 ∷ []) (render ps) closes_reads (reads ps fits)
-reads (word w k ∷ ps) fits = Reads-append w (bytes_of ps) (chars w) (render ps) (record { utf8 = fits.0.utf8; characters_of = refl }) (reads ps fits.1)
+reads (word w k ∷ ps) fits = Reads-append w (bytes_of ps) (chars w) (render ps)
+    (record { utf8 = fits.0.utf8; characters_of = refl }) (reads ps fits.1)
 
 -- the printed text is UTF-8
 pub printed_utf8 : (u : TranslationUnit) → Fits (unit_pieces u) → IsUtf8 (print_unit u)
@@ -65,4 +67,5 @@ printed_characters u fits = sym all.characters_of ∙ ap chars (unit_bytes u fit
 
 -- its text is read along the tokens that are written from the tree
 pub printed_along : (u : TranslationUnit) → Fits (unit_pieces u) → Along (canonical u) (chars (print_unit u))
-printed_along u fits = subst (λ ks. Along ks (chars (print_unit u))) (unit_kinds u) (subst (Along (kinds (unit_pieces u))) (printed_characters u fits) (along (unit_pieces u) fits))
+printed_along u fits = subst (λ ks. Along ks (chars (print_unit u))) (unit_kinds u)
+    (subst (Along (kinds (unit_pieces u))) (printed_characters u fits) (along (unit_pieces u) fits))

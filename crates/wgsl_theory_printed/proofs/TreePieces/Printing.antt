@@ -1,7 +1,7 @@
 -- What it means that pieces print a text and have tokens, some levels of indentation deep.
 use Rattle.std.proofs.Common.{◌≡◌, ℕ, zero, suc, ◌==◌, Bool, true, false, cond, refl, sym, ap, List, [], ◌∷◌, ◌++◌, ◌∙◌, append_assoc}
 use Rattle.std.specs.Prelude.{codes}
-use Rattle.wgsl_model.specs.Tokens.Classes.{TemplateArgsStart, TemplateArgsEnd}
+use Rattle.wgsl_model.specs.Tokens.ClassTable.{TemplateArgsStart, TemplateArgsEnd}
 use Rattle.wgsl_model.specs.Tokens.Kind.{Kind, plain}
 use Rattle.wgsl_model.specs.Printed.Indentation.{after_line_ends, indented}
 use Rattle.wgsl_model.proofs.Filled.{IsFilled}
@@ -18,7 +18,8 @@ abbrev pub deep : ℕ → List ℕ → List ℕ
 deep zero text = text
 deep (suc n) text = deep n (pushed text)
 
-pushed_step : (b : Bool) (c : ℕ) (x y z : List ℕ) → z ≡ x ++ y → cond b (c ∷ (codes "    " ++ z)) (c ∷ z) ≡ cond b (c ∷ (codes "    " ++ x)) (c ∷ x) ++ y
+pushed_step : (b : Bool) (c : ℕ) (x y z : List ℕ) → z ≡ x ++ y
+    → cond b (c ∷ (codes "    " ++ z)) (c ∷ z) ≡ cond b (c ∷ (codes "    " ++ x)) (c ∷ x) ++ y
 pushed_step true c x y z e = ap (λ w. c ∷ (codes "    " ++ w)) e
 pushed_step false c x y z e = ap (λ w. c ∷ w) e
 
@@ -53,47 +54,72 @@ abbrev pub line : ℕ → Puts
 line zero rest = line_end ∷ rest
 line (suc n) rest = line n (four rest)
 
--- where pieces fit, their bytes are the text with so many levels of indentation, and the kinds of their tokens are those that are written
+-- where pieces fit, their bytes are the text with so many levels of indentation, and the kinds of
+-- their tokens are those that are written
 pub record Prints (n : ℕ) (text : List ℕ) (put : Puts) (write : List Kind → List Kind) : Type 0 where
   pub bytes : (rest : List Piece) → Fits (put rest) → (bytes_of (put rest) ≡ deep n text ++ bytes_of rest) × Fits rest
   pub tokens : (rest : List Piece) → kinds (put rest) ≡ write (kinds rest)
 
 pub none_prints : {n : ℕ} → Prints n [] (λ rest. rest) (λ rest. rest)
-none_prints {n} = record { bytes = λ rest f. (ap (λ x. x ++ bytes_of rest) (sym (deep-one_line n [] tt)), f); tokens = λ rest. refl }
+none_prints {n} =
+    record { bytes = λ rest f. (ap (λ x. x ++ bytes_of rest) (sym (deep-one_line n [] tt)), f); tokens = λ rest. refl }
 
 infixl 10 ◌before◌
 -- one text before another
-pub ◌before◌ : {n : ℕ} {a b : List ℕ} {p q : Puts} {v w : List Kind → List Kind} → Prints n a p v → Prints n b q w → Prints n (a ++ b) (λ rest. p (q rest)) (λ rest. v (w rest))
+pub ◌before◌ : {n : ℕ} {a b : List ℕ} {p q : Puts} {v w : List Kind → List Kind} → Prints n a p v
+    → Prints n b q w → Prints n (a ++ b) (λ rest. p (q rest)) (λ rest. v (w rest))
 ◌before◌ {n} {a} {b} {p} {q} {v} {w} g h = record {
-  bytes = λ rest f. (let first = g.bytes (q rest) f in let second = h.bytes rest first.1 in
-      (first.0 ∙ ap (λ x. deep n a ++ x) second.0 ∙ sym (append_assoc (deep n a) (deep n b) (bytes_of rest)) ∙ ap (λ x. x ++ bytes_of rest) (sym (deep-append n a b)), second.1));
+  bytes = λ rest f. (let first = g.bytes (q rest) f in let second = h.bytes rest first.1 in (
+    first.0 ∙ ap (λ x. deep n a ++ x) second.0 ∙ sym (append_assoc (deep n a) (deep n b) (bytes_of rest))
+        ∙ ap (λ x. x ++ bytes_of rest) (sym (deep-append n a b)),
+    second.1,
+  ));
   tokens = λ rest. g.tokens (q rest) ∙ ap v (h.tokens rest);
 }
 
 pub word_prints : {n : ℕ} {w : List ℕ} {k : Kind} → Prints n w (λ rest. word w k ∷ rest) (λ rest. k ∷ rest)
-word_prints {n} {w} {k} = record { bytes = λ rest f. (ap (λ x. x ++ bytes_of rest) (sym (deep-one_line n w f.0.on_one_line)), f.1); tokens = λ rest. refl }
+word_prints {n} {w} {k} = record {
+  bytes = λ rest f. (ap (λ x. x ++ bytes_of rest) (sym (deep-one_line n w f.0.on_one_line)), f.1);
+  tokens = λ rest. refl;
+}
 
 pub space_prints : {n : ℕ} → Prints n (codes " ") (λ rest. space ∷ rest) (λ rest. rest)
-space_prints {n} = record { bytes = λ rest f. (ap (λ x. x ++ bytes_of rest) (sym (deep-one_line n (codes " ") (refl, tt))), f); tokens = λ rest. refl }
+space_prints {n} = record {
+  bytes = λ rest f. (ap (λ x. x ++ bytes_of rest) (sym (deep-one_line n (codes " ") (refl, tt))), f);
+  tokens = λ rest. refl;
+}
 
 pub opens_prints : {n : ℕ} → Prints n (codes "<") (λ rest. opens ∷ rest) (λ rest. plain TemplateArgsStart ∷ rest)
-opens_prints {n} = record { bytes = λ rest f. (ap (λ x. x ++ bytes_of rest) (sym (deep-one_line n (codes "<") (refl, tt))), f.1); tokens = λ rest. refl }
+opens_prints {n} = record {
+  bytes = λ rest f. (ap (λ x. x ++ bytes_of rest) (sym (deep-one_line n (codes "<") (refl, tt))), f.1);
+  tokens = λ rest. refl;
+}
 
 pub closes_prints : {n : ℕ} → Prints n (codes ">") (λ rest. closes ∷ rest) (λ rest. plain TemplateArgsEnd ∷ rest)
-closes_prints {n} = record { bytes = λ rest f. (ap (λ x. x ++ bytes_of rest) (sym (deep-one_line n (codes ">") (refl, tt))), f); tokens = λ rest. refl }
+closes_prints {n} = record {
+  bytes = λ rest f. (ap (λ x. x ++ bytes_of rest) (sym (deep-one_line n (codes ">") (refl, tt))), f);
+  tokens = λ rest. refl;
+}
 
 -- ---- lines
 
 four_prints : (n : ℕ) → Prints n (codes "    ") four (λ rest. rest)
-four_prints n = record { bytes = λ rest f. (ap (λ x. x ++ bytes_of rest) (sym (deep-one_line n (codes "    ") (refl, (refl, (refl, (refl, tt)))))), f); tokens = λ rest. refl }
+four_prints n = record {
+  bytes = λ rest f.
+      (ap (λ x. x ++ bytes_of rest) (sym (deep-one_line n (codes "    ") (refl, (refl, (refl, (refl, tt)))))), f);
+  tokens = λ rest. refl;
+}
 
 pub line_prints : (n : ℕ) → Prints n (codes "\n") (line n) (λ rest. rest)
 line_prints zero = record { bytes = λ rest f. (refl, f); tokens = λ rest. refl }
-line_prints (suc n) = let more = line_prints n before four_prints n in record { bytes = more.bytes; tokens = more.tokens }
+line_prints (suc n) =
+    let more = line_prints n before four_prints n in record { bytes = more.bytes; tokens = more.tokens }
 
 -- a text four spaces in
-pub indented_prints : {n : ℕ} {text : List ℕ} {p : Puts} {w : List Kind → List Kind} → IsFilled text → Prints (suc n) text p w → Prints n (indented text) (λ rest. four (p rest)) w
+pub indented_prints : {n : ℕ} {text : List ℕ} {p : Puts} {w : List Kind → List Kind} → IsFilled text
+    → Prints (suc n) text p w → Prints n (indented text) (λ rest. four (p rest)) w
 indented_prints {text = []} f h = absurd f
 indented_prints {n = n} {text = b ∷ bs} {p = p} {w = w} f h =
-    let more : Prints n (codes "    " ++ pushed (b ∷ bs)) (λ rest. four (p rest)) w = four_prints n before record { bytes = h.bytes; tokens = h.tokens } in
+    let more : Prints n (codes "    " ++ pushed (b ∷ bs)) (λ rest. four (p rest)) w =
+    four_prints n before record { bytes = h.bytes; tokens = h.tokens } in
     record { bytes = more.bytes; tokens = more.tokens }

@@ -3,7 +3,7 @@ use Rattle.std.proofs.Common.{◌≡◌, Bool, false, List, ◌∷◌, refl, sym
 use Rattle.grammar.specs.Tokens.{span_between}
 use Rattle.grammar.specs.Grammar.{Grammar.token, Grammar.symbol}
 use Rattle.grammar.specs.Notation.{◌then◌, ◌gives◌, ◌makes◌, ◌▹◌, optional}
-use Rattle.wgsl_model.specs.Tokens.Classes.{SymAttr, SymParenLeft, KwVar, KwDiagnostic, Ident, ReservedWord}
+use Rattle.wgsl_model.specs.Tokens.ClassTable.{SymAttr, SymParenLeft, KwVar, KwDiagnostic, Ident, ReservedWord}
 use Rattle.wgsl_model.specs.Tokens.Kind.{Kind, plain}
 use Rattle.wgsl_model.specs.Tokens.Raw.{kind_of_word}
 use Rattle.wgsl_model.specs.Trees.Spanned.{Spanned}
@@ -24,11 +24,14 @@ use Rattle.wgsl_theory_templates.proofs.Changes.EditSymbols.{symbol_edits}
 use Rattle.wgsl_theory_templates.proofs.Changes.EditRules.{word_kept}
 
 -- ---- attributes
-name_edits : {b : Bool} → Changes false b (token (Ident ∷ ReservedWord ∷ keyword_classes)) (λ t rest. kind_of_word (text_of t) ∷ rest)
+name_edits : {b : Bool} → Changes false b (token (Ident ∷ ReservedWord ∷ keyword_classes))
+    (λ t rest. kind_of_word (text_of t) ∷ rest)
 name_edits = record { edit = λ v xs ys d words. word_kept v xs ys d.0 d.1 words }
 
-parts_edits : {b : Bool} → Changes false b (SymAttr ▹ token (Ident ∷ ReservedWord ∷ keyword_classes) then optional (symbol arguments) makes attribute_parts) (write attribute)
-parts_edits = makes_edits (before_edits SymAttr (then_edits name_edits (optional_edits {e = false} tt (symbol_edits arguments tt)))) (λ a span rest. refl)
+parts_edits : {b : Bool} → Changes false b (SymAttr ▹ token (Ident ∷ ReservedWord ∷ keyword_classes)
+    then optional (symbol arguments) makes attribute_parts) (write attribute)
+parts_edits = makes_edits (before_edits SymAttr (then_edits name_edits
+    (optional_edits {e = false} tt (symbol_edits arguments tt)))) (λ a span rest. refl)
 
 pub attribute_right : {b : Bool} → Changes false b (written attribute) (write attribute)
 attribute_right {b} = record { edit = λ v xs ys d words. (parts_edits {b = b}).edit v xs ys d.1 words }
@@ -45,7 +48,8 @@ attribute_node_edits {b} = record {
       let known = found.1 in (
         found.0,
         λ ks r. subst (λ (z : List Kind). Edits b (kinds xs) z)
-            (sym (ap (λ (z : Attribute). plain SymAttr ∷ named_attribute_tokens z ks) (node_of d.0 known.0 known.1) ∙ ap (λ (z : List Kind). plain SymAttr ∷ z) (known.2 ks)))
+            (sym (ap (λ (z : Attribute). plain SymAttr ∷ named_attribute_tokens z ks)
+            (node_of d.0 known.0 known.1) ∙ ap (λ (z : List Kind). plain SymAttr ∷ z) (known.2 ks)))
             (widen {e = false} {b = b} tt (found.3 ks r)),
       )
       );
@@ -59,11 +63,16 @@ attributes_edits = many_edits {e = false} tt attribute_node_edits
 pub var_template_right : {b : Bool} → Changes false b (written var_template) (write var_template)
 var_template_right {b} = record {
   edit = λ v xs ys d words.
-      let found = (template_edits {b = b}).edit v xs ys d.1 words in
-      (found.0, λ ks r. subst (λ (z : List Kind). Edits b (kinds xs) z) (sym (template_written v (span_between xs ys) d.0 ks)) (found.1 ks r));
-} where
-  template_edits : {b : Bool} → Changes false b (KwVar ▹ optional (symbol template_list)) (λ v rest. plain KwVar ∷ optional_tokens template_list_tokens v rest)
-  template_edits = before_edits KwVar (optional_edits {e = false} tt (symbol_edits template_list tt))
+      let found = (template_edits {b = b}).edit v xs ys d.1 words in (
+        found.0,
+        λ ks r. subst (λ (z : List Kind). Edits b (kinds xs) z)
+            (sym (template_written v (span_between xs ys) d.0 ks)) (found.1 ks r),
+      );
+}
+  where
+    template_edits : {b : Bool} → Changes false b (KwVar ▹ optional (symbol template_list))
+        (λ v rest. plain KwVar ∷ optional_tokens template_list_tokens v rest)
+    template_edits = before_edits KwVar (optional_edits {e = false} tt (symbol_edits template_list tt))
 
 -- ---- severities
 severity_edits : {b : Bool} → Changes false b (KwDiagnostic ▹ SymParenLeft ▹ symbol ident) (write diagnostic_severity)

@@ -28,7 +28,9 @@ symbol_edits expressions k = absurd k
 symbol_edits statement k = absurd k
 symbol_edits global_declaration k = absurd k
 symbol_edits unit k = absurd k
-symbol_edits n k {b} = record { edit = λ v xs ys d words. let found = d words in (found.0, λ ks r. widen {e = false} {b = b} tt (found.3 ks r)) }
+symbol_edits n k {b} = record {
+  edit = λ v xs ys d words. let found = d words in (found.0, λ ks r. widen {e = false} {b = b} tt (found.3 ks r));
+}
 
 -- ---- items
 pub statement_edits : Changes true true (symbol statement) kept_tokens

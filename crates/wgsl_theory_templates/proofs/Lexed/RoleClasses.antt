@@ -3,7 +3,7 @@ use Rattle.std.proofs.Common.{◌≡◌, ℕ, zero, suc, Bool, true, false, not,
 use Rattle.std.proofs.lemmas.Bool.{false_from_ne_true}
 use Rattle.grammar.specs.Grammar.{is_among}
 use Rattle.grammar.proofs.Reading.Sets.{clash, cond_either, not_true}
-use Rattle.wgsl_model.specs.Tokens.Classes.{Ident, KwTrue, KwFalse, SymAndAnd, SymBracketLeft, SymBracketRight, SymOrOr, SymParenLeft, SymParenRight, SymShiftRightAssign, TemplateArgsStart, TemplateArgsEnd}
+use Rattle.wgsl_model.specs.Tokens.ClassTable.{Ident, KwTrue, KwFalse, SymAndAnd, SymBracketLeft, SymBracketRight, SymOrOr, SymParenLeft, SymParenRight, SymShiftRightAssign, TemplateArgsStart, TemplateArgsEnd}
 use Rattle.wgsl_model.specs.Tokens.Templates.{is_word, is_opening, is_closing, begins_with_greater, is_short_circuit, goes_on}
 use Rattle.wgsl_theory_grammar.proofs.Tokens.Classes.{passes_on, in_both, opening_word, closing_word, greater_word, short_circuit_word, opening_greater, opening_short_circuit, closing_greater, goes_on_zero, goes_on_deeper}
 use Rattle.wgsl_theory_templates.proofs.Reaching.Roles.{is_of_expressions}
@@ -12,7 +12,8 @@ use Rattle.wgsl_theory_templates.proofs.Lexed.Shapes.{is_word_role, is_greater_r
 
 -- a token that is nothing to a template list
 abbrev pub IsPlain : ℕ → Type 0
-IsPlain c = (is_word c ≡ false) × (is_opening c ≡ false) × (is_closing c ≡ false) × (begins_with_greater c ≡ false) × (is_short_circuit c ≡ false)
+IsPlain c = (is_word c ≡ false) × (is_opening c ≡ false) × (is_closing c ≡ false)
+    × (begins_with_greater c ≡ false) × (is_short_circuit c ≡ false)
 
 -- the marks of a template list
 abbrev pub is_mark_role : Role → Bool
@@ -44,9 +45,11 @@ pub role_says : (c : ℕ) → Says c (role c)
 role_says c =
     by_test (Says c) (is_among c (TemplateArgsStart ∷ [])) template_start _ (λ e. e) (λ _.
     by_test (Says c) (is_among c (TemplateArgsEnd ∷ [])) template_end _ (λ e. e) (λ _.
-    by_test (Says c) (is_among c (Ident ∷ KwTrue ∷ KwFalse ∷ [])) name _ (λ e. passes_on is_word c (Ident ∷ KwTrue ∷ KwFalse ∷ []) refl e) (λ _.
+    by_test (Says c) (is_among c (Ident ∷ KwTrue ∷ KwFalse ∷ [])) name _
+    (λ e. passes_on is_word c (Ident ∷ KwTrue ∷ KwFalse ∷ []) refl e) (λ _.
     by_test (Says c) (is_word c) keyword _ (λ e. e) (λ w.
-    by_test (Says c) (is_among c (SymShiftRightAssign ∷ [])) greater_stop _ (λ e. passes_on begins_with_greater c (SymShiftRightAssign ∷ []) refl e) (λ _.
+    by_test (Says c) (is_among c (SymShiftRightAssign ∷ [])) greater_stop _
+    (λ e. passes_on begins_with_greater c (SymShiftRightAssign ∷ []) refl e) (λ _.
     by_test (Says c) (begins_with_greater c) greater _ (λ e. e) (λ g.
     by_test (Says c) (is_opening c) opening _ (λ e. e) (λ o.
     by_test (Says c) (is_closing c) closing _ (λ e. e) (λ l.
@@ -93,11 +96,13 @@ plain_goes_on zero c h = goes_on_zero c h.1 h.2 h.3 h.4
 plain_goes_on (suc depth) c h = goes_on_deeper depth c h.1 h.2
 
 pub greater_goes_on : (depth c : ℕ) → begins_with_greater c ≡ true → goes_on (suc depth) c ≡ true
-greater_goes_on depth c g = goes_on_deeper depth c (false_from_ne_true _ (λ o. opening_greater c o g)) (false_from_ne_true _ (λ l. closing_greater c l g))
+greater_goes_on depth c g = goes_on_deeper depth c (false_from_ne_true _ (λ o. opening_greater c o g))
+    (false_from_ne_true _ (λ l. closing_greater c l g))
 
 pub short_circuit_goes_on : (depth c : ℕ) → is_short_circuit c ≡ true → goes_on (suc depth) c ≡ true
 short_circuit_goes_on depth c s =
-    goes_on_deeper depth c (false_from_ne_true _ (λ o. opening_short_circuit c o s)) (false_from_ne_true _ (λ l. in_both c (SymParenRight ∷ SymBracketRight ∷ []) (SymAndAnd ∷ SymOrOr ∷ []) refl l s))
+    goes_on_deeper depth c (false_from_ne_true _ (λ o. opening_short_circuit c o s)) (false_from_ne_true _
+    (λ l. in_both c (SymParenRight ∷ SymBracketRight ∷ []) (SymAndAnd ∷ SymOrOr ∷ []) refl l s))
 
 -- ---- no mark of a template list
 pub word_unmarked : (r : Role) → is_word_role r ≡ true → is_mark_role r ≡ false
@@ -151,8 +156,10 @@ word_role_of c closing s w = absurd (closing_word c s w)
 word_role_of c short_circuit s w = absurd (short_circuit_word c s w)
 word_role_of c other s w = clash _ w s.0
 word_role_of c stop s w = clash _ w s.0
-word_role_of c template_start s w = clash _ w (not_true (is_word c) (passes_on (λ d. not (is_word d)) c (TemplateArgsStart ∷ []) refl s))
-word_role_of c template_end s w = clash _ w (not_true (is_word c) (passes_on (λ d. not (is_word d)) c (TemplateArgsEnd ∷ []) refl s))
+word_role_of c template_start s w = clash _ w
+    (not_true (is_word c) (passes_on (λ d. not (is_word d)) c (TemplateArgsStart ∷ []) refl s))
+word_role_of c template_end s w = clash _ w
+    (not_true (is_word c) (passes_on (λ d. not (is_word d)) c (TemplateArgsEnd ∷ []) refl s))
 
 pub word_role : (c : ℕ) → is_word c ≡ true → is_word_role (role c) ≡ true
 word_role c w = word_role_of c (role c) (role_says c) w

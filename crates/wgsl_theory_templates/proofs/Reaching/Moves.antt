@@ -93,7 +93,8 @@ inner_moves r k d i h = absurd cc
 abbrev pub all_roles : (Role → Bool) → List ℕ → Bool
 all_roles test = all_pass (λ c. test (role c))
 
-pub role_of : (test : Role → Bool) (c : ℕ) (s : List ℕ) → all_roles test s ≡ true → is_among c s ≡ true → test (role c) ≡ true
+pub role_of : (test : Role → Bool) (c : ℕ) (s : List ℕ) → all_roles test s ≡ true
+    → is_among c s ≡ true → test (role c) ≡ true
 role_of test = passes_on (λ c. test (role c))
 
 -- ---- a list of tokens
@@ -105,9 +106,15 @@ pub record Passes (p : Place) (k d j e : ℕ) (xs ys : List Token) : Type 0 wher
   pub stretched : stretch k d xs ≡ tokens ++ stretch j e ys
 
 pub none_passes : {p : Place} {k d : ℕ} {xs ys : List Token} → xs ≡ ys → Passes p k d k d xs ys
-none_passes {p} {k} {d} {xs} {ys} w = record { tokens = []; whole = w; reached = ap (λ (z : List Token). reach p k d (kinds z)) w; stretched = ap (stretch k d) w }
+none_passes {p} {k} {d} {xs} {ys} w = record {
+  tokens = [];
+  whole = w;
+  reached = ap (λ (z : List Token). reach p k d (kinds z)) w;
+  stretched = ap (stretch k d) w;
+}
 
-pub token_passes : {p : Place} {k d j e : ℕ} {t : Token} {xs ys : List Token} → Moves (role t.class) k d j e → xs ≡ t ∷ ys → Passes p k d j e xs ys
+pub token_passes : {p : Place} {k d j e : ℕ} {t : Token} {xs ys : List Token}
+    → Moves (role t.class) k d j e → xs ≡ t ∷ ys → Passes p k d j e xs ys
 token_passes {p} {k} {d} {j} {e} {t} {xs} {ys} m w = record {
   tokens = t ∷ [];
   whole = w;
@@ -115,18 +122,24 @@ token_passes {p} {k} {d} {j} {e} {t} {xs} {ys} m w = record {
   stretched = ap (stretch k d) w ∙ ap (λ (n : ℕ). first_tokens n (t ∷ ys)) (m.counted (λ i f. ahead i f (kinds ys)));
 }
 
-pub both_pass : {p : Place} {k d j e i f : ℕ} {xs ys zs : List Token} → Passes p k d j e xs ys → Passes p j e i f ys zs → Passes p k d i f xs zs
+pub both_pass : {p : Place} {k d j e i f : ℕ} {xs ys zs : List Token} → Passes p k d j e xs ys
+    → Passes p j e i f ys zs → Passes p k d i f xs zs
 both_pass {i = i} {f = f} {zs = zs} a b = record {
   tokens = a.tokens ++ b.tokens;
-  whole = a.whole ∙ ap (λ (z : List Token). a.tokens ++ z) b.whole ∙ sym (append_assoc a.tokens b.tokens zs);
+  whole = a.whole ∙ ap (λ (z : List Token). a.tokens ++ z) b.whole
+      ∙ sym (append_assoc a.tokens b.tokens zs);
   reached = a.reached ∙ b.reached;
-  stretched = a.stretched ∙ ap (λ (z : List Token). a.tokens ++ z) b.stretched ∙ sym (append_assoc a.tokens b.tokens (stretch i f zs));
+  stretched = a.stretched ∙ ap (λ (z : List Token). a.tokens ++ z) b.stretched
+      ∙ sym (append_assoc a.tokens b.tokens (stretch i f zs));
 }
 
 -- ---- derivations before the token that is reached
 -- what is derived from the tokens that are passed is derived from them there
-pub passed_derives : {p : Place} {k d j e : ℕ} {xs ys : List Token} {A : Type 0} (g : Rule A) (v : A) → Passes p k d j e xs ys → Means checking D g v xs ys → Means checking D g v (stretch k d xs) (stretch j e ys)
+pub passed_derives : {p : Place} {k d j e : ℕ} {xs ys : List Token} {A : Type 0} (g : Rule A) (v : A)
+    → Passes p k d j e xs ys → Means checking D g v xs ys
+    → Means checking D g v (stretch k d xs) (stretch j e ys)
 passed_derives {k = k} {d = d} {j = j} {e = e} {xs = xs} {ys = ys} g v a h =
     let w = framed checking D (framed_part checking written) g v xs ys h in
     let same : w.0 ≡ a.tokens = same_front w.0 a.tokens ys (sym w.1 ∙ a.whole) in
-    subst (λ (z : List Token). Means checking D g v z (stretch j e ys)) (ap (λ (z : List Token). z ++ stretch j e ys) same ∙ sym a.stretched) (w.2 (stretch j e ys))
+    subst (λ (z : List Token). Means checking D g v z (stretch j e ys))
+    (ap (λ (z : List Token). z ++ stretch j e ys) same ∙ sym a.stretched) (w.2 (stretch j e ys))

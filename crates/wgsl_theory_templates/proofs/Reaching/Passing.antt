@@ -1,4 +1,5 @@
--- What an expression derives is passed: at every nesting what binds as a sum or tighter, within template lists and brackets all of it.
+-- What an expression derives is passed: at every nesting what binds as a sum or tighter, within
+-- template lists and brackets all of it.
 use Rattle.std.proofs.Common.{◌≡◌, ℕ, suc, Bool, true, false, not, ◌&&◌, ◌||◌, List, [], ◌∷◌, refl, sym, ap, ◌∙◌, inl, inr}
 use Rattle.grammar.specs.Tokens.{Token, Span}
 use Rattle.grammar.specs.Grammar.{Grammar.empty, Grammar.token, Grammar.sequence, Grammar.choice, Grammar.mapped, Grammar.node, Grammar.checked, Grammar.symbol, Grammar.left_chain, Mode.checking, Chain, Chain.base, Chain.more, Means}
@@ -55,7 +56,8 @@ step b s f template_start = f (template ∷ s)
 step b (template ∷ s) f template_end = f s
 step b s f r = false
 
--- what binds as a sum or tighter is passed at every nesting, all other expressions within template lists and brackets
+-- what binds as a sum or tighter is passed at every nesting, all other expressions within template
+-- lists and brackets
 abbrev binds_loosely : Symbol → Bool
 binds_loosely expressions = true
 binds_loosely shift_expression = true
@@ -85,14 +87,18 @@ Passing n v xs ys = (p : Place) (k d : ℕ) → passes n (is_inner k d) ≡ true
 
 -- tokens lead to a nesting that passes
 abbrev Leads : Place → ℕ → ℕ → List Opened → (List Opened → Bool) → List Token → List Token → Type 0
-Leads p k d s f xs ys = (t : List Opened) × (f t ≡ true) × Passes p (lists k s) (brackets k d s) (lists k t) (brackets k d t) xs ys
+Leads p k d s f xs ys = (t : List Opened) × (f t ≡ true)
+    × Passes p (lists k s) (brackets k d s) (lists k t) (brackets k d t) xs ys
 
 stepped : (k d : ℕ) (s : List Opened) (f : List Opened → Bool) (r : Role) → step (is_inner k d) s f r ≡ true
     → (t : List Opened) × (f t ≡ true) × Moves r (lists k s) (brackets k d s) (lists k t) (brackets k d t)
 stepped k d s f name e = (s, e, flat_moves name _ _ refl)
 stepped k d s f other e = (s, e, flat_moves other _ _ refl)
-stepped k d s f greater e = let w = and_true _ _ e in (s, w.1, inner_moves greater _ _ (sym (within_is_inner k d s) ∙ w.0) refl)
-stepped k d s f short_circuit e = let w = and_true _ _ e in (s, w.1, inner_moves short_circuit _ _ (sym (within_is_inner k d s) ∙ w.0) refl)
+stepped k d s f greater e =
+    let w = and_true _ _ e in (s, w.1, inner_moves greater _ _ (sym (within_is_inner k d s) ∙ w.0) refl)
+stepped k d s f short_circuit e =
+    let w = and_true _ _ e in
+    (s, w.1, inner_moves short_circuit _ _ (sym (within_is_inner k d s) ∙ w.0) refl)
 stepped k d s f opening e = (bracket ∷ s, e, opening_moves _ _)
 stepped k d (bracket ∷ s) f closing e = (s, e, closing_moves _ _)
 stepped k d s f template_start e = (template ∷ s, e, template_start_moves _ _)
@@ -103,18 +109,25 @@ all_closed : {p : Place} {k d : ℕ} {xs ys : List Token} → Leads p k d [] is_
 all_closed ([], e, a) = a
 all_closed (o ∷ s, e, a) = absurd cc
 
-chain_leads : {A B : Type 0} (m : A → B → Span → A) (P : A → List Token → List Token → Type 0) (Q : B → List Token → List Token → Type 0) (p : Place) (k d : ℕ) (s : List Opened) (test f : List Opened → Bool)
+chain_leads : {A B : Type 0} (m : A → B → Span → A) (P : A → List Token → List Token → Type 0) (Q : B
+    → List Token → List Token → Type 0) (p : Place) (k d : ℕ) (s : List Opened) (test f : List Opened → Bool)
     → ((v : A) (xs ys : List Token) → P v xs ys → Leads p k d s (λ t. test t && f t) xs ys)
-    → ((t : List Opened) → test t ≡ true → (v : B) (xs ys : List Token) → Q v xs ys → Passes p (lists k t) (brackets k d t) (lists k t) (brackets k d t) xs ys)
-    → (xs : List Token) (v : A) (ys : List Token) → Chain m P Q xs v ys → Leads p k d s (λ t. test t && f t) xs ys
+    → ((t : List Opened) → test t ≡ true → (v : B) (xs ys : List Token) → Q v xs ys
+    → Passes p (lists k t) (brackets k d t) (lists k t) (brackets k d t) xs ys)
+    → (xs : List Token) (v : A) (ys : List Token) → Chain m P Q xs v ys
+    → Leads p k d s (λ t. test t && f t) xs ys
 chain_leads m P Q p k d s test f F H xs _ _ (base v ys c) = F v xs ys c
 chain_leads m P Q p k d s test f F H xs _ _ (more a b ys zs c i) =
     let w = chain_leads m P Q p k d s test f F H xs a ys c in
     (w.0, w.1, both_pass w.2 (H w.0 (and_true (test w.0) (f w.0) w.1).0 b ys zs i))
 
-leads : {A : Type 0} (p : Place) (k d : ℕ) (s : List Opened) (g : Rule A) (f : List Opened → Bool) → walks (is_inner k d) s g f ≡ true → (v : A) (xs ys : List Token) → Means checking Passing g v xs ys → Leads p k d s f xs ys
+leads : {A : Type 0} (p : Place) (k d : ℕ) (s : List Opened) (g : Rule A) (f : List Opened → Bool)
+    → walks (is_inner k d) s g f ≡ true → (v : A) (xs ys : List Token)
+    → Means checking Passing g v xs ys → Leads p k d s f xs ys
 leads p k d s (empty a) f e v xs ys h = (s, e, none_passes h.1)
-leads p k d s (token c) f e v xs ys h = let w = stepped k d s f (role v.class) (role_of (step (is_inner k d) s f) v.class c e h.0) in (w.0, w.1, token_passes w.2 h.1)
+leads p k d s (token c) f e v xs ys h =
+    let w = stepped k d s f (role v.class) (role_of (step (is_inner k d) s f) v.class c e h.0) in
+    (w.0, w.1, token_passes w.2 h.1)
 leads p k d s (sequence g g') f e v xs ys (ms, x, y) =
     let a = leads p k d s g (λ t. walks (is_inner k d) t g' f) e v.0 xs ms x in
     let b = leads p k d a.0 g' f a.1 v.1 ms ys y in
@@ -124,11 +137,15 @@ leads p k d s (choice g g') f e v xs ys (inr x) = leads p k d s g' f (and_true _
 leads p k d s (mapped m g) f e v xs ys h = leads p k d s g f e h.0 xs ys h.2
 leads p k d s (node m g) f e v xs ys h = leads p k d s g f e h.0 xs ys h.2
 leads p k d s (checked m g) f e v xs ys h = leads p k d s g f e v xs ys h.1
-leads p k d s (symbol n) f e v xs ys h = let w = and_true _ _ e in (s, w.1, h p (lists k s) (brackets k d s) (ap (passes n) (sym (within_is_inner k d s)) ∙ w.0))
+leads p k d s (symbol n) f e v xs ys h =
+    let w = and_true _ _ e in
+    (s, w.1, h p (lists k s) (brackets k d s) (ap (passes n) (sym (within_is_inner k d s)) ∙ w.0))
 leads p k d s (left_chain m g g') f e v xs ys h =
     let test : List Opened → Bool = λ t. walks (is_within (is_inner k d) t) [] g' is_closed in
-    let w = chain_leads m (Means checking Passing g) (Means checking Passing g') p k d s test f (leads p k d s g (λ t. test t && f t) e)
-    (λ t i b us vs y. all_closed (leads p (lists k t) (brackets k d t) [] g' is_closed (ap (λ (c : Bool). walks c [] g' is_closed) (sym (within_is_inner k d t)) ∙ i) b us vs y)) xs v ys h in
+    let w = chain_leads m (Means checking Passing g) (Means checking Passing g') p k d s test f
+    (leads p k d s g (λ t. test t && f t) e)
+    (λ t i b us vs y. all_closed (leads p (lists k t) (brackets k d t) [] g' is_closed
+    (ap (λ (c : Bool). walks c [] g' is_closed) (sym (within_is_inner k d t)) ∙ i) b us vs y)) xs v ys h in
     (w.0, (and_true (test w.0) (f w.0) w.1).1, w.2)
 
 -- ---- the rules
@@ -139,8 +156,11 @@ tests n true = refl
 tests n false = refl
 
 rules : (n : Symbol) → Kept (Means checking Passing (written n)) (Passing n)
-rules n v xs ys h p k d e = all_closed (leads p k d [] (checked_rule n) is_closed (implied (passes n (is_inner k d)) _ (tests n (is_inner k d)) e) v xs ys (is_checked Passing n v xs ys h))
+rules n v xs ys h p k d e = all_closed (leads p k d [] (checked_rule n) is_closed (implied (passes n
+    (is_inner k d)) _ (tests n (is_inner k d)) e) v xs ys (is_checked Passing n v xs ys h))
 
 -- what a right side that passes the test derives is passed
-pub walked : {A : Type 0} (p : Place) (g : Rule A) → walks false [] g is_closed ≡ true → (v : A) (xs ys : List Token) → Means checking D g v xs ys → Passes p 0 0 0 0 xs ys
-walked p g e v xs ys h = all_closed (leads p 0 0 [] g is_closed e v xs ys (means_mono checking checking (same_mode checking) D Passing (least checking written Passing rules) g v xs ys h))
+pub walked : {A : Type 0} (p : Place) (g : Rule A) → walks false [] g is_closed ≡ true
+    → (v : A) (xs ys : List Token) → Means checking D g v xs ys → Passes p 0 0 0 0 xs ys
+walked p g e v xs ys h = all_closed (leads p 0 0 [] g is_closed e v xs ys (means_mono checking
+    checking (same_mode checking) D Passing (least checking written Passing rules) g v xs ys h))

@@ -1,12 +1,15 @@
--- Whether a template list that begins at a `<` would come to a token that begins with `>`, told from the kinds of the tokens alone.
+-- Whether a template list that begins at a `<` would come to a token that begins with `>`, told
+-- from the kinds of the tokens alone.
 use Rattle.std.specs.Prelude.{ℕ, zero, suc, Bool, true, false, List, [], ◌∷◌, if◌then◌else◌}
 use Rattle.grammar.specs.Grammar.{is_among}
-use Rattle.wgsl_model.specs.Tokens.Classes.{Ident, KwTrue, KwFalse, SymShiftRightAssign, TemplateArgsStart, TemplateArgsEnd}
+use Rattle.wgsl_model.specs.Tokens.ClassTable.{Ident, KwTrue, KwFalse, SymShiftRightAssign, TemplateArgsStart, TemplateArgsEnd}
 use Rattle.wgsl_model.specs.Tokens.Kind.{Kind}
 use Rattle.wgsl_model.specs.Tokens.Templates.{is_word, is_opening, is_closing, begins_with_greater, is_short_circuit}
 use Rattle.wgsl_theory_templates.proofs.Reaching.Roles.{is_of_expressions}
 
--- what a token is to a template list: a name (an identifier, `true` or `false`), another keyword, a token that begins with `>`, `>>=`, an opening and a closing bracket, `&&` or `||`, a token that no expression has, any other, and the ends of a template list
+-- what a token is to a template list: a name (an identifier, `true` or `false`), another keyword, a
+-- token that begins with `>`, `>>=`, an opening and a closing bracket, `&&` or `||`, a token that
+-- no expression has, any other, and the ends of a template list
 pub data Role : Type 0 where
   name keyword greater greater_stop opening closing short_circuit stop other template_start template_end : Role
 
@@ -34,7 +37,8 @@ abbrev pub at_end : Place → Bool
 at_end outside = false
 at_end inside = true
 
--- whether, from so many template lists and so many brackets deep, a token that begins with `>` comes before what rules a template list out
+-- whether, from so many template lists and so many brackets deep, a token that begins with `>`
+-- comes before what rules a template list out
 abbrev pub reach_role : Role → ℕ → ℕ → (ℕ → ℕ → Bool) → Bool
 reach_role template_start k d next = next (suc k) d
 reach_role template_end (suc k) d next = next k d

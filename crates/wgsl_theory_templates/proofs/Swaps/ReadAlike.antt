@@ -1,4 +1,5 @@
--- What would stand inside a list that begins at a `<` is read alike from there by each list around it: where it is no list of expressions, none around it is.
+-- What would stand inside a list that begins at a `<` is read alike from there by each list around
+-- it: where it is no list of expressions, none around it is.
 use Rattle.std.proofs.Common.{◌≡◌, ℕ, zero, suc, ◌+◌, ◌≤◌, Bool, true, false, List, [], ◌∷◌, ◌++◌, length, inl, inr, refl, sym, ap, subst, ◌∙◌, arith}
 use Rattle.std.proofs.lemmas.List.{map-append, length-map}
 use Rattle.grammar.specs.Tokens.{Token, first_tokens}
@@ -31,15 +32,19 @@ use Rattle.wgsl_theory_templates.proofs.Swaps.InsideNested.{all_nested, clear_at
 abbrev Found : ℕ → List Token → List Token → Type 0
 Found j ts us = (reach inside 0 j (kinds ts) ≡ true) × (stretch 0 j ts ≡ us)
 
-one_more : (t : Token) (j i : ℕ) (ts us : List Token) → Moves (role t.class) 0 j 0 i → Found i ts us → Found j (t ∷ ts) (t ∷ us)
+one_more : (t : Token) (j i : ℕ) (ts us : List Token) → Moves (role t.class) 0 j 0 i → Found i ts us
+    → Found j (t ∷ ts) (t ∷ us)
 one_more t j i ts us m f = (
   m.reached (λ k d. reach inside k d (kinds ts)) ∙ f.0,
-  ap (λ (n : ℕ). first_tokens n (t ∷ ts)) (m.counted (λ k d. ahead k d (kinds ts))) ∙ ap (λ (x : List Token). t ∷ x) f.1,
+  ap (λ (n : ℕ). first_tokens n (t ∷ ts)) (m.counted (λ k d. ahead k d (kinds ts)))
+      ∙ ap (λ (x : List Token). t ∷ x) f.1,
 )
 
 -- a token that begins with `>`
-greater_found : (r : Role) (c : ℕ) (t : Token) (ts : List Token) → Says c r → is_mark_role r ≡ false → begins_with_greater c ≡ true
-    → (reach_role r 0 0 (λ k d. reach inside k d (kinds ts)) ≡ true) × (first_tokens (ahead_role r 0 0 (λ k d. ahead k d (kinds ts))) (t ∷ ts) ≡ [])
+greater_found : (r : Role) (c : ℕ) (t : Token) (ts : List Token) → Says c r → is_mark_role r ≡ false
+    → begins_with_greater c ≡ true
+    → (reach_role r 0 0 (λ k d. reach inside k d (kinds ts)) ≡ true)
+    × (first_tokens (ahead_role r 0 0 (λ k d. ahead k d (kinds ts))) (t ∷ ts) ≡ [])
 greater_found name c t ts s m g = absurd (greater_word c g s)
 greater_found keyword c t ts s m g = absurd (greater_word c g s)
 greater_found greater c t ts s m g = (refl, refl)
@@ -53,7 +58,8 @@ greater_found template_start c t ts s m g = absurd cc
 greater_found template_end c t ts s m g = absurd cc
 
 -- what a list goes on behind leaves the nesting as it is
-other_moves : (r : Role) (c j : ℕ) → Says c r → is_mark_role r ≡ false → is_stop_role r ≡ false → goes_on j c ≡ true → Moves r 0 j 0 j
+other_moves : (r : Role) (c j : ℕ) → Says c r → is_mark_role r ≡ false → is_stop_role r ≡ false
+    → goes_on j c ≡ true → Moves r 0 j 0 j
 other_moves name c j s m n g = flat_moves name 0 j refl
 other_moves keyword c j s m n g = absurd cc
 other_moves greater c zero s m n g = clash _ s (no_end c g).0
@@ -81,25 +87,31 @@ no_stop_behind (u ∷ us) ts n = no_stop_behind us ts n.1
 -- ---- what is read from a `<` on
 -- by a list that would begin there, and by one around it, within whose brackets the `<` may stand
 abbrev Alike : (total : ℕ) → TemplateRelation → ℕ → List ℕ → List Token → Type 0
-Alike total R j text us = (d : ℕ) → j ≤ d → (ts : List Token) (end : List ℕ) → Inside total R d text ts end → NoStop (kinds ts) → Found j ts us
+Alike total R j text us = (d : ℕ) → j ≤ d → (ts : List Token) (end : List ℕ)
+    → Inside total R d text ts end → NoStop (kinds ts) → Found j ts us
 
-front_found : (total : ℕ) (R : TemplateRelation) (d : ℕ) (k : Kind) (from after : List ℕ) (ts : List Token) (end : List ℕ) → is_mark_role (role k.class) ≡ false → begins_with_greater k.class ≡ true
+front_found : (total : ℕ) (R : TemplateRelation) (d : ℕ) (k : Kind) (from after : List ℕ) (ts : List Token)
+    (end : List ℕ) → is_mark_role (role k.class) ≡ false → begins_with_greater k.class ≡ true
     → Step total R d k from after ts end → Found 0 ts []
-front_found total R d k from after ts end m g (greater_step z b e f) = subst (λ (x : List Token). Found 0 x []) (sym e) (refl, refl)
+front_found total R d k from after ts end m g (greater_step z b e f) =
+    subst (λ (x : List Token). Found 0 x []) (sym e) (refl, refl)
 front_found total R d k from after ts end m g (opening_step o us e h) = absurd (opening_greater k.class o g)
 front_found total R d k from after ts end m g (closing_step l i z us e h) = absurd (closing_greater k.class l g)
 front_found total R d k from after ts end m g (template_step w us vs rest q e h) = absurd (greater_word k.class g w)
 front_found total R d k from after ts end m g (other_step o n us e h) =
-    subst (λ (x : List Token). Found 0 x []) (sym e) (greater_found (role k.class) k.class (at total k from after) us (role_says k.class) m g)
+    subst (λ (x : List Token). Found 0 x []) (sym e)
+    (greater_found (role k.class) k.class (at total k from after) us (role_says k.class) m g)
 
 -- a template list, and the word before it
 over_list : (j : ℕ) (us ts vs : List Token) → Closed (kinds us) → Found j ts vs → Found j (us ++ ts) (us ++ vs)
 over_list j us ts vs c f =
     let joined : kinds (us ++ ts) ≡ kinds us ++ kinds ts = map-append without_place us ts in
     let count : ahead 0 j (kinds (us ++ ts)) ≡ length us + ahead 0 j (kinds ts) =
-    ap (λ (x : List Kind). ahead 0 j x) joined ∙ c.counted 0 j (kinds ts) ∙ ap (λ (n : ℕ). n + ahead 0 j (kinds ts)) (length-map us without_place) in (
+    ap (λ (x : List Kind). ahead 0 j x) joined ∙ c.counted 0 j (kinds ts)
+    ∙ ap (λ (n : ℕ). n + ahead 0 j (kinds ts)) (length-map us without_place) in (
       ap (λ (x : List Kind). reach inside 0 j x) joined ∙ c.reached inside 0 j (kinds ts) ∙ f.0,
-      ap (λ (n : ℕ). first_tokens n (us ++ ts)) count ∙ front_over us ts (ahead 0 j (kinds ts)) ∙ ap (λ (x : List Token). us ++ x) f.1,
+      ap (λ (n : ℕ). first_tokens n (us ++ ts)) count ∙ front_over us ts (ahead 0 j (kinds ts))
+          ∙ ap (λ (x : List Token). us ++ x) f.1,
     )
 
 word_moves : (r : Role) (j : ℕ) → is_word_role r ≡ true → is_stop_role r ≡ false → Moves r 0 j 0 j
@@ -107,59 +119,88 @@ word_moves name j w n = flat_moves name 0 j refl
 word_moves keyword j w n = absurd cc
 word_moves r j w n = absurd cc
 
-list_found : (total : ℕ) (R : TemplateRelation) → IsUnique R → AllClosed R → (j d : ℕ) (k : Kind) (from after rest : List ℕ) (us vs ts : List Token) (end : List ℕ) → is_word k.class ≡ true → is_stop_role (role k.class) ≡ false
-    → R after us rest → ((ws : List Token) → Inside total R d rest ws end → NoStop (kinds ws) → Found j ws vs) → NoStop (kinds ts) → Behind total R (is_word k.class) d after ts end → Found j (at total k from after ∷ ts) (at total k from after ∷ (us ++ vs))
+list_found : (total : ℕ) (R : TemplateRelation) → IsUnique R → AllClosed R
+    → (j d : ℕ) (k : Kind) (from after rest : List ℕ) (us vs ts : List Token) (end : List ℕ)
+    → is_word k.class ≡ true → is_stop_role (role k.class) ≡ false
+    → R after us rest
+    → ((ws : List Token) → Inside total R d rest ws end → NoStop (kinds ws) → Found j ws vs)
+    → NoStop (kinds ts) → Behind total R (is_word k.class) d after ts end
+    → Found j (at total k from after ∷ ts) (at total k from after ∷ (us ++ vs))
 list_found total R u c j d k from after rest us vs ts end w m q again n (behind_list w' us' ws rest' q' e h) =
     let same = u after us' us rest' rest q' q in
     let all : ts ≡ us ++ ws = e ∙ ap (λ (x : List Token). x ++ ws) same.0 in
-    let f = again ws (subst (λ (x : List ℕ). Inside total R d x ws end) same.1 h) (no_stop_behind us ws (subst (λ (x : List Token). NoStop (kinds x)) all n)) in
+    let f = again ws (subst (λ (x : List ℕ). Inside total R d x ws end) same.1 h)
+    (no_stop_behind us ws (subst (λ (x : List Token). NoStop (kinds x)) all n)) in
     one_more (at total k from after) j j ts (us ++ vs) (word_moves (role k.class) j (word_role k.class w) m)
     (subst (λ (x : List Token). Found j x (us ++ vs)) (sym all) (over_list j us ws vs (c after us rest q) f))
 list_found total R u c j d k from after rest us vs ts end w m q again n (behind_none b h) = absurd (b w us rest q)
 
 -- where no template list stands behind a token
-pub no_list_behind : (total : ℕ) (R : TemplateRelation) (word : Bool) (d : ℕ) (text : List ℕ) (ts : List Token) (end : List ℕ) → (word ≡ true → NoTemplate R text) → Behind total R word d text ts end → Inside total R d text ts end
+pub no_list_behind : (total : ℕ) (R : TemplateRelation) (word : Bool) (d : ℕ) (text : List ℕ)
+    (ts : List Token) (end : List ℕ) → (word ≡ true → NoTemplate R text)
+    → Behind total R word d text ts end → Inside total R d text ts end
 no_list_behind total R word d text ts end n (behind_list w us vs rest q e h) = absurd (n w us rest q)
 no_list_behind total R word d text ts end n (behind_none m h) = h
 
 -- the token at the front is the same, and what stands behind it
-behind_front : (t : Token) (j i : ℕ) (ts us vs : List Token) → ts ≡ t ∷ us → NoStop (kinds ts) → (is_stop_role (role t.class) ≡ false → Moves (role t.class) 0 j 0 i) → (NoStop (kinds us) → Found i us vs) → Found j ts (t ∷ vs)
+behind_front : (t : Token) (j i : ℕ) (ts us vs : List Token) → ts ≡ t ∷ us → NoStop (kinds ts)
+    → (is_stop_role (role t.class) ≡ false → Moves (role t.class) 0 j 0 i)
+    → (NoStop (kinds us) → Found i us vs) → Found j ts (t ∷ vs)
 behind_front t j i ts us vs e n m f =
     let n' : NoStop (kinds (t ∷ us)) = subst (λ (x : List Token). NoStop (kinds x)) e n in
     subst (λ (x : List Token). Found j x (t ∷ vs)) (sym e) (one_more t j i us vs (m n'.0) (f n'.1))
 
-alike : (total : ℕ) (R : TemplateRelation) → IsUnique R → AllClosed R → (j : ℕ) (text : List ℕ) (us : List Token) (e : List ℕ) → Inside total R j text us e → Alike total R j text us
+alike : (total : ℕ) (R : TemplateRelation) → IsUnique R → AllClosed R
+    → (j : ℕ) (text : List ℕ) (us : List Token) (e : List ℕ) → Inside total R j text us e
+    → Alike total R j text us
 alike total R u c j text us e (at_greater t e' after k r g) d le ts end h n =
-    front_found total R d k e' after ts end (raw_unmarked text e' after k r) g (step_at total R d text ts end (token k e' after) r h)
+    front_found total R d k e' after ts end (raw_unmarked text e' after k r) g
+    (step_at total R d text ts end (token k e' after) r h)
 alike total R u c j text us e (at_opening i t from after e' k vs r g h) d le ts end h' n =
     let s = from_opening total R d k from after ts end g (step_at total R d text ts end (token k from after) r h') in
-    let m : Moves (role k.class) 0 i 0 (suc i) = subst (λ (x : Role). Moves x 0 i 0 (suc i)) (sym (opening_role k.class g)) (opening_moves 0 i) in
-    behind_front (at total k from after) i (suc i) ts s.0 vs s.1 n (λ o. m) (λ o. alike total R u c (suc i) after vs e h (suc d) (omega arith) s.0 end s.2 o)
+    let m : Moves (role k.class) 0 i 0 (suc i) = subst (λ (x : Role). Moves x 0 i 0 (suc i))
+    (sym (opening_role k.class g)) (opening_moves 0 i) in
+    behind_front (at total k from after) i (suc i) ts s.0 vs s.1 n (λ o. m)
+    (λ o. alike total R u c (suc i) after vs e h (suc d) (omega arith) s.0 end s.2 o)
 alike total R u c j text us e (at_closing i t from after e' k vs r g h) d le ts end h' n =
     let s = from_closing total R d k from after ts end g (step_at total R d text ts end (token k from after) r h') in
-    let m : Moves (role k.class) 0 (suc i) 0 i = subst (λ (x : Role). Moves x 0 (suc i) 0 i) (sym (closing_role k.class g)) (closing_moves 0 i) in
-    behind_front (at total k from after) (suc i) i ts s.2 vs s.3 n (λ o. m) (λ o. alike total R u c i after vs e h s.0 (omega (arith, s.1, le)) s.2 end s.4 o)
+    let m : Moves (role k.class) 0 (suc i) 0 i = subst (λ (x : Role). Moves x 0 (suc i) 0 i)
+    (sym (closing_role k.class g)) (closing_moves 0 i) in
+    behind_front (at total k from after) (suc i) i ts s.2 vs s.3 n (λ o. m)
+    (λ o. alike total R u c i after vs e h s.0 (omega (arith, s.1, le)) s.2 end s.4 o)
 alike total R u c j text us e (at_template i t from after rest e' k vs ws r w q h) d le ts end h' n =
-    let s = from_other total R d k from after ts end (word_goes_on d k.class w) (step_at total R d text ts end (token k from after) r h') in
+    let s = from_other total R d k from after ts end (word_goes_on d k.class w)
+    (step_at total R d text ts end (token k from after) r h') in
     let n' : NoStop (kinds (at total k from after ∷ s.0)) = subst (λ (x : List Token). NoStop (kinds x)) s.1 n in
     subst (λ (x : List Token). Found j x (at total k from after ∷ (vs ++ ws))) (sym s.1)
-    (list_found total R u c j d k from after rest vs ws s.0 end w n'.0 q (λ xs i' o. alike total R u c j rest ws e h d le xs end i' o) n'.1 s.2)
+    (list_found total R u c j d k from after rest vs ws s.0 end w n'.0 q
+    (λ xs i' o. alike total R u c j rest ws e h d le xs end i' o) n'.1 s.2)
 alike total R u c j text us e (at_other i t from after e' k vs r g b h) d le ts end h' n =
-    let s = from_other total R d k from after ts end (deeper_goes_on j d k.class le g) (step_at total R d text ts end (token k from after) r h') in
-    behind_front (at total k from after) j j ts s.0 vs s.1 n (λ o. other_moves (role k.class) k.class j (role_says k.class) (raw_unmarked text from after k r) o g)
-    (λ o. alike total R u c j after vs e h d le s.0 end (no_list_behind total R (is_word k.class) d after s.0 end b s.2) o)
+    let s = from_other total R d k from after ts end (deeper_goes_on j d k.class le g)
+    (step_at total R d text ts end (token k from after) r h') in
+    behind_front (at total k from after) j j ts s.0 vs s.1 n
+    (λ o. other_moves (role k.class) k.class j (role_says k.class) (raw_unmarked text from after k r) o g)
+    (λ o. alike total R u c j after vs e h d le s.0 end
+    (no_list_behind total R (is_word k.class) d after s.0 end b s.2) o)
 
 -- ---- lists
--- what would stand inside a list that begins at a `<` is a list of expressions, if a list around an operator that ends with this `<` is one
-pub list_within : (total : ℕ) (before : List Token) (less : Token) (ts us : List Token) (depth : ℕ) (after end e : List ℕ) → IsList (before ++ (less ∷ ts)) → is_among less.class less_signs ≡ true
-    → Inside total (Template total) depth after ts end → Inside total (Template total) 0 after us e → IsList us
-list_within total before less ts us depth after end e (v, d) l h i = elim (list_decided us) [ inl y ↦ y | inr never ↦ absurd (refuse never) ] where
-  found : Found 0 ts us
-  found =
-      alike total (Template total) (template_unique total) (template_closed total) 0 after us e i depth (omega arith) ts end h
-      (no_stop_behind before (less ∷ ts) (no_stops v (before ++ (less ∷ ts)) d)).1
+-- what would stand inside a list that begins at a `<` is a list of expressions, if a list around an
+-- operator that ends with this `<` is one
+pub list_within : (total : ℕ) (before : List Token) (less : Token) (ts us : List Token) (depth : ℕ)
+    (after end e : List ℕ) → IsList (before ++ (less ∷ ts)) → is_among less.class less_signs ≡ true
+    → Inside total (Template total) depth after ts end → Inside total (Template total) 0 after us e
+    → IsList us
+list_within total before less ts us depth after end e (v, d) l h i =
+    elim (list_decided us) [ inl y ↦ y | inr never ↦ absurd (refuse never) ]
+  where
+    found : Found 0 ts us
+    found =
+        alike total (Template total) (template_unique total)
+        (template_closed total) 0 after us e i depth (omega arith) ts end h
+        (no_stop_behind before (less ∷ ts) (no_stops v (before ++ (less ∷ ts)) d)).1
 
-  refuse : (IsList us → ⊥) → ⊥
-  refuse never =
-      clash _ found.0 (clear_at inside (before ++ (less ∷ ts)) [] (list_clear v (before ++ (less ∷ ts)) d) refl before less ts refl l (all_nested total depth after ts end h)
-      (λ r w g. never (w, subst (λ (x : List Token). Derives checking written expressions w x) found.1 g)))
+    refuse : (IsList us → ⊥) → ⊥
+    refuse never =
+        clash _ found.0 (clear_at inside (before ++ (less ∷ ts)) [] (list_clear v
+        (before ++ (less ∷ ts)) d) refl before less ts refl l (all_nested total depth after ts end h)
+        (λ r w g. never (w, subst (λ (x : List Token). Derives checking written expressions w x) found.1 g)))

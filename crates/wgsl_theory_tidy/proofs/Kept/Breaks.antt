@@ -2,7 +2,7 @@
 use Rattle.std.proofs.Common.{◌≡◌, ℕ, zero, suc, ◌&&◌, ◌||◌, ◌==◌, Bool, true, false, cond, not, refl, sym, ap, ◌∙◌, List, [], ◌∷◌}
 use Rattle.std.proofs.lemmas.Bool.{eqb-true, true≢false}
 use Rattle.grammar.specs.Grammar.{is_among}
-use Rattle.wgsl_model.specs.Tokens.Classes.{LineComment, SymBraceLeft, SymBraceRight}
+use Rattle.wgsl_model.specs.Tokens.ClassTable.{LineComment, SymBraceLeft, SymBraceRight}
 use Rattle.wgsl_model_tidy.specs.Pieces.{Piece}
 use Rattle.wgsl_model_tidy.specs.LaidOut.{breaks, opens_one, closes_one, has_break, has_lines, is_comment}
 use Rattle.wgsl_theory_tidy.proofs.Kept.Relaid.{behind_ends}
@@ -22,10 +22,12 @@ pub and_none : (a b : Bool) → b ≡ false → (a && b) ≡ false
 and_none true b h = h
 and_none false b h = refl
 
-pub among_three : (c k l m : ℕ) → is_among c (k ∷ l ∷ m ∷ []) ≡ false → ((c == k) ≡ false) × ((c == l) ≡ false) × ((c == m) ≡ false)
+pub among_three : (c k l m : ℕ) → is_among c (k ∷ l ∷ m ∷ []) ≡ false
+    → ((c == k) ≡ false) × ((c == l) ≡ false) × ((c == m) ≡ false)
 among_three c k l m = go (c == k) (c == l) (c == m)
   where
-    go : (x y z : Bool) → cond x true (cond y true (cond z true false)) ≡ false → (x ≡ false) × (y ≡ false) × (z ≡ false)
+    go : (x y z : Bool) → cond x true (cond y true (cond z true false)) ≡ false
+        → (x ≡ false) × (y ≡ false) × (z ≡ false)
     go true y z e = absurd (true≢false e)
     go false true z e = absurd (true≢false e)
     go false false true e = absurd (true≢false e)
@@ -43,7 +45,12 @@ pub smooth : (p : Piece) → breaks p ≡ false → IsSmooth p
 smooth p e =
     let both = neither (not (p.line_ends == 0)) _ e in
     let three = among_three p.class LineComment SymBraceLeft SymBraceRight both.1 in
-    record { ends = eqb-true p.line_ends 0 (unnot (p.line_ends == 0) both.0); no_line_comment = three.0; no_left = three.1; no_right = three.2 }
+    record {
+      ends = eqb-true p.line_ends 0 (unnot (p.line_ends == 0) both.0);
+      no_line_comment = three.0;
+      no_left = three.1;
+      no_right = three.2;
+    }
   where
     unnot : (b : Bool) → not b ≡ false → b ≡ true
     unnot true h = refl
@@ -56,10 +63,12 @@ smooth_again p n s e = rw (e, s.no_line_comment, s.no_left, s.no_right) refl
 
 -- after a comment they are as many as before it
 pub comment_open : (n class : ℕ) → is_comment class ≡ true → open_behind (closes_one class) (opens_one class) n ≡ suc n
-comment_open n class h = ap (λ c. open_behind c (opens_one class) n) (comment_closes_none class h) ∙ ap (λ o. open_behind false o n) (comment_opens_none class h)
+comment_open n class h = ap (λ c. open_behind c (opens_one class) n) (comment_closes_none class h)
+    ∙ ap (λ o. open_behind false o n) (comment_opens_none class h)
 
 -- where fewer are open, no line ends if none does with more
-fewer_step : (n : ℕ) (p : Piece) (ps : List Piece) → has_break (suc (suc n)) (p ∷ ps) ≡ false → ((k : ℕ) → has_break (suc k) ps ≡ false → has_break k ps ≡ false) → has_break (suc n) (p ∷ ps) ≡ false
+fewer_step : (n : ℕ) (p : Piece) (ps : List Piece) → has_break (suc (suc n)) (p ∷ ps) ≡ false
+    → ((k : ℕ) → has_break (suc k) ps ≡ false → has_break k ps ≡ false) → has_break (suc n) (p ∷ ps) ≡ false
 fewer_step n p ps e others =
     let parts = neither (breaks p) _ e in
     both_false (breaks p) _ parts.0 (go (closes_one p.class) (opens_one p.class) parts.1)
@@ -84,7 +93,8 @@ in_one_line [] e = refl
 in_one_line (p ∷ ps) e = and_none (not (closes_one p.class)) (has_break 1 (p ∷ ps)) e
 
 -- so is one that opens in another
-pub opens_in_one_line : (n : ℕ) (closes opens : Bool) (ps : List Piece) → (opens ≡ true → closes ≡ false) → has_break (open_behind closes opens n) ps ≡ false → opens ≡ true → has_lines ps ≡ false
+pub opens_in_one_line : (n : ℕ) (closes opens : Bool) (ps : List Piece) → (opens ≡ true → closes ≡ false)
+    → has_break (open_behind closes opens n) ps ≡ false → opens ≡ true → has_lines ps ≡ false
 opens_in_one_line n true true ps k e h = absurd (true≢false (k h))
 opens_in_one_line n false true ps k e h = in_one_line ps (one_open (suc n) ps e)
 opens_in_one_line n closes false ps k e h = absurd (true≢false (sym h))

@@ -1,11 +1,12 @@
 -- Comments that end, and one that is not closed, by their class and their characters.
 use Rattle.std.proofs.Common.{◌≡◌, ℕ, true, false, List, [], ◌∷◌}
-use Rattle.wgsl_model.specs.Tokens.Classes.{LineComment, BlockComment}
+use Rattle.wgsl_model.specs.Tokens.ClassTable.{LineComment, BlockComment}
 use Rattle.wgsl_model_tidy.specs.Pieces.{Piece, OpenComment}
 use Rattle.wgsl_theory_tidy.proofs.Comments.{trimmed, OnLine}
 use Rattle.wgsl_theory_tidy.proofs.Kept.Bodies.{IsBody}
 
--- a comment that ends: a line comment with no blank space at its end, and a block comment that its last sign closes
+-- a comment that ends: a line comment with no blank space at its end, and a block comment that its
+-- last sign closes
 pub data Closed : ℕ → List ℕ → Type 0 where
   closed_line : (xs : List ℕ) → OnLine xs → trimmed xs ≡ xs → Closed LineComment (47 ∷ (47 ∷ xs))
   closed_block : (xs : List ℕ) → IsBody true 0 xs → Closed BlockComment (47 ∷ (42 ∷ xs))

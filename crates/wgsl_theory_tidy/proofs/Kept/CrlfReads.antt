@@ -1,4 +1,5 @@
--- A text with CR LF in place of each LF is read with the same kinds and the same pieces, but for the line ends in these; and a text is read in one way.
+-- A text with CR LF in place of each LF is read with the same kinds and the same pieces, but for
+-- the line ends in these; and a text is read in one way.
 use Rattle.std.proofs.Common.{◌≡◌, ℕ, ◌==◌, ◌&&◌, Bool, true, false, refl, sym, ap, subst, ◌∙◌, List, [], ◌∷◌, ◌++◌, map}
 use Rattle.wgsl_model.specs.Tokens.Kind.{Kind}
 use Rattle.wgsl_model.specs.Tokens.Raw.{Raw.token, raw}
@@ -48,31 +49,42 @@ token_before k w rest i = crlf_append w rest ∙ ap (λ xs. xs ++ with_crlf rest
 -- it is the same token before the rest
 token_crlf : (k : Kind) (w rest : List ℕ) → IsToken k w rest → IsToken k w (with_crlf rest)
 token_crlf k w rest (is_word j v r m s e) =
-    is_word k w (with_crlf rest) m s (subst (λ xs. raw xs ≡ token k xs (with_crlf rest)) (crlf_append w rest ∙ ap (λ xs. xs ++ with_crlf rest) (word_same k w s)) (raw_crlf (w ++ rest) (w ++ rest) rest k e).is_token)
+    is_word k w (with_crlf rest) m s (subst (λ xs. raw xs ≡ token k xs (with_crlf rest))
+    (crlf_append w rest ∙ ap (λ xs. xs ++ with_crlf rest) (word_same k w s))
+    (raw_crlf (w ++ rest) (w ++ rest) rest k e).is_token)
 token_crlf k w rest (is_slash r e) = is_slash (with_crlf rest) (raw_crlf (47 ∷ rest) (47 ∷ rest) rest k e).is_token
-token_crlf k w rest (is_slash_equal r e) = is_slash_equal (with_crlf rest) (raw_crlf (47 ∷ (61 ∷ rest)) (47 ∷ (61 ∷ rest)) rest k e).is_token
+token_crlf k w rest (is_slash_equal r e) = is_slash_equal (with_crlf rest)
+    (raw_crlf (47 ∷ (61 ∷ rest)) (47 ∷ (61 ∷ rest)) rest k e).is_token
 token_crlf k w rest (is_start r) = is_start (with_crlf rest)
 token_crlf k w rest (is_end r) = is_end (with_crlf rest)
 
 -- ---- the whole text
 
-pub reads_crlf : (text : List ℕ) (ks : List Kind) (ps : List Piece) → Reads text ks ps → HasNoCrlf text → Reads (with_crlf text) ks (map crlf_piece ps)
+pub reads_crlf : (text : List ℕ) (ks : List Kind) (ps : List Piece) → Reads text ks ps
+    → HasNoCrlf text → Reads (with_crlf text) ks (map crlf_piece ps)
 reads_crlf _ _ _ (reads_end text e) h =
-    subst (Reads (with_crlf text) []) (comments_crlf (λ n. []) (λ n. []) (λ n. refl) outside 0 text h tt) (reads_end (with_crlf text) (over_crlf outside text tt ∙ ap with_crlf e))
+    subst (Reads (with_crlf text) []) (comments_crlf (λ n. []) (λ n. []) (λ n. refl) outside 0 text h tt)
+    (reads_end (with_crlf text) (over_crlf outside text tt ∙ ap with_crlf e))
 reads_crlf _ _ _ (reads_token trivia w rest k ks ps p i r) h =
     let word = token_before k w rest i in
-    let whole : with_crlf (trivia ++ (w ++ rest)) ≡ with_crlf trivia ++ (w ++ with_crlf rest) = crlf_append trivia (w ++ rest) ∙ ap (λ xs. with_crlf trivia ++ xs) word in
+    let whole : with_crlf (trivia ++ (w ++ rest)) ≡ with_crlf trivia ++ (w ++ with_crlf rest) =
+    crlf_append trivia (w ++ rest) ∙ ap (λ xs. with_crlf trivia ++ xs) word in
     let passed : after_trivia outside (with_crlf trivia ++ (w ++ with_crlf rest)) ≡ w ++ with_crlf rest =
     ap (after_trivia outside) (sym whole) ∙ over_crlf outside (trivia ++ (w ++ rest)) tt ∙ ap with_crlf p ∙ word in
     let left = reads_crlf rest ks ps r (rest_without w rest (rest_without trivia (w ++ rest) h)) in
-    let changed = λ (n : ℕ). ap (λ (text : List ℕ). token_piece k text n ∷ map crlf_piece ps) (sym (token_same k w rest i)) in
-    let found = comments_crlf (λ n. token_piece k w n ∷ map crlf_piece ps) (λ n. token_piece k w n ∷ ps) changed outside 0 trivia (front_without trivia (w ++ rest) h) tt in
-    subst (λ xs. Reads xs (k ∷ ks) (map crlf_piece (comments (λ n. token_piece k w n ∷ ps) outside 0 trivia))) (sym whole)
-    (subst (Reads (with_crlf trivia ++ (w ++ with_crlf rest)) (k ∷ ks)) found (reads_token (with_crlf trivia) w (with_crlf rest) k ks (map crlf_piece ps) passed (token_crlf k w rest i) left))
+    let changed = λ (n : ℕ). ap (λ (text : List ℕ). token_piece k text n ∷ map crlf_piece ps)
+    (sym (token_same k w rest i)) in
+    let found = comments_crlf (λ n. token_piece k w n ∷ map crlf_piece ps)
+    (λ n. token_piece k w n ∷ ps) changed outside 0 trivia (front_without trivia (w ++ rest) h) tt in
+    subst (λ xs. Reads xs (k ∷ ks) (map crlf_piece (comments (λ n. token_piece k w n ∷ ps) outside 0 trivia)))
+    (sym whole)
+    (subst (Reads (with_crlf trivia ++ (w ++ with_crlf rest)) (k ∷ ks)) found (reads_token
+    (with_crlf trivia) w (with_crlf rest) k ks (map crlf_piece ps) passed (token_crlf k w rest i) left))
 
 -- ---- one reading
 
-pub read_once : (text : List ℕ) (ks : List Kind) (ps : List Piece) → Reads text ks ps → (out : List ℕ) (js : List Kind) (qs : List Piece) → Reads out js qs → out ≡ text → js ≡ ks → qs ≡ ps
+pub read_once : (text : List ℕ) (ks : List Kind) (ps : List Piece) → Reads text ks ps
+    → (out : List ℕ) (js : List Kind) (qs : List Piece) → Reads out js qs → out ≡ text → js ≡ ks → qs ≡ ps
 read_once _ _ _ (reads_end text e) _ _ _ (reads_end out f) q s = ap (comments (λ n. []) outside 0) q
 read_once _ _ _ (reads_end text e) _ _ _ (reads_token trivia w rest k ks ps p i r) q s = absurd cc
 read_once _ _ _ (reads_token trivia w rest k ks ps p i r) _ _ _ (reads_end out f) q s = absurd cc

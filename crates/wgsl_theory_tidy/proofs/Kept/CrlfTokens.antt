@@ -27,7 +27,8 @@ pub return_alone : IsAlone 13
 return_alone = rw (is_xid_start-ascii 13 (lit< tt), is_xid_continue-ascii 13 (lit< tt)) refl
 
 -- a spelling that begins with another character has no such one
-pub none_alone : (c x : ℕ) (xs : List ℕ) → IsAlone c → (x == c) ≡ false → spells spelling (x ∷ xs) ≡ true → Each (differs c) (x ∷ xs)
+pub none_alone : (c x : ℕ) (xs : List ℕ) → IsAlone c → (x == c) ≡ false
+    → spells spelling (x ∷ xs) ≡ true → Each (differs c) (x ∷ xs)
 none_alone c x [] a n s = (ap not n, tt)
 none_alone c x (y ∷ ys) a n s = stands_alone c spelling a x y ys s
 
@@ -54,7 +55,8 @@ front_before (c ∷ v) u (d ∷ text) e h = go (d == 10) refl (λ more. front_be
   where
     go : (b : Bool) → (d == 10) ≡ b → (with_crlf text ≡ v ++ u → FrontOf v u text) → FrontOf (c ∷ v) u (d ∷ text)
     go true t more =
-        let first : 13 ∷ (10 ∷ with_crlf text) ≡ c ∷ (v ++ u) = subst (λ x. with_crlf (x ∷ text) ≡ c ∷ (v ++ u)) (eqb-true d 10 t) e in
+        let first : 13 ∷ (10 ∷ with_crlf text) ≡ c ∷ (v ++ u) =
+        subst (λ x. with_crlf (x ∷ text) ≡ c ∷ (v ++ u)) (eqb-true d 10 t) e in
         let same : c ≡ 13 = cc in
         absurd (true≢false (sym h.0 ∙ ap (λ x. differs 13 x) same))
     go false t more =
@@ -71,16 +73,21 @@ same_rest : (w v rest u : List ℕ) → w ++ rest ≡ v ++ u → length v ≡ le
 same_rest [] [] rest u e l = e
 same_rest [] (y ∷ v) rest u e l = absurd (omega (arith, l))
 same_rest (x ∷ w) [] rest u e l = absurd (omega (arith, l))
-same_rest (x ∷ w) (y ∷ v) rest u e l = let tail : w ++ rest ≡ v ++ u = cc in same_rest w v rest u tail (omega (arith, l))
+same_rest (x ∷ w) (y ∷ v) rest u e l =
+    let tail : w ++ rest ≡ v ++ u = cc in same_rest w v rest u tail (omega (arith, l))
 
 -- the same word is the longest spelling at the front
-longest_crlf : (x : ℕ) (xs rest : List ℕ) → is_blank x ≡ false → with_crlf ((x ∷ xs) ++ rest) ≡ (x ∷ xs) ++ with_crlf rest → IsLongest (spells spelling) ((x ∷ xs) ++ rest) (x ∷ xs) rest
+longest_crlf : (x : ℕ) (xs rest : List ℕ) → is_blank x ≡ false
+    → with_crlf ((x ∷ xs) ++ rest) ≡ (x ∷ xs) ++ with_crlf rest
+    → IsLongest (spells spelling) ((x ∷ xs) ++ rest) (x ∷ xs) rest
     → after_spelling spelling ((x ∷ xs) ++ with_crlf rest) ≡ Some (with_crlf rest)
 unfolding after_spelling
-longest_crlf x xs rest b whole i = go (after_longest (spells spelling) ((x ∷ xs) ++ with_crlf rest)) (after_longest_is (spells spelling) ((x ∷ xs) ++ with_crlf rest))
+longest_crlf x xs rest b whole i = go (after_longest (spells spelling) ((x ∷ xs) ++ with_crlf rest))
+    (after_longest_is (spells spelling) ((x ∷ xs) ++ with_crlf rest))
   where
     -- a front that is longer would be one of the text before
-    same_length : (v u : List ℕ) → IsLongest (spells spelling) ((x ∷ xs) ++ with_crlf rest) v u → length v ≤ length (x ∷ xs)
+    same_length : (v u : List ℕ) → IsLongest (spells spelling) ((x ∷ xs) ++ with_crlf rest) v u
+        → length v ≤ length (x ∷ xs)
     same_length [] u j = omega arith
     same_length (y ∷ ys) u j =
         let head : x ≡ y = cc in
@@ -88,7 +95,8 @@ longest_crlf x xs rest b whole i = go (after_longest (spells spelling) ((x ∷ x
         let f = front_before (y ∷ ys) u ((x ∷ xs) ++ rest) (whole ∙ j.whole) each in
         i.longest (y ∷ ys) f.rest f.whole j.passes
 
-    go : (o : Option (List ℕ)) → FollowsLongest (spells spelling) ((x ∷ xs) ++ with_crlf rest) o → o ≡ Some (with_crlf rest)
+    go : (o : Option (List ℕ)) → FollowsLongest (spells spelling) ((x ∷ xs) ++ with_crlf rest) o
+        → o ≡ Some (with_crlf rest)
     go None f = absurd (f (x ∷ xs) (with_crlf rest) refl i.passes)
     go (Some u) (v, j) =
         let least = j.longest (x ∷ xs) (with_crlf rest) refl i.passes in
@@ -103,36 +111,47 @@ record SameToken (text from after : List ℕ) (k : Kind) : Type 0 where
   here : from ≡ text
   first : drop 1 (with_crlf text) ≡ with_crlf (drop 1 text)
 
-spelled_same : (c : ℕ) (cs from after : List ℕ) (k : Kind) → is_blank c ≡ false → after_spelling spelling (c ∷ cs) ≡ Some after → kind_of_spelling (front (c ∷ cs) after) ≡ Some k → from ≡ c ∷ cs → SameToken (c ∷ cs) from after k
+spelled_same : (c : ℕ) (cs from after : List ℕ) (k : Kind) → is_blank c ≡ false
+    → after_spelling spelling (c ∷ cs) ≡ Some after → kind_of_spelling (front (c ∷ cs) after) ≡ Some k
+    → from ≡ c ∷ cs → SameToken (c ∷ cs) from after k
 spelled_same c cs from after k b e v h =
     let l = longest_spelling spelling (c ∷ cs) after e in
     go l.0 l.1 (ap (λ text. front text after) l.1.whole ∙ front-append l.0 after)
   where
-    go : (w : List ℕ) → IsLongest (spells spelling) (c ∷ cs) w after → front (c ∷ cs) after ≡ w → SameToken (c ∷ cs) from after k
+    go : (w : List ℕ) → IsLongest (spells spelling) (c ∷ cs) w after → front (c ∷ cs) after ≡ w
+        → SameToken (c ∷ cs) from after k
     go [] i f = let none : None ≡ Some k = ap kind_of_spelling (sym f) ∙ v in absurd cc
     go (x ∷ xs) i f =
         let head : x ≡ c = cc in
         let blank : is_blank x ≡ false = ap is_blank head ∙ b in
         let word = no_lf_same (x ∷ xs) (none_alone 10 x xs line_end_alone (no_lf x blank) i.passes) in
-        let whole : with_crlf ((x ∷ xs) ++ after) ≡ (x ∷ xs) ++ with_crlf after = crlf_append (x ∷ xs) after ∙ ap (λ ys. ys ++ with_crlf after) word in
+        let whole : with_crlf ((x ∷ xs) ++ after) ≡ (x ∷ xs) ++ with_crlf after =
+        crlf_append (x ∷ xs) after ∙ ap (λ ys. ys ++ with_crlf after) word in
         let text : with_crlf (c ∷ cs) ≡ (x ∷ xs) ++ with_crlf after = ap with_crlf i.whole ∙ whole in
-        let longest = longest_crlf x xs after blank whole (subst (λ (text : List ℕ). IsLongest (spells spelling) text (x ∷ xs) after) i.whole i) in
+        let longest = longest_crlf x xs after blank whole
+        (subst (λ (text : List ℕ). IsLongest (spells spelling) text (x ∷ xs) after) i.whole i) in
         record {
-          is_token = subst (λ (text : List ℕ). raw_at text ≡ token k text (with_crlf after)) (sym text) (found x xs (with_crlf after) k longest (ap kind_of_spelling (sym f) ∙ v));
+          is_token = subst (λ (text : List ℕ). raw_at text ≡ token k text (with_crlf after))
+              (sym text) (found x xs (with_crlf after) k longest (ap kind_of_spelling (sym f) ∙ v));
           here = h;
           first = ap (drop 1) (crlf_other c cs (no_lf c b));
         }
 
-spelled_so : (o : Option (List ℕ)) (c : ℕ) (cs from after : List ℕ) (k : Kind) → is_blank c ≡ false → after_spelling spelling (c ∷ cs) ≡ o → spelled (c ∷ cs) cs o ≡ token k from after → SameToken (c ∷ cs) from after k
+spelled_so : (o : Option (List ℕ)) (c : ℕ) (cs from after : List ℕ) (k : Kind) → is_blank c ≡ false
+    → after_spelling spelling (c ∷ cs) ≡ o → spelled (c ∷ cs) cs o ≡ token k from after
+    → SameToken (c ∷ cs) from after k
 spelled_so None c cs from after k b e h = absurd cc
 spelled_so (Some rest) c cs from after k b e h =
     let at = valued_from (kind_of_spelling (front (c ∷ cs) rest)) (c ∷ cs) rest from after k h in
     let v = valued_kind (kind_of_spelling (front (c ∷ cs) rest)) (c ∷ cs) rest from after k h in
-    spelled_same c cs from after k b (e ∙ ap Some at.1) (ap (λ xs. kind_of_spelling (front (c ∷ cs) xs)) (sym at.1) ∙ v) at.0
+    spelled_same c cs from after k b (e ∙ ap Some at.1)
+    (ap (λ xs. kind_of_spelling (front (c ∷ cs) xs)) (sym at.1) ∙ v) at.0
 
-same_at : (text from after : List ℕ) (k : Kind) → IsBare text → raw_at text ≡ token k from after → SameToken text from after k
+same_at : (text from after : List ℕ) (k : Kind) → IsBare text → raw_at text ≡ token k from after
+    → SameToken text from after k
 same_at [] from after k b h = absurd cc
-same_at (c ∷ cs) from after k b h = spelled_so (after_spelling spelling (c ∷ cs)) c cs from after k (bare_solid c cs b) refl h
+same_at (c ∷ cs) from after k b h = spelled_so (after_spelling spelling (c ∷ cs)) c cs from after k
+    (bare_solid c cs b) refl h
 
 -- the token, and what comes after its first character
 pub record CrlfToken (text from after : List ℕ) (k : Kind) : Type 0 where
@@ -143,7 +162,9 @@ pub raw_crlf : (text from after : List ℕ) (k : Kind) → raw text ≡ token k 
 raw_crlf text from after k e =
     let s = same_at (after_trivia outside text) from after k (behind_trivia outside text) e in
     record {
-      is_token = ap raw_at (over_crlf outside text tt) ∙ subst (λ xs. raw_at (with_crlf (after_trivia outside text)) ≡ token k (with_crlf xs) (with_crlf after)) (sym s.here) s.is_token;
+      is_token = ap raw_at (over_crlf outside text tt)
+          ∙ subst (λ xs. raw_at (with_crlf (after_trivia outside text))
+          ≡ token k (with_crlf xs) (with_crlf after)) (sym s.here) s.is_token;
       first = subst (λ xs. drop 1 (with_crlf xs) ≡ with_crlf (drop 1 xs)) (sym s.here) s.first;
     }
 
@@ -159,8 +180,10 @@ along_crlf (k ∷ ks) text a = go (role k.class) a (λ rest b. along_crlf ks res
     on : List ℕ → Type 0
     on rest = Along ks rest
 
-    go : (r : Role) → along_role r k on text → ((rest : List ℕ) → on rest → on (with_crlf rest)) → along_role r k on (with_crlf text)
-    go template_start b more = (b.0, with_crlf b.1, with_crlf b.2, (raw_crlf text b.1 b.2 b.0 b.3).is_token, b.4, (b.5.0, more b.2 b.5.1))
+    go : (r : Role) → along_role r k on text → ((rest : List ℕ) → on rest → on (with_crlf rest))
+        → along_role r k on (with_crlf text)
+    go template_start b more =
+        (b.0, with_crlf b.1, with_crlf b.2, (raw_crlf text b.1 b.2 b.0 b.3).is_token, b.4, (b.5.0, more b.2 b.5.1))
     go template_end b more =
         let t = raw_crlf text b.1 b.2 b.0 b.3 in
         (b.0, with_crlf b.1, with_crlf b.2, t.is_token, b.4, (b.5.0, subst on (sym t.first) (more (drop 1 b.1) b.5.1)))

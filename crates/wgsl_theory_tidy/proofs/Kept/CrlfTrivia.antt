@@ -17,15 +17,18 @@ crlf_append (x ∷ xs) ys = go (x == 10) (crlf_append xs ys)
   where
     -- before a text that is the same
     go : (b : Bool) → with_crlf (xs ++ ys) ≡ with_crlf xs ++ with_crlf ys
-        → (if b then 13 ∷ (10 ∷ with_crlf (xs ++ ys)) else x ∷ with_crlf (xs ++ ys)) ≡ (if b then 13 ∷ (10 ∷ with_crlf xs) else x ∷ with_crlf xs) ++ with_crlf ys
+        → (if b then 13 ∷ (10 ∷ with_crlf (xs ++ ys)) else x ∷ with_crlf (xs ++ ys))
+        ≡ (if b then 13 ∷ (10 ∷ with_crlf xs) else x ∷ with_crlf xs) ++ with_crlf ys
     go true h = ap (λ zs. 13 ∷ (10 ∷ zs)) h
     go false h = ap (λ zs. x ∷ zs) h
 
 -- the first character, whether it is one that is neither CR nor LF
-pub first_same : (d : ℕ) (cs : List ℕ) → (10 == d) ≡ false → (13 == d) ≡ false → (first_or_zero (with_crlf cs) == d) ≡ (first_or_zero cs == d)
+pub first_same : (d : ℕ) (cs : List ℕ) → (10 == d) ≡ false → (13 == d) ≡ false
+    → (first_or_zero (with_crlf cs) == d) ≡ (first_or_zero cs == d)
 first_same d [] l r = refl
 first_same d (c ∷ cs) l r =
-    by_test (c == 10) (λ e. subst (λ x. (first_or_zero (with_crlf (x ∷ cs)) == d) ≡ (x == d)) (sym (eqb-true c 10 e)) (r ∙ sym l))
+    by_test (c == 10)
+    (λ e. subst (λ x. (first_or_zero (with_crlf (x ∷ cs)) == d) ≡ (x == d)) (sym (eqb-true c 10 e)) (r ∙ sym l))
     (λ e. ap (λ xs. first_or_zero xs == d) (crlf_other c cs e))
 
 -- ---- blank space and comments
@@ -50,10 +53,12 @@ out_first zero = tt
 out_first (suc n) = tt
 
 -- where the first character is this one, it is no LF
-pub first_no_lf : (d : ℕ) (cs : List ℕ) → (d == 10) ≡ false → (first_or_zero cs == d) ≡ true → (first_or_zero cs == 10) ≡ false
+pub first_no_lf : (d : ℕ) (cs : List ℕ) → (d == 10) ≡ false → (first_or_zero cs == d) ≡ true
+    → (first_or_zero cs == 10) ≡ false
 first_no_lf d cs n e = ap (λ x. x == 10) (eqb-true (first_or_zero cs) d e) ∙ n
 
-pub sign_at : (a b c : ℕ) (cs : List ℕ) → (b == 10) ≡ false → (c == a && first_or_zero cs == b) ≡ true → (first_or_zero cs == 10) ≡ false
+pub sign_at : (a b c : ℕ) (cs : List ℕ) → (b == 10) ≡ false
+    → (c == a && first_or_zero cs == b) ≡ true → (first_or_zero cs == 10) ≡ false
 sign_at a b c cs n e = first_no_lf b cs n (and_parts (c == a) (first_or_zero cs == b) e).1
 
 -- the same is left of both texts
@@ -76,24 +81,30 @@ unfolding after_trivia
 block_lf n cs h = h
 
 outside_other : (c : ℕ) (cs : List ℕ) → (c == 10) ≡ false → (is_blank c ≡ true → Over outside cs)
-    → ((c == 47 && first_or_zero cs == 47) ≡ true → Over (second in_line) cs) → ((c == 47 && first_or_zero cs == 42) ≡ true → Over (second (in_block 0)) cs) → Over outside (c ∷ cs)
+    → ((c == 47 && first_or_zero cs == 47) ≡ true → Over (second in_line) cs)
+    → ((c == 47 && first_or_zero cs == 42) ≡ true → Over (second (in_block 0)) cs) → Over outside (c ∷ cs)
 unfolding after_trivia
 outside_other c cs e f g h =
     by_test (is_blank c) (λ b. rw (e, b) (f b))
     (λ b. by_test (c == 47 && first_or_zero cs == 47) (λ s. rw (e, b, first_same 47 cs refl refl, s) (g s))
-    (λ s. by_test (c == 47 && first_or_zero cs == 42) (λ t. rw (e, b, first_same 47 cs refl refl, s, first_same 42 cs refl refl, t) (h t))
+    (λ s. by_test (c == 47 && first_or_zero cs == 42)
+    (λ t. rw (e, b, first_same 47 cs refl refl, s, first_same 42 cs refl refl, t) (h t))
     (λ t. rw (e, b, first_same 47 cs refl refl, s, first_same 42 cs refl refl, t, e) refl)))
 
 line_other : (c : ℕ) (cs : List ℕ) → (c == 10) ≡ false → Over outside cs → Over in_line cs → Over in_line (c ∷ cs)
 unfolding after_trivia
-line_other c cs e f g = ap (after_trivia in_line) (crlf_other c cs e) ∙ by_test (is_line_break c) (λ b. rw b f) (λ b. rw b g)
+line_other c cs e f g = ap (after_trivia in_line) (crlf_other c cs e)
+    ∙ by_test (is_line_break c) (λ b. rw b f) (λ b. rw b g)
 
-block_other : (n c : ℕ) (cs : List ℕ) → (c == 10) ≡ false → ((c == 47 && first_or_zero cs == 42) ≡ true → Over (second (in_block (suc n))) cs)
-    → ((c == 42 && first_or_zero cs == 47) ≡ true → Over (second (out_of_block n)) cs) → Over (in_block n) cs → Over (in_block n) (c ∷ cs)
+block_other : (n c : ℕ) (cs : List ℕ) → (c == 10) ≡ false
+    → ((c == 47 && first_or_zero cs == 42) ≡ true → Over (second (in_block (suc n))) cs)
+    → ((c == 42 && first_or_zero cs == 47) ≡ true → Over (second (out_of_block n)) cs)
+    → Over (in_block n) cs → Over (in_block n) (c ∷ cs)
 unfolding after_trivia
 block_other n c cs e f g h =
     by_test (c == 47 && first_or_zero cs == 42) (λ s. rw (e, first_same 42 cs refl refl, s) (f s))
-    (λ s. by_test (c == 42 && first_or_zero cs == 47) (λ t. rw (e, first_same 42 cs refl refl, s, first_same 47 cs refl refl, t) (g t))
+    (λ s. by_test (c == 42 && first_or_zero cs == 47)
+    (λ t. rw (e, first_same 42 cs refl refl, s, first_same 47 cs refl refl, t) (g t))
     (λ t. rw (e, first_same 42 cs refl refl, s, first_same 47 cs refl refl, t) h))
 
 second_other : (p : Place) (c : ℕ) (cs : List ℕ) → (c == 10) ≡ false → Over p cs → Over (second p) (c ∷ cs)
@@ -109,10 +120,14 @@ pub over_crlf : (p : Place) (t : List ℕ) → IsSign p t → Over p t
 over_crlf p [] s = nothing_over p
 over_crlf outside (c ∷ cs) s =
     by_test (c == 10) (λ e. over_at_lf outside c cs e (outside_lf cs (over_crlf outside cs tt)))
-    (λ e. outside_other c cs e (λ b. over_crlf outside cs tt) (λ g. over_crlf (second in_line) cs (tt, sign_at 47 47 c cs refl g)) (λ g. over_crlf (second (in_block 0)) cs (tt, sign_at 47 42 c cs refl g)))
+    (λ e. outside_other c cs e (λ b. over_crlf outside cs tt) (λ g. over_crlf (second in_line) cs
+    (tt, sign_at 47 47 c cs refl g)) (λ g. over_crlf (second (in_block 0)) cs (tt, sign_at 47 42 c cs refl g)))
 over_crlf in_line (c ∷ cs) s =
-    by_test (c == 10) (λ e. over_at_lf in_line c cs e (line_lf cs (over_crlf outside cs tt))) (λ e. line_other c cs e (over_crlf outside cs tt) (over_crlf in_line cs tt))
+    by_test (c == 10) (λ e. over_at_lf in_line c cs e (line_lf cs (over_crlf outside cs tt)))
+    (λ e. line_other c cs e (over_crlf outside cs tt) (over_crlf in_line cs tt))
 over_crlf (in_block n) (c ∷ cs) s =
     by_test (c == 10) (λ e. over_at_lf (in_block n) c cs e (block_lf n cs (over_crlf (in_block n) cs tt)))
-    (λ e. block_other n c cs e (λ g. over_crlf (second (in_block (suc n))) cs (tt, sign_at 47 42 c cs refl g)) (λ g. over_crlf (second (out_of_block n)) cs (out_first n, sign_at 42 47 c cs refl g)) (over_crlf (in_block n) cs tt))
+    (λ e. block_other n c cs e (λ g. over_crlf (second (in_block (suc n))) cs (tt, sign_at 47 42 c cs refl g))
+    (λ g. over_crlf (second (out_of_block n)) cs (out_first n, sign_at 42 47 c cs refl g))
+    (over_crlf (in_block n) cs tt))
 over_crlf (second p) (c ∷ cs) s = second_other p c cs s.1 (over_crlf p cs (no_sign p cs s.0))

@@ -1,7 +1,7 @@
 -- The gap for as many line ends as a gap has is that gap.
 use Rattle.std.proofs.Common.{◌≡◌, ℕ, zero, suc, ◌&&◌, ◌||◌, ◌==◌, Bool, true, false, cond, not, nat_lt, refl, sym, ap, ◌∙◌}
 use Rattle.std.proofs.lemmas.Bool.{and_parts, true≢false}
-use Rattle.wgsl_model.specs.Tokens.Classes.{LineComment}
+use Rattle.wgsl_model.specs.Tokens.ClassTable.{LineComment}
 use Rattle.wgsl_model_tidy.specs.Roles.{Role, beginning, opening, template_start, is}
 use Rattle.wgsl_model_tidy.specs.Joints.{Joint, line, nothing, space, nothing_or_line, space_or_line, joint}
 use Rattle.wgsl_model_tidy.specs.Open.{Enclosing}
@@ -14,30 +14,38 @@ use Rattle.wgsl_theory_tidy.proofs.Kept.SettledJoints.{settled_joint, Settles, s
 abbrev pub break_for : Bool → ℕ → ℕ → Gap
 break_for stays depth n = broken (nat_lt 1 n && stays) depth
 
-break_ends : (stays : Bool) (depth : ℕ) (empty : Bool) (n : ℕ) → (nat_lt 1 n && stays) ≡ empty → break_for stays depth (gap_ends (broken empty depth)) ≡ broken empty depth
+break_ends : (stays : Bool) (depth : ℕ) (empty : Bool) (n : ℕ) → (nat_lt 1 n && stays) ≡ empty
+    → break_for stays depth (gap_ends (broken empty depth)) ≡ broken empty depth
 break_ends stays depth true n h = ap (λ b. broken b depth) (and_parts (nat_lt 1 n) stays h).1
 break_ends stays depth false n h = refl
 
-break_again : (stays : Bool) (depth n : ℕ) → break_for stays depth (gap_ends (break_for stays depth n)) ≡ break_for stays depth n
+break_again : (stays : Bool) (depth n : ℕ)
+    → break_for stays depth (gap_ends (break_for stays depth n)) ≡ break_for stays depth n
 break_again stays depth n = break_ends stays depth (nat_lt 1 n && stays) n refl
 
 -- at least one line end
-some_ends : (empty : Bool) (depth : ℕ) (break other : Gap) → kept_gap (gap_ends (broken empty depth)) break other ≡ break
+some_ends : (empty : Bool) (depth : ℕ) (break other : Gap)
+    → kept_gap (gap_ends (broken empty depth)) break other ≡ break
 some_ends true depth break other = refl
 some_ends false depth break other = refl
 
 kept_again : (stays : Bool) (depth n : ℕ) (other : Gap) → gap_ends other ≡ 0
-    → kept_gap (gap_ends (kept_gap n (break_for stays depth n) other)) (break_for stays depth (gap_ends (kept_gap n (break_for stays depth n) other))) other ≡ kept_gap n (break_for stays depth n) other
+    → kept_gap (gap_ends (kept_gap n (break_for stays depth n) other)) (break_for stays depth
+    (gap_ends (kept_gap n (break_for stays depth n) other))) other ≡ kept_gap n (break_for stays depth n) other
 kept_again stays depth zero other h = rw h refl
 kept_again stays depth (suc n) other h =
-    some_ends (nat_lt 1 (suc n) && stays) depth (break_for stays depth (gap_ends (break_for stays depth (suc n)))) other ∙ break_again stays depth (suc n)
+    some_ends (nat_lt 1 (suc n) && stays) depth (break_for stays depth
+    (gap_ends (break_for stays depth (suc n)))) other ∙ break_again stays depth (suc n)
 
 -- a gap with a line end has one again, whatever is there else
-broken_again : (stays : Bool) (depth n : ℕ) (other : Gap) → kept_gap (gap_ends (break_for stays depth n)) (break_for stays depth (gap_ends (break_for stays depth n))) other ≡ break_for stays depth n
-broken_again stays depth n other = some_ends (nat_lt 1 n && stays) depth (break_for stays depth (gap_ends (break_for stays depth n))) other ∙ break_again stays depth n
+broken_again : (stays : Bool) (depth n : ℕ) (other : Gap) → kept_gap (gap_ends (break_for stays depth n))
+    (break_for stays depth (gap_ends (break_for stays depth n))) other ≡ break_for stays depth n
+broken_again stays depth n other = some_ends (nat_lt 1 n && stays) depth
+    (break_for stays depth (gap_ends (break_for stays depth n))) other ∙ break_again stays depth n
 
 joint_again : (j k : Joint) → Settles j k → (stays : Bool) (depth n : ℕ)
-    → joint_gap k (gap_ends (joint_gap j n (break_for stays depth n))) (break_for stays depth (gap_ends (joint_gap j n (break_for stays depth n)))) ≡ joint_gap j n (break_for stays depth n)
+    → joint_gap k (gap_ends (joint_gap j n (break_for stays depth n))) (break_for stays depth
+    (gap_ends (joint_gap j n (break_for stays depth n)))) ≡ joint_gap j n (break_for stays depth n)
 joint_again _ _ (same line) stays depth n = break_again stays depth n
 joint_again _ _ (same nothing) stays depth n = refl
 joint_again _ _ (same space) stays depth n = refl
@@ -49,35 +57,48 @@ joint_again _ _ (closed_up) stays depth n = broken_again stays depth n closed
 -- nothing at the beginning of the text, else the gap for a joint
 begun_again : (b : Bool) (j k : Joint) → Settles j k → (stays : Bool) (depth n : ℕ)
     → cond b closed
-    (joint_gap k (gap_ends (cond b closed (joint_gap j n (break_for stays depth n)))) (break_for stays depth (gap_ends (cond b closed (joint_gap j n (break_for stays depth n))))))
+    (joint_gap k (gap_ends (cond b closed (joint_gap j n (break_for stays depth n))))
+    (break_for stays depth (gap_ends (cond b closed (joint_gap j n (break_for stays depth n))))))
     ≡ cond b closed (joint_gap j n (break_for stays depth n))
 begun_again true j k s stays depth n = refl
 begun_again false j k s stays depth n = joint_again j k s stays depth n
 
--- the gap before a token, where brackets that were written item by item keep their lines as they are
+-- the gap before a token, where brackets that were written item by item keep their lines as they
+-- are
 pub token_again : (inside : Enclosing) (last : Last) (left right : Role) (stays : Bool) (depth n : ℕ)
-    → token_gap (settled_enclosing inside) last left right (gap_ends (token_gap inside last left right n (break_for stays depth n)))
+    → token_gap (settled_enclosing inside) last left right
+    (gap_ends (token_gap inside last left right n (break_for stays depth n)))
     (break_for stays depth (gap_ends (token_gap inside last left right n (break_for stays depth n))))
     ≡ token_gap inside last left right n (break_for stays depth n)
-token_again inside token left right stays depth n = begun_again (is left beginning) _ _ (token_settles right _ _ (settled_joint inside left right)) stays depth n
+token_again inside token left right stays depth n = begun_again (is left beginning) _ _
+    (token_settles right _ _ (settled_joint inside left right)) stays depth n
 token_again inside line_comment left right stays depth n = break_again stays depth n
 token_again inside leading_comment left right stays depth n =
     let j = behind_leading (joint inside left right) right in
-    ap (λ k. joint_gap k (gap_ends (joint_gap j n (break_for stays depth n))) (break_for stays depth (gap_ends (joint_gap j n (break_for stays depth n))))) (leading_same right _ _ (settled_joint inside left right))
+    ap (λ k. joint_gap k (gap_ends (joint_gap j n (break_for stays depth n)))
+    (break_for stays depth (gap_ends (joint_gap j n (break_for stays depth n)))))
+    (leading_same right _ _ (settled_joint inside left right))
     ∙ joint_again j j (same j) stays depth n
-token_again inside block_comment left right stays depth n = joint_again _ _ (comment_settles right _ _ (settled_joint inside left right)) stays depth n
-token_again inside open_comment left right stays depth n = joint_again _ _ (comment_settles right _ _ (settled_joint inside left right)) stays depth n
+token_again inside block_comment left right stays depth n = joint_again _ _
+    (comment_settles right _ _ (settled_joint inside left right)) stays depth n
+token_again inside open_comment left right stays depth n = joint_again _ _
+    (comment_settles right _ _ (settled_joint inside left right)) stays depth n
 
 -- a comment after a token, where it belongs to the next token again, or no more
-own_again : (class : ℕ) (left : Role) (own own' : Bool) (stays : Bool) (depth n : ℕ) → (own' ≡ true → own ≡ true)
-    → comment_behind class left own' (gap_ends (comment_behind class left own n (break_for stays depth n))) (break_for stays depth (gap_ends (comment_behind class left own n (break_for stays depth n))))
+own_again : (class : ℕ) (left : Role) (own own' : Bool) (stays : Bool) (depth n : ℕ)
+    → (own' ≡ true → own ≡ true)
+    → comment_behind class left own' (gap_ends (comment_behind class left own n (break_for stays depth n)))
+    (break_for stays depth (gap_ends (comment_behind class left own n (break_for stays depth n))))
     ≡ comment_behind class left own n (break_for stays depth n)
-own_again class left own own' stays depth n h = go (is left beginning) ((is left opening || is left template_start) && not (class == LineComment)) own own' h
+own_again class left own own' stays depth n h = go (is left beginning)
+    ((is left opening || is left template_start) && not (class == LineComment)) own own' h
   where
     gap : Bool → Bool → Bool → ℕ → Gap
-    gap begins tight owns m = cond begins closed (cond owns (break_for stays depth m) (cond tight (kept_gap m (break_for stays depth m) closed) (kept_gap m (break_for stays depth m) blank)))
+    gap begins tight owns m = cond begins closed (cond owns (break_for stays depth m) (cond tight
+        (kept_gap m (break_for stays depth m) closed) (kept_gap m (break_for stays depth m) blank)))
 
-    go : (begins tight owns owns' : Bool) → (owns' ≡ true → owns ≡ true) → gap begins tight owns' (gap_ends (gap begins tight owns n)) ≡ gap begins tight owns n
+    go : (begins tight owns owns' : Bool) → (owns' ≡ true → owns ≡ true)
+        → gap begins tight owns' (gap_ends (gap begins tight owns n)) ≡ gap begins tight owns n
     go true tight owns owns' k = refl
     go false tight true true k = break_again stays depth n
     go false true true false k = broken_again stays depth n closed
@@ -86,8 +107,10 @@ own_again class left own own' stays depth n h = go (is left beginning) ((is left
     go false false false false k = kept_again stays depth n blank refl
     go false tight false true k = absurd (true≢false (sym (k refl)))
 
-pub comment_again : (class : ℕ) (last : Last) (left : Role) (own own' : Bool) (stays : Bool) (depth n : ℕ) → (own' ≡ true → own ≡ true)
-    → comment_gap class last left own' (gap_ends (comment_gap class last left own n (break_for stays depth n))) (break_for stays depth (gap_ends (comment_gap class last left own n (break_for stays depth n))))
+pub comment_again : (class : ℕ) (last : Last) (left : Role) (own own' : Bool) (stays : Bool) (depth n : ℕ)
+    → (own' ≡ true → own ≡ true)
+    → comment_gap class last left own' (gap_ends (comment_gap class last left own n (break_for stays depth n)))
+    (break_for stays depth (gap_ends (comment_gap class last left own n (break_for stays depth n))))
     ≡ comment_gap class last left own n (break_for stays depth n)
 comment_again class token left own own' stays depth n h = own_again class left own own' stays depth n h
 comment_again class line_comment left own own' stays depth n h = break_again stays depth n

@@ -34,30 +34,37 @@ record Follows (state : LayoutState) (ps : List Piece) : Type 0 where
   followed : is_followed ps ≡ true
   closes_no : closes (next_role state ps) ≡ false
 
-follows_token : (state : LayoutState) (p : Piece) (ps : List Piece) → is_comment p.class ≡ false → IsSmooth p → closes_one p.class ≡ false → Follows state (p ∷ ps)
+follows_token : (state : LayoutState) (p : Piece) (ps : List Piece) → is_comment p.class ≡ false
+    → IsSmooth p → closes_one p.class ≡ false → Follows state (p ∷ ps)
 follows_token state p ps h s c =
     let operand = operand_follows ps in
     record {
       followed = rw (s.ends, h) refl;
-      closes_no = ap closes (token_next state p ps h) ∙ closes_none (role_in state p.class operand) (closes_same state p.class operand ∙ c) (no_brace state p.class operand s.no_left s.no_right);
+      closes_no = ap closes (token_next state p ps h) ∙ closes_none (role_in state p.class operand)
+          (closes_same state p.class operand ∙ c) (no_brace state p.class operand s.no_left s.no_right);
     }
 
-follows_comment : (state : LayoutState) (p : Piece) (ps : List Piece) → is_comment p.class ≡ true → IsSmooth p → Follows state ps → Follows state (p ∷ ps)
+follows_comment : (state : LayoutState) (p : Piece) (ps : List Piece) → is_comment p.class ≡ true
+    → IsSmooth p → Follows state ps → Follows state (p ∷ ps)
 follows_comment state p ps h s f = record { followed = rw (s.ends, h) f.followed; closes_no = rw h f.closes_no }
 
-several_token : (p : Piece) (ps : List Piece) → is_comment p.class ≡ false → has_several (p ∷ ps) ≡ true → closes_one p.class ≡ false
+several_token : (p : Piece) (ps : List Piece) → is_comment p.class ≡ false
+    → has_several (p ∷ ps) ≡ true → closes_one p.class ≡ false
 several_token p ps h e =
     let both : (not (closes_one p.class) && not (ends_bracket ps)) ≡ true = rw h at e in
     not-true (closes_one p.class) (and_parts (not (closes_one p.class)) (not (ends_bracket ps)) both).0
 
-several_comment : (p : Piece) (ps : List Piece) → is_comment p.class ≡ true → has_several (p ∷ ps) ≡ true → has_several ps ≡ true
+several_comment : (p : Piece) (ps : List Piece) → is_comment p.class ≡ true
+    → has_several (p ∷ ps) ≡ true → has_several ps ≡ true
 several_comment p ps h e = rw h at e
 
 -- after a comment no line ends
-calm_comment : (p : Piece) (ps : List Piece) → is_comment p.class ≡ true → has_break 1 (p ∷ ps) ≡ false → has_break 1 ps ≡ false
+calm_comment : (p : Piece) (ps : List Piece) → is_comment p.class ≡ true
+    → has_break 1 (p ∷ ps) ≡ false → has_break 1 ps ≡ false
 calm_comment p ps h e = ap (λ k. has_break k ps) (sym (comment_open 0 p.class h)) ∙ (neither (breaks p) _ e).1
 
-follows_step : (state : LayoutState) (p : Piece) (ps : List Piece) → has_several (p ∷ ps) ≡ true → has_break 1 (p ∷ ps) ≡ false
+follows_step : (state : LayoutState) (p : Piece) (ps : List Piece) → has_several (p ∷ ps) ≡ true
+    → has_break 1 (p ∷ ps) ≡ false
     → (has_several ps ≡ true → has_break 1 ps ≡ false → Follows state ps) → Follows state (p ∷ ps)
 follows_step state p ps e calm others = go (is_comment p.class) refl
   where
@@ -83,15 +90,19 @@ line_behind_opening opening right h = refl
 line_behind_opening template_start right h = refl
 line_behind_opening left right h = absurd (true≢false (sym h))
 
-parted_token : (left right : Role) (n : ℕ) (break : Gap) → opens_bracket left ≡ true → token_gap item_lines token left right n break ≡ break
+parted_token : (left right : Role) (n : ℕ) (break : Gap) → opens_bracket left ≡ true
+    → token_gap item_lines token left right n break ≡ break
 parted_token left right n break h =
-    ap (λ b. cond b closed (joint_gap (joint item_lines left right) n break)) (opens_later left h) ∙ ap (λ j. joint_gap j n break) (line_behind_opening left right h)
+    ap (λ b. cond b closed (joint_gap (joint item_lines left right) n break)) (opens_later left h)
+    ∙ ap (λ j. joint_gap j n break) (line_behind_opening left right h)
 
-before_token : (spot : Spot) (p : Piece) (ps : List Piece) → IsParted spot → is_comment p.class ≡ false → IsBroken (gap_before spot (next_role spot.state (p ∷ ps)) p ps)
+before_token : (spot : Spot) (p : Piece) (ps : List Piece) → IsParted spot
+    → is_comment p.class ≡ false → IsBroken (gap_before spot (next_role spot.state (p ∷ ps)) p ps)
 before_token spot p ps i h =
     let right = next_role spot.state (p ∷ ps) in
     let left = spot.state.last in
-    let break : Gap = line_end (between_items spot.state right) spot.last left right p.line_ends (depth_of spot.state right) in (
+    let break : Gap = line_end (between_items spot.state right) spot.last left right p.line_ends
+    (depth_of spot.state right) in (
       _,
       depth_of spot.state right,
       token_gap_before spot right p ps h
@@ -101,29 +112,41 @@ before_token spot p ps i h =
     )
 
 -- the first comment belongs to the next token
-owned_there : (spot : Spot) (right : Role) (ps : List Piece) → IsParted spot → closes right ≡ false → is_followed ps ≡ true → owned spot right ps ≡ true
+owned_there : (spot : Spot) (right : Role) (ps : List Piece) → IsParted spot → closes right ≡ false
+    → is_followed ps ≡ true → owned spot right ps ≡ true
 owned_there spot right ps i c f =
     let left = spot.state.last in
-    let ends : is_line (joint (enclosing spot.state.opened) left right) ≡ true = ap (λ (x : Enclosing). is_line (joint x left right)) i.lines ∙ ap is_line (line_behind_opening left right i.opens) in
-    and_from (is_token spot.last) _ (ap is_token i.beside) (and_from _ (is_followed ps) (and_from _ (not (closes right)) ends (ap not c)) f)
+    let ends : is_line (joint (enclosing spot.state.opened) left right) ≡ true = ap (λ (x : Enclosing).
+    is_line (joint x left right)) i.lines ∙ ap is_line (line_behind_opening left right i.opens) in
+    and_from (is_token spot.last) _ (ap is_token i.beside)
+    (and_from _ (is_followed ps) (and_from _ (not (closes right)) ends (ap not c)) f)
 
-owned_gap : (class : ℕ) (last : Last) (left : Role) (own : Bool) (n : ℕ) (break : Gap) → last ≡ token → opens_bracket left ≡ true → own ≡ true → comment_gap class last left own n break ≡ break
+owned_gap : (class : ℕ) (last : Last) (left : Role) (own : Bool) (n : ℕ) (break : Gap) → last ≡ token
+    → opens_bracket left ≡ true → own ≡ true → comment_gap class last left own n break ≡ break
 owned_gap class last left own n break l h o = rw (l, opens_later left h, o) refl
 
-before_comment : (spot : Spot) (p : Piece) (ps : List Piece) → IsParted spot → is_comment p.class ≡ true → Follows spot.state ps → IsBroken (gap_before spot (next_role spot.state (p ∷ ps)) p ps)
+before_comment : (spot : Spot) (p : Piece) (ps : List Piece) → IsParted spot → is_comment p.class ≡ true
+    → Follows spot.state ps → IsBroken (gap_before spot (next_role spot.state (p ∷ ps)) p ps)
 before_comment spot p ps i h f =
     let right = next_role spot.state (p ∷ ps) in
     let next : right ≡ next_role spot.state ps = rw h refl in
-    let own = owned_there spot right ps i (ap closes next ∙ f.closes_no) f.followed in
-    (_, comment_depth spot.state right, comment_gap_before spot right p ps h ∙ owned_gap p.class spot.last spot.state.last (owned spot right ps) p.line_ends _ i.beside i.opens own)
+    let own = owned_there spot right ps i (ap closes next ∙ f.closes_no) f.followed in (
+      _,
+      comment_depth spot.state right,
+      comment_gap_before spot right p ps h ∙ owned_gap p.class spot.last spot.state.last
+          (owned spot right ps) p.line_ends _ i.beside i.opens own,
+    )
 
-first_gap : (spot : Spot) (p : Piece) (ps : List Piece) → IsParted spot → has_several (p ∷ ps) ≡ true → has_lines (p ∷ ps) ≡ false → IsBroken (gap_before spot (next_role spot.state (p ∷ ps)) p ps)
+first_gap : (spot : Spot) (p : Piece) (ps : List Piece) → IsParted spot → has_several (p ∷ ps) ≡ true
+    → has_lines (p ∷ ps) ≡ false → IsBroken (gap_before spot (next_role spot.state (p ∷ ps)) p ps)
 first_gap spot p ps i e calm = go (is_comment p.class) refl
   where
     go : (b : Bool) → is_comment p.class ≡ b → IsBroken (gap_before spot (next_role spot.state (p ∷ ps)) p ps)
     go true h =
-        let all : has_break 1 (p ∷ ps) ≡ false = ap (λ c. not c && has_break 1 (p ∷ ps)) (sym (comment_closes_none p.class h)) ∙ calm in
-        before_comment spot p ps i h (follows_so spot.state ps (several_comment p ps h e) (calm_comment p ps h all))
+        let all : has_break 1 (p ∷ ps) ≡ false =
+        ap (λ c. not c && has_break 1 (p ∷ ps)) (sym (comment_closes_none p.class h)) ∙ calm in
+        before_comment spot p ps i h
+        (follows_so spot.state ps (several_comment p ps h e) (calm_comment p ps h all))
     go false h = before_token spot p ps i h
 
 -- ---- so the formatted text of its pieces has a line end
@@ -138,30 +161,45 @@ several_opens p ps e = go (is_comment p.class) refl
     go true h = ap not (comment_closes_none p.class h)
     go false h = ap not (several_token p ps h e)
 
-pub item_lines_again : (layout : Layout) (spot : Spot) (ps : List Piece) → IsParted spot → has_several ps ≡ true → has_lines ps ≡ false → has_lines (relaid layout spot ps) ≡ true
+pub item_lines_again : (layout : Layout) (spot : Spot) (ps : List Piece) → IsParted spot
+    → has_several ps ≡ true → has_lines ps ≡ false → has_lines (relaid layout spot ps) ≡ true
 item_lines_again layout spot [] i e calm = absurd (true≢false (sym e))
 item_lines_again layout spot (p ∷ ps) i e calm =
     let gap = gap_before spot (next_role spot.state (p ∷ ps)) p ps in
-    and_from (not (closes_one p.class)) _ (several_opens p ps e) (or_left (breaks (behind_ends p (gap_ends gap))) _ (or_left (not (gap_ends gap == 0)) _ (broken_ends gap (first_gap spot p ps i e calm))))
+    and_from (not (closes_one p.class)) _ (several_opens p ps e)
+    (or_left (breaks (behind_ends p (gap_ends gap))) _
+    (or_left (not (gap_ends gap == 0)) _ (broken_ends gap (first_gap spot p ps i e calm))))
 
 -- and the text begins with a line end
-broken_begins : (layout : Layout) (empty : Bool) (depth : ℕ) (rest : List ℕ) → (more : List ℕ) × (gap_text layout (broken empty depth) ++ rest ≡ 10 ∷ more)
+broken_begins : (layout : Layout) (empty : Bool) (depth : ℕ) (rest : List ℕ)
+    → (more : List ℕ) × (gap_text layout (broken empty depth) ++ rest ≡ 10 ∷ more)
 broken_begins layout true depth rest = (_, refl)
 broken_begins layout false depth rest = (_, refl)
 
-gap_begins : (layout : Layout) (gap : Gap) (rest : List ℕ) → IsBroken gap → (more : List ℕ) × (gap_text layout gap ++ rest ≡ 10 ∷ more)
-gap_begins layout gap rest b = let begins = broken_begins layout b.0 b.1 rest in (begins.0, ap (λ g. gap_text layout g ++ rest) b.2 ∙ begins.1)
+gap_begins : (layout : Layout) (gap : Gap) (rest : List ℕ) → IsBroken gap
+    → (more : List ℕ) × (gap_text layout gap ++ rest ≡ 10 ∷ more)
+gap_begins layout gap rest b =
+    let begins = broken_begins layout b.0 b.1 rest in
+    (begins.0, ap (λ g. gap_text layout g ++ rest) b.2 ∙ begins.1)
 
 -- after an opening bracket that is written item by item
-pub parted : (state : LayoutState) (depth class : ℕ) (right : Role) (column : ℕ) → opens_bracket right ≡ true → IsParted (behind_token_at state depth class right column item_by_item)
-parted state depth class right column h = record { lines = opens_enclosing state depth right item_by_item h; opens = opens_last state right h; beside = refl }
+pub parted : (state : LayoutState) (depth class : ℕ) (right : Role) (column : ℕ)
+    → opens_bracket right ≡ true → IsParted (behind_token_at state depth class right column item_by_item)
+parted state depth class right column h =
+    record { lines = opens_enclosing state depth right item_by_item h; opens = opens_last state right h; beside = refl }
 
-parted_begins : (layout : Layout) (spot : Spot) (ps : List Piece) → IsParted spot → has_several ps ≡ true → has_lines ps ≡ false → (more : List ℕ) × (laid_from layout spot ps ≡ 10 ∷ more)
+parted_begins : (layout : Layout) (spot : Spot) (ps : List Piece) → IsParted spot → has_several ps ≡ true
+    → has_lines ps ≡ false → (more : List ℕ) × (laid_from layout spot ps ≡ 10 ∷ more)
 parted_begins layout spot [] i e calm = absurd (true≢false (sym e))
 parted_begins layout spot (p ∷ ps) i e calm =
     let gap = gap_before spot (next_role spot.state (p ∷ ps)) p ps in
-    gap_begins layout gap (piece_text layout spot gap p ++ laid_from layout (after_first layout spot p ps) ps) (first_gap spot p ps i e calm)
+    gap_begins layout gap
+    (piece_text layout spot gap p ++ laid_from layout (after_first layout spot p ps) ps)
+    (first_gap spot p ps i e calm)
 
-pub items_begin : (layout : Layout) (state : LayoutState) (depth class : ℕ) (right : Role) (column : ℕ) (ps : List Piece) → opens_bracket right ≡ true → has_several ps ≡ true → has_lines ps ≡ false
+pub items_begin : (layout : Layout) (state : LayoutState) (depth class : ℕ) (right : Role) (column : ℕ)
+    (ps : List Piece) → opens_bracket right ≡ true → has_several ps ≡ true → has_lines ps ≡ false
     → (more : List ℕ) × (laid_from layout (behind_token_at state depth class right column item_by_item) ps ≡ 10 ∷ more)
-items_begin layout state depth class right column ps h e calm = parted_begins layout (behind_token_at state depth class right column item_by_item) ps (parted state depth class right column h) e calm
+items_begin layout state depth class right column ps h e calm = parted_begins layout
+    (behind_token_at state depth class right column item_by_item) ps
+    (parted state depth class right column h) e calm

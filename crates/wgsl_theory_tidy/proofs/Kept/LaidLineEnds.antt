@@ -44,8 +44,10 @@ clear_indent _ (one_tab xs h) ys k = (refl, clear_indent xs h ys k)
 clear_gap : (layout : Layout) (gap : Gap) → IsClear (gap_text layout gap)
 clear_gap layout closed ys k = k
 clear_gap layout blank ys k = (refl, k)
-clear_gap layout (broken true depth) ys k = (refl, (refl, clear_indent (indentation layout depth) (indentation_indent layout depth) ys k))
-clear_gap layout (broken false depth) ys k = (refl, clear_indent (indentation layout depth) (indentation_indent layout depth) ys k)
+clear_gap layout (broken true depth) ys k =
+    (refl, (refl, clear_indent (indentation layout depth) (indentation_indent layout depth) ys k))
+clear_gap layout (broken false depth) ys k =
+    (refl, clear_indent (indentation layout depth) (indentation_indent layout depth) ys k)
 
 line_or_nothing : (b : Bool) → HasNoCrlf (cond b [] (codes "\n"))
 line_or_nothing true = tt
@@ -62,7 +64,8 @@ clear_ending open_comment left = tt
 
 clear_token : (k : Kind) (w rest : List ℕ) → IsToken k w rest → IsClear w
 clear_token k [] rest (is_word j v r m s e) = absurd s.begins
-clear_token k (x ∷ xs) rest (is_word j v r m s e) = clear_without (x ∷ xs) (none_alone 13 x xs return_alone (no_return x s.begins.0) s.spelled)
+clear_token k (x ∷ xs) rest (is_word j v r m s e) = clear_without (x ∷ xs)
+    (none_alone 13 x xs return_alone (no_return x s.begins.0) s.spelled)
 clear_token k w rest (is_slash r e) = λ ys h. (refl, h)
 clear_token k w rest (is_slash_equal r e) = λ ys h. (refl, (refl, h))
 clear_token k w rest (is_start r) = λ ys h. (refl, h)
@@ -72,29 +75,37 @@ clear_token k w rest (is_end r) = λ ys h. (refl, h)
 
 on_line : (xs : List ℕ) → OnLine xs → Each (differs 13) xs
 on_line [] h = tt
-on_line (x ∷ xs) h = (ap not (false_from_ne_true (x == 13) (λ e. true≢false (sym (ap is_line_break (eqb-true x 13 e)) ∙ h.0))), on_line xs h.1)
+on_line (x ∷ xs) h = (
+  ap not (false_from_ne_true (x == 13) (λ e. true≢false (sym (ap is_line_break (eqb-true x 13 e)) ∙ h.0))),
+  on_line xs h.1,
+)
 
 -- without the CR before LF
 no_returns : (xs : List ℕ) → HasNoCrlf (without_returns xs)
 no_returns [] = tt
 no_returns (c ∷ cs) = go (c == 13 && first_or_zero (without_returns cs) == 10) refl (no_returns cs)
   where
-    go : (b : Bool) → (c == 13 && first_or_zero (without_returns cs) == 10) ≡ b → HasNoCrlf (without_returns cs) → HasNoCrlf (cond b (without_returns cs) (c ∷ without_returns cs))
+    go : (b : Bool) → (c == 13 && first_or_zero (without_returns cs) == 10) ≡ b
+        → HasNoCrlf (without_returns cs) → HasNoCrlf (cond b (without_returns cs) (c ∷ without_returns cs))
     go true e h = h
     go false e h = (e, h)
 
 -- with another front of its lines
-with_front_clear : (front : List ℕ) → IsIndent front → (begins : Bool) (xs : List ℕ) → HasNoCrlf xs → HasNoCrlf (with_front front begins xs)
+with_front_clear : (front : List ℕ) → IsIndent front → (begins : Bool) (xs : List ℕ) → HasNoCrlf xs
+    → HasNoCrlf (with_front front begins xs)
 with_front_clear front n begins [] h = tt
-with_front_clear front n begins (c ∷ cs) h = go (begins && is_space c) (c == 10) (with_front_clear front n true cs h.1) (with_front_clear front n false cs h.1)
+with_front_clear front n begins (c ∷ cs) h = go (begins && is_space c) (c == 10)
+    (with_front_clear front n true cs h.1) (with_front_clear front n false cs h.1)
   where
     go : (b l : Bool) → HasNoCrlf (with_front front true cs) → HasNoCrlf (with_front front false cs)
-        → HasNoCrlf (cond b (with_front front true cs) (cond l (10 ∷ (front ++ with_front front true cs)) (c ∷ with_front front false cs)))
+        → HasNoCrlf (cond b (with_front front true cs)
+        (cond l (10 ∷ (front ++ with_front front true cs)) (c ∷ with_front front false cs)))
     go true l i j = i
     go false true i j = (refl, clear_indent front n (with_front front true cs) i)
     go false false i j = (ap (λ d. c == 13 && d == 10) (first_same front cs) ∙ h.0, j)
 
-block_clear : (front : List ℕ) → IsIndent front → (begins : Bool) (text : List ℕ) → HasNoCrlf (block_shown front begins (without_returns text))
+block_clear : (front : List ℕ) → IsIndent front → (begins : Bool) (text : List ℕ)
+    → HasNoCrlf (block_shown front begins (without_returns text))
 block_clear front n begins text = go (begins && has_stars false (without_returns text))
   where
     go : (b : Bool) → HasNoCrlf (cond b (with_front front false (without_returns text)) (without_returns text))
@@ -114,7 +125,8 @@ body_clear _ _ (body_other depth c [] m n i) h ys k = absurd (not_empty depth i)
 body_clear _ _ (body_other depth c (x ∷ xs) m n i) h ys k = (h.0, body_clear depth (x ∷ xs) i h.1 ys k)
 
 front_of : (layout : Layout) (depth : ℕ) → IsIndent (indentation layout depth ++ codes " ")
-front_of layout depth = both_indents (indentation layout depth) (codes " ") (indentation_indent layout depth) (one_space [] no_indent)
+front_of layout depth = both_indents (indentation layout depth) (codes " ")
+    (indentation_indent layout depth) (one_space [] no_indent)
 
 -- ---- pieces as they are written
 
@@ -125,16 +137,23 @@ closed_clear : (class : ℕ) (text : List ℕ) → Closed class text → HasNoCr
 closed_clear class text (closed_line xs h t) k = clear_without (47 ∷ (47 ∷ xs)) (refl, (refl, on_line xs h))
 closed_clear class text (closed_block xs i) k = λ ys h. (refl, (refl, body_clear 0 xs i k.1.1 ys h))
 
-closed_without : (layout : Layout) (spot : Spot) (gap : Gap) (class : ℕ) (text : List ℕ) (n : ℕ) → Closed class text → HasNoCrlf (piece_text layout spot gap (piece class text n))
-closed_without layout spot gap class text n (closed_line xs h t) = subst HasNoCrlf (append-nil (47 ∷ (47 ∷ xs))) (clear_without (47 ∷ (47 ∷ xs)) (refl, (refl, on_line xs h)) [] tt)
-closed_without layout spot gap class text n (closed_block xs i) = block_clear _ (front_of layout (depth_behind gap spot.state.line)) (begins_line gap spot.last spot.state.last) text
+closed_without : (layout : Layout) (spot : Spot) (gap : Gap) (class : ℕ) (text : List ℕ) (n : ℕ)
+    → Closed class text → HasNoCrlf (piece_text layout spot gap (piece class text n))
+closed_without layout spot gap class text n (closed_line xs h t) = subst HasNoCrlf
+    (append-nil (47 ∷ (47 ∷ xs))) (clear_without (47 ∷ (47 ∷ xs)) (refl, (refl, on_line xs h)) [] tt)
+closed_without layout spot gap class text n (closed_block xs i) = block_clear _
+    (front_of layout (depth_behind gap spot.state.line)) (begins_line gap spot.last spot.state.last) text
 
 closed_piece : (layout : Layout) (p : Piece) → Closed p.class p.text → IsClearPiece layout p
 closed_piece layout p c spot gap =
-    closed_clear p.class (piece_text layout spot gap p) (closed_text layout spot gap p.class p.text p.line_ends c) (closed_without layout spot gap p.class p.text p.line_ends c)
+    closed_clear p.class (piece_text layout spot gap p)
+    (closed_text layout spot gap p.class p.text p.line_ends c)
+    (closed_without layout spot gap p.class p.text p.line_ends c)
 
-token_clear : (layout : Layout) (k : Kind) (w rest : List ℕ) (n : ℕ) → IsToken k w rest → IsClearPiece layout (token_piece k w n)
-token_clear layout k w rest n i spot gap = subst IsClear (sym (token_text layout spot gap k.class w n (no_comment k w rest i))) (clear_token k w rest i)
+token_clear : (layout : Layout) (k : Kind) (w rest : List ℕ) (n : ℕ) → IsToken k w rest
+    → IsClearPiece layout (token_piece k w n)
+token_clear layout k w rest n i spot gap = subst IsClear
+    (sym (token_text layout spot gap k.class w n (no_comment k w rest i))) (clear_token k w rest i)
 
 -- the last may be a comment that is not closed
 data AllClear (layout : Layout) : List Piece → Type 0 where
@@ -146,7 +165,8 @@ clear_before : (layout : Layout) (cs ps : List Piece) → AllClosed cs → AllCl
 clear_before layout [] ps h k = k
 clear_before layout (c ∷ cs) ps h k = one c (cs ++ ps) (closed_piece layout c h.0) (clear_before layout cs ps h.1 k)
 
-open_so : (layout : Layout) (class : ℕ) (text : List ℕ) (n : ℕ) → Unclosed class text → AllClear layout (piece class text n ∷ [])
+open_so : (layout : Layout) (class : ℕ) (text : List ℕ) (n : ℕ) → Unclosed class text
+    → AllClear layout (piece class text n ∷ [])
 open_so layout class text n (unclosed xs i) = open_last text n
 
 last_clear : (layout : Layout) (cs : List Piece) → AllClosedButLast cs → AllClear layout cs
@@ -161,18 +181,25 @@ all_clear layout _ _ _ (reads_end text e) =
 all_clear layout _ _ _ (reads_token trivia w rest k ks ps p i r) =
     let t = trail trivia (w ++ rest) p (has_characters k w rest i) 0 in
     subst (AllClear layout) (sym (t.3 (λ n. token_piece k w n ∷ ps)))
-    (clear_before layout t.0 (token_piece k w t.1 ∷ ps) t.2 (one (token_piece k w t.1) ps (token_clear layout k w rest t.1 i) (all_clear layout rest ks ps r)))
+    (clear_before layout t.0 (token_piece k w t.1 ∷ ps) t.2
+    (one (token_piece k w t.1) ps (token_clear layout k w rest t.1 i) (all_clear layout rest ks ps r)))
 
 -- ---- the laid-out text
 
-clear_laid : (layout : Layout) (ps : List Piece) → AllClear layout ps → (spot : Spot) → HasNoCrlf (laid_from layout spot ps)
+clear_laid : (layout : Layout) (ps : List Piece) → AllClear layout ps → (spot : Spot)
+    → HasNoCrlf (laid_from layout spot ps)
 clear_laid layout _ (none) spot = clear_ending spot.last spot.state.last
 clear_laid layout _ (one p ps h k) spot =
     let gap = gap_before spot (next_role spot.state (p ∷ ps)) p ps in
-    clear_gap layout gap (piece_text layout spot gap p ++ laid_from layout (after_first layout spot p ps) ps) (h spot gap (laid_from layout (after_first layout spot p ps) ps) (clear_laid layout ps k (after_first layout spot p ps)))
+    clear_gap layout gap
+    (piece_text layout spot gap p ++ laid_from layout (after_first layout spot p ps) ps)
+    (h spot gap (laid_from layout (after_first layout spot p ps) ps)
+    (clear_laid layout ps k (after_first layout spot p ps)))
 clear_laid layout _ (open_last text n) spot =
     let gap = gap_before spot (next_role spot.state (piece OpenComment text n ∷ [])) (piece OpenComment text n) [] in
-    clear_gap layout gap (without_returns text ++ []) (subst HasNoCrlf (sym (append-nil (without_returns text))) (no_returns text))
+    clear_gap layout gap (without_returns text ++ [])
+    (subst HasNoCrlf (sym (append-nil (without_returns text))) (no_returns text))
 
-pub laid_no_crlf : (layout : Layout) (text : List ℕ) (ks : List Kind) (ps : List Piece) → Reads text ks ps → (spot : Spot) → HasNoCrlf (laid_from layout spot ps)
+pub laid_no_crlf : (layout : Layout) (text : List ℕ) (ks : List Kind) (ps : List Piece)
+    → Reads text ks ps → (spot : Spot) → HasNoCrlf (laid_from layout spot ps)
 laid_no_crlf layout text ks ps r spot = clear_laid layout ps (all_clear layout text ks ps r) spot

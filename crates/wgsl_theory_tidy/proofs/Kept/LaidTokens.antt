@@ -1,7 +1,7 @@
 -- One token stands at a place of a text.
 use Rattle.std.proofs.Common.{◌≡◌, ℕ, ◌==◌, true, false, refl, sym, ap, ap₂, ◌∙◌, List, [], ◌∷◌, ◌++◌, length, length-append, arith}
 use Rattle.std.proofs.lemmas.Bool.{true≢false}
-use Rattle.wgsl_model.specs.Tokens.Classes.{SymForwardSlash, SymDivisionEqual, TemplateArgsStart, TemplateArgsEnd}
+use Rattle.wgsl_model.specs.Tokens.ClassTable.{SymForwardSlash, SymDivisionEqual, TemplateArgsStart, TemplateArgsEnd}
 use Rattle.wgsl_model.specs.Tokens.Kind.{Kind, plain}
 use Rattle.wgsl_model.specs.Tokens.Raw.{Raw.token, raw}
 use Rattle.wgsl_model.specs.Tokens.Trivia.{outside, after_trivia}
@@ -36,7 +36,8 @@ token_here k w rest (is_word j v r m s e) = (cut_token (w ++ rest) (w ++ rest) r
 token_here k w rest (is_start r) = start_here rest
 token_here k w rest (is_end r) = end_here rest
 token_here k w rest (is_slash r e) = (cut_token (47 ∷ rest) (47 ∷ rest) rest (plain SymForwardSlash) e).passed
-token_here k w rest (is_slash_equal r e) = (cut_token (47 ∷ (61 ∷ rest)) (47 ∷ (61 ∷ rest)) rest (plain SymDivisionEqual) e).passed
+token_here k w rest (is_slash_equal r e) =
+    (cut_token (47 ∷ (61 ∷ rest)) (47 ∷ (61 ∷ rest)) rest (plain SymDivisionEqual) e).passed
 
 -- ---- one token stands there
 
@@ -64,11 +65,14 @@ pub same_before : (xs ys zs : List ℕ) → xs ++ zs ≡ ys ++ zs → xs ≡ ys
 same_before [] [] zs e = refl
 same_before [] (y ∷ ys) zs e = absurd (omega (arith, ap length e, length-append ys zs))
 same_before (x ∷ xs) [] zs e = absurd (omega (arith, ap length e, length-append xs zs))
-same_before (x ∷ xs) (y ∷ ys) zs e = let h : x ≡ y = cc in let i : xs ++ zs ≡ ys ++ zs = cc in ap₂ (λ (c : ℕ) (cs : List ℕ). c ∷ cs) h (same_before xs ys zs i)
+same_before (x ∷ xs) (y ∷ ys) zs e =
+    let h : x ≡ y = cc in let i : xs ++ zs ≡ ys ++ zs = cc in
+    ap₂ (λ (c : ℕ) (cs : List ℕ). c ∷ cs) h (same_before xs ys zs i)
 
 -- texts behind the same character
 same_behind : (c : ℕ) (v w : List ℕ) (r u : List ℕ) → v ≡ c ∷ [] → w ≡ c ∷ [] → v ++ r ≡ w ++ u → (v ≡ w) × (r ≡ u)
-same_behind c v w r u e f q = let both : c ∷ r ≡ c ∷ u = ap (λ xs. xs ++ r) (sym e) ∙ q ∙ ap (λ xs. xs ++ u) f in (e ∙ sym f, cc)
+same_behind c v w r u e f q =
+    let both : c ∷ r ≡ c ∷ u = ap (λ xs. xs ++ r) (sym e) ∙ q ∙ ap (λ xs. xs ++ u) f in (e ∙ sym f, cc)
 
 pub same_token : (k : Kind) (v r w u : List ℕ) → IsToken k v r → IsToken k w u → v ++ r ≡ w ++ u → (v ≡ w) × (r ≡ u)
 same_token k v r w u i j q = go (stood k v r i) (stood k w u j)

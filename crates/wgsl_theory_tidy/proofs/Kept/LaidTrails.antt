@@ -1,6 +1,6 @@
 -- Comments laid out before a token, and behind the last token: what they are read as.
 use Rattle.std.proofs.Common.{◌≡◌, ℕ, Bool, true, false, cond, refl, sym, ap, subst, ◌∙◌, List, [], ◌∷◌, ◌++◌, append_assoc, append-nil}
-use Rattle.wgsl_model.specs.Tokens.Classes.{LineComment}
+use Rattle.wgsl_model.specs.Tokens.ClassTable.{LineComment}
 use Rattle.wgsl_model.specs.Tokens.Kind.{Kind}
 use Rattle.wgsl_model.specs.Tokens.Trivia.{outside, after_trivia}
 use Rattle.wgsl_model_tidy.specs.Pieces.{Piece, comments}
@@ -31,15 +31,21 @@ spot_behind_token layout spot class w n ps =
 
 -- a comment as it is written there
 abbrev comment_text : Layout → Spot → Role → ℕ → Bool → List ℕ → ℕ → List ℕ
-comment_text layout spot right class own text n = piece_text layout spot (gap_before_comment spot right class own n) (piece class text n)
+comment_text layout spot right class own text n = piece_text layout spot
+    (gap_before_comment spot right class own n) (piece class text n)
 
 abbrev spot_behind_comment : Layout → Spot → Role → ℕ → Bool → List ℕ → ℕ → Spot
 spot_behind_comment layout spot right class own text n =
     let gap = gap_before_comment spot right class own n in
-    behind_comment_at spot.state (depth_behind gap spot.state.line) (comment_last class (leads gap spot.last spot.state.last)) (column_after layout spot.column (gap_text layout gap ++ comment_text layout spot right class own text n))
+    behind_comment_at spot.state (depth_behind gap spot.state.line)
+    (comment_last class (leads gap spot.last spot.state.last))
+    (column_after layout spot.column (gap_text layout gap ++ comment_text layout spot right class own text n))
 
-token_laid : (layout : Layout) (spot : Spot) (class : ℕ) (w : List ℕ) (n : ℕ) (ps : List Piece) → is_comment class ≡ false
-    → laid_from layout spot (piece class w n ∷ ps) ≡ gap_text layout (gap_before_token spot (role_in spot.state class (operand_follows ps)) n) ++ (w ++ laid_from layout (spot_behind_token layout spot class w n ps) ps)
+token_laid : (layout : Layout) (spot : Spot) (class : ℕ) (w : List ℕ) (n : ℕ) (ps : List Piece)
+    → is_comment class ≡ false
+    → laid_from layout spot (piece class w n ∷ ps)
+    ≡ gap_text layout (gap_before_token spot (role_in spot.state class (operand_follows ps)) n)
+    ++ (w ++ laid_from layout (spot_behind_token layout spot class w n ps) ps)
 token_laid layout spot class w n ps h = shown ∙ ap with (token_text layout spot gap class w n h)
   where
     gap : Gap
@@ -51,8 +57,11 @@ token_laid layout spot class w n ps h = shown ∙ ap with (token_text layout spo
     shown : laid_from layout spot (piece class w n ∷ ps) ≡ with (piece_text layout spot gap (piece class w n))
     shown = rw h refl
 
-token_relaid : (layout : Layout) (spot : Spot) (class : ℕ) (w : List ℕ) (n : ℕ) (ps : List Piece) → is_comment class ≡ false
-    → relaid layout spot (piece class w n ∷ ps) ≡ piece class w (gap_ends (gap_before_token spot (role_in spot.state class (operand_follows ps)) n)) ∷ relaid layout (spot_behind_token layout spot class w n ps) ps
+token_relaid : (layout : Layout) (spot : Spot) (class : ℕ) (w : List ℕ) (n : ℕ) (ps : List Piece)
+    → is_comment class ≡ false
+    → relaid layout spot (piece class w n ∷ ps)
+    ≡ piece class w (gap_ends (gap_before_token spot (role_in spot.state class (operand_follows ps)) n))
+    ∷ relaid layout (spot_behind_token layout spot class w n ps) ps
 token_relaid layout spot class w n ps h = shown ∙ ap with (token_text layout spot gap class w n h)
   where
     gap : Gap
@@ -64,31 +73,45 @@ token_relaid layout spot class w n ps h = shown ∙ ap with (token_text layout s
     shown : relaid layout spot (piece class w n ∷ ps) ≡ with (piece_text layout spot gap (piece class w n))
     shown = rw h refl
 
-comment_laid : (layout : Layout) (spot : Spot) (right : Role) (class : ℕ) (text : List ℕ) (n : ℕ) (ps : List Piece) → is_comment class ≡ true → next_role spot.state ps ≡ right
+comment_laid : (layout : Layout) (spot : Spot) (right : Role) (class : ℕ) (text : List ℕ) (n : ℕ)
+    (ps : List Piece) → is_comment class ≡ true → next_role spot.state ps ≡ right
     → laid_from layout spot (piece class text n ∷ ps)
-    ≡ gap_text layout (gap_before_comment spot right class (owned spot right ps) n) ++ (comment_text layout spot right class (owned spot right ps) text n ++ laid_from layout (spot_behind_comment layout spot right class (owned spot right ps) text n) ps)
+    ≡ gap_text layout (gap_before_comment spot right class (owned spot right ps) n)
+    ++ (comment_text layout spot right class (owned spot right ps) text n
+    ++ laid_from layout (spot_behind_comment layout spot right class (owned spot right ps) text n) ps)
 comment_laid layout spot right class text n ps h e = rw (h, e) refl
 
-comment_relaid : (layout : Layout) (spot : Spot) (right : Role) (class : ℕ) (text : List ℕ) (n : ℕ) (ps : List Piece) → is_comment class ≡ true → next_role spot.state ps ≡ right
+comment_relaid : (layout : Layout) (spot : Spot) (right : Role) (class : ℕ) (text : List ℕ) (n : ℕ)
+    (ps : List Piece) → is_comment class ≡ true → next_role spot.state ps ≡ right
     → relaid layout spot (piece class text n ∷ ps)
-    ≡ piece class (comment_text layout spot right class (owned spot right ps) text n) (gap_ends (gap_before_comment spot right class (owned spot right ps) n)) ∷ relaid layout (spot_behind_comment layout spot right class (owned spot right ps) text n) ps
+    ≡ piece class (comment_text layout spot right class (owned spot right ps) text n)
+    (gap_ends (gap_before_comment spot right class (owned spot right ps) n))
+    ∷ relaid layout (spot_behind_comment layout spot right class (owned spot right ps) text n) ps
 comment_relaid layout spot right class text n ps h e = rw (h, e) refl
 
 -- ---- behind a line comment the line ends
 
-broken_ends : (layout : Layout) (empty : Bool) (depth : ℕ) (r : List ℕ) → AtLineEnd (gap_text layout (broken empty depth) ++ r)
+broken_ends : (layout : Layout) (empty : Bool) (depth : ℕ) (r : List ℕ)
+    → AtLineEnd (gap_text layout (broken empty depth) ++ r)
 broken_ends layout true depth r = refl
 broken_ends layout false depth r = refl
 
-token_gap_ends : (layout : Layout) (spot : Spot) (right : Role) (n : ℕ) → spot.last ≡ line_comment → (r : List ℕ) → AtLineEnd (gap_text layout (gap_before_token spot right n) ++ r)
+token_gap_ends : (layout : Layout) (spot : Spot) (right : Role) (n : ℕ) → spot.last ≡ line_comment
+    → (r : List ℕ) → AtLineEnd (gap_text layout (gap_before_token spot right n) ++ r)
 token_gap_ends layout spot right n e r =
-    let break = line_end (between_items spot.state right) spot.last spot.state.last right n (depth_of spot.state right) in
-    subst (λ l. AtLineEnd (gap_text layout (token_gap (enclosing spot.state.opened) l spot.state.last right n break) ++ r)) (sym e) (broken_ends layout _ (depth_of spot.state right) r)
+    let break = line_end (between_items spot.state right) spot.last spot.state.last right n
+    (depth_of spot.state right) in
+    subst (λ l. AtLineEnd (gap_text layout (token_gap (enclosing spot.state.opened) l spot.state.last
+    right n break) ++ r)) (sym e) (broken_ends layout _ (depth_of spot.state right) r)
 
-comment_gap_ends : (layout : Layout) (spot : Spot) (right : Role) (class : ℕ) (own : Bool) (n : ℕ) → spot.last ≡ line_comment → (r : List ℕ) → AtLineEnd (gap_text layout (gap_before_comment spot right class own n) ++ r)
+comment_gap_ends : (layout : Layout) (spot : Spot) (right : Role) (class : ℕ) (own : Bool) (n : ℕ)
+    → spot.last ≡ line_comment → (r : List ℕ)
+    → AtLineEnd (gap_text layout (gap_before_comment spot right class own n) ++ r)
 comment_gap_ends layout spot right class own n e r =
-    let break = line_end (between_items spot.state right) spot.last spot.state.last beginning n (comment_depth spot.state right) in
-    subst (λ l. AtLineEnd (gap_text layout (comment_gap class l spot.state.last own n break) ++ r)) (sym e) (broken_ends layout _ (comment_depth spot.state right) r)
+    let break = line_end (between_items spot.state right) spot.last spot.state.last beginning n
+    (comment_depth spot.state right) in
+    subst (λ l. AtLineEnd (gap_text layout (comment_gap class l spot.state.last own n break) ++ r))
+    (sym e) (broken_ends layout _ (comment_depth spot.state right) r)
 
 -- a comment of this class is a line comment
 last_is_line : (class : ℕ) (leading : Bool) → class ≡ LineComment → comment_last class leading ≡ line_comment
@@ -101,29 +124,40 @@ trail_next : (s : LayoutState) (cs ps : List Piece) → AllClosed cs → next_ro
 trail_next s [] ps h = refl
 trail_next s (c ∷ cs) ps h = rw (closed_is_comment c.class c.text h.0) (trail_next s cs ps h.1)
 
-token_next : (s : LayoutState) (class : ℕ) (w : List ℕ) (n : ℕ) (ps : List Piece) → is_comment class ≡ false → next_role s (piece class w n ∷ ps) ≡ role_in s class (operand_follows ps)
+token_next : (s : LayoutState) (class : ℕ) (w : List ℕ) (n : ℕ) (ps : List Piece)
+    → is_comment class ≡ false → next_role s (piece class w n ∷ ps) ≡ role_in s class (operand_follows ps)
 token_next s class w n ps h = rw h refl
 
--- what stands before a token that does so begins with the gap before the token, or with that before a comment and with the comment
-pub data TrailFront (layout : Layout) (spot : Spot) (cs : List Piece) (right : Role) (m : ℕ) (trivia : List ℕ) : Type 0 where
-  token_front : cs ≡ [] → trivia ≡ gap_text layout (gap_before_token spot right m) → TrailFront layout spot cs right m trivia
-  comment_front : (class : ℕ) (own : Bool) (n : ℕ) (more : List ℕ) → trivia ≡ gap_text layout (gap_before_comment spot right class own n) ++ (47 ∷ more) → TrailFront layout spot cs right m trivia
+-- what stands before a token that does so begins with the gap before the token, or with that before
+-- a comment and with the comment
+pub data TrailFront (layout : Layout) (spot : Spot) (cs : List Piece) (right : Role) (m : ℕ)
+    (trivia : List ℕ) : Type 0 where
+  token_front : cs ≡ [] → trivia ≡ gap_text layout (gap_before_token spot right m)
+      → TrailFront layout spot cs right m trivia
+  comment_front : (class : ℕ) (own : Bool) (n : ℕ) (more : List ℕ)
+      → trivia ≡ gap_text layout (gap_before_comment spot right class own n) ++ (47 ∷ more)
+      → TrailFront layout spot cs right m trivia
 
--- Comments and a token laid out behind a spot, and others behind them: what stands before the token, and the spot behind it. That is passed over before whatever follows, and read again it gives the comments.
-pub record LaidTrail (layout : Layout) (spot : Spot) (cs : List Piece) (k : Kind) (w : List ℕ) (m : ℕ) (ps : List Piece) : Type 0 where
+-- Comments and a token laid out behind a spot, and others behind them: what stands before the
+-- token, and the spot behind it. That is passed over before whatever follows, and read again it
+-- gives the comments.
+pub record LaidTrail (layout : Layout) (spot : Spot) (cs : List Piece) (k : Kind) (w : List ℕ)
+    (m : ℕ) (ps : List Piece) : Type 0 where
   pub trivia : List ℕ
   pub behind : Spot
   pub is_token : behind.last ≡ token
   pub is_last : behind.state.last ≡ last_behind spot.state (role_in spot.state k.class (operand_follows ps))
   pub whole : laid_from layout spot (cs ++ (token_piece k w m ∷ ps)) ≡ trivia ++ (w ++ laid_from layout behind ps)
   pub passed : (r : List ℕ) → after_trivia outside (trivia ++ r) ≡ after_trivia outside r
-  pub again : comments (λ n. token_piece k w n ∷ relaid layout behind ps) outside 0 trivia ≡ relaid layout spot (cs ++ (token_piece k w m ∷ ps))
+  pub again : comments (λ n. token_piece k w n ∷ relaid layout behind ps) outside 0 trivia
+      ≡ relaid layout spot (cs ++ (token_piece k w m ∷ ps))
   pub front : TrailFront layout spot cs (role_in spot.state k.class (operand_follows ps)) m trivia
   pub at_line_end : spot.last ≡ line_comment → (r : List ℕ) → AtLineEnd (trivia ++ r)
   pub neat : (r : List ℕ) → NeatWord r → NeatAt spot.last spot.state.last (trivia ++ r)
 
 -- no comment stands there
-laid_token : (layout : Layout) (spot : Spot) (k : Kind) (w : List ℕ) (m : ℕ) (ps : List Piece) → is_comment k.class ≡ false → LaidTrail layout spot [] k w m ps
+laid_token : (layout : Layout) (spot : Spot) (k : Kind) (w : List ℕ) (m : ℕ) (ps : List Piece)
+    → is_comment k.class ≡ false → LaidTrail layout spot [] k w m ps
 laid_token layout spot k w m ps h =
     let right = role_in spot.state k.class (operand_follows ps) in
     let gap = gap_before_token spot right m in
@@ -136,7 +170,9 @@ laid_token layout spot k w m ps h =
       is_last = refl;
       whole = token_laid layout spot k.class w m ps h;
       passed = λ r. gap_passed layout gap r;
-      again = ap (comments b outside 0) (sym (append-nil (gap_text layout gap))) ∙ gap_counted layout b gap [] ∙ nothing_left b (gap_ends gap) ∙ sym (token_relaid layout spot k.class w m ps h);
+      again = ap (comments b outside 0) (sym (append-nil (gap_text layout gap)))
+          ∙ gap_counted layout b gap [] ∙ nothing_left b (gap_ends gap)
+          ∙ sym (token_relaid layout spot k.class w m ps h);
       front = token_front refl refl;
       at_line_end = λ e r. token_gap_ends layout spot right m e r;
       neat = λ r n. token_gap_neat layout spot right m r n;
@@ -144,12 +180,17 @@ laid_token layout spot k w m ps h =
 
 -- a gap, a comment, what follows it, and a rest
 joined : (gap text trivia rest : List ℕ) → gap ++ (text ++ (trivia ++ rest)) ≡ (gap ++ (text ++ trivia)) ++ rest
-joined gap text trivia rest = ap (λ xs. gap ++ xs) (sym (append_assoc text trivia rest)) ∙ sym (append_assoc gap (text ++ trivia) rest)
+joined gap text trivia rest = ap (λ xs. gap ++ xs) (sym (append_assoc text trivia rest))
+    ∙ sym (append_assoc gap (text ++ trivia) rest)
 
 -- one comment more
-laid_comment : (layout : Layout) (spot : Spot) (class : ℕ) (text : List ℕ) (n : ℕ) (cs : List Piece) (k : Kind) (w : List ℕ) (m : ℕ) (ps : List Piece)
-    → Closed class text → next_role spot.state (cs ++ (token_piece k w m ∷ ps)) ≡ role_in spot.state k.class (operand_follows ps)
-    → LaidTrail layout (spot_behind_comment layout spot (role_in spot.state k.class (operand_follows ps)) class (owned spot (role_in spot.state k.class (operand_follows ps)) (cs ++ (token_piece k w m ∷ ps))) text n) cs k w m ps → LaidTrail layout spot (piece class text n ∷ cs) k w m ps
+laid_comment : (layout : Layout) (spot : Spot) (class : ℕ) (text : List ℕ) (n : ℕ) (cs : List Piece)
+    (k : Kind) (w : List ℕ) (m : ℕ) (ps : List Piece)
+    → Closed class text
+    → next_role spot.state (cs ++ (token_piece k w m ∷ ps)) ≡ role_in spot.state k.class (operand_follows ps)
+    → LaidTrail layout (spot_behind_comment layout spot (role_in spot.state k.class (operand_follows ps)) class
+    (owned spot (role_in spot.state k.class (operand_follows ps)) (cs ++ (token_piece k w m ∷ ps)))
+    text n) cs k w m ps → LaidTrail layout spot (piece class text n ∷ cs) k w m ps
 laid_comment layout spot class text n cs k w m ps c e t =
     let right = role_in spot.state k.class (operand_follows ps) in
     let all = cs ++ (token_piece k w m ∷ ps) in
@@ -159,28 +200,42 @@ laid_comment layout spot class text n cs k w m ps c e t =
     let d : Closed class shown = closed_text layout spot gap class text n c in
     let is = closed_is_comment class shown d in
     let begins = closed_begins class shown d in
-    let ends : (r : List ℕ) → class ≡ LineComment → AtLineEnd (t.trivia ++ r) = λ r f. t.at_line_end (last_is_line class (leads gap spot.last spot.state.last) f) r in
+    let ends : (r : List ℕ) → class ≡ LineComment → AtLineEnd (t.trivia ++ r) =
+    λ r f. t.at_line_end (last_is_line class (leads gap spot.last spot.state.last) f) r in
     record {
       trivia = gap_text layout gap ++ (shown ++ t.trivia);
       behind = t.behind;
       is_token = t.is_token;
       is_last = t.is_last;
-      whole = comment_laid layout spot right class text n all is e ∙ ap (λ xs. gap_text layout gap ++ (shown ++ xs)) t.whole ∙ joined (gap_text layout gap) shown t.trivia (w ++ laid_from layout t.behind ps);
-      passed = λ r. ap (after_trivia outside) (sym (joined (gap_text layout gap) shown t.trivia r)) ∙ gap_passed layout gap (shown ++ (t.trivia ++ r)) ∙ closed_passed class shown d (t.trivia ++ r) (ends r) ∙ t.passed r;
-      again = gap_counted layout b gap (shown ++ t.trivia) ∙ closed_counted class shown d b (gap_ends gap) t.trivia (λ f. subst AtLineEnd (append-nil t.trivia) (ends [] f))
-          ∙ ap (λ xs. piece class shown (gap_ends gap) ∷ xs) t.again ∙ sym (comment_relaid layout spot right class text n all is e);
-      front = comment_front class (owned spot right all) n (begins.0 ++ t.trivia) (ap (λ xs. gap_text layout gap ++ (xs ++ t.trivia)) begins.1);
-      at_line_end = λ f r. subst AtLineEnd (joined (gap_text layout gap) shown t.trivia r) (comment_gap_ends layout spot right class (owned spot right all) n f (shown ++ (t.trivia ++ r)));
+      whole = comment_laid layout spot right class text n all is e
+          ∙ ap (λ xs. gap_text layout gap ++ (shown ++ xs)) t.whole
+          ∙ joined (gap_text layout gap) shown t.trivia (w ++ laid_from layout t.behind ps);
+      passed = λ r. ap (after_trivia outside) (sym (joined (gap_text layout gap) shown t.trivia r))
+          ∙ gap_passed layout gap (shown ++ (t.trivia ++ r))
+          ∙ closed_passed class shown d (t.trivia ++ r) (ends r) ∙ t.passed r;
+      again = gap_counted layout b gap (shown ++ t.trivia) ∙ closed_counted class shown d b
+          (gap_ends gap) t.trivia (λ f. subst AtLineEnd (append-nil t.trivia) (ends [] f))
+          ∙ ap (λ xs. piece class shown (gap_ends gap) ∷ xs) t.again
+          ∙ sym (comment_relaid layout spot right class text n all is e);
+      front = comment_front class (owned spot right all) n (begins.0 ++ t.trivia)
+          (ap (λ xs. gap_text layout gap ++ (xs ++ t.trivia)) begins.1);
+      at_line_end = λ f r. subst AtLineEnd (joined (gap_text layout gap) shown t.trivia r)
+          (comment_gap_ends layout spot right class (owned spot right all) n f (shown ++ (t.trivia ++ r)));
       neat = λ r h. subst (NeatAt spot.last spot.state.last) (joined (gap_text layout gap) shown t.trivia r)
-          (comment_gap_neat layout spot right class (owned spot right all) n (shown ++ (t.trivia ++ r)) (closed_neat class shown d (leads gap spot.last spot.state.last) spot.state.last (t.trivia ++ r) (t.neat r h)));
+          (comment_gap_neat layout spot right class (owned spot right all) n
+          (shown ++ (t.trivia ++ r)) (closed_neat class shown d
+          (leads gap spot.last spot.state.last) spot.state.last (t.trivia ++ r) (t.neat r h)));
     }
 
-pub laid_trail : (layout : Layout) (spot : Spot) (cs : List Piece) (k : Kind) (w : List ℕ) (m : ℕ) (ps : List Piece) → AllClosed cs → is_comment k.class ≡ false → LaidTrail layout spot cs k w m ps
+pub laid_trail : (layout : Layout) (spot : Spot) (cs : List Piece) (k : Kind) (w : List ℕ) (m : ℕ)
+    (ps : List Piece) → AllClosed cs → is_comment k.class ≡ false → LaidTrail layout spot cs k w m ps
 laid_trail layout spot [] k w m ps h e = laid_token layout spot k w m ps e
 laid_trail layout spot (c ∷ cs) k w m ps h e =
     laid_comment layout spot c.class c.text c.line_ends cs k w m ps h.0
     (trail_next spot.state cs (token_piece k w m ∷ ps) h.1 ∙ token_next spot.state k.class w m ps e)
-    (laid_trail layout (spot_behind_comment layout spot (role_in spot.state k.class (operand_follows ps)) c.class (owned spot (role_in spot.state k.class (operand_follows ps)) (cs ++ (token_piece k w m ∷ ps))) c.text c.line_ends) cs k w m ps h.1 e)
+    (laid_trail layout (spot_behind_comment layout spot (role_in spot.state k.class
+    (operand_follows ps)) c.class (owned spot (role_in spot.state k.class (operand_follows ps))
+    (cs ++ (token_piece k w m ∷ ps))) c.text c.line_ends) cs k w m ps h.1 e)
 
 -- ---- comments behind the last token
 
@@ -209,12 +264,16 @@ ending_again line_comment left = refl
 ending_again block_comment left = refl
 ending_again leading_comment left = refl
 
--- the text behind the last token begins with its end, or with the gap before a comment and with the comment
+-- the text behind the last token begins with its end, or with the gap before a comment and with the
+-- comment
 pub data LastFront (layout : Layout) (spot : Spot) (cs : List Piece) : Type 0 where
   end_front : cs ≡ [] → laid_from layout spot cs ≡ ending spot.last spot.state.last → LastFront layout spot cs
-  last_front : (class : ℕ) (own : Bool) (n : ℕ) (more : List ℕ) → laid_from layout spot cs ≡ gap_text layout (gap_before_comment spot beginning class own n) ++ (47 ∷ more) → LastFront layout spot cs
+  last_front : (class : ℕ) (own : Bool) (n : ℕ) (more : List ℕ) → laid_from layout spot cs
+      ≡ gap_text layout (gap_before_comment spot beginning class own n) ++ (47 ∷ more)
+      → LastFront layout spot cs
 
--- Comments laid out behind a spot at the end of a text: nothing is left of them, and read again they are the same.
+-- Comments laid out behind a spot at the end of a text: nothing is left of them, and read again
+-- they are the same.
 pub record LastLaid (layout : Layout) (spot : Spot) (cs : List Piece) : Type 0 where
   pub passed : after_trivia outside (laid_from layout spot cs) ≡ []
   pub again : comments (λ n. []) outside 0 (laid_from layout spot cs) ≡ relaid layout spot cs
@@ -238,8 +297,10 @@ last_next s cs (one_more p ps c h) = rw (closed_is_comment p.class p.text c) (la
 last_next s cs (last_open p u) = rw (unclosed_is_comment p.class p.text u) refl
 
 -- one comment more
-last_comment : (layout : Layout) (spot : Spot) (class : ℕ) (text : List ℕ) (n : ℕ) (cs : List Piece) → Closed class text → next_role spot.state cs ≡ beginning
-    → LastLaid layout (spot_behind_comment layout spot beginning class (owned spot beginning cs) text n) cs → LastLaid layout spot (piece class text n ∷ cs)
+last_comment : (layout : Layout) (spot : Spot) (class : ℕ) (text : List ℕ) (n : ℕ) (cs : List Piece)
+    → Closed class text → next_role spot.state cs ≡ beginning
+    → LastLaid layout (spot_behind_comment layout spot beginning class (owned spot beginning cs) text n) cs
+    → LastLaid layout spot (piece class text n ∷ cs)
 last_comment layout spot class text n cs c e t =
     let gap = gap_before_comment spot beginning class (owned spot beginning cs) n in
     let shown = comment_text layout spot beginning class (owned spot beginning cs) text n in
@@ -248,22 +309,33 @@ last_comment layout spot class text n cs c e t =
     let is = closed_is_comment class shown d in
     let begins = closed_begins class shown d in
     let left = laid_from layout (spot_behind_comment layout spot beginning class (owned spot beginning cs) text n) cs in
-    let whole : laid_from layout spot (piece class text n ∷ cs) ≡ gap_text layout gap ++ (shown ++ left) = comment_laid layout spot beginning class text n cs is e in
-    let ends : class ≡ LineComment → AtLineEnd left = λ f. t.at_line_end (last_is_line class (leads gap spot.last spot.state.last) f) in
+    let whole : laid_from layout spot (piece class text n ∷ cs) ≡ gap_text layout gap
+    ++ (shown ++ left) = comment_laid layout spot beginning class text n cs is e in
+    let ends : class ≡ LineComment → AtLineEnd left =
+    λ f. t.at_line_end (last_is_line class (leads gap spot.last spot.state.last) f) in
     record {
-      passed = ap (after_trivia outside) whole ∙ gap_passed layout gap (shown ++ left) ∙ closed_passed class shown d left ends ∙ t.passed;
-      again = ap (comments b outside 0) whole ∙ gap_counted layout b gap (shown ++ left) ∙ closed_counted class shown d b (gap_ends gap) left ends
-          ∙ ap (λ xs. piece class shown (gap_ends gap) ∷ xs) t.again ∙ sym (comment_relaid layout spot beginning class text n cs is e);
-      front = last_front class (owned spot beginning cs) n (begins.0 ++ left) (whole ∙ ap (λ xs. gap_text layout gap ++ (xs ++ left)) begins.1);
-      at_line_end = λ f. subst AtLineEnd (sym whole) (comment_gap_ends layout spot beginning class (owned spot beginning cs) n f (shown ++ left));
-      neat = subst (NeatAt spot.last spot.state.last) (sym whole) (comment_gap_neat layout spot beginning class (owned spot beginning cs) n (shown ++ left) (closed_neat class shown d (leads gap spot.last spot.state.last) spot.state.last left t.neat));
+      passed = ap (after_trivia outside) whole ∙ gap_passed layout gap (shown ++ left)
+          ∙ closed_passed class shown d left ends ∙ t.passed;
+      again = ap (comments b outside 0) whole ∙ gap_counted layout b gap (shown ++ left)
+          ∙ closed_counted class shown d b (gap_ends gap) left ends
+          ∙ ap (λ xs. piece class shown (gap_ends gap) ∷ xs) t.again
+          ∙ sym (comment_relaid layout spot beginning class text n cs is e);
+      front = last_front class (owned spot beginning cs) n (begins.0 ++ left)
+          (whole ∙ ap (λ xs. gap_text layout gap ++ (xs ++ left)) begins.1);
+      at_line_end = λ f. subst AtLineEnd (sym whole)
+          (comment_gap_ends layout spot beginning class (owned spot beginning cs) n f (shown ++ left));
+      neat = subst (NeatAt spot.last spot.state.last) (sym whole)
+          (comment_gap_neat layout spot beginning class (owned spot beginning cs) n (shown ++ left)
+          (closed_neat class shown d (leads gap spot.last spot.state.last) spot.state.last left t.neat));
     }
 
 -- nothing is written behind a comment that is not closed
-unclosed_end : (class : ℕ) (text : List ℕ) → Unclosed class text → (leading : Bool) (left : Role) → ending (comment_last class leading) left ≡ []
+unclosed_end : (class : ℕ) (text : List ℕ) → Unclosed class text → (leading : Bool) (left : Role)
+    → ending (comment_last class leading) left ≡ []
 unclosed_end class text (unclosed xs i) leading left = refl
 
-open_comment_last : (layout : Layout) (spot : Spot) (class : ℕ) (text : List ℕ) (n : ℕ) → Unclosed class text → LastLaid layout spot (piece class text n ∷ [])
+open_comment_last : (layout : Layout) (spot : Spot) (class : ℕ) (text : List ℕ) (n : ℕ)
+    → Unclosed class text → LastLaid layout spot (piece class text n ∷ [])
 open_comment_last layout spot class text n u =
     let gap = gap_before_comment spot beginning class (owned spot beginning []) n in
     let shown = comment_text layout spot beginning class (owned spot beginning []) text n in
@@ -272,17 +344,26 @@ open_comment_last layout spot class text n u =
     let is = unclosed_is_comment class shown v in
     let begins = unclosed_begins class shown v in
     let whole : laid_from layout spot (piece class text n ∷ []) ≡ gap_text layout gap ++ shown =
-    comment_laid layout spot beginning class text n [] is refl ∙ ap (λ xs. gap_text layout gap ++ (shown ++ xs)) (unclosed_end class shown v (leads gap spot.last spot.state.last) spot.state.last) ∙ ap (λ xs. gap_text layout gap ++ xs) (append-nil shown) in
+    comment_laid layout spot beginning class text n [] is refl ∙ ap (λ xs. gap_text layout gap
+    ++ (shown ++ xs)) (unclosed_end class shown v (leads gap spot.last spot.state.last) spot.state.last)
+    ∙ ap (λ xs. gap_text layout gap ++ xs) (append-nil shown) in
     record {
-      passed = ap (after_trivia outside) whole ∙ gap_passed layout gap shown ∙ unclosed_passed class shown v;
-      again = ap (comments b outside 0) whole ∙ gap_counted layout b gap shown ∙ unclosed_counted class shown v b (gap_ends gap) ∙ sym (comment_relaid layout spot beginning class text n [] is refl);
-      front = last_front class (owned spot beginning []) n begins.0 (whole ∙ ap (λ xs. gap_text layout gap ++ xs) begins.1);
-      at_line_end = λ f. subst AtLineEnd (sym whole) (comment_gap_ends layout spot beginning class (owned spot beginning []) n f shown);
-      neat = subst (NeatAt spot.last spot.state.last) (sym whole) (comment_gap_neat layout spot beginning class (owned spot beginning []) n shown (unclosed_neat class shown v));
+      passed = ap (after_trivia outside) whole ∙ gap_passed layout gap shown
+          ∙ unclosed_passed class shown v;
+      again = ap (comments b outside 0) whole ∙ gap_counted layout b gap shown
+          ∙ unclosed_counted class shown v b (gap_ends gap)
+          ∙ sym (comment_relaid layout spot beginning class text n [] is refl);
+      front = last_front class (owned spot beginning []) n begins.0
+          (whole ∙ ap (λ xs. gap_text layout gap ++ xs) begins.1);
+      at_line_end = λ f. subst AtLineEnd (sym whole)
+          (comment_gap_ends layout spot beginning class (owned spot beginning []) n f shown);
+      neat = subst (NeatAt spot.last spot.state.last) (sym whole) (comment_gap_neat layout spot
+          beginning class (owned spot beginning []) n shown (unclosed_neat class shown v));
     }
 
 pub last_laid : (layout : Layout) (spot : Spot) (cs : List Piece) → AllClosedButLast cs → LastLaid layout spot cs
 last_laid layout spot cs (no_more) = laid_end layout spot
 last_laid layout spot cs (one_more p ps c h) =
-    last_comment layout spot p.class p.text p.line_ends ps c (last_next spot.state ps h) (last_laid layout (spot_behind_comment layout spot beginning p.class (owned spot beginning ps) p.text p.line_ends) ps h)
+    last_comment layout spot p.class p.text p.line_ends ps c (last_next spot.state ps h) (last_laid layout
+    (spot_behind_comment layout spot beginning p.class (owned spot beginning ps) p.text p.line_ends) ps h)
 last_laid layout spot cs (last_open p u) = open_comment_last layout spot p.class p.text p.line_ends u

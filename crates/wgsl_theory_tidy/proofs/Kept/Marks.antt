@@ -40,14 +40,19 @@ head_is x xs cs q = cc
 
 no_front : (k : Kind) (w rest cs : List ℕ) → IsToken k w rest → w ++ rest ≡ 65279 ∷ cs → ⊥
 no_front k [] rest cs i q = absurd (starts_so start k false [] rest i)
-no_front k (x ∷ xs) rest cs i q = no_word k xs rest (subst (λ c. IsToken k (c ∷ xs) rest) (head_is x (xs ++ rest) cs q) i)
+no_front k (x ∷ xs) rest cs i q = no_word k xs rest
+    (subst (λ c. IsToken k (c ∷ xs) rest) (head_is x (xs ++ rest) cs q) i)
 
 unread : (text : List ℕ) (ks : List Kind) (ps : List Piece) (cs : List ℕ) → Reads text ks ps → text ≡ 65279 ∷ cs → ⊥
-unread _ _ _ cs (reads_end text e) q = let left : 65279 ∷ cs ≡ [] = sym (mark_left cs) ∙ ap (after_trivia outside) (sym q) ∙ e in absurd cc
-unread _ _ _ cs (reads_token trivia w rest k ks ps p i r) q = no_front k w rest cs i (sym p ∙ ap (after_trivia outside) q ∙ mark_left cs)
+unread _ _ _ cs (reads_end text e) q =
+    let left : 65279 ∷ cs ≡ [] = sym (mark_left cs) ∙ ap (after_trivia outside) (sym q) ∙ e in absurd cc
+unread _ _ _ cs (reads_token trivia w rest k ks ps p i r) q = no_front k w rest cs i
+    (sym p ∙ ap (after_trivia outside) q ∙ mark_left cs)
 
 -- so it is all of the text, after no mark
-pub read_no_mark : (text : List ℕ) (ts : List Token) → IsTokenList text ts finished → (mark_of text ≡ []) × (unmarked text ≡ text)
+pub read_no_mark : (text : List ℕ) (ts : List Token) → IsTokenList text ts finished
+    → (mark_of text ≡ []) × (unmarked text ≡ text)
 read_no_mark [] ts h = (refl, refl)
 read_no_mark (c ∷ cs) ts h =
-    by_test (c == 0xFEFF) (λ e. absurd (unread (c ∷ cs) (map unplaced ts) (pieces (c ∷ cs) ts) cs (read (c ∷ cs) ts h) (ap (λ x. x ∷ cs) (eqb-true c 0xFEFF e)))) (λ e. (rw e refl, rw e refl))
+    by_test (c == 0xFEFF) (λ e. absurd (unread (c ∷ cs) (map unplaced ts) (pieces (c ∷ cs) ts) cs
+    (read (c ∷ cs) ts h) (ap (λ x. x ∷ cs) (eqb-true c 0xFEFF e)))) (λ e. (rw e refl, rw e refl))

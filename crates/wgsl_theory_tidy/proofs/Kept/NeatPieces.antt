@@ -1,4 +1,5 @@
--- What is laid out after a piece makes a neat text: the gap before the next piece, a comment, and the end of the text.
+-- What is laid out after a piece makes a neat text: the gap before the next piece, a comment, and
+-- the end of the text.
 use Rattle.std.proofs.Common.{◌≡◌, ℕ, Bool, true, false, cond, refl, sym, subst, List, [], ◌∷◌, ◌++◌}
 use Rattle.wgsl_model.specs.Tokens.Trivia.{outside, in_line}
 use Rattle.wgsl_model_tidy.specs.Roles.{Role, beginning, is}
@@ -24,25 +25,29 @@ MayFollow token left gap = is left beginning ≡ true → gap ≡ closed
 MayFollow line_comment left gap = (empty : Bool) × (depth : ℕ) × (gap ≡ broken empty depth)
 MayFollow last left gap = Unit {0}
 
-follows : (layout : Layout) (last : Last) (left : Role) (gap : Gap) (r : List ℕ) → MayFollow last left gap → NeatWord r → NeatAt last left (gap_text layout gap ++ r)
+follows : (layout : Layout) (last : Last) (left : Role) (gap : Gap) (r : List ℕ)
+    → MayFollow last left gap → NeatWord r → NeatAt last left (gap_text layout gap ++ r)
 follows layout token left gap r m h = go (is left beginning) m
   where
     go : (b : Bool) → (b ≡ true → gap ≡ closed) → Neat outside (cond b start solid) (gap_text layout gap ++ r)
     go true m = subst (λ g. Neat outside start (gap_text layout g ++ r)) (sym (m refl)) (neat_word start r h)
     go false m = gap_neat layout gap r h
-follows layout line_comment left gap r m h = subst (λ g. Neat in_line solid (gap_text layout g ++ r)) (sym m.2) (broken_neat layout in_line m.0 m.1 r tt h)
+follows layout line_comment left gap r m h = subst (λ g. Neat in_line solid (gap_text layout g ++ r))
+    (sym m.2) (broken_neat layout in_line m.0 m.1 r tt h)
 follows layout open_comment left gap r m h = tt
 follows layout block_comment left gap r m h = gap_neat layout gap r h
 follows layout leading_comment left gap r m h = gap_neat layout gap r h
 
-before_token : (inside : Enclosing) (last : Last) (left right : Role) (n : ℕ) (empty : Bool) (depth : ℕ) → MayFollow last left (token_gap inside last left right n (broken empty depth))
+before_token : (inside : Enclosing) (last : Last) (left right : Role) (n : ℕ) (empty : Bool) (depth : ℕ)
+    → MayFollow last left (token_gap inside last left right n (broken empty depth))
 before_token inside token left right n empty depth = λ h. rw h refl
 before_token inside line_comment left right n empty depth = (empty, depth, refl)
 before_token inside open_comment left right n empty depth = tt
 before_token inside block_comment left right n empty depth = tt
 before_token inside leading_comment left right n empty depth = tt
 
-before_comment : (class : ℕ) (last : Last) (left : Role) (own : Bool) (n : ℕ) (empty : Bool) (depth : ℕ) → MayFollow last left (comment_gap class last left own n (broken empty depth))
+before_comment : (class : ℕ) (last : Last) (left : Role) (own : Bool) (n : ℕ) (empty : Bool) (depth : ℕ)
+    → MayFollow last left (comment_gap class last left own n (broken empty depth))
 before_comment class token left own n empty depth = λ h. rw h refl
 before_comment class line_comment left own n empty depth = (empty, depth, refl)
 before_comment class open_comment left own n empty depth = tt
@@ -50,18 +55,25 @@ before_comment class block_comment left own n empty depth = tt
 before_comment class leading_comment left own n empty depth = tt
 
 -- the gap before a token and a neat text
-pub token_gap_neat : (layout : Layout) (spot : Spot) (right : Role) (n : ℕ) (r : List ℕ) → NeatWord r → NeatAt spot.last spot.state.last (gap_text layout (gap_before_token spot right n) ++ r)
+pub token_gap_neat : (layout : Layout) (spot : Spot) (right : Role) (n : ℕ) (r : List ℕ) → NeatWord r
+    → NeatAt spot.last spot.state.last (gap_text layout (gap_before_token spot right n) ++ r)
 token_gap_neat layout spot right n r h =
-    follows layout spot.last spot.state.last (gap_before_token spot right n) r (before_token (enclosing spot.state.opened) spot.last spot.state.last right n _ (depth_of spot.state right)) h
+    follows layout spot.last spot.state.last (gap_before_token spot right n) r
+    (before_token (enclosing spot.state.opened) spot.last spot.state.last right n _ (depth_of spot.state right)) h
 
 -- and the gap before a comment
-pub comment_gap_neat : (layout : Layout) (spot : Spot) (right : Role) (class : ℕ) (own : Bool) (n : ℕ) (r : List ℕ) → NeatWord r → NeatAt spot.last spot.state.last (gap_text layout (gap_before_comment spot right class own n) ++ r)
+pub comment_gap_neat : (layout : Layout) (spot : Spot) (right : Role) (class : ℕ) (own : Bool)
+    (n : ℕ) (r : List ℕ) → NeatWord r
+    → NeatAt spot.last spot.state.last (gap_text layout (gap_before_comment spot right class own n) ++ r)
 comment_gap_neat layout spot right class own n r h =
-    follows layout spot.last spot.state.last (gap_before_comment spot right class own n) r (before_comment class spot.last spot.state.last own n _ (comment_depth spot.state right)) h
+    follows layout spot.last spot.state.last (gap_before_comment spot right class own n) r
+    (before_comment class spot.last spot.state.last own n _ (comment_depth spot.state right)) h
 
 -- ---- comments, and the end of the text
 
-pub closed_neat : (class : ℕ) (text : List ℕ) → Closed class text → (leads : Bool) (left : Role) (r : List ℕ) → NeatAt (comment_last class leads) left r → NeatWord (text ++ r)
+pub closed_neat : (class : ℕ) (text : List ℕ) → Closed class text
+    → (leads : Bool) (left : Role) (r : List ℕ) → NeatAt (comment_last class leads) left r
+    → NeatWord (text ++ r)
 closed_neat class text (closed_line xs h t) leads left r n = (refl, (refl, line_neat xs solid r h t (λ e. refl) n))
 closed_neat class text (closed_block xs i) true left r n = (refl, (refl, ends_neat 0 xs i solid r n))
 closed_neat class text (closed_block xs i) false left r n = (refl, (refl, ends_neat 0 xs i solid r n))

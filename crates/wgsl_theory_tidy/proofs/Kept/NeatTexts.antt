@@ -1,4 +1,5 @@
--- Texts whose lines outside block comments end with LF and no white space before it, and of which no two one after the other are empty.
+-- Texts whose lines outside block comments end with LF and no white space before it, and of which
+-- no two one after the other are empty.
 use Rattle.std.proofs.Common.{◌≡◌, ℕ, ◌==◌, ◌&&◌, Bool, true, false, cond, refl, sym, subst, ◌∙◌, List, [], ◌∷◌, ◌++◌, arith}
 use Rattle.std.proofs.lemmas.Bool.{true≢false}
 use Rattle.std.proofs.lemmas.Grind.{common_steps}
@@ -12,7 +13,8 @@ use Rattle.wgsl_model_tidy.specs.LaidOut.{Gap, closed, blank, broken, gap_text, 
 use Rattle.wgsl_theory_tidy.proofs.Comments.{trimmed, OnLine}
 use Rattle.wgsl_theory_tidy.proofs.Levels.{IsIndent, no_indent, one_space, one_tab, indentation_indent}
 
--- what comes before a character: nothing, a character that is not white, a space or the like, one line end, or more
+-- what comes before a character: nothing, a character that is not white, a space or the like, one
+-- line end, or more
 pub data Before : Type 0 where
   start solid space one_end more_ends : Before
 
@@ -75,7 +77,8 @@ indent_neat _ b r (no_indent) h = neat_word b r h
 indent_neat _ b r (one_space xs i) h = ((λ e. absurd (true≢false (sym e))), indent_neat xs space r i h)
 indent_neat _ b r (one_tab xs i) h = ((λ e. absurd (true≢false (sym e))), indent_neat xs space r i h)
 
-indentation_neat : (layout : Layout) (depth : ℕ) (b : Before) (r : List ℕ) → NeatWord r → Neat outside b (indentation layout depth ++ r)
+indentation_neat : (layout : Layout) (depth : ℕ) (b : Before) (r : List ℕ) → NeatWord r
+    → Neat outside b (indentation layout depth ++ r)
 indentation_neat layout depth b r h = indent_neat (indentation layout depth) b r (indentation_indent layout depth) h
 
 -- a line end, at the end of a line comment or outside
@@ -84,10 +87,13 @@ CanBreak outside = Unit {0}
 CanBreak in_line = Unit {0}
 CanBreak p = ⊥
 
-pub broken_neat : (layout : Layout) (p : Place) (empty : Bool) (depth : ℕ) (r : List ℕ) → CanBreak p → NeatWord r → Neat p solid (gap_text layout (broken empty depth) ++ r)
-broken_neat layout outside true depth r o h = ((λ e. (refl, refl)), ((λ e. (refl, refl)), indentation_neat layout depth more_ends r h))
+pub broken_neat : (layout : Layout) (p : Place) (empty : Bool) (depth : ℕ) (r : List ℕ) → CanBreak p
+    → NeatWord r → Neat p solid (gap_text layout (broken empty depth) ++ r)
+broken_neat layout outside true depth r o h =
+    ((λ e. (refl, refl)), ((λ e. (refl, refl)), indentation_neat layout depth more_ends r h))
 broken_neat layout outside false depth r o h = ((λ e. (refl, refl)), indentation_neat layout depth one_end r h)
-broken_neat layout in_line true depth r o h = ((λ e. (refl, refl)), ((λ e. (refl, refl)), indentation_neat layout depth more_ends r h))
+broken_neat layout in_line true depth r o h =
+    ((λ e. (refl, refl)), ((λ e. (refl, refl)), indentation_neat layout depth more_ends r h))
 broken_neat layout in_line false depth r o h = ((λ e. (refl, refl)), indentation_neat layout depth one_end r h)
 broken_neat layout (in_block n) empty depth r o h = absurd o
 broken_neat layout (second p) empty depth r o h = absurd o
@@ -118,7 +124,8 @@ ends_solid x xs = go (is_whitespace x && is_empty (trimmed xs)) refl
         let same : trimmed xs ≡ xs = cc in
         record { others = same; last = λ n. solid_last (is_whitespace x) (trimmed xs) (same ∙ n) e }
 
-pub line_neat : (xs : List ℕ) (b : Before) (r : List ℕ) → OnLine xs → trimmed xs ≡ xs → (xs ≡ [] → b ≡ solid) → Neat in_line solid r → Neat in_line b (xs ++ r)
+pub line_neat : (xs : List ℕ) (b : Before) (r : List ℕ) → OnLine xs → trimmed xs ≡ xs
+    → (xs ≡ [] → b ≡ solid) → Neat in_line solid r → Neat in_line b (xs ++ r)
 line_neat [] b r h t e n = subst (λ a. Neat in_line a r) (sym (e refl)) n
 line_neat (x ∷ xs) b r h t e n =
     let s = ends_solid x xs t in

@@ -3,7 +3,7 @@ use Rattle.std.proofs.Common.{◌≡◌, ◌⊎◌, inl, inr, ℕ, ◌==◌, ◌
 use Rattle.std.specs.Char.{is_whitespace}
 use Rattle.std.proofs.lemmas.Bool.{and_parts, not-true, true≢false}
 use Rattle.wgsl_model.specs.Tokens.Characters.{is_blank}
-use Rattle.wgsl_model.specs.Tokens.Classes.{TemplateArgsEnd}
+use Rattle.wgsl_model.specs.Tokens.ClassTable.{TemplateArgsEnd}
 use Rattle.wgsl_model.specs.Tokens.Kind.{Kind, plain}
 use Rattle.wgsl_model.specs.Tokens.Trivia.{outside, in_line, in_block, second, first_or_zero, after_trivia}
 use Rattle.wgsl_theory_printed.proofs.Spelling.Characters.{is_in_words}
@@ -39,7 +39,8 @@ word_character c cs h n =
 
 word_characters : (cs r : List ℕ) → Each is_in_words cs → Neat outside solid r → Neat outside solid (cs ++ r)
 word_characters [] r h n = n
-word_characters (c ∷ cs) r h n = neat_word solid (c ∷ (cs ++ r)) (word_character c (cs ++ r) h.0 (word_characters cs r h.1 n))
+word_characters (c ∷ cs) r h n = neat_word solid (c ∷ (cs ++ r))
+    (word_character c (cs ++ r) h.0 (word_characters cs r h.1 n))
 
 spelled_neat : (k : Kind) (w r : List ℕ) → IsSpelling k w → Neat outside solid r → NeatWord (w ++ r)
 spelled_neat k [] r s n = absurd s.begins
@@ -52,14 +53,17 @@ pub slash_goes : (r : List ℕ) → after_trivia outside (47 ∷ r) ≡ 47 ∷ r
 unfolding after_trivia
 slash_goes r = go (first_or_zero r == 47) (first_or_zero r == 42)
   where
-    go : (a b : Bool) → cond a (after_trivia (second in_line) r) (cond b (after_trivia (second (in_block 0)) r) (47 ∷ r)) ≡ 47 ∷ r → cond a (second in_line) (cond b (second (in_block 0)) outside) ≡ outside
+    go : (a b : Bool)
+        → cond a (after_trivia (second in_line) r) (cond b (after_trivia (second (in_block 0)) r) (47 ∷ r)) ≡ 47 ∷ r
+        → cond a (second in_line) (cond b (second (in_block 0)) outside) ≡ outside
     go true b e = absurd (no_rest (second in_line) 47 r e)
     go false true e = absurd (no_rest (second (in_block 0)) 47 r e)
     go false false e = refl
 
 word_neat : (k : Kind) (w r : List ℕ) → IsToken k w r → Neat outside solid r → NeatWord (w ++ r)
 word_neat k w r (is_word kind v rest m s e) n = spelled_neat k w r s n
-word_neat k w r (is_slash rest e) n = (refl, subst (λ p. Neat p solid r) (sym (slash_goes r (token_here k w r (is_slash rest e)))) n)
+word_neat k w r (is_slash rest e) n =
+    (refl, subst (λ p. Neat p solid r) (sym (slash_goes r (token_here k w r (is_slash rest e)))) n)
 word_neat k w r (is_slash_equal rest e) n = (refl, ((λ l. absurd cc), n))
 word_neat k w r (is_start rest) n = (refl, n)
 word_neat k w r (is_end rest) n = (refl, n)
@@ -73,12 +77,19 @@ end_role state = go (is state.last at)
     go true = refl
     go false = refl
 
-has_begun : (state : LayoutState) (k : Kind) (before_operand : Bool) (w r : List ℕ) → IsToken k w r → is (last_behind state (role_in state k.class before_operand)) beginning ≡ false
+has_begun : (state : LayoutState) (k : Kind) (before_operand : Bool) (w r : List ℕ) → IsToken k w r
+    → is (last_behind state (role_in state k.class before_operand)) beginning ≡ false
 has_begun state k before_operand w r t = go (shaped state k before_operand w r t)
   where
-    go : Shaped (role_in state k.class before_operand) w ⊎ (k ≡ plain TemplateArgsEnd) → is (last_behind state (role_in state k.class before_operand)) beginning ≡ false
-    go (inl h) = not_beginning (last_behind state (role_in state k.class before_operand)) w (shaped_behind state (role_in state k.class before_operand) w h)
-    go (inr e) = subst (λ (j : Kind). is (last_behind state (role_in state j.class before_operand)) beginning ≡ false) (sym e) (end_role state)
+    go : Shaped (role_in state k.class before_operand) w ⊎ (k ≡ plain TemplateArgsEnd)
+        → is (last_behind state (role_in state k.class before_operand)) beginning ≡ false
+    go (inl h) = not_beginning (last_behind state (role_in state k.class before_operand)) w
+        (shaped_behind state (role_in state k.class before_operand) w h)
+    go (inr e) = subst
+        (λ (j : Kind). is (last_behind state (role_in state j.class before_operand)) beginning ≡ false)
+        (sym e) (end_role state)
 
-pub token_neat : (state : LayoutState) (k : Kind) (before_operand : Bool) (w r : List ℕ) → IsToken k w r → NeatAt token (last_behind state (role_in state k.class before_operand)) r → NeatWord (w ++ r)
-token_neat state k before_operand w r t n = word_neat k w r t (subst (λ b. Neat outside (cond b start solid) r) (has_begun state k before_operand w r t) n)
+pub token_neat : (state : LayoutState) (k : Kind) (before_operand : Bool) (w r : List ℕ) → IsToken k w r
+    → NeatAt token (last_behind state (role_in state k.class before_operand)) r → NeatWord (w ++ r)
+token_neat state k before_operand w r t n = word_neat k w r t
+    (subst (λ b. Neat outside (cond b start solid) r) (has_begun state k before_operand w r t) n)

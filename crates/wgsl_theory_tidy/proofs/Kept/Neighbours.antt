@@ -1,4 +1,5 @@
--- What a token is to the characters behind it: none of those that may stand there makes a longer token or a comment with it.
+-- What a token is to the characters behind it: none of those that may stand there makes a longer
+-- token or a comment with it.
 use Rattle.std.proofs.Common.{◌≡◌, ℕ, ◌==◌, ◌&&◌, ◌||◌, Bool, true, false, cond, not, refl, sym, subst, ◌∙◌, List, [], ◌∷◌, lit<}
 use Rattle.std.proofs.lemmas.Bool.{true≢false, and_parts, or_left, eqb-true}
 use Rattle.unicode_ident.proofs.IdentLemmas.{is_xid_start-ascii, is_xid_continue-ascii}
@@ -39,8 +40,11 @@ tight_behind : (left right : Role) (w : List ℕ) → is_tight_only left ≡ tru
 tight_behind left right [] t h = absurd (no_characters right h)
 tight_behind left right (x ∷ xs) t h = is_other left x xs t
 
-pub shaped_behind : (state : LayoutState) (right : Role) (w : List ℕ) → Shaped right w → Shaped (last_behind state right) w
-shaped_behind state right w h = go (not (opens_bracket right) && is state.last at) (is right closing && in_arguments state.opened) (is right comma && in_members state.opened) (is right semicolon && not (in_brackets state.opened))
+pub shaped_behind : (state : LayoutState) (right : Role) (w : List ℕ) → Shaped right w
+    → Shaped (last_behind state right) w
+shaped_behind state right w h = go (not (opens_bracket right) && is state.last at)
+    (is right closing && in_arguments state.opened) (is right comma && in_members state.opened)
+    (is right semicolon && not (in_brackets state.opened))
   where
     go : (a b c d : Bool) → Shaped (cond a attribute (cond b attribute (cond c item_end (cond d item_end right)))) w
     go true b c d = tight_behind attribute right w refl h
@@ -69,12 +73,18 @@ in_line_close left right = go (closed_up left right) refl
     go true z m = close_up z
     go false z m = absurd (true≢false (sym m))
 
-in_lines_close : (inside : Bool) (left right : Role) → may_close (joint_in_lines inside left right) ≡ true → Close left right
+in_lines_close : (inside : Bool) (left right : Role)
+    → may_close (joint_in_lines inside left right) ≡ true → Close left right
 in_lines_close inside left right =
-    go (is left block_start) (is right block_end) (is left item_end) (is left block_end) (is right else_word) (is_tight right) (is right semicolon) (is right block_start) (closed_up left right) (inside || continues_line left right) refl refl refl
+    go (is left block_start) (is right block_end) (is left item_end) (is left block_end)
+    (is right else_word) (is_tight right) (is right semicolon) (is right block_start)
+    (closed_up left right) (inside || continues_line left right) refl refl refl
   where
-    go : (a b c d e f s g h i : Bool) → is right block_end ≡ b → is_tight right ≡ f → closed_up left right ≡ h
-        → may_close (cond a (cond b nothing line) (cond (b || c) line (cond d (cond e space (cond f (cond s nothing_or_line nothing) line)) (cond g space (cond h nothing (cond i space_or_line space)))))) ≡ true → Close left right
+    go : (a b c d e f s g h i : Bool) → is right block_end ≡ b → is_tight right ≡ f
+        → closed_up left right ≡ h
+        → may_close (cond a (cond b nothing line)
+        (cond (b || c) line (cond d (cond e space (cond f (cond s nothing_or_line nothing) line))
+        (cond g space (cond h nothing (cond i space_or_line space)))))) ≡ true → Close left right
     go true true c d e f s g h i x y z m = braces x
     go true false c d e f s g h i x y z m = absurd (true≢false (sym m))
     go false true c d e f s g h i x y z m = absurd (true≢false (sym m))
@@ -106,17 +116,21 @@ by_joint own_lines left right = go (opens_bracket left || closes_bracket right)
     go false m = in_lines_close true left right m
 by_joint item_lines left right = go (opens_bracket left || closes_bracket right)
   where
-    go : (b : Bool) → may_close (cond b line (ended (is left comma || is left semicolon) (joint_in_lines true left right))) ≡ true → Close left right
+    go : (b : Bool) → may_close (cond b line (ended (is left comma || is left semicolon)
+        (joint_in_lines true left right))) ≡ true → Close left right
     go true m = absurd (true≢false (sym m))
-    go false m = in_lines_close true left right (ended_close (is left comma || is left semicolon) (joint_in_lines true left right) m)
+    go false m = in_lines_close true left right
+        (ended_close (is left comma || is left semicolon) (joint_in_lines true left right) m)
 
 closing_brace : (right : Role) (x : ℕ) → is right block_end ≡ true → starts right x ≡ true → (x == 125) ≡ true
 closing_brace block_end x h s = s
 closing_brace right x h s = absurd (true≢false (sym h))
 
-close_ends : (left right : Role) (w : List ℕ) (x : ℕ) → Shaped left w → starts right x ≡ true → Close left right → EndsAt w x
+close_ends : (left right : Role) (w : List ℕ) (x : ℕ) → Shaped left w → starts right x ≡ true
+    → Close left right → EndsAt w x
 close_ends left right w x h s (close_up c) = touches left right w x h c s
-close_ends left right w x h s (braces b) = at_one (EndsAt w) x 125 (closing_brace right x b s) (ends_alone left w 125 h brace_right_alone)
+close_ends left right w x h s (braces b) = at_one (EndsAt w) x 125 (closing_brace right x b s)
+    (ends_alone left w 125 h brace_right_alone)
 
 -- ---- before a comment
 
@@ -178,8 +192,10 @@ tight_no_comment closing x h s = by_test (starts closing) x s refl refl
 tight_no_comment opening x h s = by_test (starts opening) x s refl refl
 tight_no_comment right x h s = absurd (true≢false (sym h))
 
-close_no_comment : (left right : Role) (w : List ℕ) (x : ℕ) → Shaped left w → starts right x ≡ true → Close left right → is_slash w ≡ true → NoComment x
-close_no_comment left right w x h s (close_up c) e = tight_no_comment right x (tight_only left right (slash_is_tight left w h e) c) s
+close_no_comment : (left right : Role) (w : List ℕ) (x : ℕ) → Shaped left w → starts right x ≡ true
+    → Close left right → is_slash w ≡ true → NoComment x
+close_no_comment left right w x h s (close_up c) e = tight_no_comment right x
+    (tight_only left right (slash_is_tight left w h e) c) s
 close_no_comment left right w x h s (braces b) e = by_test (λ y. y == 125) x (closing_brace right x b s) refl refl
 
 -- ---- all of it
@@ -199,6 +215,7 @@ pub parts : (left : Role) (w : List ℕ) → Shaped left w → Parts left w
 parts left w h = record {
   line_end = (ends_alone left w 10 h line_end_alone, λ e. (refl, refl));
   space = (ends_alone left w 32 h space_alone, λ e. (refl, refl));
-  comment = λ b. (opening_ends left w h b, λ e. absurd (true≢false (sym (slash_is_tight left w h e) ∙ opening_loose left b)));
+  comment =
+      λ b. (opening_ends left w h b, λ e. absurd (true≢false (sym (slash_is_tight left w h e) ∙ opening_loose left b)));
   token = λ right x s c. (close_ends left right w x h s c, λ e. close_no_comment left right w x h s c e);
 }

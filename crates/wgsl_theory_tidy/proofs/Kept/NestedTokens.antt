@@ -1,9 +1,10 @@
--- The brackets, template lists and blocks of a module are closed in the reverse of the order in which they are opened.
+-- The brackets, template lists and blocks of a module are closed in the reverse of the order in
+-- which they are opened.
 use Rattle.std.proofs.Common.{◌≡◌, ℕ, zero, suc, ◌&&◌, eqb, eqb-true, Bool, true, false, cond, refl, sym, ap, subst, ◌∙◌, List, [], ◌∷◌, ◌++◌, append_assoc, Option, Some, None, inl, inr}
 use Rattle.std.proofs.lemmas.Bool.{true≢false}
 use Rattle.grammar.specs.Tokens.{Token, Span}
 use Rattle.grammar.specs.Grammar.{Grammar, Grammar.empty, Grammar.token, Grammar.sequence, Grammar.choice, Grammar.mapped, Grammar.node, Grammar.checked, Grammar.symbol, Grammar.left_chain, Mode.unchecked, Chain, Chain.base, Chain.more, Means, Within, IsSentence, is_among}
-use Rattle.wgsl_model.specs.Tokens.Classes.{SymParenLeft, SymParenRight, SymBracketLeft, SymBracketRight, SymBraceLeft, SymBraceRight, TemplateArgsStart, TemplateArgsEnd}
+use Rattle.wgsl_model.specs.Tokens.ClassTable.{SymParenLeft, SymParenRight, SymBracketLeft, SymBracketRight, SymBraceLeft, SymBraceRight, TemplateArgsStart, TemplateArgsEnd}
 use Rattle.wgsl_model.specs.Grammar.Symbols.{Symbol, Symbol.ident, Symbol.type_specifier, Symbol.template_list, Symbol.expressions, Symbol.call, Symbol.arguments, Symbol.literal, Symbol.primary_expression, Symbol.singular_expression, Symbol.component, Symbol.unary_expression, Symbol.multiplicative_expression, Symbol.negated_expression, Symbol.additive_expression, Symbol.shift_expression, Symbol.relational_expression, Symbol.expression, Symbol.lhs_expression, Symbol.attribute, Symbol.compound_statement, Symbol.statement, Symbol.return_statement, Symbol.if_statement, Symbol.switch_statement, Symbol.loop_statement, Symbol.for_statement, Symbol.while_statement, Symbol.call_statement, Symbol.var_statement, Symbol.value_statement, Symbol.break_statement, Symbol.continue_statement, Symbol.discard_statement, Symbol.assignment, Symbol.phony_assignment, Symbol.increment, Symbol.decrement, Symbol.const_assert, Symbol.switch_clause, Symbol.case_selector, Symbol.continuing_statement, Symbol.for_init, Symbol.for_update, Symbol.var_template, Symbol.typed_ident, Symbol.struct_member, Symbol.formal_parameter, Symbol.global_declaration, Symbol.var_declaration, Symbol.const_declaration, Symbol.override_declaration, Symbol.alias_declaration, Symbol.struct_declaration, Symbol.function_declaration, Symbol.diagnostic_severity, Symbol.global_directive, Symbol.enable_directive, Symbol.requires_directive, Symbol.diagnostic_directive, Symbol.unit, Value}
 use Rattle.wgsl_model.specs.Grammar.Written.{written}
 use Rattle.wgsl_theory_grammar.proofs.Tokens.Classes.{all_pass, passes_on}
@@ -20,7 +21,8 @@ abbrev pub effect : ℕ → Effect
 effect class =
     cond (is_among class (SymParenLeft ∷ SymBracketLeft ∷ [])) (opens true)
     (cond (is_among class (SymParenRight ∷ SymBracketRight ∷ [])) (closes true)
-    (cond (is_among class (TemplateArgsStart ∷ SymBraceLeft ∷ [])) (opens false) (cond (is_among class (TemplateArgsEnd ∷ SymBraceRight ∷ [])) (closes false) none)))
+    (cond (is_among class (TemplateArgsStart ∷ SymBraceLeft ∷ [])) (opens false)
+    (cond (is_among class (TemplateArgsEnd ∷ SymBraceRight ∷ [])) (closes false) none)))
 
 -- what is open after it; the innermost is first
 abbrev pub closed_by : Bool → Bool → List Bool → Option (List Bool)
@@ -37,9 +39,12 @@ opened_after none ms = Some ms
 -- what is open before tokens, and after them; others follow
 pub data Leads (after : List Bool) (rest : List Token) : List Bool → List Token → Type 0 where
   none_left : Leads after rest after rest
-  one_more : (before next : List Bool) (t : Token) (ts : List Token) → opened_after (effect t.class) before ≡ Some next → Leads after rest next ts → Leads after rest before (t ∷ ts)
+  one_more : (before next : List Bool) (t : Token) (ts : List Token)
+      → opened_after (effect t.class) before ≡ Some next → Leads after rest next ts
+      → Leads after rest before (t ∷ ts)
 
-both_lead : (b c : List Bool) (ys zs : List Token) (a : List Bool) (xs : List Token) → Leads b ys a xs → Leads c zs b ys → Leads c zs a xs
+both_lead : (b c : List Bool) (ys zs : List Token) (a : List Bool) (xs : List Token)
+    → Leads b ys a xs → Leads c zs b ys → Leads c zs a xs
 both_lead b c ys zs _ _ (none_left) k = k
 both_lead b c ys zs _ _ (one_more a n t ts e l) k = one_more a n t ts e (both_lead b c ys zs n ts l k)
 
@@ -92,66 +97,8 @@ run (symbol n) ms = Some (left_open n ++ ms)
 run (left_chain f g h) ms = followed (run g ms) (λ ns. agreed (Some ns) (run h ns))
 
 check : (n : Symbol) → run (written n) [] ≡ Some (left_open n)
-check ident = refl
-check type_specifier = refl
-check template_list = refl
-check expressions = refl
-check call = refl
-check arguments = refl
-check literal = refl
-check primary_expression = refl
-check singular_expression = refl
-check component = refl
-check unary_expression = refl
-check multiplicative_expression = refl
-check negated_expression = refl
-check additive_expression = refl
-check shift_expression = refl
-check relational_expression = refl
-check expression = refl
-check lhs_expression = refl
-check attribute = refl
-check compound_statement = refl
-check statement = refl
-check return_statement = refl
-check if_statement = refl
-check switch_statement = refl
-check loop_statement = refl
-check for_statement = refl
-check while_statement = refl
-check call_statement = refl
-check var_statement = refl
-check value_statement = refl
-check break_statement = refl
-check continue_statement = refl
-check discard_statement = refl
-check assignment = refl
-check phony_assignment = refl
-check increment = refl
-check decrement = refl
-check const_assert = refl
-check switch_clause = refl
-check case_selector = refl
-check continuing_statement = refl
-check for_init = refl
-check for_update = refl
-check var_template = refl
-check typed_ident = refl
-check struct_member = refl
-check formal_parameter = refl
-check global_declaration = refl
-check var_declaration = refl
-check const_declaration = refl
-check override_declaration = refl
-check alias_declaration = refl
-check struct_declaration = refl
-check function_declaration = refl
-check diagnostic_severity = refl
-check global_directive = refl
-check enable_directive = refl
-check requires_directive = refl
-check diagnostic_directive = refl
 check unit = refl
+check n = refl
 
 -- ---- it does so to what is open before
 
@@ -184,7 +131,8 @@ agreed_both (Some a) (Some c) b h = go (same_flags a c) refl h
     go false e k = absurd cc
 
 -- one after another
-followed_both : (x : Option (List Bool)) (f : List Bool → Option (List Bool)) (b : List Bool) → followed x f ≡ Some b → (a : List Bool) × (x ≡ Some a) × (f a ≡ Some b)
+followed_both : (x : Option (List Bool)) (f : List Bool → Option (List Bool)) (b : List Bool)
+    → followed x f ≡ Some b → (a : List Bool) × (x ≡ Some a) × (f a ≡ Some b)
 followed_both None f b h = absurd cc
 followed_both (Some a) f b h = (a, refl, h)
 
@@ -201,33 +149,45 @@ one_class c d = go (eqb c d) refl
     go true e h = eqb-true c d e
     go false e h = absurd (true≢false (sym h))
 
-no_effect : (c : ℕ) (s : List ℕ) (a b : List Bool) → is_among c s ≡ true → cond (all_pass is_none s) (Some a) None ≡ Some b → opened_after (effect c) a ≡ Some b
+no_effect : (c : ℕ) (s : List ℕ) (a b : List Bool) → is_among c s ≡ true
+    → cond (all_pass is_none s) (Some a) None ≡ Some b → opened_after (effect c) a ≡ Some b
 no_effect c s a b m = go (all_pass is_none s) refl
   where
     go : (t : Bool) → all_pass is_none s ≡ t → cond t (Some a) None ≡ Some b → opened_after (effect c) a ≡ Some b
     go true e h = ap (λ f. opened_after f a) (neither_is (effect c) (passes_on is_none c s e m)) ∙ h
     go false e h = absurd cc
 
-one_does : (c : ℕ) (s : List ℕ) (a b : List Bool) → is_among c s ≡ true → one_of s a ≡ Some b → opened_after (effect c) a ≡ Some b
+one_does : (c : ℕ) (s : List ℕ) (a b : List Bool) → is_among c s ≡ true → one_of s a ≡ Some b
+    → opened_after (effect c) a ≡ Some b
 one_does c [] a b m h = absurd (true≢false (sym m))
 one_does c (d ∷ []) a b m h = ap (λ e. opened_after (effect e) a) (one_class c d m) ∙ h
 one_does c (d ∷ (e ∷ es)) a b m h = no_effect c (d ∷ (e ∷ es)) a b m h
 
 -- what tokens lead to, where an item that leaves open what is open comes any number of times
-chain_leads : {A B : Type 0} (f : A → B → Span → A) (P : A → List Token → List Token → Type 0) (Q : B → List Token → List Token → Type 0) (a b : List Bool)
-    → ((v : A) (xs ys : List Token) → P v xs ys → Leads b ys a xs) → ((v : B) (xs ys : List Token) → Q v xs ys → Leads b ys b xs)
+chain_leads : {A B : Type 0} (f : A → B → Span → A) (P : A → List Token → List Token → Type 0)
+    (Q : B → List Token → List Token → Type 0) (a b : List Bool)
+    → ((v : A) (xs ys : List Token) → P v xs ys → Leads b ys a xs)
+    → ((v : B) (xs ys : List Token) → Q v xs ys → Leads b ys b xs)
     → (xs : List Token) (v : A) (ys : List Token) → Chain f P Q xs v ys → Leads b ys a xs
 chain_leads f P Q a b p q xs _ _ (base v ys d) = p v xs ys d
-chain_leads f P Q a b p q xs _ _ (more v w ys zs c d) = both_lead b b ys zs a xs (chain_leads f P Q a b p q xs v ys c) (q w ys zs d)
+chain_leads f P Q a b p q xs _ _ (more v w ys zs c d) = both_lead b b ys zs a xs
+    (chain_leads f P Q a b p q xs v ys c) (q w ys zs d)
 
-module _ (D : (n : Symbol) → Value n → List Token → List Token → Type 0) (known : (n : Symbol) (v : Value n) (xs ys : List Token) → D n v xs ys → (ms : List Bool) → Leads (left_open n ++ ms) ys ms xs) where
-  sound : {A : Type 0} (g : Grammar Symbol Value A) (v : A) (xs ys : List Token) (a b ms : List Bool) → run g a ≡ Some b → Means unchecked D g v xs ys → Leads (b ++ ms) ys (a ++ ms) xs
-  sound (empty u) v xs ys a b ms h d = let same : a ≡ b = cc in subst (λ zs. Leads (b ++ ms) zs (a ++ ms) xs) d.1 (subst (λ c. Leads (c ++ ms) xs (a ++ ms) xs) same none_left)
+module _ (D : (n : Symbol) → Value n → List Token → List Token → Type 0)
+    (known : (n : Symbol) (v : Value n) (xs ys : List Token) → D n v xs ys → (ms : List Bool)
+    → Leads (left_open n ++ ms) ys ms xs) where
+  sound : {A : Type 0} (g : Grammar Symbol Value A) (v : A) (xs ys : List Token) (a b ms : List Bool)
+      → run g a ≡ Some b → Means unchecked D g v xs ys → Leads (b ++ ms) ys (a ++ ms) xs
+  sound (empty u) v xs ys a b ms h d =
+      let same : a ≡ b = cc in subst (λ zs. Leads (b ++ ms) zs (a ++ ms) xs) d.1
+      (subst (λ c. Leads (c ++ ms) xs (a ++ ms) xs) same none_left)
   sound (token s) v xs ys a b ms h d =
-      subst (λ zs. Leads (b ++ ms) ys (a ++ ms) zs) (sym d.1) (one_more (a ++ ms) (b ++ ms) v ys (after_framed (effect v.class) a b ms (one_does v.class s a b d.0 h)) none_left)
+      subst (λ zs. Leads (b ++ ms) ys (a ++ ms) zs) (sym d.1) (one_more (a ++ ms) (b ++ ms) v ys
+      (after_framed (effect v.class) a b ms (one_does v.class s a b d.0 h)) none_left)
   sound (sequence g h) v xs ys a b ms e d =
       let f = followed_both (run g a) (run h) b e in
-      both_lead (f.0 ++ ms) (b ++ ms) d.0 ys (a ++ ms) xs (sound g v.0 xs d.0 a f.0 ms f.1 d.1) (sound h v.1 d.0 ys f.0 b ms f.2 d.2)
+      both_lead (f.0 ++ ms) (b ++ ms) d.0 ys (a ++ ms) xs (sound g v.0 xs d.0 a f.0 ms f.1 d.1)
+      (sound h v.1 d.0 ys f.0 b ms f.2 d.2)
   sound (choice g h) v xs ys a b ms e (inl d) = sound g v xs ys a b ms (agreed_both (run g a) (run h a) b e).0 d
   sound (choice g h) v xs ys a b ms e (inr d) = sound h v xs ys a b ms (agreed_both (run g a) (run h a) b e).1 d
   sound (mapped f g) v xs ys a b ms h d = sound g d.0 xs ys a b ms h d.2
@@ -235,7 +195,8 @@ module _ (D : (n : Symbol) → Value n → List Token → List Token → Type 0)
   sound (checked f g) v xs ys a b ms h d = sound g v xs ys a b ms h d.1
   sound (symbol n) v xs ys a b ms h d =
       let same : left_open n ++ a ≡ b = cc in
-      subst (λ c. Leads c ys (a ++ ms) xs) (sym (append_assoc (left_open n) a ms) ∙ ap (λ c. c ++ ms) same) (known n v xs ys d (a ++ ms))
+      subst (λ c. Leads c ys (a ++ ms) xs)
+      (sym (append_assoc (left_open n) a ms) ∙ ap (λ c. c ++ ms) same) (known n v xs ys d (a ++ ms))
   sound (left_chain f g h) v xs ys a b ms e d =
       let q = followed_both (run g a) (λ ns. agreed (Some ns) (run h ns)) b e in
       let r = agreed_both (Some q.0) (run h q.0) b q.2 in
@@ -245,9 +206,11 @@ module _ (D : (n : Symbol) → Value n → List Token → List Token → Type 0)
       (λ u us zs c. sound h u us zs b b ms (subst (λ x. run h x ≡ Some b) same r.1) c)
       xs v ys d
 
-within_leads : (k : ℕ) (n : Symbol) (v : Value n) (xs ys : List Token) → Within unchecked written k n v xs ys → (ms : List Bool) → Leads (left_open n ++ ms) ys ms xs
+within_leads : (k : ℕ) (n : Symbol) (v : Value n) (xs ys : List Token)
+    → Within unchecked written k n v xs ys → (ms : List Bool) → Leads (left_open n ++ ms) ys ms xs
 within_leads zero n v xs ys h ms = absurd h
-within_leads (suc k) n v xs ys h ms = sound (Within unchecked written k) (within_leads k) (written n) v xs ys [] (left_open n) ms (check n) h
+within_leads (suc k) n v xs ys h ms = sound (Within unchecked written k) (within_leads k)
+    (written n) v xs ys [] (left_open n) ms (check n) h
 
 -- the tokens of a module open and close what they do in order
 pub nested_tokens : (ts : List Token) → IsSentence written unit ts → Leads [] [] [] ts

@@ -2,7 +2,7 @@
 use Rattle.std.proofs.Common.{◌≡◌, ◌⊎◌, inl, inr, ℕ, ◌==◌, ◌&&◌, Bool, true, false, cond, refl, sym, subst, [], ◌∷◌, drop}
 use Rattle.std.proofs.lemmas.Bool.{true≢false, and_parts, eqb-true}
 use Rattle.grammar.specs.Grammar.{is_among}
-use Rattle.wgsl_model.specs.Tokens.Classes.{AbstractFloat, AbstractInt, F16, F32, I32, Ident, KwDiagnostic, KwElse, KwFalse, KwTrue, ReservedWord, SymAnd, SymAttr, SymBang, SymBraceLeft, SymBraceRight, SymBracketLeft, SymBracketRight, SymColon, SymComma, SymMinus, SymMinusMinus, SymParenLeft, SymParenRight, SymPeriod, SymPlusPlus, SymSemicolon, SymStar, SymTilde, TemplateArgsEnd, TemplateArgsStart, U32}
+use Rattle.wgsl_model.specs.Tokens.ClassTable.{AbstractFloat, AbstractInt, F16, F32, I32, Ident, KwDiagnostic, KwElse, KwFalse, KwTrue, ReservedWord, SymAnd, SymAttr, SymBang, SymBraceLeft, SymBraceRight, SymBracketLeft, SymBracketRight, SymColon, SymComma, SymMinus, SymMinusMinus, SymParenLeft, SymParenRight, SymPeriod, SymPlusPlus, SymSemicolon, SymStar, SymTilde, TemplateArgsEnd, TemplateArgsStart, U32}
 use Rattle.wgsl_model_tidy.specs.Roles.{Role, is_operator, name, unsuffixed, number, word, else_word, comma, semicolon, colon, period, at, step, binary, minus, ampersand, prefix, opening, closing, template_start, template_end, block_start, block_end, ends_operand, sign_role, role_of}
 use Rattle.wgsl_model_tidy.specs.Open.{Open, Style, LayoutState, role_in, opened_behind}
 use Rattle.wgsl_theory_tidy.proofs.Kept.TextFronts.{by_test}
@@ -11,10 +11,13 @@ use Rattle.wgsl_theory_tidy.proofs.Kept.NestedTokens.{Effect, opens, closes, non
 -- what a role does to what is open, where it has such an effect
 abbrev pub HasEffect : Effect → Role → Type 0
 HasEffect (opens true) right = right ≡ opening
-HasEffect (opens false) right = (state : LayoutState) (line : ℕ) (style : Style) → (kind : Open) × (depth : ℕ) × (opened_behind state line right style ≡ (kind, depth) ∷ state.opened)
+HasEffect (opens false) right = (state : LayoutState) (line : ℕ) (style : Style)
+    → (kind : Open) × (depth : ℕ) × (opened_behind state line right style ≡ (kind, depth) ∷ state.opened)
 HasEffect (closes true) right = right ≡ closing
-HasEffect (closes false) right = (state : LayoutState) (line : ℕ) (style : Style) → opened_behind state line right style ≡ drop 1 state.opened
-HasEffect none right = (state : LayoutState) (line : ℕ) (style : Style) → opened_behind state line right style ≡ state.opened
+HasEffect (closes false) right = (state : LayoutState) (line : ℕ) (style : Style)
+    → opened_behind state line right style ≡ drop 1 state.opened
+HasEffect none right = (state : LayoutState) (line : ℕ) (style : Style)
+    → opened_behind state line right style ≡ state.opened
 
 -- a role with such an effect
 data Does (e : Effect) : Role → Type 0 where
@@ -35,12 +38,16 @@ idle_else false x y e k = k
 
 idle_sign : (b : Bool) (c : ℕ) → Does none (sign_role b c)
 idle_sign true c = does binary (λ s l t. refl)
-idle_sign false c = idle_if (c == SymMinus) minus _ (does minus (λ s l t. refl)) (idle_if (c == SymAnd) ampersand prefix (does ampersand (λ s l t. refl)) (does prefix (λ s l t. refl)))
+idle_sign false c = idle_if (c == SymMinus) minus _ (does minus (λ s l t. refl))
+    (idle_if (c == SymAnd) ampersand prefix (does ampersand (λ s l t. refl)) (does prefix (λ s l t. refl)))
 
-idle_role : (b : Bool) (c : ℕ) → is_among c (SymParenLeft ∷ SymBracketLeft ∷ []) ≡ false → is_among c (SymParenRight ∷ SymBracketRight ∷ []) ≡ false
-    → (c == TemplateArgsStart) ≡ false → (c == SymBraceLeft) ≡ false → (c == TemplateArgsEnd) ≡ false → (c == SymBraceRight) ≡ false → Does none (role_of b c)
+idle_role : (b : Bool) (c : ℕ) → is_among c (SymParenLeft ∷ SymBracketLeft ∷ []) ≡ false
+    → is_among c (SymParenRight ∷ SymBracketRight ∷ []) ≡ false
+    → (c == TemplateArgsStart) ≡ false → (c == SymBraceLeft) ≡ false
+    → (c == TemplateArgsEnd) ≡ false → (c == SymBraceRight) ≡ false → Does none (role_of b c)
 idle_role b c p q r s t u =
-    idle_if (is_among c (Ident ∷ ReservedWord ∷ KwTrue ∷ KwFalse ∷ KwDiagnostic ∷ [])) name _ (does name (λ s l t. refl))
+    idle_if (is_among c (Ident ∷ ReservedWord ∷ KwTrue ∷ KwFalse ∷ KwDiagnostic ∷ [])) name _
+    (does name (λ s l t. refl))
     (idle_if (c == AbstractInt) unsuffixed _ (does unsuffixed (λ s l t. refl))
     (idle_if (is_among c (I32 ∷ U32 ∷ AbstractFloat ∷ F32 ∷ F16 ∷ [])) number _ (does number (λ s l t. refl))
     (idle_if (c == KwElse) else_word _ (does else_word (λ s l t. refl))
@@ -91,10 +98,14 @@ either_does b c x y h k m = go (among_two c x y m)
 
 role_does : (b : Bool) (c : ℕ) → RoleDoes b c
 role_does b c =
-    by_test (is_among c (SymParenLeft ∷ SymBracketLeft ∷ [])) (λ h. either_does b c SymParenLeft SymBracketLeft (does opening refl) (does opening refl) h) (λ h.
-    by_test (is_among c (SymParenRight ∷ SymBracketRight ∷ [])) (λ k. either_does b c SymParenRight SymBracketRight (does closing refl) (does closing refl) k) (λ k.
-    by_test (is_among c (TemplateArgsStart ∷ SymBraceLeft ∷ [])) (λ l. either_does b c TemplateArgsStart SymBraceLeft (does template_start (λ s l t. (_, _, refl))) (does block_start (λ s l t. (_, _, refl))) l) (λ l.
-    by_test (is_among c (TemplateArgsEnd ∷ SymBraceRight ∷ [])) (λ m. either_does b c TemplateArgsEnd SymBraceRight (does template_end (λ s l t. refl)) (does block_end (λ s l t. refl)) m) (λ m.
+    by_test (is_among c (SymParenLeft ∷ SymBracketLeft ∷ []))
+    (λ h. either_does b c SymParenLeft SymBracketLeft (does opening refl) (does opening refl) h) (λ h.
+    by_test (is_among c (SymParenRight ∷ SymBracketRight ∷ []))
+    (λ k. either_does b c SymParenRight SymBracketRight (does closing refl) (does closing refl) k) (λ k.
+    by_test (is_among c (TemplateArgsStart ∷ SymBraceLeft ∷ [])) (λ l. either_does b c TemplateArgsStart SymBraceLeft
+    (does template_start (λ s l t. (_, _, refl))) (does block_start (λ s l t. (_, _, refl))) l) (λ l.
+    by_test (is_among c (TemplateArgsEnd ∷ SymBraceRight ∷ [])) (λ m. either_does b c TemplateArgsEnd
+    SymBraceRight (does template_end (λ s l t. refl)) (does block_end (λ s l t. refl)) m) (λ m.
     (let starts = among_neither c TemplateArgsStart SymBraceLeft l in
     let ends = among_neither c TemplateArgsEnd SymBraceRight m in
     let idle : effect c ≡ none = rw (h, k, l, m) refl in
@@ -104,9 +115,14 @@ role_does b c =
 role_does_in : (state : LayoutState) (c : ℕ) (before_operand : Bool) → Does (effect c) (role_in state c before_operand)
 role_does_in state c before_operand = go (c == SymMinusMinus && before_operand) refl
   where
-    go : (b : Bool) → (c == SymMinusMinus && before_operand) ≡ b → Does (effect c) (cond b binary (role_of (ends_operand state.last) c))
-    go true e = subst (λ d. Does (effect d) binary) (sym (eqb-true c SymMinusMinus (and_parts (c == SymMinusMinus) before_operand e).0)) (does binary (λ s l t. refl))
+    go : (b : Bool) → (c == SymMinusMinus && before_operand) ≡ b
+        → Does (effect c) (cond b binary (role_of (ends_operand state.last) c))
+    go true e = subst (λ d. Does (effect d) binary)
+        (sym (eqb-true c SymMinusMinus (and_parts (c == SymMinusMinus) before_operand e).0))
+        (does binary (λ s l t. refl))
     go false e = role_does (ends_operand state.last) c
 
-pub role_effect : (state : LayoutState) (c : ℕ) (before_operand : Bool) (e : Effect) → effect c ≡ e → HasEffect e (role_in state c before_operand)
-role_effect state c before_operand e s = subst (λ e. HasEffect e (role_in state c before_operand)) s (effect_of (effect c) (role_in state c before_operand) (role_does_in state c before_operand))
+pub role_effect : (state : LayoutState) (c : ℕ) (before_operand : Bool) (e : Effect) → effect c ≡ e
+    → HasEffect e (role_in state c before_operand)
+role_effect state c before_operand e s = subst (λ e. HasEffect e (role_in state c before_operand)) s
+    (effect_of (effect c) (role_in state c before_operand) (role_does_in state c before_operand))

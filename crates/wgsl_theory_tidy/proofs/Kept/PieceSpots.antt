@@ -7,22 +7,33 @@ use Rattle.wgsl_model_tidy.specs.Open.{Style, LayoutState, role_in}
 use Rattle.wgsl_model_tidy.specs.LaidOut.{Gap, Spot, gap_text, owned, gap_before_comment, gap_before_token, gap_before, is_comment, next_role, depth_behind, piece_text, leads, comment_last, behind_piece, operand_follows}
 use Rattle.wgsl_theory_tidy.proofs.Laid.{behind_comment_at, behind_token_at}
 
-pub comment_gap_before : (spot : Spot) (right : Role) (p : Piece) (ps : List Piece) → is_comment p.class ≡ true → gap_before spot right p ps ≡ gap_before_comment spot right p.class (owned spot right ps) p.line_ends
+pub comment_gap_before : (spot : Spot) (right : Role) (p : Piece) (ps : List Piece)
+    → is_comment p.class ≡ true
+    → gap_before spot right p ps ≡ gap_before_comment spot right p.class (owned spot right ps) p.line_ends
 comment_gap_before spot right p ps h = rw h refl
 
-pub token_gap_before : (spot : Spot) (right : Role) (p : Piece) (ps : List Piece) → is_comment p.class ≡ false → gap_before spot right p ps ≡ gap_before_token spot right p.line_ends
+pub token_gap_before : (spot : Spot) (right : Role) (p : Piece) (ps : List Piece)
+    → is_comment p.class ≡ false → gap_before spot right p ps ≡ gap_before_token spot right p.line_ends
 token_gap_before spot right p ps h = rw h refl
 
-pub comment_spot : (layout : Layout) (spot : Spot) (gap : Gap) (right : Role) (p : Piece) (style : Style) → is_comment p.class ≡ true
+pub comment_spot : (layout : Layout) (spot : Spot) (gap : Gap) (right : Role) (p : Piece) (style : Style)
+    → is_comment p.class ≡ true
     → behind_piece layout spot gap right p style
-    ≡ behind_comment_at spot.state (depth_behind gap spot.state.line) (comment_last p.class (leads gap spot.last spot.state.last)) (column_after layout spot.column (gap_text layout gap ++ piece_text layout spot gap p))
+    ≡ behind_comment_at spot.state (depth_behind gap spot.state.line)
+    (comment_last p.class (leads gap spot.last spot.state.last))
+    (column_after layout spot.column (gap_text layout gap ++ piece_text layout spot gap p))
 comment_spot layout spot gap right p style h = rw h refl
 
-pub token_spot : (layout : Layout) (spot : Spot) (gap : Gap) (right : Role) (p : Piece) (style : Style) → is_comment p.class ≡ false
-    → behind_piece layout spot gap right p style ≡ behind_token_at spot.state (depth_behind gap spot.state.line) p.class right (column_after layout spot.column (gap_text layout gap ++ piece_text layout spot gap p)) style
+pub token_spot : (layout : Layout) (spot : Spot) (gap : Gap) (right : Role) (p : Piece) (style : Style)
+    → is_comment p.class ≡ false
+    → behind_piece layout spot gap right p style
+    ≡ behind_token_at spot.state (depth_behind gap spot.state.line) p.class right
+    (column_after layout spot.column (gap_text layout gap ++ piece_text layout spot gap p)) style
 token_spot layout spot gap right p style h = rw h refl
 
-pub column_behind : (layout : Layout) (spot : Spot) (gap : Gap) (right : Role) (p : Piece) (style : Style) → (behind_piece layout spot gap right p style).column ≡ column_after layout spot.column (gap_text layout gap ++ piece_text layout spot gap p)
+pub column_behind : (layout : Layout) (spot : Spot) (gap : Gap) (right : Role) (p : Piece) (style : Style)
+    → (behind_piece layout spot gap right p style).column
+    ≡ column_after layout spot.column (gap_text layout gap ++ piece_text layout spot gap p)
 column_behind layout spot gap right p style = go (is_comment p.class)
   where
     column : ℕ
@@ -31,9 +42,12 @@ column_behind layout spot gap right p style = go (is_comment p.class)
     depth : ℕ
     depth = depth_behind gap spot.state.line
 
-    go : (b : Bool) → (cond b (behind_comment_at spot.state depth (comment_last p.class (leads gap spot.last spot.state.last)) column) (behind_token_at spot.state depth p.class right column style)).column ≡ column
+    go : (b : Bool)
+        → (cond b (behind_comment_at spot.state depth (comment_last p.class (leads gap spot.last spot.state.last))
+        column) (behind_token_at spot.state depth p.class right column style)).column ≡ column
     go true = refl
     go false = refl
 
-pub token_next : (state : LayoutState) (p : Piece) (ps : List Piece) → is_comment p.class ≡ false → next_role state (p ∷ ps) ≡ role_in state p.class (operand_follows ps)
+pub token_next : (state : LayoutState) (p : Piece) (ps : List Piece) → is_comment p.class ≡ false
+    → next_role state (p ∷ ps) ≡ role_in state p.class (operand_follows ps)
 token_next state p ps h = rw h refl

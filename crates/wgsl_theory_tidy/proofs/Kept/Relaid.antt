@@ -1,4 +1,5 @@
--- The pieces of a laid-out text: the same pieces as they are written, each behind as many line ends as its gap has.
+-- The pieces of a laid-out text: the same pieces as they are written, each behind as many line ends
+-- as its gap has.
 use Rattle.std.proofs.Common.{◌≡◌, ℕ, Bool, false, cond, refl, ap, ap₂, List, [], ◌∷◌, map}
 use Rattle.wgsl_model_tidy.specs.Pieces.{Piece}
 use Rattle.wgsl_model_tidy.specs.Kept.{class_and_text}
@@ -37,19 +38,27 @@ relaid layout spot [] = []
 relaid layout spot (p ∷ ps) = first_again layout spot p ps ∷ relaid layout (after_first layout spot p ps) ps
 
 -- they have the same classes and characters
-pub relaid_spelled : (layout : Layout) (spot : Spot) (ps : List Piece) → map class_and_text (relaid layout spot ps) ≡ map class_and_text ps
+pub relaid_spelled : (layout : Layout) (spot : Spot) (ps : List Piece)
+    → map class_and_text (relaid layout spot ps) ≡ map class_and_text ps
 relaid_spelled layout spot [] = refl
 relaid_spelled layout spot (p ∷ ps) =
-    ap₂ (λ t xs. (p.class, t) ∷ xs) (text_kept layout spot (gap_before spot (next_role spot.state (p ∷ ps)) p ps) p) (relaid_spelled layout (after_first layout spot p ps) ps)
+    ap₂ (λ t xs. (p.class, t) ∷ xs)
+    (text_kept layout spot (gap_before spot (next_role spot.state (p ∷ ps)) p ps) p)
+    (relaid_spelled layout (after_first layout spot p ps) ps)
 
 -- so an operand begins with the first token as before
-relaid_operand : (layout : Layout) (spot : Spot) (ps : List Piece) → operand_follows (relaid layout spot ps) ≡ operand_follows ps
+relaid_operand : (layout : Layout) (spot : Spot) (ps : List Piece)
+    → operand_follows (relaid layout spot ps) ≡ operand_follows ps
 relaid_operand layout spot [] = refl
-relaid_operand layout spot (p ∷ ps) = ap (λ b. cond (is_comment p.class) b (begins_operand (role_of false p.class))) (relaid_operand layout (after_first layout spot p ps) ps)
+relaid_operand layout spot (p ∷ ps) =
+    ap (λ b. cond (is_comment p.class) b (begins_operand (role_of false p.class)))
+    (relaid_operand layout (after_first layout spot p ps) ps)
 
 -- and the first token does the same
-pub relaid_next : (layout : Layout) (s : LayoutState) (spot : Spot) (ps : List Piece) → next_role s (relaid layout spot ps) ≡ next_role s ps
+pub relaid_next : (layout : Layout) (s : LayoutState) (spot : Spot) (ps : List Piece)
+    → next_role s (relaid layout spot ps) ≡ next_role s ps
 relaid_next layout s spot [] = refl
 relaid_next layout s spot (p ∷ ps) =
     let after = after_first layout spot p ps in
-    ap₂ (λ (r : Role) (b : Bool). cond (is_comment p.class) r (role_in s p.class b)) (relaid_next layout s after ps) (relaid_operand layout after ps)
+    ap₂ (λ (r : Role) (b : Bool). cond (is_comment p.class) r (role_in s p.class b))
+    (relaid_next layout s after ps) (relaid_operand layout after ps)

@@ -1,7 +1,8 @@
--- Line ends in a laid-out text: a comment keeps those that are after it, so what follows a comment in its line follows in the line of the comment that is laid out.
+-- Line ends in a laid-out text: a comment keeps those that are after it, so what follows a comment
+-- in its line follows in the line of the comment that is laid out.
 use Rattle.std.proofs.Common.{◌≡◌, ℕ, zero, suc, ◌&&◌, ◌||◌, ◌==◌, Bool, true, false, cond, refl, List, [], ◌∷◌}
 use Rattle.std.proofs.lemmas.Bool.{and_parts, and_from, eqb-true}
-use Rattle.wgsl_model.specs.Tokens.Classes.{LineComment, BlockComment}
+use Rattle.wgsl_model.specs.Tokens.ClassTable.{LineComment, BlockComment}
 use Rattle.wgsl_model_tidy.specs.Pieces.{Piece}
 use Rattle.wgsl_model_tidy.specs.Roles.{Role, block_end, is, closes_bracket}
 use Rattle.wgsl_model_tidy.specs.Joints.{Joint, line, nothing, space, nothing_or_line, space_or_line, joint}
@@ -16,21 +17,24 @@ broken_some : (empty : Bool) (depth : ℕ) → gap_ends (broken empty depth) ≡
 broken_some true depth e = absurd cc
 broken_some false depth e = absurd cc
 
-loose_some : (right : Role) (n : ℕ) (empty : Bool) (depth : ℕ) → gap_ends (joint_gap (loose_joint right) (suc n) (broken empty depth)) ≡ 0 → ⊥
+loose_some : (right : Role) (n : ℕ) (empty : Bool) (depth : ℕ)
+    → gap_ends (joint_gap (loose_joint right) (suc n) (broken empty depth)) ≡ 0 → ⊥
 loose_some right n empty depth = go (closes_up right)
   where
     go : (b : Bool) → gap_ends (joint_gap (cond b nothing_or_line space_or_line) (suc n) (broken empty depth)) ≡ 0 → ⊥
     go true = broken_some empty depth
     go false = broken_some empty depth
 
-leading_some : (j : Joint) (right : Role) (n : ℕ) (empty : Bool) (depth : ℕ) → gap_ends (joint_gap (behind_leading j right) (suc n) (broken empty depth)) ≡ 0 → ⊥
+leading_some : (j : Joint) (right : Role) (n : ℕ) (empty : Bool) (depth : ℕ)
+    → gap_ends (joint_gap (behind_leading j right) (suc n) (broken empty depth)) ≡ 0 → ⊥
 leading_some j right n empty depth = go (is right block_end || (is_line j && closes_bracket right))
   where
     go : (b : Bool) → gap_ends (joint_gap (cond b line (loose_joint right)) (suc n) (broken empty depth)) ≡ 0 → ⊥
     go true = broken_some empty depth
     go false = loose_some right n empty depth
 
-comment_some : (j : Joint) (right : Role) (n : ℕ) (empty : Bool) (depth : ℕ) → gap_ends (joint_gap (behind_comment j right) (suc n) (broken empty depth)) ≡ 0 → ⊥
+comment_some : (j : Joint) (right : Role) (n : ℕ) (empty : Bool) (depth : ℕ)
+    → gap_ends (joint_gap (behind_comment j right) (suc n) (broken empty depth)) ≡ 0 → ⊥
 comment_some line right n empty depth = broken_some empty depth
 comment_some nothing right n empty depth = loose_some right n empty depth
 comment_some space right n empty depth = loose_some right n empty depth
@@ -38,14 +42,17 @@ comment_some nothing_or_line right n empty depth = loose_some right n empty dept
 comment_some space_or_line right n empty depth = loose_some right n empty depth
 
 -- so is one where the author had one after a comment
-token_some : (inside : Enclosing) (last : Last) (left right : Role) (n : ℕ) (empty : Bool) (depth : ℕ) → (last ≡ token → ⊥) → gap_ends (token_gap inside last left right (suc n) (broken empty depth)) ≡ 0 → ⊥
+token_some : (inside : Enclosing) (last : Last) (left right : Role) (n : ℕ) (empty : Bool) (depth : ℕ)
+    → (last ≡ token → ⊥) → gap_ends (token_gap inside last left right (suc n) (broken empty depth)) ≡ 0 → ⊥
 token_some inside token left right n empty depth h = absurd (h refl)
 token_some inside line_comment left right n empty depth h = broken_some empty depth
-token_some inside leading_comment left right n empty depth h = leading_some (joint inside left right) right n empty depth
+token_some inside leading_comment left right n empty depth h =
+    leading_some (joint inside left right) right n empty depth
 token_some inside block_comment left right n empty depth h = comment_some (joint inside left right) right n empty depth
 token_some inside open_comment left right n empty depth h = comment_some (joint inside left right) right n empty depth
 
-other_some : (class : ℕ) (last : Last) (left : Role) (own : Bool) (n : ℕ) (empty : Bool) (depth : ℕ) → (last ≡ token → ⊥) → gap_ends (comment_gap class last left own (suc n) (broken empty depth)) ≡ 0 → ⊥
+other_some : (class : ℕ) (last : Last) (left : Role) (own : Bool) (n : ℕ) (empty : Bool) (depth : ℕ)
+    → (last ≡ token → ⊥) → gap_ends (comment_gap class last left own (suc n) (broken empty depth)) ≡ 0 → ⊥
 other_some class token left own n empty depth h = absurd (h refl)
 other_some class line_comment left own n empty depth h = broken_some empty depth
 other_some class block_comment left own n empty depth h = broken_some empty depth
@@ -57,11 +64,13 @@ either_some : (b : Bool) (f g : Gap) → (gap_ends f ≡ 0 → ⊥) → (gap_end
 either_some true f g h k = h
 either_some false f g h k = k
 
-no_ends : (spot : Spot) (right : Role) (p : Piece) (ps : List Piece) → (spot.last ≡ token → ⊥) → (gap_ends (gap_before spot right p ps) == 0) ≡ true → (p.line_ends == 0) ≡ true
+no_ends : (spot : Spot) (right : Role) (p : Piece) (ps : List Piece) → (spot.last ≡ token → ⊥)
+    → (gap_ends (gap_before spot right p ps) == 0) ≡ true → (p.line_ends == 0) ≡ true
 no_ends spot right p ps h = go p.line_ends
   where
     gap : ℕ → Gap
-    gap n = cond (is_comment p.class) (gap_before_comment spot right p.class (owned spot right ps) n) (gap_before_token spot right n)
+    gap n = cond (is_comment p.class) (gap_before_comment spot right p.class (owned spot right ps) n)
+        (gap_before_token spot right n)
 
     go : (n : ℕ) → (gap_ends (gap n) == 0) ≡ true → (n == 0) ≡ true
     go zero e = refl
@@ -82,12 +91,17 @@ comment_not_token class leading = go (class == LineComment) (class == BlockComme
     go false true false e = absurd cc
     go false false d e = absurd cc
 
-pub behind_comment_piece : (layout : Layout) (spot : Spot) (gap : Gap) (right : Role) (p : Piece) (style : Style) → is_comment p.class ≡ true → (behind_piece layout spot gap right p style).last ≡ token → ⊥
-behind_comment_piece layout spot gap right p style h = rw h (comment_not_token p.class (leads gap spot.last spot.state.last))
+pub behind_comment_piece : (layout : Layout) (spot : Spot) (gap : Gap) (right : Role) (p : Piece) (style : Style)
+    → is_comment p.class ≡ true → (behind_piece layout spot gap right p style).last ≡ token → ⊥
+behind_comment_piece layout spot gap right p style h = rw h
+    (comment_not_token p.class (leads gap spot.last spot.state.last))
 
-followed_step : (layout : Layout) (spot : Spot) (p : Piece) (ps : List Piece) → (spot.last ≡ token → ⊥) → is_followed (relaid layout spot (p ∷ ps)) ≡ true
-    → ((after : Spot) → (after.last ≡ token → ⊥) → is_followed (relaid layout after ps) ≡ true → is_followed ps ≡ true) → is_followed (p ∷ ps) ≡ true
-followed_step layout spot p ps h e others = and_from _ _ (no_ends spot right p ps h both.0) (go (is_comment p.class) refl both.1)
+followed_step : (layout : Layout) (spot : Spot) (p : Piece) (ps : List Piece)
+    → (spot.last ≡ token → ⊥) → is_followed (relaid layout spot (p ∷ ps)) ≡ true
+    → ((after : Spot) → (after.last ≡ token → ⊥) → is_followed (relaid layout after ps) ≡ true
+    → is_followed ps ≡ true) → is_followed (p ∷ ps) ≡ true
+followed_step layout spot p ps h e others = and_from _ _ (no_ends spot right p ps h both.0)
+    (go (is_comment p.class) refl both.1)
   where
     right : Role
     right = next_role spot.state (p ∷ ps)
@@ -95,13 +109,18 @@ followed_step layout spot p ps h e others = and_from _ _ (no_ends spot right p p
     after : Spot
     after = after_first layout spot p ps
 
-    both : ((gap_ends (gap_before spot right p ps) == 0) ≡ true) × (cond (is_comment p.class) (is_followed (relaid layout after ps)) true ≡ true)
+    both : ((gap_ends (gap_before spot right p ps) == 0) ≡ true)
+        × (cond (is_comment p.class) (is_followed (relaid layout after ps)) true ≡ true)
     both = and_parts _ _ e
 
-    go : (b : Bool) → is_comment p.class ≡ b → cond b (is_followed (relaid layout after ps)) true ≡ true → cond b (is_followed ps) true ≡ true
-    go true c f = others after (behind_comment_piece layout spot (gap_before spot right p ps) right p (style_first layout spot p ps) c) f
+    go : (b : Bool) → is_comment p.class ≡ b → cond b (is_followed (relaid layout after ps)) true ≡ true
+        → cond b (is_followed ps) true ≡ true
+    go true c f = others after (behind_comment_piece layout spot
+        (gap_before spot right p ps) right p (style_first layout spot p ps) c) f
     go false c f = refl
 
-pub followed_again : (layout : Layout) (spot : Spot) (ps : List Piece) → (spot.last ≡ token → ⊥) → is_followed (relaid layout spot ps) ≡ true → is_followed ps ≡ true
+pub followed_again : (layout : Layout) (spot : Spot) (ps : List Piece) → (spot.last ≡ token → ⊥)
+    → is_followed (relaid layout spot ps) ≡ true → is_followed ps ≡ true
 followed_again layout spot [] h e = e
-followed_again layout spot (p ∷ ps) h e = followed_step layout spot p ps h e (λ after k f. followed_again layout after ps k f)
+followed_again layout spot (p ∷ ps) h e = followed_step layout spot p ps h e
+    (λ after k f. followed_again layout after ps k f)

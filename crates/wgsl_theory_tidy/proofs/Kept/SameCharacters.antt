@@ -28,7 +28,8 @@ read_same _ _ _ (reads_end text e) =
     t.4 ∙ ap non_blank_of (sym (t.3 (λ n. []) ∙ append-nil t.0))
 read_same _ _ _ (reads_token trivia w rest k ks ps p i r) =
     let t = trail trivia (w ++ rest) p (has_characters k w rest i) 0 in
-    let word : non_blank (w ++ rest) ≡ non_blank w ++ non_blank_of ps = joined w rest ∙ ap (λ xs. non_blank w ++ xs) (read_same rest ks ps r) in
+    let word : non_blank (w ++ rest) ≡ non_blank w ++ non_blank_of ps = joined w rest
+    ∙ ap (λ xs. non_blank w ++ xs) (read_same rest ks ps r) in
     joined trivia (w ++ rest)
     ∙ ap₂ (λ xs ys. xs ++ ys) t.4 word
     ∙ sym (joined_of t.0 (token_piece k w t.1 ∷ ps))
@@ -58,7 +59,8 @@ ending_blank block_comment left = refl
 ending_blank leading_comment left = refl
 ending_blank open_comment left = refl
 
-pub laid_same : (layout : Layout) (spot : Spot) (ps : List Piece) → non_blank (laid_from layout spot ps) ≡ non_blank_of ps
+pub laid_same : (layout : Layout) (spot : Spot) (ps : List Piece)
+    → non_blank (laid_from layout spot ps) ≡ non_blank_of ps
 laid_same layout spot [] = ending_blank spot.last spot.state.last
 laid_same layout spot (p ∷ ps) =
     let gap = gap_before spot (next_role spot.state (p ∷ ps)) p ps in
@@ -71,5 +73,7 @@ laid_same layout spot (p ∷ ps) =
 
 -- ---- a laid-out text
 
-pub same_characters : (layout : Layout) (source : List ℕ) (ts : List Token) → IsTokenList source ts finished → non_blank (laid_out layout (pieces source ts)) ≡ non_blank source
-same_characters layout source ts h = laid_same layout first_spot (pieces source ts) ∙ sym (read_same source (map unplaced ts) (pieces source ts) (read source ts h))
+pub same_characters : (layout : Layout) (source : List ℕ) (ts : List Token)
+    → IsTokenList source ts finished → non_blank (laid_out layout (pieces source ts)) ≡ non_blank source
+same_characters layout source ts h = laid_same layout first_spot (pieces source ts)
+    ∙ sym (read_same source (map unplaced ts) (pieces source ts) (read source ts h))

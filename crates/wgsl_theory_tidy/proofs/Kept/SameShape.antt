@@ -1,4 +1,5 @@
--- The kinds of the tokens of a source have the shape that lets another text have tokens of these kinds.
+-- The kinds of the tokens of a source have the shape that lets another text have tokens of these
+-- kinds.
 use Rattle.std.proofs.Common.{◌≡◌, ℕ, zero, suc, List, [], ◌∷◌, take, refl, sym, ap, subst, ◌∙◌}
 use Rattle.std.proofs.lemmas.List.{map-append}
 use Rattle.grammar.specs.Tokens.{Token, first_tokens}
@@ -33,8 +34,11 @@ shaped (shape_short_circuit e m s) = shape_short_circuit e m (shaped s)
 shaped (shape_plain e s) = shape_plain e (shaped s)
 shaped {p} (shape_word {ts = ts} e n s) = shape_word e (none_anywhere p ts n) (shaped s)
 shaped {p} {depth} (shape_template t start end us ts e f g i l s) =
-    subst (λ ks. IsWrittenShape p depth (without_place t ∷ (without_place start ∷ ks))) (sym (map-append without_place us (end ∷ ts)))
-    (shape_template (without_place t) (without_place start) (without_place end) (kinds us) (kinds ts) e f g (shaped i) (λ qs r. moved_list l.0 us qs l.1 r) (shaped s))
+    subst (λ ks. IsWrittenShape p depth (without_place t ∷ (without_place start ∷ ks)))
+    (sym (map-append without_place us (end ∷ ts)))
+    (shape_template (without_place t) (without_place start) (without_place end) (kinds us)
+    (kinds ts) e f g (shaped i) (λ qs r. moved_list l.0 us qs l.1 r) (shaped s))
 
-pub same_shape : (source : List ℕ) (ts : List Token) → IsTokenList source ts finished → IsWrittenShape outside 0 (kinds ts)
+pub same_shape : (source : List ℕ) (ts : List Token) → IsTokenList source ts finished
+    → IsWrittenShape outside 0 (kinds ts)
 same_shape source ts h = shaped (source_shape source ts h)

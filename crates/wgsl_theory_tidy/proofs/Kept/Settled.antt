@@ -20,7 +20,13 @@ settled_opened [] = []
 settled_opened ((kind, depth) ∷ outer) = (settled_open kind, depth) ∷ settled_opened outer
 
 abbrev pub settled_state : LayoutState → LayoutState
-settled_state state = record { opened = settled_opened state.opened; line = state.line; last = state.last; leading = state.leading; structure = state.structure }
+settled_state state = record {
+  opened = settled_opened state.opened;
+  line = state.line;
+  last = state.last;
+  leading = state.leading;
+  structure = state.structure;
+}
 
 abbrev pub settled : Spot → Spot
 settled spot = record { state = settled_state spot.state; last = spot.last; column = spot.column }
@@ -87,19 +93,24 @@ settled_drop ((kind, depth) ∷ outer) = refl
 
 -- ---- between items, and how deep a line is
 
-pub settled_between : (state : LayoutState) (right : Role) → between_items (settled_state state) right ≡ between_items state right
+pub settled_between : (state : LayoutState) (right : Role)
+    → between_items (settled_state state) right ≡ between_items state right
 settled_between state right = rw (settled_brackets state.opened) refl
 
 pub settled_depth : (state : LayoutState) (right : Role) → depth_of (settled_state state) right ≡ depth_of state right
-settled_depth state right = rw (settled_brackets state.opened, settled_inner state.opened, settled_outer state.opened) refl
+settled_depth state right =
+    rw (settled_brackets state.opened, settled_inner state.opened, settled_outer state.opened) refl
 
-pub settled_comment_depth : (state : LayoutState) (right : Role) → comment_depth (settled_state state) right ≡ comment_depth state right
+pub settled_comment_depth : (state : LayoutState) (right : Role)
+    → comment_depth (settled_state state) right ≡ comment_depth state right
 settled_comment_depth state right = rw (settled_brackets state.opened, settled_inner state.opened) refl
 
 -- what the first token does depends on the last token alone
 pub settled_next : (state : LayoutState) (ps : List Piece) → next_role (settled_state state) ps ≡ next_role state ps
 settled_next state [] = refl
-settled_next state (p ∷ ps) = ap (λ r. cond (is_comment p.class) r (role_in state p.class (operand_follows ps))) (settled_next state ps)
+settled_next state (p ∷ ps) =
+    ap (λ r. cond (is_comment p.class) r (role_in state p.class (operand_follows ps)))
+    (settled_next state ps)
 
 -- ---- after a token
 
@@ -107,11 +118,15 @@ settled_if : (b : Bool) (x y : Open) → settled_open (cond b x y) ≡ cond b (s
 settled_if true x y = refl
 settled_if false x y = refl
 
-settled_behind : (state : LayoutState) (line : ℕ) (right : Role) (style : Style) → opened_behind (settled_state state) line right (settle style) ≡ settled_opened (opened_behind state line right style)
+settled_behind : (state : LayoutState) (line : ℕ) (right : Role) (style : Style)
+    → opened_behind (settled_state state) line right (settle style)
+    ≡ settled_opened (opened_behind state line right style)
 settled_behind state line block_start style =
-    ap₂ (λ (kind : Open) (depth : ℕ). (kind, depth) ∷ settled_opened state.opened) (sym (settled_if state.structure members block)) (settled_inner state.opened)
+    ap₂ (λ (kind : Open) (depth : ℕ). (kind, depth) ∷ settled_opened state.opened)
+    (sym (settled_if state.structure members block)) (settled_inner state.opened)
 settled_behind state line opening style =
-    ap (λ (kind : Open). (kind, line) ∷ settled_opened state.opened) (sym (settled_if (is state.last attribute) (arguments style) (bracket style)))
+    ap (λ (kind : Open). (kind, line) ∷ settled_opened state.opened)
+    (sym (settled_if (is state.last attribute) (arguments style) (bracket style)))
 settled_behind state line template_start style = refl
 settled_behind state line closing style = settled_drop state.opened
 settled_behind state line template_end style = settled_drop state.opened
@@ -119,13 +134,21 @@ settled_behind state line block_end style = settled_drop state.opened
 settled_behind state line right style = refl
 
 settled_last : (state : LayoutState) (right : Role) → last_behind (settled_state state) right ≡ last_behind state right
-settled_last state right = rw (settled_arguments state.opened, settled_members state.opened, settled_brackets state.opened) refl
+settled_last state right =
+    rw (settled_arguments state.opened, settled_members state.opened, settled_brackets state.opened) refl
 
 pub settled_token : (state : LayoutState) (depth class : ℕ) (right : Role) (column : ℕ) (style : Style)
-    → behind_token_at (settled_state state) depth class right column (settle style) ≡ settled (behind_token_at state depth class right column style)
+    → behind_token_at (settled_state state) depth class right column (settle style)
+    ≡ settled (behind_token_at state depth class right column style)
 settled_token state depth class right column style =
     let spot : Opened → Role → Spot = λ opened last. record {
-      state = record { opened = opened; line = depth; last = last; leading = leading_behind state right; structure = structure_behind state class right };
+      state = record {
+        opened = opened;
+        line = depth;
+        last = last;
+        leading = leading_behind state right;
+        structure = structure_behind state class right;
+      };
       last = token;
       column = column;
     } in

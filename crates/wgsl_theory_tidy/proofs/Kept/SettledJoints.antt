@@ -1,4 +1,5 @@
--- What stands between two tokens where brackets that were written item by item keep their lines as they are: a line may end where one ended after an item.
+-- What stands between two tokens where brackets that were written item by item keep their lines as
+-- they are: a line may end where one ended after an item.
 use Rattle.std.proofs.Common.{◌≡◌, ◌||◌, Bool, true, false, cond, refl, sym, ap}
 use Rattle.std.proofs.lemmas.Bool.{true≢false}
 use Rattle.wgsl_model_tidy.specs.Roles.{Role, comma, semicolon, block_end, is, opens_bracket, closes_bracket}
@@ -12,7 +13,8 @@ pub data Loosens (right : Role) : Joint → Joint → Type 0 where
   same_joint : (j : Joint) → Loosens right j j
   loosened : closes_bracket right ≡ false → Loosens right line space_or_line
 
-ended_loosens : (right : Role) (after_item : Bool) (j : Joint) → closes_bracket right ≡ false → Loosens right (ended after_item j) j
+ended_loosens : (right : Role) (after_item : Bool) (j : Joint) → closes_bracket right ≡ false
+    → Loosens right (ended after_item j) j
 ended_loosens right true line h = same_joint line
 ended_loosens right true nothing h = same_joint nothing
 ended_loosens right true space h = same_joint space
@@ -20,7 +22,8 @@ ended_loosens right true nothing_or_line h = same_joint nothing_or_line
 ended_loosens right true space_or_line h = loosened h
 ended_loosens right false j h = same_joint j
 
-pub settled_joint : (inside : Enclosing) (left right : Role) → Loosens right (joint inside left right) (joint (settled_enclosing inside) left right)
+pub settled_joint : (inside : Enclosing) (left right : Role)
+    → Loosens right (joint inside left right) (joint (settled_enclosing inside) left right)
 settled_joint no_bracket left right = same_joint (joint no_bracket left right)
 settled_joint one_line left right = same_joint (joint one_line left right)
 settled_joint own_lines left right = same_joint (joint own_lines left right)
@@ -29,7 +32,8 @@ settled_joint item_lines left right = go (opens_bracket left) (closes_bracket ri
     between : Joint
     between = joint_in_lines true left right
 
-    go : (o c : Bool) → closes_bracket right ≡ c → Loosens right (cond (o || c) line (ended (is left comma || is left semicolon) between)) (cond (o || c) line between)
+    go : (o c : Bool) → closes_bracket right ≡ c → Loosens right (cond (o || c) line
+        (ended (is left comma || is left semicolon) between)) (cond (o || c) line between)
     go true c h = same_joint line
     go false true h = same_joint line
     go false false h = ended_loosens right (is left comma || is left semicolon) between h
@@ -56,7 +60,8 @@ loose_settles right = go (closes_up right)
     go true = closed_up
     go false = spaced
 
-pub comment_settles : (right : Role) (j k : Joint) → Loosens right j k → Settles (behind_comment j right) (behind_comment k right)
+pub comment_settles : (right : Role) (j k : Joint) → Loosens right j k
+    → Settles (behind_comment j right) (behind_comment k right)
 comment_settles right _ _ (same_joint j) = same (behind_comment j right)
 comment_settles right _ _ (loosened h) = loose_settles right
 

@@ -4,7 +4,7 @@ use Rattle.std.specs.Char.{is_whitespace}
 use Rattle.std.proofs.lemmas.Bool.{and_parts, eqb-true, true≢false}
 use Rattle.grammar.specs.Tables.{is_empty}
 use Rattle.wgsl_model.specs.Tokens.Characters.{is_line_break}
-use Rattle.wgsl_model.specs.Tokens.Classes.{BlockComment}
+use Rattle.wgsl_model.specs.Tokens.ClassTable.{BlockComment}
 use Rattle.wgsl_model.specs.Tokens.Trivia.{Place, outside, in_line, in_block, second, out_of_block, first_or_zero, after_trivia}
 use Rattle.wgsl_theory_grammar.proofs.Tokens.Cuts.{trivia-ends, ends_length}
 use Rattle.wgsl_model_tidy.specs.Pieces.{Piece, OpenComment, comments, put}
@@ -54,11 +54,19 @@ record LineOf (text : List ℕ) : Type 0 where
   at_end : AtLineEnd rest
 
 line_more : (c : ℕ) (cs : List ℕ) → is_line_break c ≡ false → LineOf cs → LineOf (c ∷ cs)
-line_more c cs h l = record { front = c ∷ l.front; rest = l.rest; whole = ap (λ xs. c ∷ xs) l.whole; on_line = (h, l.on_line); at_end = l.at_end }
+line_more c cs h l = record {
+  front = c ∷ l.front;
+  rest = l.rest;
+  whole = ap (λ xs. c ∷ xs) l.whole;
+  on_line = (h, l.on_line);
+  at_end = l.at_end;
+}
 
 line_of : (text : List ℕ) → LineOf text
 line_of [] = record { front = []; rest = []; whole = refl; on_line = tt; at_end = tt }
-line_of (c ∷ cs) = by_test (is_line_break c) (λ h. record { front = []; rest = c ∷ cs; whole = refl; on_line = tt; at_end = h }) (λ h. line_more c cs h (line_of cs))
+line_of (c ∷ cs) = by_test (is_line_break c)
+    (λ h. record { front = []; rest = c ∷ cs; whole = refl; on_line = tt; at_end = h })
+    (λ h. line_more c cs h (line_of cs))
 
 -- without the blank space at its end no line break comes in
 pub trimmed_on_line : (xs : List ℕ) → OnLine xs → OnLine (trimmed xs)
@@ -73,9 +81,11 @@ pub trimmed_again : (xs : List ℕ) → trimmed (trimmed xs) ≡ trimmed xs
 trimmed_again [] = refl
 trimmed_again (x ∷ xs) = go (is_whitespace x && is_empty (trimmed xs)) refl (trimmed_again xs)
   where
-    go : (b : Bool) → (is_whitespace x && is_empty (trimmed xs)) ≡ b → trimmed (trimmed xs) ≡ trimmed xs → trimmed (cond b [] (x ∷ trimmed xs)) ≡ cond b [] (x ∷ trimmed xs)
+    go : (b : Bool) → (is_whitespace x && is_empty (trimmed xs)) ≡ b → trimmed (trimmed xs) ≡ trimmed xs
+        → trimmed (cond b [] (x ∷ trimmed xs)) ≡ cond b [] (x ∷ trimmed xs)
     go true e k = refl
-    go false e k = ap (λ ys. cond (is_whitespace x && is_empty ys) [] (x ∷ ys)) k ∙ ap (λ b. cond b [] (x ∷ trimmed xs)) e
+    go false e k = ap (λ ys. cond (is_whitespace x && is_empty ys) [] (x ∷ ys)) k
+        ∙ ap (λ b. cond b [] (x ∷ trimmed xs)) e
 
 -- what follows the blank space and comments from inside a line comment
 pub over_line : (xs rest : List ℕ) → OnLine xs → after_trivia in_line (xs ++ rest) ≡ after_trivia in_line rest
@@ -83,7 +93,8 @@ unfolding after_trivia
 over_line [] rest h = refl
 over_line (x ∷ xs) rest h = rw h.0 (over_line xs rest h.1)
 
-over_break : (c : ℕ) (cs : List ℕ) → is_line_break c ≡ true → after_trivia in_line (c ∷ cs) ≡ after_trivia outside (c ∷ cs)
+over_break : (c : ℕ) (cs : List ℕ) → is_line_break c ≡ true
+    → after_trivia in_line (c ∷ cs) ≡ after_trivia outside (c ∷ cs)
 unfolding after_trivia
 over_break c cs h = rw (h, break_is_blank c h) refl
 
@@ -96,9 +107,11 @@ at_line_end (c ∷ cs) h = over_break c cs h
 -- before a rest with which the line does not end, the comment goes on
 in_line_shorter : (x : ℕ) (r : List ℕ) → after_trivia in_line (x ∷ r) ≡ x ∷ r → ⊥
 unfolding after_trivia
-in_line_shorter x r e = neither (is_line_break x) (after_trivia outside r) (after_trivia in_line r) (x ∷ r) e (no_rest outside x r) (no_rest in_line x r)
+in_line_shorter x r e = neither (is_line_break x) (after_trivia outside r) (after_trivia in_line r)
+    (x ∷ r) e (no_rest outside x r) (no_rest in_line x r)
 
-pub line_left : (rest r : List ℕ) → AtLineEnd rest → after_trivia in_line (rest ++ r) ≡ r → after_trivia outside (rest ++ r) ≡ r
+pub line_left : (rest r : List ℕ) → AtLineEnd rest → after_trivia in_line (rest ++ r) ≡ r
+    → after_trivia outside (rest ++ r) ≡ r
 unfolding after_trivia
 line_left [] [] h e = refl
 line_left [] (x ∷ r) h e = absurd (in_line_shorter x r e)
@@ -111,13 +124,19 @@ data BlockOf (depth : ℕ) (text : List ℕ) : Type 0 where
   stays : IsBody false depth text → BlockOf depth text
 
 -- the sign of another block comment
-opening : (depth c d : ℕ) (cs : List ℕ) → (c == 47 && d == 42) ≡ true → BlockOf (suc depth) cs → BlockOf depth (c ∷ (d ∷ cs))
-opening depth c d cs h (ends xs rest w i) = let same = both_are c d 47 42 h in rw (same.0, same.1) (ends (47 ∷ (42 ∷ xs)) rest (ap (λ ys. 47 ∷ (42 ∷ ys)) w) (body_opens depth xs i))
-opening depth c d cs h (stays i) = let same = both_are c d 47 42 h in rw (same.0, same.1) (stays (body_opens depth cs i))
+opening : (depth c d : ℕ) (cs : List ℕ) → (c == 47 && d == 42) ≡ true → BlockOf (suc depth) cs
+    → BlockOf depth (c ∷ (d ∷ cs))
+opening depth c d cs h (ends xs rest w i) =
+    let same = both_are c d 47 42 h in rw (same.0, same.1)
+    (ends (47 ∷ (42 ∷ xs)) rest (ap (λ ys. 47 ∷ (42 ∷ ys)) w) (body_opens depth xs i))
+opening depth c d cs h (stays i) =
+    let same = both_are c d 47 42 h in rw (same.0, same.1) (stays (body_opens depth cs i))
 
 -- the sign of an end: of this comment, or of one in it
-closing : (depth c d : ℕ) (cs : List ℕ) → (c == 42 && d == 47) ≡ true → ((e : ℕ) → BlockOf e cs) → BlockOf depth (c ∷ (d ∷ cs))
-closing zero c d cs h others = let same = both_are c d 42 47 h in rw (same.0, same.1) (ends (42 ∷ (47 ∷ [])) cs refl (body_end refl))
+closing : (depth c d : ℕ) (cs : List ℕ) → (c == 42 && d == 47) ≡ true → ((e : ℕ) → BlockOf e cs)
+    → BlockOf depth (c ∷ (d ∷ cs))
+closing zero c d cs h others =
+    let same = both_are c d 42 47 h in rw (same.0, same.1) (ends (42 ∷ (47 ∷ [])) cs refl (body_end refl))
 closing (suc depth) c d cs h others = let same = both_are c d 42 47 h in rw (same.0, same.1) (go (others depth))
   where
     go : BlockOf depth cs → BlockOf (suc depth) (42 ∷ (47 ∷ cs))
@@ -133,68 +152,89 @@ body_first _ _ rest (body_closes depth xs i) = refl
 body_first _ _ rest (body_other depth c xs h k i) = refl
 
 -- another character
-other : (depth c : ℕ) (cs : List ℕ) → (c == 47 && first_or_zero cs == 42) ≡ false → (c == 42 && first_or_zero cs == 47) ≡ false → BlockOf depth cs → BlockOf depth (c ∷ cs)
+other : (depth c : ℕ) (cs : List ℕ) → (c == 47 && first_or_zero cs == 42) ≡ false
+    → (c == 42 && first_or_zero cs == 47) ≡ false → BlockOf depth cs → BlockOf depth (c ∷ cs)
 other depth c cs h k (ends xs rest w i) =
     let first : first_or_zero xs ≡ first_or_zero cs = sym (ap first_or_zero w ∙ body_first depth xs rest i) in
-    ends (c ∷ xs) rest (ap (λ ys. c ∷ ys) w) (body_other depth c xs (ap (λ d. c == 47 && d == 42) first ∙ h) (ap (λ d. c == 42 && d == 47) first ∙ k) i)
+    ends (c ∷ xs) rest (ap (λ ys. c ∷ ys) w)
+    (body_other depth c xs (ap (λ d. c == 47 && d == 42) first ∙ h) (ap (λ d. c == 42 && d == 47) first ∙ k) i)
 other depth c cs h k (stays i) = stays (body_other depth c cs h k i)
 
 block_of : (depth : ℕ) (text : List ℕ) → BlockOf depth text
 block_of depth [] = stays (text_end depth refl)
-block_of depth (c ∷ []) = stays (body_other depth c [] (and_false (c == 47)) (and_false (c == 42)) (text_end depth refl))
+block_of depth (c ∷ []) =
+    stays (body_other depth c [] (and_false (c == 47)) (and_false (c == 42)) (text_end depth refl))
 block_of depth (c ∷ (d ∷ cs)) =
     by_test (c == 47 && d == 42) (λ h. opening depth c d cs h (block_of (suc depth) cs)) (λ h.
-    by_test (c == 42 && d == 47) (λ k. closing depth c d cs k (λ e. block_of e cs)) (λ k. other depth c (d ∷ cs) h k (block_of depth (d ∷ cs))))
+    by_test (c == 42 && d == 47) (λ k. closing depth c d cs k (λ e. block_of e cs))
+    (λ k. other depth c (d ∷ cs) h k (block_of depth (d ∷ cs))))
 
 -- ---- one that ends: its piece, what follows it, and that it is neat
 
-no_opening : (depth c : ℕ) (xs rest : List ℕ) → IsBody true depth xs → (c == 47 && first_or_zero xs == 42) ≡ false → (c == 47 && first_or_zero (xs ++ rest) == 42) ≡ false
+no_opening : (depth c : ℕ) (xs rest : List ℕ) → IsBody true depth xs
+    → (c == 47 && first_or_zero xs == 42) ≡ false → (c == 47 && first_or_zero (xs ++ rest) == 42) ≡ false
 no_opening depth c xs rest i h = ap (λ d. c == 47 && d == 42) (body_first depth xs rest i) ∙ h
 
-no_closing : (depth c : ℕ) (xs rest : List ℕ) → IsBody true depth xs → (c == 42 && first_or_zero xs == 47) ≡ false → (c == 42 && first_or_zero (xs ++ rest) == 47) ≡ false
+no_closing : (depth c : ℕ) (xs rest : List ℕ) → IsBody true depth xs
+    → (c == 42 && first_or_zero xs == 47) ≡ false → (c == 42 && first_or_zero (xs ++ rest) == 47) ≡ false
 no_closing depth c xs rest i k = ap (λ d. c == 42 && d == 47) (body_first depth xs rest i) ∙ k
 
-pub ends_piece : (depth : ℕ) (xs : List ℕ) → IsBody true depth xs → (rest : List ℕ) (b : ℕ → List Piece) (n : ℕ) → comments b (in_block depth) n (xs ++ rest) ≡ piece BlockComment xs n ∷ comments b outside 0 rest
+pub ends_piece : (depth : ℕ) (xs : List ℕ) → IsBody true depth xs
+    → (rest : List ℕ) (b : ℕ → List Piece) (n : ℕ)
+    → comments b (in_block depth) n (xs ++ rest) ≡ piece BlockComment xs n ∷ comments b outside 0 rest
 unfolding comments
 ends_piece _ _ (body_end e) rest b n = refl
 ends_piece _ _ (text_end depth e) rest b n = absurd (true≢false e)
 ends_piece _ _ (body_opens depth xs i) rest b n = ap (λ ps. put 47 (put 42 ps)) (ends_piece (suc depth) xs i rest b n)
 ends_piece _ _ (body_closes depth xs i) rest b n = ap (λ ps. put 42 (put 47 ps)) (ends_piece depth xs i rest b n)
 ends_piece _ _ (body_other depth c xs h k i) rest b n =
-    other_sign b n depth c (xs ++ rest) (no_opening depth c xs rest i h) (no_closing depth c xs rest i k) ∙ ap (put c) (ends_piece depth xs i rest b n)
+    other_sign b n depth c (xs ++ rest) (no_opening depth c xs rest i h) (no_closing depth c xs rest i k)
+    ∙ ap (put c) (ends_piece depth xs i rest b n)
 
 -- over a character that is no sign
-other_over : (depth c : ℕ) (rest : List ℕ) → (c == 47 && first_or_zero rest == 42) ≡ false → (c == 42 && first_or_zero rest == 47) ≡ false → after_trivia (in_block depth) (c ∷ rest) ≡ after_trivia (in_block depth) rest
+other_over : (depth c : ℕ) (rest : List ℕ) → (c == 47 && first_or_zero rest == 42) ≡ false
+    → (c == 42 && first_or_zero rest == 47) ≡ false
+    → after_trivia (in_block depth) (c ∷ rest) ≡ after_trivia (in_block depth) rest
 unfolding after_trivia
 other_over depth c rest h k = rw (h, k) refl
 
-other_neat : (depth c : ℕ) (b : Before) (rest : List ℕ) → (c == 47 && first_or_zero rest == 42) ≡ false → (c == 42 && first_or_zero rest == 47) ≡ false → Neat (in_block depth) (then b c) rest → Neat (in_block depth) b (c ∷ rest)
+other_neat : (depth c : ℕ) (b : Before) (rest : List ℕ)
+    → (c == 47 && first_or_zero rest == 42) ≡ false → (c == 42 && first_or_zero rest == 47) ≡ false
+    → Neat (in_block depth) (then b c) rest → Neat (in_block depth) b (c ∷ rest)
 other_neat depth c b rest h k n = (tt, rw (h, k) n)
 
-pub ends_rest : (depth : ℕ) (xs : List ℕ) → IsBody true depth xs → (rest : List ℕ) → after_trivia (in_block depth) (xs ++ rest) ≡ after_trivia outside rest
+pub ends_rest : (depth : ℕ) (xs : List ℕ) → IsBody true depth xs → (rest : List ℕ)
+    → after_trivia (in_block depth) (xs ++ rest) ≡ after_trivia outside rest
 unfolding after_trivia
 ends_rest _ _ (body_end e) rest = refl
 ends_rest _ _ (text_end depth e) rest = absurd (true≢false e)
 ends_rest _ _ (body_opens depth xs i) rest = ends_rest (suc depth) xs i rest
 ends_rest _ _ (body_closes depth xs i) rest = ends_rest depth xs i rest
-ends_rest _ _ (body_other depth c xs h k i) rest = other_over depth c (xs ++ rest) (no_opening depth c xs rest i h) (no_closing depth c xs rest i k) ∙ ends_rest depth xs i rest
+ends_rest _ _ (body_other depth c xs h k i) rest =
+    other_over depth c (xs ++ rest) (no_opening depth c xs rest i h) (no_closing depth c xs rest i k)
+    ∙ ends_rest depth xs i rest
 
-pub ends_neat : (depth : ℕ) (xs : List ℕ) → IsBody true depth xs → (b : Before) (rest : List ℕ) → Neat outside solid rest → Neat (in_block depth) b (xs ++ rest)
+pub ends_neat : (depth : ℕ) (xs : List ℕ) → IsBody true depth xs → (b : Before) (rest : List ℕ)
+    → Neat outside solid rest → Neat (in_block depth) b (xs ++ rest)
 ends_neat _ _ (body_end e) b rest n = (tt, (refl, n))
 ends_neat _ _ (text_end depth e) b rest n = absurd (true≢false e)
 ends_neat _ _ (body_opens depth xs i) b rest n = (tt, (refl, ends_neat (suc depth) xs i solid rest n))
 ends_neat _ _ (body_closes depth xs i) b rest n = (tt, (refl, ends_neat depth xs i solid rest n))
-ends_neat _ _ (body_other depth c xs h k i) b rest n = other_neat depth c b (xs ++ rest) (no_opening depth c xs rest i h) (no_closing depth c xs rest i k) (ends_neat depth xs i (then b c) rest n)
+ends_neat _ _ (body_other depth c xs h k i) b rest n = other_neat depth c b (xs ++ rest)
+    (no_opening depth c xs rest i h) (no_closing depth c xs rest i k)
+    (ends_neat depth xs i (then b c) rest n)
 
 -- ---- one that is not closed: its piece, that nothing follows it, and that it is neat
 
-pub open_piece : (depth : ℕ) (xs : List ℕ) → IsBody false depth xs → (b : ℕ → List Piece) (n : ℕ) → comments b (in_block depth) n xs ≡ piece OpenComment xs n ∷ b 0
+pub open_piece : (depth : ℕ) (xs : List ℕ) → IsBody false depth xs → (b : ℕ → List Piece) (n : ℕ)
+    → comments b (in_block depth) n xs ≡ piece OpenComment xs n ∷ b 0
 unfolding comments
 open_piece _ _ (body_end e) b n = absurd (true≢false (sym e))
 open_piece _ _ (text_end depth e) b n = refl
 open_piece _ _ (body_opens depth xs i) b n = ap (λ ps. put 47 (put 42 ps)) (open_piece (suc depth) xs i b n)
 open_piece _ _ (body_closes depth xs i) b n = ap (λ ps. put 42 (put 47 ps)) (open_piece depth xs i b n)
-open_piece _ _ (body_other depth c xs h k i) b n = other_sign b n depth c xs h k ∙ ap (put c) (open_piece depth xs i b n)
+open_piece _ _ (body_other depth c xs h k i) b n = other_sign b n depth c xs h k
+    ∙ ap (put c) (open_piece depth xs i b n)
 
 pub open_none_left : (depth : ℕ) (xs : List ℕ) → IsBody false depth xs → after_trivia (in_block depth) xs ≡ []
 unfolding after_trivia
@@ -209,28 +249,34 @@ unfolding after_trivia
 in_block_shorter depth x r e =
     let past_closing = after_trivia (second (out_of_block depth)) r in
     let past = after_trivia (in_block depth) r in
-    neither (x == 47 && first_or_zero r == 42) (after_trivia (second (in_block (suc depth))) r) (cond (x == 42 && first_or_zero r == 47) past_closing past) (x ∷ r) e
+    neither (x == 47 && first_or_zero r == 42) (after_trivia (second (in_block (suc depth))) r)
+    (cond (x == 42 && first_or_zero r == 47) past_closing past) (x ∷ r) e
     (no_rest (second (in_block (suc depth))) x r)
-    (λ f. neither (x == 42 && first_or_zero r == 47) past_closing past (x ∷ r) f (no_rest (second (out_of_block depth)) x r) (no_rest (in_block depth) x r))
+    (λ f. neither (x == 42 && first_or_zero r == 47) past_closing past (x ∷ r) f
+    (no_rest (second (out_of_block depth)) x r) (no_rest (in_block depth) x r))
 
 one_shorter : (depth c x : ℕ) (r : List ℕ) → after_trivia (in_block depth) (c ∷ (x ∷ r)) ≡ x ∷ r → ⊥
 unfolding after_trivia
 one_shorter depth c x r e =
     let past_closing = after_trivia (out_of_block depth) r in
     let past = after_trivia (in_block depth) (x ∷ r) in
-    neither (c == 47 && x == 42) (after_trivia (in_block (suc depth)) r) (cond (c == 42 && x == 47) past_closing past) (x ∷ r) e
+    neither (c == 47 && x == 42) (after_trivia (in_block (suc depth)) r)
+    (cond (c == 42 && x == 47) past_closing past) (x ∷ r) e
     (no_rest (in_block (suc depth)) x r)
-    (λ f. neither (c == 42 && x == 47) past_closing past (x ∷ r) f (no_rest (out_of_block depth) x r) (in_block_shorter depth x r))
+    (λ f. neither (c == 42 && x == 47) past_closing past (x ∷ r) f
+    (no_rest (out_of_block depth) x r) (in_block_shorter depth x r))
 
 -- before another text it goes on
-pub open_goes_on : (depth : ℕ) (xs : List ℕ) → IsBody false depth xs → (x : ℕ) (r : List ℕ) → after_trivia (in_block depth) (xs ++ (x ∷ r)) ≡ x ∷ r → ⊥
+pub open_goes_on : (depth : ℕ) (xs : List ℕ) → IsBody false depth xs → (x : ℕ) (r : List ℕ)
+    → after_trivia (in_block depth) (xs ++ (x ∷ r)) ≡ x ∷ r → ⊥
 unfolding after_trivia
 open_goes_on _ _ (body_end e) x r f = absurd (true≢false (sym e))
 open_goes_on _ _ (text_end depth e) x r f = in_block_shorter depth x r f
 open_goes_on _ _ (body_opens depth xs i) x r f = open_goes_on (suc depth) xs i x r f
 open_goes_on _ _ (body_closes depth xs i) x r f = open_goes_on depth xs i x r f
 open_goes_on _ _ (body_other depth c [] h k i) x r f = one_shorter depth c x r f
-open_goes_on _ _ (body_other depth c (d ∷ xs) h k i) x r f = open_goes_on depth (d ∷ xs) i x r (sym (other_over depth c (d ∷ (xs ++ (x ∷ r))) h k) ∙ f)
+open_goes_on _ _ (body_other depth c (d ∷ xs) h k i) x r f = open_goes_on depth (d ∷ xs) i x r
+    (sym (other_over depth c (d ∷ (xs ++ (x ∷ r))) h k) ∙ f)
 
 pub open_neat : (depth : ℕ) (xs : List ℕ) → IsBody false depth xs → (b : Before) → Neat (in_block depth) b xs
 open_neat _ _ (body_end e) b = absurd (true≢false (sym e))
@@ -243,7 +289,8 @@ open_neat _ _ (body_other depth c xs h k i) b = other_neat depth c b xs h k (ope
 
 pub data Front : List ℕ → Type 0 where
   no_text : Front []
-  no_sign : (c : ℕ) (cs : List ℕ) → (c == 47 && first_or_zero cs == 47) ≡ false → (c == 47 && first_or_zero cs == 42) ≡ false → Front (c ∷ cs)
+  no_sign : (c : ℕ) (cs : List ℕ) → (c == 47 && first_or_zero cs == 47) ≡ false
+      → (c == 47 && first_or_zero cs == 42) ≡ false → Front (c ∷ cs)
   line_sign : (xs rest : List ℕ) → OnLine xs → AtLineEnd rest → Front (47 ∷ (47 ∷ (xs ++ rest)))
   block_sign : (xs rest : List ℕ) → IsBody true 0 xs → Front (47 ∷ (42 ∷ (xs ++ rest)))
   open_sign : (xs : List ℕ) → IsBody false 0 xs → Front (47 ∷ (42 ∷ xs))
@@ -254,7 +301,8 @@ line_front c d cs h l =
     rw (same.0, same.1, l.whole) (line_sign l.front l.rest l.on_line l.at_end)
 
 block_front : (c d : ℕ) (cs : List ℕ) → (c == 47 && d == 42) ≡ true → BlockOf 0 cs → Front (c ∷ (d ∷ cs))
-block_front c d cs h (ends xs rest w i) = let same = both_are c d 47 42 h in rw (same.0, same.1, w) (block_sign xs rest i)
+block_front c d cs h (ends xs rest w i) =
+    let same = both_are c d 47 42 h in rw (same.0, same.1, w) (block_sign xs rest i)
 block_front c d cs h (stays i) = let same = both_are c d 47 42 h in rw (same.0, same.1) (open_sign cs i)
 
 pub front_of : (text : List ℕ) → Front text

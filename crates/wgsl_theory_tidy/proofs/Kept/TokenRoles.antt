@@ -8,7 +8,7 @@ use Rattle.std.proofs.lemmas.Slice.Eq.{bytes_eq-Decides}
 use Rattle.unicode_ident.specs.Ident.{is_xid_start}
 use Rattle.grammar.specs.Tokens.{Payload.number as number_payload}
 use Rattle.grammar.specs.Tables.{is_empty}
-use Rattle.wgsl_model.specs.Tokens.Classes.{Ident, ReservedWord, SymUnderscore, AbstractInt, I32, U32, AbstractFloat, F32, F16, SymMinusMinus, TemplateArgsEnd, symbols, keywords}
+use Rattle.wgsl_model.specs.Tokens.ClassTable.{Ident, ReservedWord, SymUnderscore, AbstractInt, I32, U32, AbstractFloat, F32, F16, SymMinusMinus, TemplateArgsEnd, symbols, keywords}
 use Rattle.wgsl_model.specs.Tokens.Kind.{Kind, plain, named}
 use Rattle.wgsl_model.specs.Tokens.Numbers.{number_of, number_below, float_of, number_value, without_last, whole_number, i_suffix, u_suffix, f_suffix, h_suffix, abstract_float, float}
 use Rattle.wgsl_model.specs.Tokens.Pattern.{empty, spells}
@@ -57,15 +57,19 @@ keyword_roles behind = refl
 word_role : (behind : Bool) (bytes : List ℕ) → is_word_role (role_of behind (kind_of_word bytes).class) ≡ true
 word_role behind bytes = by_underscore (bytes_eq bytes (codes "_"))
   where
-    by_reserved : (b : Bool) → is_word_role (role_of behind (cond b (named ReservedWord bytes) (named Ident bytes)).class) ≡ true
+    by_reserved : (b : Bool)
+        → is_word_role (role_of behind (cond b (named ReservedWord bytes) (named Ident bytes)).class) ≡ true
     by_reserved true = refl
     by_reserved false = refl
 
-    by_keyword : (o : Option ℕ) → look_up keywords bytes ≡ o → is_word_role (role_of behind (keyword_or_name o bytes).class) ≡ true
-    by_keyword (Some c) e = found_passes (λ w c. is_word_role (role_of behind c)) keywords bytes c (keyword_roles behind) e
+    by_keyword : (o : Option ℕ) → look_up keywords bytes ≡ o
+        → is_word_role (role_of behind (keyword_or_name o bytes).class) ≡ true
+    by_keyword (Some c) e = found_passes (λ w c. is_word_role (role_of behind c)) keywords bytes c
+        (keyword_roles behind) e
     by_keyword None e = by_reserved (is_word_among reserved_words bytes)
 
-    by_underscore : (b : Bool) → is_word_role (role_of behind (cond b (plain SymUnderscore) (keyword_or_name (look_up keywords bytes) bytes)).class) ≡ true
+    by_underscore : (b : Bool) → is_word_role (role_of behind
+        (cond b (plain SymUnderscore) (keyword_or_name (look_up keywords bytes) bytes)).class) ≡ true
     by_underscore true = refl
     by_underscore false = by_keyword (look_up keywords bytes) refl
 
@@ -79,17 +83,23 @@ number_does c = if c == AbstractInt then unsuffixed else number
 abbrev IsNumberClass : ℕ → Type 0
 IsNumberClass c = (behind : Bool) → role_of behind c ≡ number_does c
 
-below_role : (class limit n : ℕ) (k : Kind) → IsNumberClass class → number_below class limit n ≡ Some k → IsNumberClass k.class
+below_role : (class limit n : ℕ) (k : Kind) → IsNumberClass class
+    → number_below class limit n ≡ Some k → IsNumberClass k.class
 below_role class limit n k r h = go (nat_lt n limit) h
   where
-    go : (b : Bool) → cond b (Some (record { class = class; payload = number_payload (pos n) })) None ≡ Some k → IsNumberClass k.class
+    go : (b : Bool)
+        → cond b (Some (record { class = class; payload = number_payload (pos n) })) None ≡ Some k
+        → IsNumberClass k.class
     go true e = let same : class ≡ k.class = cc in subst IsNumberClass same r
     go false e = absurd (cc)
 
 pub number_role : (w : List ℕ) (k : Kind) → number_of w ≡ Some k → IsNumberClass k.class
-number_role w k h = go (spells (whole_number empty) w) (spells (whole_number i_suffix) w) (spells (whole_number u_suffix) w) (spells abstract_float w) (spells (float f_suffix) w) (spells (float h_suffix) w) h
+number_role w k h = go (spells (whole_number empty) w) (spells (whole_number i_suffix) w)
+    (spells (whole_number u_suffix) w) (spells abstract_float w) (spells (float f_suffix) w)
+    (spells (float h_suffix) w) h
   where
-    float_role : (class : ℕ) (text : List ℕ) → IsNumberClass class → float_of class text ≡ Some k → IsNumberClass k.class
+    float_role : (class : ℕ) (text : List ℕ) → IsNumberClass class → float_of class text ≡ Some k
+        → IsNumberClass k.class
     float_role class text r e = let same : class ≡ k.class = cc in subst IsNumberClass same r
 
     go : (a b c d e f : Bool)
@@ -109,16 +119,22 @@ number_role w k h = go (spells (whole_number empty) w) (spells (whole_number i_s
     go false false false false false false g = absurd (cc)
 
 -- the first character of a number
-number_first : (x : ℕ) (xs : List ℕ) → (is_ascii_digit x || (x == 46 && not (is_empty xs))) ≡ true → begins_number x ≡ true
+number_first : (x : ℕ) (xs : List ℕ) → (is_ascii_digit x || (x == 46 && not (is_empty xs))) ≡ true
+    → begins_number x ≡ true
 number_first x xs h =
-    by_either (is_ascii_digit x) (x == 46 && not (is_empty xs)) h (λ d. or_left (is_ascii_digit x) (x == 46) d) (λ p. or_right (is_ascii_digit x) (x == 46) (and_parts (x == 46) (not (is_empty xs)) p).0)
+    by_either (is_ascii_digit x) (x == 46 && not (is_empty xs)) h
+    (λ d. or_left (is_ascii_digit x) (x == 46) d)
+    (λ p. or_right (is_ascii_digit x) (x == 46) (and_parts (x == 46) (not (is_empty xs)) p).0)
 
 -- a number of another class than `AbstractInt` does not go on with a point
-ends_at_point : (x : ℕ) (xs : List ℕ) (k : Kind) → number_of (x ∷ xs) ≡ Some k → (k.class == AbstractInt) ≡ false → begins_number x ≡ true → EndsAt (x ∷ xs) 46
+ends_at_point : (x : ℕ) (xs : List ℕ) (k : Kind) → number_of (x ∷ xs) ≡ Some k
+    → (k.class == AbstractInt) ≡ false → begins_number x ≡ true → EndsAt (x ∷ xs) 46
 ends_at_point x xs k v a b z h =
-    one_of_three ((x ∷ xs) ++ (46 ∷ z)) h (λ s. number_no_name x (xs ++ (46 ∷ z)) b s) (λ s. no_point_behind (x ∷ xs) k v a z s) (λ s. number_no_symbol x xs 46 z b s)
+    one_of_three ((x ∷ xs) ++ (46 ∷ z)) h (λ s. number_no_name x (xs ++ (46 ∷ z)) b s)
+    (λ s. no_point_behind (x ∷ xs) k v a z s) (λ s. number_no_symbol x xs 46 z b s)
 
-number_fits : (x : ℕ) (xs : List ℕ) (k : Kind) → number_of (x ∷ xs) ≡ Some k → begins_number x ≡ true → Fits (number_does k.class) (x ∷ xs)
+number_fits : (x : ℕ) (xs : List ℕ) (k : Kind) → number_of (x ∷ xs) ≡ Some k
+    → begins_number x ≡ true → Fits (number_does k.class) (x ∷ xs)
 number_fits x xs k v b = go (k.class == AbstractInt) refl
   where
     go : (a : Bool) → (k.class == AbstractInt) ≡ a → Fits (if a then unsuffixed else number) (x ∷ xs)
@@ -154,16 +170,21 @@ symbol_roles false = refl
 one_text : (role : Role) (v w : List ℕ) → bytes_eq v w ≡ true → Fits role v → Fits role w
 one_text role v w h f = subst (Fits role) ((bytes_eq-Decides v w).0 h) f
 
-two_texts : (role : Role) (u v w : List ℕ) → (bytes_eq u w || bytes_eq v w) ≡ true → Fits role u → Fits role v → Fits role w
-two_texts role u v w h f g = by_either (bytes_eq u w) (bytes_eq v w) h (λ e. one_text role u w e f) (λ e. one_text role v w e g)
+two_texts : (role : Role) (u v w : List ℕ) → (bytes_eq u w || bytes_eq v w) ≡ true → Fits role u
+    → Fits role v → Fits role w
+two_texts role u v w h f g = by_either (bytes_eq u w) (bytes_eq v w) h (λ e. one_text role u w e f)
+    (λ e. one_text role v w e g)
 
 underscore_begins : begins_name 95 ≡ true
 underscore_begins = or_right (is_xid_start 95) (95 == 95) refl
 
 symbol_fits : (role : Role) (w : List ℕ) → is_symbol role w ≡ true → Fits role w
-symbol_fits word w h = two_texts word (codes "_") (codes "->") w h (word_fits word 95 [] refl underscore_begins) (is_arrow, or_right (begins_name 45) (45 == 45) refl)
-symbol_fits opening w h = two_texts opening (codes "(") (codes "[") w h (is_opening 40 paren_left_alone, refl) (is_opening 91 bracket_left_alone, refl)
-symbol_fits closing w h = two_texts closing (codes ")") (codes "]") w h (is_closing 41 paren_right_alone, refl) (is_closing 93 bracket_right_alone, refl)
+symbol_fits word w h = two_texts word (codes "_") (codes "->") w h
+    (word_fits word 95 [] refl underscore_begins) (is_arrow, or_right (begins_name 45) (45 == 45) refl)
+symbol_fits opening w h = two_texts opening (codes "(") (codes "[") w h
+    (is_opening 40 paren_left_alone, refl) (is_opening 91 bracket_left_alone, refl)
+symbol_fits closing w h = two_texts closing (codes ")") (codes "]") w h
+    (is_closing 41 paren_right_alone, refl) (is_closing 93 bracket_right_alone, refl)
 symbol_fits block_start w h = one_text block_start (codes "{") w h (is_other block_start 123 [] refl, refl)
 symbol_fits block_end w h = one_text block_end (codes "}") w h (is_other block_end 125 [] refl, refl)
 symbol_fits comma w h = one_text comma (codes ",") w h (is_comma, refl)
@@ -174,7 +195,8 @@ symbol_fits at w h = one_text at (codes "@") w h (is_at, refl)
 symbol_fits minus w h = one_text minus (codes "-") w h (is_minus, refl)
 symbol_fits ampersand w h = one_text ampersand (codes "&") w h (is_and, refl)
 symbol_fits prefix w h =
-    by_either (bytes_eq (codes "!") w) _ h (λ e. one_text prefix (codes "!") w e (is_bang, refl)) (λ e. two_texts prefix (codes "~") (codes "*") w e (is_tilde, refl) (is_star, refl))
+    by_either (bytes_eq (codes "!") w) _ h (λ e. one_text prefix (codes "!") w e (is_bang, refl))
+    (λ e. two_texts prefix (codes "~") (codes "*") w e (is_tilde, refl) (is_star, refl))
 symbol_fits binary [] h = absurd (true≢false (sym h))
 symbol_fits binary (x ∷ xs) h = (is_other binary x xs refl, refl)
 symbol_fits step w h = two_texts step (codes "++") (codes "--") w h (is_plus_plus, refl) (is_minus_minus, refl)
@@ -186,25 +208,30 @@ valued_fits : (behind : Bool) (k : Kind) (w : List ℕ) → kind_of_spelling w �
 valued_fits behind k [] h = absurd (cc)
 valued_fits behind k (x ∷ xs) h = by (begins_name x) (is_ascii_digit x || (x == 46 && not (is_empty xs))) refl refl h
   where
-    of_symbol : (o : Option ℕ) → look_up symbols (x ∷ xs) ≡ o → option_map plain o ≡ Some k → Fits (role_of behind k.class) (x ∷ xs)
+    of_symbol : (o : Option ℕ) → look_up symbols (x ∷ xs) ≡ o → option_map plain o ≡ Some k
+        → Fits (role_of behind k.class) (x ∷ xs)
     of_symbol None p q = absurd (cc)
     of_symbol (Some c) p q =
         let same : plain c ≡ k = cc in
-        let fits : Fits (role_of behind c) (x ∷ xs) = symbol_fits (role_of behind c) (x ∷ xs) (found_passes (λ w d. is_symbol (role_of behind d) w) symbols (x ∷ xs) c (symbol_roles behind) p) in
+        let fits : Fits (role_of behind c) (x ∷ xs) = symbol_fits (role_of behind c) (x ∷ xs)
+        (found_passes (λ w d. is_symbol (role_of behind d) w) symbols (x ∷ xs) c (symbol_roles behind) p) in
         subst (λ (kind : Kind). Fits (role_of behind kind.class) (x ∷ xs)) same fits
 
     by : (a b : Bool) → begins_name x ≡ a → (is_ascii_digit x || (x == 46 && not (is_empty xs))) ≡ b
-        → cond a (Some (kind_of_word (encode_utf8_all (x ∷ xs)))) (cond b (number_of (x ∷ xs)) (option_map plain (look_up symbols (x ∷ xs)))) ≡ Some k → Fits (role_of behind k.class) (x ∷ xs)
+        → cond a (Some (kind_of_word (encode_utf8_all (x ∷ xs)))) (cond b (number_of (x ∷ xs))
+        (option_map plain (look_up symbols (x ∷ xs)))) ≡ Some k → Fits (role_of behind k.class) (x ∷ xs)
     by true b e f v =
         let same : kind_of_word (encode_utf8_all (x ∷ xs)) ≡ k = cc in
-        let does : is_word_role (role_of behind k.class) ≡ true = subst (λ (kind : Kind). is_word_role (role_of behind kind.class) ≡ true) same (word_role behind (encode_utf8_all (x ∷ xs))) in
+        let does : is_word_role (role_of behind k.class) ≡ true = subst (λ (kind : Kind).
+        is_word_role (role_of behind kind.class) ≡ true) same (word_role behind (encode_utf8_all (x ∷ xs))) in
         word_fits (role_of behind k.class) x xs does e
     by false true e f v =
         let first = number_first x xs f in
         subst (λ (role : Role). Fits role (x ∷ xs)) (sym (number_role (x ∷ xs) k v behind)) (number_fits x xs k v first)
     by false false e f v = of_symbol (look_up symbols (x ∷ xs)) refl v
 
-token_shaped : (behind : Bool) (k : Kind) (w rest : List ℕ) → IsToken k w rest → Shaped (role_of behind k.class) w ⊎ (k ≡ plain TemplateArgsEnd)
+token_shaped : (behind : Bool) (k : Kind) (w rest : List ℕ) → IsToken k w rest
+    → Shaped (role_of behind k.class) w ⊎ (k ≡ plain TemplateArgsEnd)
 token_shaped behind k w rest (is_word kind v more m s r) = inl (valued_fits behind k w s.valued).0
 token_shaped behind k w rest (is_slash more r) = inl (is_other binary 47 [] refl)
 token_shaped behind k w rest (is_slash_equal more r) = inl (is_other binary 47 (61 ∷ []) refl)
@@ -224,7 +251,8 @@ binary_fits role [] s = absurd s
 binary_fits role (x ∷ xs) s = (is_other binary x xs refl, refl)
 
 -- what a token does says what its characters are, but for the end of a template list
-pub shaped : (state : LayoutState) (k : Kind) (before_operand : Bool) (w rest : List ℕ) → IsToken k w rest → Shaped (role_in state k.class before_operand) w ⊎ (k ≡ plain TemplateArgsEnd)
+pub shaped : (state : LayoutState) (k : Kind) (before_operand : Bool) (w rest : List ℕ)
+    → IsToken k w rest → Shaped (role_in state k.class before_operand) w ⊎ (k ≡ plain TemplateArgsEnd)
 shaped state k before_operand w rest t = go (k.class == SymMinusMinus && before_operand)
   where
     behind : Bool
@@ -235,7 +263,8 @@ shaped state k before_operand w rest t = go (k.class == SymMinusMinus && before_
     go false = token_shaped behind k w rest t
 
 -- and with which one it begins
-pub starts_so : (state : LayoutState) (k : Kind) (before_operand : Bool) (w rest : List ℕ) → IsToken k w rest → Starts (role_in state k.class before_operand) w
+pub starts_so : (state : LayoutState) (k : Kind) (before_operand : Bool) (w rest : List ℕ)
+    → IsToken k w rest → Starts (role_in state k.class before_operand) w
 starts_so state k before_operand w rest t = go (k.class == SymMinusMinus && before_operand)
   where
     behind : Bool

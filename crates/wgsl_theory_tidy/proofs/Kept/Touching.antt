@@ -50,12 +50,15 @@ at_two P d a b e h k = by_either (d == a) (d == b) e (λ f. at_one P d a f h) (�
 
 -- ---- behind a token of any kind: `,` `;` `:` `)` `]` `(` `[`
 
-tight_ends : (x : ℕ) (xs : List ℕ) (right : Role) (d : ℕ) → closed_up attribute right ≡ true → starts right d ≡ true → EndsAt (x ∷ xs) d
+tight_ends : (x : ℕ) (xs : List ℕ) (right : Role) (d : ℕ) → closed_up attribute right ≡ true
+    → starts right d ≡ true → EndsAt (x ∷ xs) d
 tight_ends x xs comma d h s = at_one (EndsAt (x ∷ xs)) d 44 s (alone_ends 44 x xs comma_alone)
 tight_ends x xs semicolon d h s = at_one (EndsAt (x ∷ xs)) d 59 s (alone_ends 59 x xs semicolon_alone)
 tight_ends x xs colon d h s = at_one (EndsAt (x ∷ xs)) d 58 s (alone_ends 58 x xs colon_alone)
-tight_ends x xs closing d h s = at_two (EndsAt (x ∷ xs)) d 41 93 s (alone_ends 41 x xs paren_right_alone) (alone_ends 93 x xs bracket_right_alone)
-tight_ends x xs opening d h s = at_two (EndsAt (x ∷ xs)) d 40 91 s (alone_ends 40 x xs paren_left_alone) (alone_ends 91 x xs bracket_left_alone)
+tight_ends x xs closing d h s = at_two (EndsAt (x ∷ xs)) d 41 93 s
+    (alone_ends 41 x xs paren_right_alone) (alone_ends 93 x xs bracket_right_alone)
+tight_ends x xs opening d h s = at_two (EndsAt (x ∷ xs)) d 40 91 s
+    (alone_ends 40 x xs paren_left_alone) (alone_ends 91 x xs bracket_left_alone)
 tight_ends x xs right d h s = absurd (true≢false (sym h))
 
 -- ---- behind a name, a keyword or `_`
@@ -63,7 +66,8 @@ tight_ends x xs right d h s = absurd (true≢false (sym h))
 name_ends : (x : ℕ) (xs : List ℕ) (d : ℕ) → begins_name x ≡ true → takes d identifier ≡ false → EndsAt (x ∷ xs) d
 name_ends x xs d b e z h =
     one_of_three ((x ∷ xs) ++ (d ∷ z)) h
-    (λ k. no_such d (x ∷ xs) z (spelled_each (differs d) identifier (lets_differs d identifier e) ((x ∷ xs) ++ (d ∷ z)) k))
+    (λ k. no_such d (x ∷ xs) z
+    (spelled_each (differs d) identifier (lets_differs d identifier e) ((x ∷ xs) ++ (d ∷ z)) k))
     (λ k. name_no_number x b (spelled_first begins_number number_spelling number_begins x (xs ++ (d ∷ z)) k))
     (λ k. name_no_symbol x xs d z b k)
 
@@ -79,7 +83,8 @@ plus_ends = rw (is_xid_start-ascii 43 (lit< tt), is_xid_continue-ascii 43 (lit< 
 minus_ends : takes 45 identifier ≡ false
 minus_ends = rw (is_xid_start-ascii 45 (lit< tt), is_xid_continue-ascii 45 (lit< tt)) refl
 
-behind_name : (x : ℕ) (xs : List ℕ) → begins_name x ≡ true → (right : Role) (d : ℕ) → closed_up name right ≡ true → starts right d ≡ true → EndsAt (x ∷ xs) d
+behind_name : (x : ℕ) (xs : List ℕ) → begins_name x ≡ true → (right : Role) (d : ℕ)
+    → closed_up name right ≡ true → starts right d ≡ true → EndsAt (x ∷ xs) d
 behind_name x xs b comma d h s = tight_ends x xs comma d refl s
 behind_name x xs b semicolon d h s = tight_ends x xs semicolon d refl s
 behind_name x xs b colon d h s = tight_ends x xs colon d refl s
@@ -88,7 +93,8 @@ behind_name x xs b opening d h s = tight_ends x xs opening d refl s
 behind_name x xs b template_start d h s = at_one (EndsAt (x ∷ xs)) d 60 s (name_ends x xs 60 b less_ends)
 behind_name x xs b template_end d h s = at_one (EndsAt (x ∷ xs)) d 62 s (name_ends x xs 62 b greater_ends)
 behind_name x xs b period d h s = at_one (EndsAt (x ∷ xs)) d 46 s (name_ends x xs 46 b identifier_takes_none)
-behind_name x xs b step d h s = at_two (EndsAt (x ∷ xs)) d 43 45 s (name_ends x xs 43 b plus_ends) (name_ends x xs 45 b minus_ends)
+behind_name x xs b step d h s = at_two (EndsAt (x ∷ xs)) d 43 45 s (name_ends x xs 43 b plus_ends)
+    (name_ends x xs 45 b minus_ends)
 behind_name x xs b right d h s = absurd (true≢false (sym h))
 
 -- another word: what stands closed up behind it does so behind a name
@@ -109,7 +115,8 @@ else_is_closed_up right h = absurd (true≢false (sym h))
 
 -- ---- behind a number
 
-after_unsuffixed : (x : ℕ) (xs : List ℕ) → begins_number x ≡ true → (right : Role) (d : ℕ) → closed_up unsuffixed right ≡ true → starts right d ≡ true → EndsAt (x ∷ xs) d
+after_unsuffixed : (x : ℕ) (xs : List ℕ) → begins_number x ≡ true → (right : Role) (d : ℕ)
+    → closed_up unsuffixed right ≡ true → starts right d ≡ true → EndsAt (x ∷ xs) d
 after_unsuffixed x xs b comma d h s = tight_ends x xs comma d refl s
 after_unsuffixed x xs b semicolon d h s = tight_ends x xs semicolon d refl s
 after_unsuffixed x xs b colon d h s = tight_ends x xs colon d refl s
@@ -119,7 +126,8 @@ after_unsuffixed x xs b template_end d h s = at_one (EndsAt (x ∷ xs)) d 62 s (
 after_unsuffixed x xs b right d h s = absurd (true≢false (sym h))
 
 -- one that no `.` goes on with
-after_number : (x : ℕ) (xs : List ℕ) → begins_number x ≡ true → EndsAt (x ∷ xs) 46 → (right : Role) (d : ℕ) → closed_up number right ≡ true → starts right d ≡ true → EndsAt (x ∷ xs) d
+after_number : (x : ℕ) (xs : List ℕ) → begins_number x ≡ true → EndsAt (x ∷ xs) 46
+    → (right : Role) (d : ℕ) → closed_up number right ≡ true → starts right d ≡ true → EndsAt (x ∷ xs) d
 after_number x xs b p period d h s = at_one (EndsAt (x ∷ xs)) d 46 s p
 after_number x xs b p comma d h s = tight_ends x xs comma d refl s
 after_number x xs b p semicolon d h s = tight_ends x xs semicolon d refl s
@@ -176,7 +184,8 @@ name_joins d h = record {
 }
 
 test_joins : (f : ℕ → Bool) (d : ℕ) → f d ≡ true → f 61 ≡ false → f 62 ≡ false → f 60 ≡ false → JoinsNothing d
-test_joins f d h e g l = record { equal = not_first f d 61 h e; greater = not_first f d 62 h g; less = not_first f d 60 h l }
+test_joins f d h e g l =
+    record { equal = not_first f d 61 h e; greater = not_first f d 62 h g; less = not_first f d 60 h l }
 
 less_touches : (d : ℕ) → JoinsNothing d → EndsAt (60 ∷ []) d
 less_touches d j = sign_ends_before 60 [] (d ∷ []) less_no_name refl (rw (j.equal, j.less) refl)
@@ -244,18 +253,22 @@ behind_sign ampersand right w h = absurd (true≢false (sym h))
 behind_sign prefix right w h = absurd (true≢false (sym h))
 behind_sign left right w h = absurd (true≢false (sym w))
 
-by_follows : (x : ℕ) (xs : List ℕ) (right : Role) (d : ℕ) → starts right d ≡ true → Follows right → (JoinsNothing d → EndsAt (x ∷ xs) d) → EndsAt (x ∷ xs) d
+by_follows : (x : ℕ) (xs : List ℕ) (right : Role) (d : ℕ) → starts right d ≡ true → Follows right
+    → (JoinsNothing d → EndsAt (x ∷ xs) d) → EndsAt (x ∷ xs) d
 by_follows x xs right d s (operand o) f = f (joins right d o s)
 by_follows x xs right d s (tight t) f = tight_ends x xs right d t s
 
-behind_less : (right : Role) (d : ℕ) → closed_up template_start right ≡ true → starts right d ≡ true → EndsAt (60 ∷ []) d
+behind_less : (right : Role) (d : ℕ) → closed_up template_start right ≡ true → starts right d ≡ true
+    → EndsAt (60 ∷ []) d
 behind_less right d h s = by_follows 60 [] right d s (behind_sign template_start right refl h) (less_touches d)
 
 behind_minus : (right : Role) (d : ℕ) → closed_up minus right ≡ true → starts right d ≡ true → EndsAt (45 ∷ []) d
-behind_minus right d h s = by_follows 45 [] right d s (behind_sign minus right refl h) (λ j. minus_touches d j (not_first (starts right) d 45 s (no_minus right h)))
+behind_minus right d h s = by_follows 45 [] right d s (behind_sign minus right refl h)
+    (λ j. minus_touches d j (not_first (starts right) d 45 s (no_minus right h)))
 
 behind_and : (right : Role) (d : ℕ) → closed_up ampersand right ≡ true → starts right d ≡ true → EndsAt (38 ∷ []) d
-behind_and right d h s = by_follows 38 [] right d s (behind_sign ampersand right refl h) (λ j. and_touches d j (not_first (starts right) d 38 s (no_and right h)))
+behind_and right d h s = by_follows 38 [] right d s (behind_sign ampersand right refl h)
+    (λ j. and_touches d j (not_first (starts right) d 38 s (no_and right h)))
 
 behind_bang : (right : Role) (d : ℕ) → closed_up prefix right ≡ true → starts right d ≡ true → EndsAt (33 ∷ []) d
 behind_bang right d h s = by_follows 33 [] right d s (behind_sign prefix right refl h) (bang_touches d)
@@ -266,7 +279,8 @@ behind_star right d h s = by_follows 42 [] right d s (behind_sign prefix right r
 point_ends : (c : ℕ) → begins_name c ≡ true → EndsAt (46 ∷ []) c
 point_ends c b z h =
     one_of_three (46 ∷ (c ∷ z)) h
-    (λ k. true≢false (sym (spelled_first begins_name identifier identifier_begins 46 (c ∷ z) k) ∙ rw (is_xid_start-ascii 46 (lit< tt)) refl))
+    (λ k. true≢false (sym (spelled_first begins_name identifier identifier_begins 46 (c ∷ z) k)
+    ∙ rw (is_xid_start-ascii 46 (lit< tt)) refl))
     (λ k. true≢false (sym k ∙ point_number c z (no_digit c b)))
     (λ k. no_longer_symbol (46 ∷ []) c refl z k)
 
@@ -283,7 +297,8 @@ arrow_touches d = sign_ends_before 45 (62 ∷ []) (d ∷ []) minus_no_name refl 
 
 -- ---- all of it
 
--- binary operators, the brackets of blocks, `;` and `:`, the ends of statements, members and attributes
+-- binary operators, the brackets of blocks, `;` and `:`, the ends of statements, members and
+-- attributes
 abbrev pub is_tight_only : Role → Bool
 is_tight_only binary = true
 is_tight_only block_start = true
@@ -295,7 +310,8 @@ is_tight_only attribute = true
 is_tight_only role = false
 
 -- behind one of these stands closed up only what does so behind a token of any kind
-pub tight_only : (left right : Role) → is_tight_only left ≡ true → closed_up left right ≡ true → closed_up attribute right ≡ true
+pub tight_only : (left right : Role) → is_tight_only left ≡ true → closed_up left right ≡ true
+    → closed_up attribute right ≡ true
 tight_only attribute right t h = h
 tight_only left comma t h = refl
 tight_only left semicolon t h = refl
@@ -309,7 +325,8 @@ tight_only colon right t h = absurd (true≢false (sym h))
 tight_only item_end right t h = absurd (true≢false (sym h))
 tight_only left right t h = absurd (true≢false (sym t))
 
--- the characters of a token that does so; the `>` of a template list is none, since whatever token it begins, it ends the list
+-- the characters of a token that does so; the `>` of a template list is none, since whatever token
+-- it begins, it ends the list
 pub data Shaped : Role → List ℕ → Type 0 where
   is_name : (x : ℕ) (xs : List ℕ) → begins_name x ≡ true → Shaped name (x ∷ xs)
   is_word : (x : ℕ) (xs : List ℕ) → begins_name x ≡ true → Shaped word (x ∷ xs)
@@ -333,7 +350,8 @@ pub data Shaped : Role → List ℕ → Type 0 where
   is_other : (left : Role) (x : ℕ) (xs : List ℕ) → is_tight_only left ≡ true → Shaped left (x ∷ xs)
 
 -- No token begins with a token and the first character of another that is closed up behind it.
-pub touches : (left right : Role) (w : List ℕ) (d : ℕ) → Shaped left w → closed_up left right ≡ true → starts right d ≡ true → EndsAt w d
+pub touches : (left right : Role) (w : List ℕ) (d : ℕ) → Shaped left w → closed_up left right ≡ true
+    → starts right d ≡ true → EndsAt w d
 touches left right w d (is_name x xs b) h s = behind_name x xs b right d h s
 touches left right w d (is_word x xs b) h s = behind_name x xs b right d (word_is_closed_up right h) s
 touches left right w d (is_arrow) h s = arrow_touches d

@@ -1,4 +1,5 @@
--- What it means that a value is derived wherever its tokens stand: tokens of the same kinds derive a value that is the same, spans aside.
+-- What it means that a value is derived wherever its tokens stand: tokens of the same kinds derive
+-- a value that is the same, spans aside.
 use Rattle.std.proofs.Common.{◌≡◌, List, map}
 use Rattle.std.specs.Option.{option_map}
 use Rattle.grammar.specs.Tokens.{Token}
@@ -10,7 +11,8 @@ use Rattle.wgsl_model.specs.Grammar.Symbols.{Symbol, ident, type_specifier, temp
 use Rattle.wgsl_theory_reread.specs.CanonicalUnits.{without_place}
 use Rattle.wgsl_theory_reread.proofs.Again.{D, Found}
 
--- two values of a symbol are the same, spans and places aside; two components are if they make the same of the same base
+-- two values of a symbol are the same, spans and places aside; two components are if they make the
+-- same of the same base
 abbrev pub Alike : (n : Symbol) → Value n → Value n → Type 0
 Alike ident w v = without_place w ≡ without_place v
 Alike type_specifier w v = bare_type w ≡ bare_type v
@@ -21,7 +23,8 @@ Alike arguments w v = map bare_expression_node w ≡ map bare_expression_node v
 Alike literal w v = w ≡ v
 Alike primary_expression w v = bare_expression_node w ≡ bare_expression_node v
 Alike singular_expression w v = bare_expression_node w ≡ bare_expression_node v
-Alike component w v = (x y : ExpressionNode) → bare_expression_node x ≡ bare_expression_node y → bare_expression (w x) ≡ bare_expression (v y)
+Alike component w v = (x y : ExpressionNode) → bare_expression_node x ≡ bare_expression_node y
+    → bare_expression (w x) ≡ bare_expression (v y)
 Alike unary_expression w v = bare_expression_node w ≡ bare_expression_node v
 Alike multiplicative_expression w v = bare_expression_node w ≡ bare_expression_node v
 Alike negated_expression w v = bare_expression_node w ≡ bare_expression_node v
@@ -58,9 +61,12 @@ Alike diagnostic_directive w v = bare_directive w ≡ bare_directive v
 Alike unit w v = bare_unit w ≡ bare_unit v
 Alike n w v = bare_statement w ≡ bare_statement v
 
--- from each list with the kinds of xs, up to a list with the kinds of ys, what P derives is like a value
-abbrev pub Moves : {A : Type 0} → (A → List Token → List Token → Type 0) → (A → A → Type 0) → A → List Token → List Token → Type 0
-Moves P like v xs ys = (us : List Token) → map without_place us ≡ map without_place xs → Found P (λ w. like w v) us (map without_place ys)
+-- from each list with the kinds of xs, up to a list with the kinds of ys, what P derives is like a
+-- value
+abbrev pub Moves : {A : Type 0} → (A → List Token → List Token → Type 0) → (A → A → Type 0) → A
+    → List Token → List Token → Type 0
+Moves P like v xs ys = (us : List Token) → map without_place us ≡ map without_place xs
+    → Found P (λ w. like w v) us (map without_place ys)
 
 -- a value that a symbol derives is derived wherever the tokens stand
 abbrev pub Moved : (n : Symbol) → Value n → List Token → List Token → Type 0

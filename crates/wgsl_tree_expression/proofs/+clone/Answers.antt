@@ -11,17 +11,20 @@ pub function_call::FunctionCallCloneWith::clone_with-arguments-preserved :
     goal.function_call::FunctionCallCloneWith::clone_with-arguments-preserved
 function_call::FunctionCallCloneWith::clone_with-arguments-preserved t c =
     ap expression_nodes_view c.in_ok-push.ensures.items
-    ∙ node_more c.deref-argument-items.result.now c.arguments.arguments.items c.arguments.argument-index c.argument-item.result c.in_ok-clone_node.field-0
+    ∙ node_more c.deref-argument-items.result.now c.arguments.arguments.items
+    c.arguments.argument-index c.argument-item.result c.in_ok-clone_node.field-0
     (search rules) c.argument-item.is c.arguments.invariant c.in_ok-clone_node.ensures
 
-pub function_call::FunctionCallCloneWith::clone_with-returns : goal.function_call::FunctionCallCloneWith::clone_with-returns
+pub function_call::FunctionCallCloneWith::clone_with-returns :
+    goal.function_call::FunctionCallCloneWith::clone_with-returns
 function_call::FunctionCallCloneWith::clone_with-returns t c = record {
   copy =
       let f = out-FunctionCall c.args.self.now in
       call_view_roll (record { ty = c.in_ok-ty.ty; arguments = c.arguments.arguments })
       ∙ sym (call_view_out c.args.self.now
       ∙ ap (λ t. call t (expression_nodes_view f.arguments.items)) (sym c.in_ok-ty.ensures.copy)
-      ∙ ap (λ xs. call (type_expression_view c.in_ok-ty.ty) (expression_nodes_view xs)) (sym (take_all _ c.deref-argument-items.result.now c.arguments-test.false ∙ c.deref-argument-items.ensures.value))
+      ∙ ap (λ xs. call (type_expression_view c.in_ok-ty.ty) (expression_nodes_view xs)) (sym (take_all _
+      c.deref-argument-items.result.now c.arguments-test.false ∙ c.deref-argument-items.ensures.value))
       ∙ ap (call (type_expression_view c.in_ok-ty.ty)) (sym c.arguments.invariant));
 }
 
@@ -29,7 +32,8 @@ pub type_expression::TypeExpressionCloneWith::clone_with-arguments-preserved :
     goal.type_expression::TypeExpressionCloneWith::clone_with-arguments-preserved
 type_expression::TypeExpressionCloneWith::clone_with-arguments-preserved t c =
     ap template_arg_nodes_view c.in_ok-push-in-Some.ensures.items
-    ∙ arg_more c.deref-argument-items.result.now c.arguments.copied.items c.arguments.argument-index c.argument-item.result c.in_ok-clone_with-in-Some.field-0
+    ∙ arg_more c.deref-argument-items.result.now c.arguments.copied.items c.arguments.argument-index
+    c.argument-item.result c.in_ok-clone_with-in-Some.field-0
     (search rules) c.argument-item.is c.arguments.invariant c.in_ok-clone_with-in-Some.ensures.copy
 
 pub type_expression::TypeExpressionCloneWith::clone_with-returns-after-arguments :
@@ -41,6 +45,7 @@ type_expression::TypeExpressionCloneWith::clone_with-returns-after-arguments t c
       ∙ sym (type_view_out c.args.self.now
       ∙ ap (λ s. type_expression s (template_args_view e.template_args)) (sym c.in_ok-ident.ensures.copy)
       ∙ ap (λ o. type_expression (ident_name c.in_ok-ident.ident) (template_args_view o)) c.in-Some.is
-      ∙ ap (λ xs. type_expression (ident_name c.in_ok-ident.ident) (template (template_arg_nodes_view xs))) (sym (take_all _ c.deref-argument-items.result.now c.arguments-test.false ∙ c.deref-argument-items.ensures.value))
+      ∙ ap (λ xs. type_expression (ident_name c.in_ok-ident.ident) (template (template_arg_nodes_view xs)))
+      (sym (take_all _ c.deref-argument-items.result.now c.arguments-test.false ∙ c.deref-argument-items.ensures.value))
       ∙ ap (λ xs. type_expression (ident_name c.in_ok-ident.ident) (template xs)) (sym c.arguments.invariant));
 }

@@ -5,11 +5,14 @@ use Rattle.wgsl_tree_expression.proofs.+clone.Given as goal
 
 abbrev pub invariant-function_call::FunctionCallCloneWith::clone_with-arguments :
     goal.invariant-function_call::FunctionCallCloneWith::clone_with-arguments
-invariant-function_call::FunctionCallCloneWith::clone_with-arguments l = expression_nodes_view l.arguments.items ≡ expression_nodes_view (take l.argument-index l.argument-items)
+invariant-function_call::FunctionCallCloneWith::clone_with-arguments l =
+    expression_nodes_view l.arguments.items ≡ expression_nodes_view (take l.argument-index l.argument-items)
 
 abbrev pub invariant-type_expression::TypeExpressionCloneWith::clone_with-arguments :
     goal.invariant-type_expression::TypeExpressionCloneWith::clone_with-arguments
-invariant-type_expression::TypeExpressionCloneWith::clone_with-arguments l = template_arg_nodes_view l.copied.items ≡ template_arg_nodes_view (take l.argument-index l.argument-items)
+invariant-type_expression::TypeExpressionCloneWith::clone_with-arguments l =
+    template_arg_nodes_view l.copied.items
+    ≡ template_arg_nodes_view (take l.argument-index l.argument-items)
 
 abbrev pub invariant-chain::clone_above-halves : goal.invariant-chain::clone_above-halves
 invariant-chain::clone_above-halves l =

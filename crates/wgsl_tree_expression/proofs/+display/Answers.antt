@@ -23,8 +23,10 @@ function_call::FunctionCallDisplay::fmt-returns-clause-writes g t c = λ plain o
     let head = print_type (type_expression_view f.ty) ++ codes "(" in
     let sep = codes ", " in
     let text = λ (n : Spanned Expression). print_expression (expression_view n.node.value) in
-    let all : take c.arguments.argument-index items ≡ f.arguments.items = take_all _ items c.arguments-test.false ∙ c.deref-argument-items.ensures.value in
-    let same : head ++ join_by text sep (take c.arguments.argument-index items) ++ codes ")" ≡ print_call (function_call_view c.args.self.now) =
+    let all : take c.arguments.argument-index items ≡ f.arguments.items =
+    take_all _ items c.arguments-test.false ∙ c.deref-argument-items.ensures.value in
+    let same : head ++ join_by text sep (take c.arguments.argument-index items) ++ codes ")"
+    ≡ print_call (function_call_view c.args.self.now) =
     ap (λ xs. head ++ join_by text sep xs ++ codes ")") all
     ∙ ap (λ u. head ++ u ++ codes ")") (joined_nodes sep f.arguments.items)
     ∙ ap print_call (sym (call_view_out c.args.self.now)) in
@@ -42,8 +44,10 @@ type_expression::TypeExpressionDisplay::fmt-returns-after-arguments-clause-write
     let head = ident_name e.ident ++ codes "<" in
     let sep = codes ", " in
     let text = λ (a : TemplateArg). print_expression_node (template_arg_view a) in
-    let all : take c.arguments.argument-index items ≡ args' = take_all _ items c.arguments-test.false ∙ c.deref-argument-items.ensures.value in
-    let same : head ++ join_by text sep (take c.arguments.argument-index items) ++ codes ">" ≡ print_type (type_expression_view c.args.self.now) =
+    let all : take c.arguments.argument-index items ≡ args' =
+    take_all _ items c.arguments-test.false ∙ c.deref-argument-items.ensures.value in
+    let same : head ++ join_by text sep (take c.arguments.argument-index items) ++ codes ">"
+    ≡ print_type (type_expression_view c.args.self.now) =
     ap (λ xs. head ++ join_by text sep xs ++ codes ">") all
     ∙ ap (λ u. head ++ u ++ codes ">") (joined_args sep args')
     ∙ ap (λ o. print_type (type_expression (ident_name e.ident) (template_args_view o))) (sym c.in-Some.is)
@@ -58,7 +62,8 @@ chain::write_chain-returns g t c = λ plain ok.
     let node = expression_node_view c.args.top.now in
     let one = c.write.ensures.writes plain (search rules) in
     let two = c.write_above.ensures one.plain ok in
-    let same : print_expression_node (expression_node_view c.descend-steps.result.0.now) ++ text_above c.descend-steps.result.1 node ≡ print_expression_node node =
+    let same : print_expression_node (expression_node_view c.descend-steps.result.0.now)
+    ++ text_above c.descend-steps.result.1 node ≡ print_expression_node node =
     ap (λ b. print_expression_node b ++ text_above c.descend-steps.result.1 node) c.descend-steps.ensures.view
     ∙ sym (printed_above c.descend-steps.result.1 node) in
     has_written_of_eq _ _ _ _ _ same (has_written_append _ _ _ _ _ _ one two)
@@ -75,7 +80,8 @@ chain::write_above-halves-preserved g t c =
       λ plain.
           let one = c.halves.invariant.1 plain in
           let two = c.write_above.ensures one.plain (search rules) in
-          let same : text_above (s - l) (below l node) ++ text_above (l - u) (expression_node_view c.descend-upper.result.0.now) ≡ text_above (s - u) (below u node) =
+          let same : text_above (s - l) (below l node) ++ text_above (l - u)
+          (expression_node_view c.descend-upper.result.0.now) ≡ text_above (s - u) (below u node) =
           ap (λ m. text_above (s - l) (below l node) ++ text_above (l - u) m) c.descend-upper.ensures.view
           ∙ sym (above_parts s l u node inner outer) in
           has_written_of_eq _ _ _ _ _ same (has_written_append _ _ _ _ _ _ one two),

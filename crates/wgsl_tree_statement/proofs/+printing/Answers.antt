@@ -35,15 +35,20 @@ use Rattle.wgsl_tree_statement.proofs.+printing.Goals as goal
 -- the statements, one by one
 
 pub statement::write_unended-returns-in-Void : goal.statement::write_unended-returns-in-Void
-statement::write_unended-returns-in-Void g t c = λ ok. wrote_of_eq _ _ _ _ _ (sym (ap (λ (s : Statement). unended (statement_view s)) c.in-Void.is ∙ ap unended is_empty)) (wrote_nothing g.W.Write.write_str_gives _)
+statement::write_unended-returns-in-Void g t c =
+    λ ok. wrote_of_eq _ _ _ _ _ (sym (ap (λ (s : Statement). unended (statement_view s)) c.in-Void.is
+    ∙ ap unended is_empty)) (wrote_nothing g.W.Write.write_str_gives _)
 
 pub statement::write_unended-returns-in-Compound : goal.statement::write_unended-returns-in-Compound
-statement::write_unended-returns-in-Compound g t c = let e = ap (λ (s : Statement). unended (statement_view s)) c.in-Compound.is ∙ ap unended (is_compound _) ∙ block_unended (compound_statement_view c.in-Compound.inner) in search rules
+statement::write_unended-returns-in-Compound g t c =
+    let e = ap (λ (s : Statement). unended (statement_view s)) c.in-Compound.is ∙ ap unended
+    (is_compound _) ∙ block_unended (compound_statement_view c.in-Compound.inner) in search rules
 
 -- texts one after another
 
 pub statement::write_statement-write_piece-requires : goal.statement::write_statement-write_piece-requires
-statement::write_statement-write_piece-requires g t c = ap is_one_line c.end.ensures ∙ end_one_line (statement_view c.args.statement.now)
+statement::write_statement-write_piece-requires g t c = ap is_one_line c.end.ensures
+    ∙ end_one_line (statement_view c.args.statement.now)
 
 pub statement::write_statement-returns : goal.statement::write_statement-returns
 statement::write_statement-returns g t c = λ ok.
@@ -80,7 +85,8 @@ pub switch::write_switch_clause-returns : goal.switch::write_switch_clause-retur
 switch::write_switch_clause-returns g t c = λ ok.
     wrote_of_eq _ _ _ _ _ (switch_clause_is _ _ _ _ (switch_clause_out c.args.clause.now))
     (c.in_ok-write_attribute_line.ensures refl
-    ▸ wrote_of_eq _ _ _ _ _ (ap (λ (xs : List CaseSelector). codes "case " ++ joined (codes ", ") (map print_selector (map selector_view xs)) ++ codes " ") c.deref.ensures.value) (c.in_ok-write_case.ensures refl)
+    ▸ wrote_of_eq _ _ _ _ _ (ap (λ (xs : List CaseSelector). codes "case " ++ joined (codes ", ")
+    (map print_selector (map selector_view xs)) ++ codes " ") c.deref.ensures.value) (c.in_ok-write_case.ensures refl)
     ▸ c.write_compound.ensures ok)
 
 pub continuing::write_continuing-returns : goal.continuing::write_continuing-returns
@@ -102,7 +108,8 @@ for_statement::write_for-returns g t c = λ ok.
     ▸ c.write_compound.ensures ok)
 
 -- an expression and a block behind a word
-headed_is : (line word e block : List ℕ) → line ++ (word ++ e ++ codes " ") ++ block ≡ line ++ (word ++ e ++ codes " " ++ block)
+headed_is : (line word e block : List ℕ)
+    → line ++ (word ++ e ++ codes " ") ++ block ≡ line ++ (word ++ e ++ codes " " ++ block)
 headed_is line word e block = simp append_assoc
 
 pub while_statement::write_while-returns : goal.while_statement::write_while-returns
@@ -111,7 +118,8 @@ while_statement::write_while-returns g t c = λ ok.
     let line = print_attribute_line (attributes_view statement.attributes.items) in
     let condition = print_expression_node (expression_node_view statement.condition) in
     let block = print_compound (compound_statement_view statement.body) in
-    wrote_of_eq _ _ _ _ _ (headed_is line (codes "while ") condition block ∙ sym (ap (λ s. print_attributed print_while s) (while_statement_out c.args.statement.now)))
+    wrote_of_eq _ _ _ _ _ (headed_is line (codes "while ") condition block
+    ∙ sym (ap (λ s. print_attributed print_while s) (while_statement_out c.args.statement.now)))
     (c.in_ok-write_attribute_line.ensures refl
     ▸ c.in_ok-write_head.ensures refl
     ▸ c.write_compound.ensures ok)
@@ -129,7 +137,8 @@ loop_statement::write_loop-returns-in-None g t c = λ ok.
     ▸ wrote_of_eq _ _ _ _ _ (sym (ap continuing_text c.in-None.is)) (wrote_nothing g.W.Write.write_str_gives _)
     ▸ c.write_piece.ensures ok)
 
-pub loop_statement::write_loop-returns-in_ok-write_line_end-in-Some : goal.loop_statement::write_loop-returns-in_ok-write_line_end-in-Some
+pub loop_statement::write_loop-returns-in_ok-write_line_end-in-Some :
+    goal.loop_statement::write_loop-returns-in_ok-write_line_end-in-Some
 loop_statement::write_loop-returns-in_ok-write_line_end-in-Some g t c = λ ok.
     let last = continuing_statement_view c.in-Some.continuing in
     let lines = print_continuing last in
@@ -138,7 +147,8 @@ loop_statement::write_loop-returns-in_ok-write_line_end-in-Some g t c = λ ok.
     ▸ c.in_ok-write_opened.ensures refl
     ▸ wrote_of_eq _ _ _ _ _ (sym (ap continuing_text c.in-Some.is))
     (wrote_within g.W.Write.write_str_gives _ _ _ _ lines (c.in_ok-indent-in-Some.ensures refl)
-    (wrote_of_eq _ _ _ _ _ (begun_filled lines (continuing_filled last)) (c.in_ok-write_piece-in-Some.ensures refl ▸ c.in_ok-write_continuing-in-Some.ensures refl))
+    (wrote_of_eq _ _ _ _ _ (begun_filled lines (continuing_filled last))
+    (c.in_ok-write_piece-in-Some.ensures refl ▸ c.in_ok-write_continuing-in-Some.ensures refl))
     c.unindent.ensures
     ▸ c.in_ok-write_line_end-in-Some.ensures refl)
     ▸ c.write_piece-in-Some-2.ensures ok)
@@ -151,17 +161,20 @@ if_statement::write_if-clauses-init g t c = wrote_nothing g.W.Write.write_str_gi
 pub if_statement::write_if-clauses-preserved : goal.if_statement::write_if-clauses-preserved
 if_statement::write_if-clauses-preserved g t c =
     let items = c.deref-clause-items.result.now in
-    wrote_of_eq _ _ _ _ _ (else_if_more items c.clauses.clause-index c.clause-item.result (search rules) c.clause-item.is)
+    wrote_of_eq _ _ _ _ _
+    (else_if_more items c.clauses.clause-index c.clause-item.result (search rules) c.clause-item.is)
     (c.clauses.invariant ▸ (c.in_ok-write_line_end.ensures refl ▸ c.in_ok-write_else_if_clause.ensures refl))
 
 pub compound::write_opened-statements-init : goal.compound::write_opened-statements-init
 compound::write_opened-statements-init g t c = (refl, wrote_nothing g.W.Write.write_str_gives _)
 
-pub compound::write_opened-statements-preserved-then-is_void : goal.compound::write_opened-statements-preserved-then-is_void
+pub compound::write_opened-statements-preserved-then-is_void :
+    goal.compound::write_opened-statements-preserved-then-is_void
 compound::write_opened-statements-preserved-then-is_void g t c =
     let items = c.deref-statement-items.result.now in
     let item = c.statement-item.result in
-    let empty : is_void (statement_view (spanned_node item)) ≡ true = sym (c.is_void.ensures ∙ ap (λ (s : Statement). is_void (statement_view s)) c.node.ensures) ∙ c.if-is_void.true in
+    let empty : is_void (statement_view (spanned_node item)) ≡ true = sym (c.is_void.ensures
+    ∙ ap (λ (s : Statement). is_void (statement_view s)) c.node.ensures) ∙ c.if-is_void.true in
     let same = empty_more items c.statements.statement-index item (search rules) c.statement-item.is empty in (
       c.statements.invariant.0 ∙ ap is_nil same,
       wrote_of_eq _ _ _ _ _ (ap (block_lines (codes "\n")) same) c.statements.invariant.1,
@@ -174,15 +187,22 @@ compound::write_opened-statements-preserved g t c =
     let item = c.statement-item.result in
     let before = take c.statements.statement-index items in
     let lines = statement_lines before in
-    let full : is_void (statement_view (spanned_node item)) ≡ false = sym (c.is_void.ensures ∙ ap (λ (s : Statement). is_void (statement_view s)) c.node.ensures) ∙ c.if-is_void.false in
+    let full : is_void (statement_view (spanned_node item)) ≡ false = sym (c.is_void.ensures
+    ∙ ap (λ (s : Statement). is_void (statement_view s)) c.node.ensures) ∙ c.if-is_void.false in
     let same = statement_more items c.statements.statement-index item (search rules) c.statement-item.is full in
-    let written : block_lines end lines ++ before_line end c.statements.first ++ print_statement (statement_view c.node-in-statements.result.now) ≡ block_lines end (statement_lines (take (c.statements.statement-index + 1) items)) =
-    ap (λ (b : Bool). block_lines end lines ++ before_line end b ++ print_statement (statement_view c.node-in-statements.result.now)) c.statements.invariant.0
-    ∙ ap (λ (s : Statement). block_lines end lines ++ before_line end (is_nil lines) ++ print_statement (statement_view s)) c.node-in-statements.ensures
-    ∙ block_more end lines (print_statement (statement_view (spanned_node item))) (statements_filled (statement_nodes_view before)) (statement_filled (statement_view (spanned_node item)) full)
+    let written : block_lines end lines ++ before_line end c.statements.first
+    ++ print_statement (statement_view c.node-in-statements.result.now)
+    ≡ block_lines end (statement_lines (take (c.statements.statement-index + 1) items)) =
+    ap (λ (b : Bool). block_lines end lines ++ before_line end b
+    ++ print_statement (statement_view c.node-in-statements.result.now)) c.statements.invariant.0
+    ∙ ap (λ (s : Statement). block_lines end lines ++ before_line end (is_nil lines)
+    ++ print_statement (statement_view s)) c.node-in-statements.ensures
+    ∙ block_more end lines (print_statement (statement_view (spanned_node item))) (statements_filled
+    (statement_nodes_view before)) (statement_filled (statement_view (spanned_node item)) full)
     ∙ ap (block_lines end) same in (
       not_nil lines (print_statement (statement_view (spanned_node item))) ∙ ap is_nil same,
-      wrote_of_eq _ _ _ _ _ written (c.statements.invariant.1 ▸ c.in_ok-write_gap.ensures refl ▸ c.in_ok-write_statement.ensures refl),
+      wrote_of_eq _ _ _ _ _ written
+          (c.statements.invariant.1 ▸ c.in_ok-write_gap.ensures refl ▸ c.in_ok-write_statement.ensures refl),
     )
 
 pub switch::write_switch-clauses-init : goal.switch::write_switch-clauses-init
@@ -197,22 +217,28 @@ switch::write_switch-clauses-preserved g t c =
     let lines = clause_lines before in
     let text = print_switch_clause (switch_clause_view item) in
     let same = clause_more items c.clauses.clause-index item (search rules) c.clause-item.is in
-    let written : block_lines end lines ++ before_line end c.clauses.first ++ text ≡ block_lines end (clause_lines (take (c.clauses.clause-index + 1) items)) =
+    let written : block_lines end lines ++ before_line end c.clauses.first ++ text
+    ≡ block_lines end (clause_lines (take (c.clauses.clause-index + 1) items)) =
     ap (λ (b : Bool). block_lines end lines ++ before_line end b ++ text) c.clauses.invariant.0
-    ∙ block_more end lines text (clauses_filled (clauses_of (map switch_clause_view before))) (clause_filled (switch_clause_view item))
+    ∙ block_more end lines text (clauses_filled (clauses_of (map switch_clause_view before)))
+    (clause_filled (switch_clause_view item))
     ∙ ap (block_lines end) same in (
       not_nil lines text ∙ ap is_nil same,
-      wrote_of_eq _ _ _ _ _ written (c.clauses.invariant.1 ▸ c.in_ok-write_gap.ensures refl ▸ c.in_ok-write_switch_clause.ensures refl),
+      wrote_of_eq _ _ _ _ _ written
+          (c.clauses.invariant.1 ▸ c.in_ok-write_gap.ensures refl ▸ c.in_ok-write_switch_clause.ensures refl),
     )
 
 pub compound::write_opened-returns : goal.compound::write_opened-returns
 compound::write_opened-returns g t c = λ ok.
     let nodes = statement_nodes_view (layers.out-CompoundStatement c.args.block.now).statements.items in
-    let all = take_all _ c.deref-statement-items.result.now c.statements-test.false ∙ c.deref-statement-items.ensures.value in
+    let all = take_all _ c.deref-statement-items.result.now c.statements-test.false
+    ∙ c.deref-statement-items.ensures.value in
     wrote_of_eq _ _ _ _ _ (opened_is _ _ _ (compound_statement_out c.args.block.now))
     (c.in_ok-write_open.ensures refl
-    ▸ wrote_within g.W.Write.write_str_gives _ _ _ _ (joined (codes "\n") (statement_texts nodes)) (c.in_ok-indent.ensures refl)
-    (wrote_of_eq _ _ _ _ _ (ap (λ (xs : List (Spanned Statement)). block_lines (codes "\n") (statement_lines xs)) all) c.statements.invariant.1)
+    ▸ wrote_within g.W.Write.write_str_gives _ _ _ _ (joined (codes "\n") (statement_texts nodes))
+    (c.in_ok-indent.ensures refl)
+    (wrote_of_eq _ _ _ _ _ (ap (λ (xs : List (Spanned Statement)). block_lines (codes "\n")
+    (statement_lines xs)) all) c.statements.invariant.1)
     c.unindent.ensures
     ▸ c.write_line_end.ensures ok)
 
@@ -228,7 +254,8 @@ if_statement::write_if-returns-in-None g t c = λ ok.
     ▸ wrote_of_eq _ _ _ _ _ (ap else_if_text all) c.clauses.invariant
     ▸ wrote_of_eq _ _ _ _ _ (sym (ap else_text c.in-None.is)) (wrote_nothing g.W.Write.write_str_gives _))
 
-pub if_statement::write_if-returns-in_ok-write_line_end-in-Some : goal.if_statement::write_if-returns-in_ok-write_line_end-in-Some
+pub if_statement::write_if-returns-in_ok-write_line_end-in-Some :
+    goal.if_statement::write_if-returns-in_ok-write_line_end-in-Some
 if_statement::write_if-returns-in_ok-write_line_end-in-Some g t c = λ ok.
     let all = take_all _ c.deref-clause-items.result.now c.clauses-test.false ∙ c.deref-clause-items.ensures.value in
     wrote_of_eq _ _ _ _ _ (if_is _ _ _ _ _ (if_statement_out c.args.statement.now))
@@ -247,8 +274,10 @@ switch::write_switch-returns g t c = λ ok.
     (c.in_ok-write_attribute_line.ensures refl
     ▸ c.in_ok-write_head.ensures refl
     ▸ c.in_ok-write_open.ensures refl
-    ▸ wrote_within g.W.Write.write_str_gives _ _ _ _ (joined (codes "\n") (clause_texts clauses)) (c.in_ok-indent.ensures refl)
-    (wrote_of_eq _ _ _ _ _ (ap (λ (xs : List SwitchClause). block_lines (codes "\n") (clause_lines xs)) all) c.clauses.invariant.1)
+    ▸ wrote_within g.W.Write.write_str_gives _ _ _ _ (joined (codes "\n") (clause_texts clauses))
+    (c.in_ok-indent.ensures refl)
+    (wrote_of_eq _ _ _ _ _ (ap (λ (xs : List SwitchClause). block_lines (codes "\n")
+    (clause_lines xs)) all) c.clauses.invariant.1)
     c.unindent.ensures
     ▸ c.in_ok-write_line_end.ensures refl
     ▸ c.write_piece.ensures ok)
@@ -263,106 +292,155 @@ pub compound::write_compound-returns-in_err-write_opened : goal.compound::write_
 compound::write_compound-returns-in_err-write_opened g t c = λ ok. absurd (error_not_ok _ c.from_residual.ensures.0 ok)
 
 pub compound::write_opened-returns-in_err-write_gap : goal.compound::write_opened-returns-in_err-write_gap
-compound::write_opened-returns-in_err-write_gap g t c = λ ok. absurd (error_not_ok _ c.from_residual-in_err-write_gap.ensures.0 ok)
+compound::write_opened-returns-in_err-write_gap g t c =
+    λ ok. absurd (error_not_ok _ c.from_residual-in_err-write_gap.ensures.0 ok)
 
 pub compound::write_opened-returns-in_err-write_open : goal.compound::write_opened-returns-in_err-write_open
 compound::write_opened-returns-in_err-write_open g t c = λ ok. absurd (error_not_ok _ c.from_residual.ensures.0 ok)
 
 pub compound::write_opened-returns-in_err-write_statement : goal.compound::write_opened-returns-in_err-write_statement
-compound::write_opened-returns-in_err-write_statement g t c = λ ok. absurd (error_not_ok _ c.from_residual-in_err-write_statement.ensures.0 ok)
+compound::write_opened-returns-in_err-write_statement g t c =
+    λ ok. absurd (error_not_ok _ c.from_residual-in_err-write_statement.ensures.0 ok)
 
-pub statement::write_statement-returns-in_err-write_unended : goal.statement::write_statement-returns-in_err-write_unended
-statement::write_statement-returns-in_err-write_unended g t c = λ ok. absurd (error_not_ok _ c.from_residual.ensures.0 ok)
+pub statement::write_statement-returns-in_err-write_unended :
+    goal.statement::write_statement-returns-in_err-write_unended
+statement::write_statement-returns-in_err-write_unended g t c =
+    λ ok. absurd (error_not_ok _ c.from_residual.ensures.0 ok)
 
-pub else_clause::write_else_clause-returns-in_err-write_start : goal.else_clause::write_else_clause-returns-in_err-write_start
-else_clause::write_else_clause-returns-in_err-write_start g t c = λ ok. absurd (error_not_ok _ c.from_residual.ensures.0 ok)
+pub else_clause::write_else_clause-returns-in_err-write_start :
+    goal.else_clause::write_else_clause-returns-in_err-write_start
+else_clause::write_else_clause-returns-in_err-write_start g t c =
+    λ ok. absurd (error_not_ok _ c.from_residual.ensures.0 ok)
 
-pub else_clause::write_else_if_clause-returns-in_err-write_attribute_line : goal.else_clause::write_else_if_clause-returns-in_err-write_attribute_line
-else_clause::write_else_if_clause-returns-in_err-write_attribute_line g t c = λ ok. absurd (error_not_ok _ c.from_residual.ensures.0 ok)
+pub else_clause::write_else_if_clause-returns-in_err-write_attribute_line :
+    goal.else_clause::write_else_if_clause-returns-in_err-write_attribute_line
+else_clause::write_else_if_clause-returns-in_err-write_attribute_line g t c =
+    λ ok. absurd (error_not_ok _ c.from_residual.ensures.0 ok)
 
-pub else_clause::write_else_if_clause-returns-in_err-write_head : goal.else_clause::write_else_if_clause-returns-in_err-write_head
-else_clause::write_else_if_clause-returns-in_err-write_head g t c = λ ok. absurd (error_not_ok _ c.from_residual-in_err-write_head.ensures.0 ok)
+pub else_clause::write_else_if_clause-returns-in_err-write_head :
+    goal.else_clause::write_else_if_clause-returns-in_err-write_head
+else_clause::write_else_if_clause-returns-in_err-write_head g t c =
+    λ ok. absurd (error_not_ok _ c.from_residual-in_err-write_head.ensures.0 ok)
 
-pub if_statement::write_if-returns-in_err-write_attribute_line : goal.if_statement::write_if-returns-in_err-write_attribute_line
-if_statement::write_if-returns-in_err-write_attribute_line g t c = λ ok. absurd (error_not_ok _ c.from_residual.ensures.0 ok)
+pub if_statement::write_if-returns-in_err-write_attribute_line :
+    goal.if_statement::write_if-returns-in_err-write_attribute_line
+if_statement::write_if-returns-in_err-write_attribute_line g t c =
+    λ ok. absurd (error_not_ok _ c.from_residual.ensures.0 ok)
 
-pub if_statement::write_if-returns-in_err-write_else_if_clause : goal.if_statement::write_if-returns-in_err-write_else_if_clause
-if_statement::write_if-returns-in_err-write_else_if_clause g t c = λ ok. absurd (error_not_ok _ c.from_residual-in_err-write_else_if_clause.ensures.0 ok)
+pub if_statement::write_if-returns-in_err-write_else_if_clause :
+    goal.if_statement::write_if-returns-in_err-write_else_if_clause
+if_statement::write_if-returns-in_err-write_else_if_clause g t c =
+    λ ok. absurd (error_not_ok _ c.from_residual-in_err-write_else_if_clause.ensures.0 ok)
 
 pub if_statement::write_if-returns-in_err-write_if_clause : goal.if_statement::write_if-returns-in_err-write_if_clause
-if_statement::write_if-returns-in_err-write_if_clause g t c = λ ok. absurd (error_not_ok _ c.from_residual-in_err-write_if_clause.ensures.0 ok)
+if_statement::write_if-returns-in_err-write_if_clause g t c =
+    λ ok. absurd (error_not_ok _ c.from_residual-in_err-write_if_clause.ensures.0 ok)
 
 pub if_statement::write_if-returns-in_err-write_line_end : goal.if_statement::write_if-returns-in_err-write_line_end
-if_statement::write_if-returns-in_err-write_line_end g t c = λ ok. absurd (error_not_ok _ c.from_residual-in_err-write_line_end.ensures.0 ok)
+if_statement::write_if-returns-in_err-write_line_end g t c =
+    λ ok. absurd (error_not_ok _ c.from_residual-in_err-write_line_end.ensures.0 ok)
 
-pub if_statement::write_if-returns-in_err-write_line_end-in-Some : goal.if_statement::write_if-returns-in_err-write_line_end-in-Some
-if_statement::write_if-returns-in_err-write_line_end-in-Some g t c = λ ok. absurd (error_not_ok _ c.from_residual-in_err-write_line_end-in-Some.ensures.0 ok)
+pub if_statement::write_if-returns-in_err-write_line_end-in-Some :
+    goal.if_statement::write_if-returns-in_err-write_line_end-in-Some
+if_statement::write_if-returns-in_err-write_line_end-in-Some g t c =
+    λ ok. absurd (error_not_ok _ c.from_residual-in_err-write_line_end-in-Some.ensures.0 ok)
 
-pub if_statement::write_if_clause-returns-in_err-write_head : goal.if_statement::write_if_clause-returns-in_err-write_head
-if_statement::write_if_clause-returns-in_err-write_head g t c = λ ok. absurd (error_not_ok _ c.from_residual.ensures.0 ok)
+pub if_statement::write_if_clause-returns-in_err-write_head :
+    goal.if_statement::write_if_clause-returns-in_err-write_head
+if_statement::write_if_clause-returns-in_err-write_head g t c =
+    λ ok. absurd (error_not_ok _ c.from_residual.ensures.0 ok)
 
-pub continuing::write_continuing-returns-in_err-write_break_if : goal.continuing::write_continuing-returns-in_err-write_break_if
-continuing::write_continuing-returns-in_err-write_break_if g t c = λ ok. absurd (error_not_ok _ c.from_residual-in_err-write_break_if.ensures.0 ok)
+pub continuing::write_continuing-returns-in_err-write_break_if :
+    goal.continuing::write_continuing-returns-in_err-write_break_if
+continuing::write_continuing-returns-in_err-write_break_if g t c =
+    λ ok. absurd (error_not_ok _ c.from_residual-in_err-write_break_if.ensures.0 ok)
 
-pub continuing::write_continuing-returns-in_err-write_opened : goal.continuing::write_continuing-returns-in_err-write_opened
-continuing::write_continuing-returns-in_err-write_opened g t c = λ ok. absurd (error_not_ok _ c.from_residual-in_err-write_opened.ensures.0 ok)
+pub continuing::write_continuing-returns-in_err-write_opened :
+    goal.continuing::write_continuing-returns-in_err-write_opened
+continuing::write_continuing-returns-in_err-write_opened g t c =
+    λ ok. absurd (error_not_ok _ c.from_residual-in_err-write_opened.ensures.0 ok)
 
-pub continuing::write_continuing-returns-in_err-write_start : goal.continuing::write_continuing-returns-in_err-write_start
-continuing::write_continuing-returns-in_err-write_start g t c = λ ok. absurd (error_not_ok _ c.from_residual.ensures.0 ok)
+pub continuing::write_continuing-returns-in_err-write_start :
+    goal.continuing::write_continuing-returns-in_err-write_start
+continuing::write_continuing-returns-in_err-write_start g t c =
+    λ ok. absurd (error_not_ok _ c.from_residual.ensures.0 ok)
 
-pub for_statement::write_for-returns-in_err-write_condition : goal.for_statement::write_for-returns-in_err-write_condition
-for_statement::write_for-returns-in_err-write_condition g t c = λ ok. absurd (error_not_ok _ c.from_residual-in_err-write_condition.ensures.0 ok)
+pub for_statement::write_for-returns-in_err-write_condition :
+    goal.for_statement::write_for-returns-in_err-write_condition
+for_statement::write_for-returns-in_err-write_condition g t c =
+    λ ok. absurd (error_not_ok _ c.from_residual-in_err-write_condition.ensures.0 ok)
 
 pub for_statement::write_for-returns-in_err-write_part : goal.for_statement::write_for-returns-in_err-write_part
-for_statement::write_for-returns-in_err-write_part g t c = λ ok. absurd (error_not_ok _ c.from_residual-in_err-write_part.ensures.0 ok)
+for_statement::write_for-returns-in_err-write_part g t c =
+    λ ok. absurd (error_not_ok _ c.from_residual-in_err-write_part.ensures.0 ok)
 
 pub for_statement::write_for-returns-in_err-write_part-2 : goal.for_statement::write_for-returns-in_err-write_part-2
-for_statement::write_for-returns-in_err-write_part-2 g t c = λ ok. absurd (error_not_ok _ c.from_residual-in_err-write_part-2.ensures.0 ok)
+for_statement::write_for-returns-in_err-write_part-2 g t c =
+    λ ok. absurd (error_not_ok _ c.from_residual-in_err-write_part-2.ensures.0 ok)
 
 pub for_statement::write_for-returns-in_err-write_start : goal.for_statement::write_for-returns-in_err-write_start
 for_statement::write_for-returns-in_err-write_start g t c = λ ok. absurd (error_not_ok _ c.from_residual.ensures.0 ok)
 
 pub for_statement::write_for-returns-in_err-write_piece : goal.for_statement::write_for-returns-in_err-write_piece
-for_statement::write_for-returns-in_err-write_piece g t c = λ ok. absurd (error_not_ok _ c.from_residual-in_err-write_piece.ensures.0 ok)
+for_statement::write_for-returns-in_err-write_piece g t c =
+    λ ok. absurd (error_not_ok _ c.from_residual-in_err-write_piece.ensures.0 ok)
 
-pub loop_statement::write_loop-returns-in_err-write_piece-in-Some : goal.loop_statement::write_loop-returns-in_err-write_piece-in-Some
-loop_statement::write_loop-returns-in_err-write_piece-in-Some g t c = λ ok. absurd (error_not_ok _ c.from_residual-in_err-write_piece-in-Some.ensures.0 ok)
+pub loop_statement::write_loop-returns-in_err-write_piece-in-Some :
+    goal.loop_statement::write_loop-returns-in_err-write_piece-in-Some
+loop_statement::write_loop-returns-in_err-write_piece-in-Some g t c =
+    λ ok. absurd (error_not_ok _ c.from_residual-in_err-write_piece-in-Some.ensures.0 ok)
 
-pub loop_statement::write_loop-returns-in_err-write_continuing-in-Some : goal.loop_statement::write_loop-returns-in_err-write_continuing-in-Some
-loop_statement::write_loop-returns-in_err-write_continuing-in-Some g t c = λ ok. absurd (error_not_ok _ c.from_residual-in_err-write_continuing-in-Some.ensures.0 ok)
+pub loop_statement::write_loop-returns-in_err-write_continuing-in-Some :
+    goal.loop_statement::write_loop-returns-in_err-write_continuing-in-Some
+loop_statement::write_loop-returns-in_err-write_continuing-in-Some g t c =
+    λ ok. absurd (error_not_ok _ c.from_residual-in_err-write_continuing-in-Some.ensures.0 ok)
 
-pub loop_statement::write_loop-returns-in_err-write_line_end-in-Some : goal.loop_statement::write_loop-returns-in_err-write_line_end-in-Some
-loop_statement::write_loop-returns-in_err-write_line_end-in-Some g t c = λ ok. absurd (error_not_ok _ c.from_residual-in_err-write_line_end-in-Some.ensures.0 ok)
+pub loop_statement::write_loop-returns-in_err-write_line_end-in-Some :
+    goal.loop_statement::write_loop-returns-in_err-write_line_end-in-Some
+loop_statement::write_loop-returns-in_err-write_line_end-in-Some g t c =
+    λ ok. absurd (error_not_ok _ c.from_residual-in_err-write_line_end-in-Some.ensures.0 ok)
 
 pub loop_statement::write_loop-returns-in_err-write_opened : goal.loop_statement::write_loop-returns-in_err-write_opened
-loop_statement::write_loop-returns-in_err-write_opened g t c = λ ok. absurd (error_not_ok _ c.from_residual-in_err-write_opened.ensures.0 ok)
+loop_statement::write_loop-returns-in_err-write_opened g t c =
+    λ ok. absurd (error_not_ok _ c.from_residual-in_err-write_opened.ensures.0 ok)
 
 pub loop_statement::write_loop-returns-in_err-write_start : goal.loop_statement::write_loop-returns-in_err-write_start
 loop_statement::write_loop-returns-in_err-write_start g t c = λ ok. absurd (error_not_ok _ c.from_residual.ensures.0 ok)
 
-pub switch::write_switch-returns-in_err-write_attribute_line : goal.switch::write_switch-returns-in_err-write_attribute_line
-switch::write_switch-returns-in_err-write_attribute_line g t c = λ ok. absurd (error_not_ok _ c.from_residual.ensures.0 ok)
+pub switch::write_switch-returns-in_err-write_attribute_line :
+    goal.switch::write_switch-returns-in_err-write_attribute_line
+switch::write_switch-returns-in_err-write_attribute_line g t c =
+    λ ok. absurd (error_not_ok _ c.from_residual.ensures.0 ok)
 
 pub switch::write_switch-returns-in_err-write_gap : goal.switch::write_switch-returns-in_err-write_gap
-switch::write_switch-returns-in_err-write_gap g t c = λ ok. absurd (error_not_ok _ c.from_residual-in_err-write_gap.ensures.0 ok)
+switch::write_switch-returns-in_err-write_gap g t c =
+    λ ok. absurd (error_not_ok _ c.from_residual-in_err-write_gap.ensures.0 ok)
 
 pub switch::write_switch-returns-in_err-write_head : goal.switch::write_switch-returns-in_err-write_head
-switch::write_switch-returns-in_err-write_head g t c = λ ok. absurd (error_not_ok _ c.from_residual-in_err-write_head.ensures.0 ok)
+switch::write_switch-returns-in_err-write_head g t c =
+    λ ok. absurd (error_not_ok _ c.from_residual-in_err-write_head.ensures.0 ok)
 
 pub switch::write_switch-returns-in_err-write_line_end : goal.switch::write_switch-returns-in_err-write_line_end
-switch::write_switch-returns-in_err-write_line_end g t c = λ ok. absurd (error_not_ok _ c.from_residual-in_err-write_line_end.ensures.0 ok)
+switch::write_switch-returns-in_err-write_line_end g t c =
+    λ ok. absurd (error_not_ok _ c.from_residual-in_err-write_line_end.ensures.0 ok)
 
 pub switch::write_switch-returns-in_err-write_open : goal.switch::write_switch-returns-in_err-write_open
-switch::write_switch-returns-in_err-write_open g t c = λ ok. absurd (error_not_ok _ c.from_residual-in_err-write_open.ensures.0 ok)
+switch::write_switch-returns-in_err-write_open g t c =
+    λ ok. absurd (error_not_ok _ c.from_residual-in_err-write_open.ensures.0 ok)
 
-pub switch::write_switch-returns-in_err-write_switch_clause : goal.switch::write_switch-returns-in_err-write_switch_clause
-switch::write_switch-returns-in_err-write_switch_clause g t c = λ ok. absurd (error_not_ok _ c.from_residual-in_err-write_switch_clause.ensures.0 ok)
+pub switch::write_switch-returns-in_err-write_switch_clause :
+    goal.switch::write_switch-returns-in_err-write_switch_clause
+switch::write_switch-returns-in_err-write_switch_clause g t c =
+    λ ok. absurd (error_not_ok _ c.from_residual-in_err-write_switch_clause.ensures.0 ok)
 
-pub switch::write_switch_clause-returns-in_err-write_attribute_line : goal.switch::write_switch_clause-returns-in_err-write_attribute_line
-switch::write_switch_clause-returns-in_err-write_attribute_line g t c = λ ok. absurd (error_not_ok _ c.from_residual.ensures.0 ok)
+pub switch::write_switch_clause-returns-in_err-write_attribute_line :
+    goal.switch::write_switch_clause-returns-in_err-write_attribute_line
+switch::write_switch_clause-returns-in_err-write_attribute_line g t c =
+    λ ok. absurd (error_not_ok _ c.from_residual.ensures.0 ok)
 
 pub switch::write_switch_clause-returns-in_err-write_case : goal.switch::write_switch_clause-returns-in_err-write_case
-switch::write_switch_clause-returns-in_err-write_case g t c = λ ok. absurd (error_not_ok _ c.from_residual-in_err-write_case.ensures.0 ok)
+switch::write_switch_clause-returns-in_err-write_case g t c =
+    λ ok. absurd (error_not_ok _ c.from_residual-in_err-write_case.ensures.0 ok)
 
 -- a part of a `for` header
 
@@ -370,8 +448,10 @@ abbrev part_text : Option (Spanned Statement) → List ℕ
 part_text p = unended_part (maybe_statement (option_map statement_node_view p))
 
 pub for_statement::write_part-returns-in-None : goal.for_statement::write_part-returns-in-None
-for_statement::write_part-returns-in-None g t c = λ ok. wrote_of_eq _ _ _ _ _ (sym (ap part_text c.in-None.is)) (wrote_nothing g.W.Write.write_str_gives _)
+for_statement::write_part-returns-in-None g t c =
+    λ ok. wrote_of_eq _ _ _ _ _ (sym (ap part_text c.in-None.is)) (wrote_nothing g.W.Write.write_str_gives _)
 
 pub for_statement::write_part-returns-in-Some : goal.for_statement::write_part-returns-in-Some
 for_statement::write_part-returns-in-Some g t c = λ ok.
-    wrote_of_eq _ _ _ _ _ (ap (λ (s : Statement). unended (statement_view s)) c.node.ensures ∙ sym (ap part_text c.in-Some.is)) (c.write_unended.ensures ok)
+    wrote_of_eq _ _ _ _ _ (ap (λ (s : Statement). unended (statement_view s)) c.node.ensures
+    ∙ sym (ap part_text c.in-Some.is)) (c.write_unended.ensures ok)

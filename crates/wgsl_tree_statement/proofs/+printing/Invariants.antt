@@ -15,4 +15,5 @@ invariant-switch::write_switch-clauses g l =
     (l.first ≡ is_nil lines) × Wrote g.W.Write.write_str_gives l.initial.out (block_lines (codes "\n") lines) l.out
 
 abbrev pub invariant-if_statement::write_if-clauses : goal.invariant-if_statement::write_if-clauses
-invariant-if_statement::write_if-clauses g l = Wrote g.W.Write.write_str_gives l.initial.out (else_if_text (take l.clause-index l.clause-items)) l.out
+invariant-if_statement::write_if-clauses g l = Wrote g.W.Write.write_str_gives l.initial.out
+    (else_if_text (take l.clause-index l.clause-items)) l.out

@@ -21,9 +21,12 @@ items-preserved g c =
     let first : DisplaysOnOk took top (Ok tt) (Some (before sep k)) middle =
     displays_on_ok_of_eq took top middle (Ok tt) _ _ same (search rules) in
     let now : DisplaysOnOk took top (Ok tt) (Some (before sep k) ++? o x) end =
-    displays_on_IsOk_append took top middle end (Ok tt) (Ok tt) (Some (before sep k)) (o x) (λ e. e) first (search rules) in (
+    displays_on_IsOk_append took top middle end (Ok tt) (Ok tt) (Some (before sep k)) (o x)
+    (λ e. e) first (search rules) in (
       sym (before_next sep k),
       c.utf8.separator,
-      displays_on_ok_of_eq took start end (Ok tt) _ _ (sym (joined_output_more o sep items k x (search rules) c.item-item.is))
-          (displays_on_IsOk_append took start top end (Ok tt) (Ok tt) (joined_output o sep (take k items)) (Some (before sep k) ++? o x) (λ e. e) c.items.invariant.2 now),
+      displays_on_ok_of_eq took start end (Ok tt) _ _
+          (sym (joined_output_more o sep items k x (search rules) c.item-item.is))
+          (displays_on_IsOk_append took start top end (Ok tt) (Ok tt) (joined_output o sep
+          (take k items)) (Some (before sep k) ++? o x) (λ e. e) c.items.invariant.2 now),
     )

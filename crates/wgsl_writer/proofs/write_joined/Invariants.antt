@@ -10,4 +10,5 @@ abbrev pub invariant-items : goal.invariant-items
 invariant-items g l =
     (l.before ≡ before l.separator l.item-index)
     × shadow (Utf8 l.before)
-    × DisplaysOnOk g.W.Write.write_str_gives l.initial.f (Ok tt) (joined_output g.T.Display.output l.separator (take l.item-index l.items)) l.f
+    × DisplaysOnOk g.W.Write.write_str_gives l.initial.f (Ok tt)
+    (joined_output g.T.Display.output l.separator (take l.item-index l.items)) l.f

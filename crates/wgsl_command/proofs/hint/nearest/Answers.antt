@@ -5,4 +5,5 @@ use Rattle.wgsl_command.proofs.hint.nearest.Goals as goal
 pub returns : goal.returns
 returns c =
     let end : c.loop-name.name-index ≡ 9 = omega (arith, c.loop-name-test.false, c.loop-name.auto) in
-    best_nearest c.args.word.now c.loop-name.found c.loop-name.least (subst (λ i. IsBest c.args.word.now c.loop-name.found c.loop-name.least i) end c.loop-name.invariant)
+    best_nearest c.args.word.now c.loop-name.found c.loop-name.least
+    (subst (λ i. IsBest c.args.word.now c.loop-name.found c.loop-name.least i) end c.loop-name.invariant)

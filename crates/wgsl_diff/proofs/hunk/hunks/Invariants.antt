@@ -13,8 +13,10 @@ invariant-loop-at l = record {
   new_within : l.new_start ≤ l.at;
   small : All IsSmall l.hunks.items;
   turns : (more : List plain.Hunk)
-      → Turns l.old_start l.new_start more (old_lines (map line_view (drop l.at l.lines))) (new_lines (map line_view (drop l.at l.lines)))
-      → Turns 0 0 (map hunk_view l.hunks.items ++ more) (old_lines (map line_view l.lines)) (new_lines (map line_view l.lines));
+      → Turns l.old_start l.new_start more (old_lines (map line_view (drop l.at l.lines)))
+      (new_lines (map line_view (drop l.at l.lines)))
+      → Turns 0 0 (map hunk_view l.hunks.items ++ more) (old_lines (map line_view l.lines))
+      (new_lines (map line_view l.lines));
 }
 
 abbrev pub decreases-loop-at : goal.decreases-loop-at

@@ -6,6 +6,7 @@ use Rattle.wgsl_diff.proofs.line.new_count.Given as goal
 -- what was counted and what is left are all
 abbrev pub invariant-loop-line : goal.invariant-loop-line
 invariant-loop-line l = record {
-  counted : l.count + length (new_lines (map line_view (drop l.line-index l.lines))) ≡ length (new_lines (map line_view l.lines));
+  counted : l.count + length (new_lines (map line_view (drop l.line-index l.lines)))
+      ≡ length (new_lines (map line_view l.lines));
   bound : l.count ≤ l.line-index;
 }

@@ -24,13 +24,15 @@ loop-at-preserved c =
             whole = ap (λ k. texts_of made.items ++ before_all (take (i + 1 - k) (drop k text)) rest) w.start-is
                 ∙ ap (λ k. texts_of made.items ++ before_all (take k (drop (i + 1) text)) rest) none
                 ∙ ap (λ t. t ++ rest) lines
-                ∙ line_read text s i before.within c.loop-at-test.true (texts_of c.loop-at.lines.items) _ w.if-byte-eq10.true before.whole;
+                ∙ line_read text s i before.within c.loop-at-test.true
+                (texts_of c.loop-at.lines.items) _ w.if-byte-eq10.true before.whole;
           }
       | else-byte-eq10 w ↦ record {
         within = omega (arith, w.start-is, before.within);
         whole = ap (λ k. texts_of made.items ++ before_all (take (i + 1 - k) (drop k text)) rest) w.start-is
             ∙ ap (λ v. texts_of v.items ++ before_all (take (i + 1 - s) (drop s text)) rest) w.lines-is
-            ∙ byte_read text s i before.within c.loop-at-test.true (texts_of c.loop-at.lines.items) _ w.if-byte-eq10.false before.whole;
+            ∙ byte_read text s i before.within c.loop-at-test.true
+            (texts_of c.loop-at.lines.items) _ w.if-byte-eq10.false before.whole;
       }
     ]
 
@@ -43,7 +45,9 @@ returns c =
     elim c.if-start-text.branch [
       | then-start-text+in_ok-push-2 w ↦
           ap (λ v. texts_of v.items) w.lines-is ∙ ap texts_of w.in_ok-push-2.ensures.items ∙ map_push _ _ _
-          ∙ last_line text s i texts c.loop-at-test.false c.loop-at.auto.at-end c.loop-at.invariant.whole w.if-start-text.true
+          ∙ last_line text s i texts c.loop-at-test.false c.loop-at.auto.at-end
+          c.loop-at.invariant.whole w.if-start-text.true
       | else-start-text w ↦
-          ap (λ v. texts_of v.items) w.lines-is ∙ no_line text s i texts c.loop-at-test.false c.loop-at.auto.at-end c.loop-at.invariant.whole w.if-start-text.false
+          ap (λ v. texts_of v.items) w.lines-is ∙ no_line text s i texts c.loop-at-test.false
+          c.loop-at.auto.at-end c.loop-at.invariant.whole w.if-start-text.false
     ]

@@ -8,5 +8,6 @@ use Rattle.wgsl_diff.proofs.lines.lines_of.Given as goal
 abbrev pub invariant-loop-at : goal.invariant-loop-at
 invariant-loop-at l = record {
   within : l.start ≤ l.at;
-  whole : texts_of l.lines.items ++ before_all (take (l.at - l.start) (drop l.start l.text)) (lines_of (drop l.at l.text)) ≡ lines_of l.text;
+  whole : texts_of l.lines.items ++ before_all (take (l.at - l.start) (drop l.start l.text))
+      (lines_of (drop l.at l.text)) ≡ lines_of l.text;
 }

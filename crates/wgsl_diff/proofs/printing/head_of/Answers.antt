@@ -15,5 +15,7 @@ returns c = IfOk-weaker c.format.result _ _ (λ head told.
     let removed = print_range hunk.old_start (length (old_lines (map line_view hunk.lines.now))) in
     let written : string_bytes head ≡ codes "@@ -" ++ (old ++ (codes " +" ++ (new ++ codes " @@\n"))) = told in
     written ∙ five_joined (codes "@@ -") old (codes " +") new (codes " @@\n")
-    ∙ ap (λ r. (((codes "@@ -" ++ r) ++ codes " +") ++ new) ++ codes " @@\n") (c.in_ok-old.ensures ∙ ap (print_range hunk.old_start) c.old_count.ensures.count)
-    ∙ ap (λ r. (((codes "@@ -" ++ removed) ++ codes " +") ++ r) ++ codes " @@\n") (c.in_ok-new.ensures ∙ ap (print_range hunk.new_start) c.new_count.ensures.count)) c.format.ensures.ok
+    ∙ ap (λ r. (((codes "@@ -" ++ r) ++ codes " +") ++ new) ++ codes " @@\n")
+    (c.in_ok-old.ensures ∙ ap (print_range hunk.old_start) c.old_count.ensures.count)
+    ∙ ap (λ r. (((codes "@@ -" ++ removed) ++ codes " +") ++ r) ++ codes " @@\n") (c.in_ok-new.ensures
+    ∙ ap (print_range hunk.new_start) c.new_count.ensures.count)) c.format.ensures.ok

@@ -6,4 +6,5 @@ use Rattle.wgsl_diff.proofs.printing.push_diff.Given as goal
 
 -- the hunks so far are written
 abbrev pub invariant-loop-hunk : goal.invariant-loop-hunk
-invariant-loop-hunk l = l.output.items ≡ l.initial.output.items ++ flat_map print_hunk (map hunk_view (take l.hunk-index l.hunks))
+invariant-loop-hunk l = l.output.items
+    ≡ l.initial.output.items ++ flat_map print_hunk (map hunk_view (take l.hunk-index l.hunks))

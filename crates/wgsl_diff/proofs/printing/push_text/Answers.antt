@@ -8,5 +8,6 @@ returns-in_ok-extend_from_slice-2 c =
     let sign = c.args.sign in
     let text = c.args.text.now in
     let note = codes "\n\\ No newline at end of file\n" in
-    text_pushed out _ _ _ sign text note c.in_ok-push.ensures.items c.in_ok-extend_from_slice.ensures.items c.in_ok-extend_from_slice-2.ensures.items
+    text_pushed out _ _ _ sign text note c.in_ok-push.ensures.items
+    c.in_ok-extend_from_slice.ensures.items c.in_ok-extend_from_slice-2.ensures.items
     ∙ ap (λ ends. out ++ sign ∷ (text ++ (if ends then [] else note))) c.if-not-ends_with.ensures.value

@@ -18,6 +18,7 @@ returns-in-Attribute g c = λ plain ok.
     let problem = c.in-Attribute.problem.now in
     let tail = codes " attribute, " in
     has_written_of_eq _ _ _ _ _
-    (ap (λ rest. codes "invalid `" ++ rest) (sym (append_assoc (name ++ codes "`") tail problem ∙ append_assoc name (codes "`") (tail ++ problem)))
+    (ap (λ rest. codes "invalid `" ++ rest) (sym (append_assoc (name ++ codes "`") tail problem
+    ∙ append_assoc name (codes "`") (tail ++ problem)))
     ∙ ap print_message (sym c.in-Attribute.is))
     (c.write-in-Attribute.ensures.writes plain ok)

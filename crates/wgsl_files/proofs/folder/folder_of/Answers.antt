@@ -9,5 +9,6 @@ pub returns-in-None : goal.returns-in-None
 unfolding lib.Utf8.encode
 returns-in-None c =
     let path = c.args.path.now in
-    let other = false_from_ne_true (ends_with nat_eq path (codes "/")) (λ ends. c.in-None.ensures.cases _ ((ends_is Decides-eqb path (codes "/") _ refl).0 ends)) in
+    let other = false_from_ne_true (ends_with nat_eq path (codes "/"))
+    (λ ends. c.in-None.ensures.cases _ ((ends_is Decides-eqb path (codes "/") _ refl).0 ends)) in
     ap (λ ends. if ends then take (length path - 1) path else path) (sym other)

@@ -8,5 +8,7 @@ use Rattle.wgsl_files.proofs.memory.has_below.Goals as goal
 
 pub returns : goal.returns
 returns c =
-    let found = any_from_yields_List (λ path. is_below c.args.folder.now (string_bytes path)) _ _ _ c.any.ensures.ran (YieldsList-from_rest (keys c.args.files.now) c.keys.ensures.rest) (λ x b q k. search (rules, tests)) in
+    let found = any_from_yields_List (λ path. is_below c.args.folder.now (string_bytes path)) _ _ _
+    c.any.ensures.ran (YieldsList-from_rest (keys c.args.files.now) c.keys.ensures.rest)
+    (λ x b q k. search (rules, tests)) in
     found ∙ any_texts c.args.folder.now (keys c.args.files.now)

@@ -8,4 +8,5 @@ use Rattle.wgsl_files.proofs.walk.below.Goals as goal
 pub returns-clause-ordered : goal.returns-clause-ordered
 returns-clause-ordered g c =
     rw (dedup_is _ _ _ c.dedup.ensures.filtered)
-    (ordered_texts string_bytes _ (IsStrictlySortedBy-dedup (on_texts string_bytes) (λ x y. texts_ties (string_bytes x) (string_bytes y)) _ c.sort_unstable.ensures.sorted))
+    (ordered_texts string_bytes _ (IsStrictlySortedBy-dedup (on_texts string_bytes)
+    (λ x y. texts_ties (string_bytes x) (string_bytes y)) _ c.sort_unstable.ensures.sorted))

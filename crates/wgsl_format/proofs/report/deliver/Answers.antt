@@ -6,14 +6,17 @@ use Rattle.wgsl_format.proofs.report.deliver.Goals as goal
 
 pub returns-in-Written-clause-sent : goal.returns-in-Written-clause-sent
 returns-in-Written-clause-sent g c =
-    rw (c.in-Written.is, ← c.as_str.ensures.value, ← c.as_bytes.ensures.value) (goes_to_output _ _ _ _ _ _ _ c.tell.ensures.1 c.tell.ensures.2)
+    rw (c.in-Written.is, ← c.as_str.ensures.value, ← c.as_bytes.ensures.value)
+    (goes_to_output _ _ _ _ _ _ _ c.tell.ensures.1 c.tell.ensures.2)
 
 pub returns-in-Refused-clause-sent : goal.returns-in-Refused-clause-sent
 returns-in-Refused-clause-sent g c =
-    rw (c.in-Refused.is, ← c.as_bytes-in-Refused.ensures.value) (goes_to_errors _ _ _ _ _ _ _ c.tell-in-Refused.ensures.1 c.tell-in-Refused.ensures.2)
+    rw (c.in-Refused.is, ← c.as_bytes-in-Refused.ensures.value)
+    (goes_to_errors _ _ _ _ _ _ _ c.tell-in-Refused.ensures.1 c.tell-in-Refused.ensures.2)
 
 pub returns-in-NotUtf8-clause-sent : goal.returns-in-NotUtf8-clause-sent
-returns-in-NotUtf8-clause-sent g c = rw c.in-NotUtf8.is (goes_to_errors _ _ _ _ _ _ _ c.tell-in-NotUtf8.ensures.1 c.tell-in-NotUtf8.ensures.2)
+returns-in-NotUtf8-clause-sent g c = rw c.in-NotUtf8.is
+    (goes_to_errors _ _ _ _ _ _ _ c.tell-in-NotUtf8.ensures.1 c.tell-in-NotUtf8.ensures.2)
 
 pub returns-in-OutOfMemory-clause-sent : goal.returns-in-OutOfMemory-clause-sent
 returns-in-OutOfMemory-clause-sent g c =

@@ -8,6 +8,10 @@ use Rattle.wgsl_format_files.proofs.config.paths_below.Goals as goal
 
 pub returns : goal.returns
 returns c =
-    let names = map_from_collect {E = AllocError} (Ok c.in_ok-names.names) c.in_ok-names.ensures.ran (YieldsList-from_str_split 47 c.args.path.now (lit< tt) c.split.ensures.text c.split.ensures.has_more c.split.ensures.pattern) in
-    ap (map string_bytes) c.reverse.ensures.items ∙ map_reverse string_bytes c.in_ok-paths.paths.items ∙ ap reverse c.in_ok-paths.ensures
-    ∙ ap (λ ns. reverse (paths_from c.args.folder.now ns)) (ap (map (λ name. name.now)) c.as_slice.ensures.value ∙ names)
+    let names = map_from_collect {E = AllocError} (Ok c.in_ok-names.names) c.in_ok-names.ensures.ran
+    (YieldsList-from_str_split 47 c.args.path.now
+    (lit< tt) c.split.ensures.text c.split.ensures.has_more c.split.ensures.pattern) in
+    ap (map string_bytes) c.reverse.ensures.items
+    ∙ map_reverse string_bytes c.in_ok-paths.paths.items ∙ ap reverse c.in_ok-paths.ensures
+    ∙ ap (λ ns. reverse (paths_from c.args.folder.now ns))
+    (ap (map (λ name. name.now)) c.as_slice.ensures.value ∙ names)

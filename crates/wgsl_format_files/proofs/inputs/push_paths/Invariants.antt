@@ -8,6 +8,7 @@ use Rattle.wgsl_format_files.proofs.inputs.push_paths.Given as goal
 abbrev pub invariant-loop-path : goal.invariant-loop-path
 invariant-loop-path l = record {
   added : map input_view l.inputs.items ++ map plain.path (map string_bytes (into_iter_items l.path-iterator))
-      ≡ map input_view l.initial.inputs.items ++ map plain.path (map string_bytes (into_iter_items l.initial.path-iterator));
+      ≡ map input_view l.initial.inputs.items
+      ++ map plain.path (map string_bytes (into_iter_items l.initial.path-iterator));
   left : into_iter_len l.path-iterator ≡ length (into_iter_items l.path-iterator);
 }

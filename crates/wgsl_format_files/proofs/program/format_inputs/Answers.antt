@@ -15,8 +15,10 @@ returns g c =
     let next = c.format_all.new in
     let old = state (g.S.Store.files c.args.store.now) (g.R.Read.remaining c.args.input.now) in
     let new = state (g.S.Store.files next.store) (g.R.Read.remaining next.input) in
-    let runs : List ℕ → ℕ → Type 0 = λ name status. Runs (BecomesBy request.choices (option_copied request.stdin_path)) Refuses
+    let runs : List ℕ → ℕ → Type 0 =
+    λ name status. Runs (BecomesBy request.choices (option_copied request.stdin_path)) Refuses
     request.mode request.quiet name (map input_view c.args.inputs.now) old new
-    (g.W.Write.contents c.args.output.now) (g.W.Write.contents next.output) (g.E.Write.contents c.args.errors.now) (g.E.Write.contents next.errors) status in
+    (g.W.Write.contents c.args.output.now) (g.W.Write.contents next.output)
+    (g.E.Write.contents c.args.errors.now) (g.E.Write.contents next.errors) status in
     subst (runs (name_of (request_view request))) (sym c.code.ensures)
     (subst (λ name. runs name (code_of c.format_all.result)) c.name_of.ensures c.format_all.ensures.runs)

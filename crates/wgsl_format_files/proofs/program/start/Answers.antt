@@ -4,13 +4,17 @@ use Rattle.wgsl_format_files.proofs.program.start.Goals as goal
 
 pub returns-in-Err-Usage : goal.returns-in-Err-Usage
 returns-in-Err-Usage g c =
-    usage_start _ _ _ _ _ (usage_meant c.in-Err-Usage.field-0 c.in-Err-Usage.error _ c.in-Err-Usage.field-0-is (c.in-Err-Usage.ensures)) c.refuse_usage.ensures refl refl refl
+    usage_start _ _ _ _ _ (usage_meant c.in-Err-Usage.field-0 c.in-Err-Usage.error _
+    c.in-Err-Usage.field-0-is (c.in-Err-Usage.ensures)) c.refuse_usage.ensures refl refl refl
 
 pub returns-in-Err-OutOfMemory : goal.returns-in-Err-OutOfMemory
-returns-in-Err-OutOfMemory g c = memory_start _ _ _ _ (record { says = c.refuse_memory.ensures; output = refl; files = refl; left = refl })
+returns-in-Err-OutOfMemory g c = memory_start _ _ _ _
+    (record { says = c.refuse_memory.ensures; output = refl; files = refl; left = refl })
 
 pub returns-then-is_empty : goal.returns-then-is_empty
 returns-then-is_empty g c =
-    no_arguments c.args.arguments.now (g.S.Store.files c.args.store.now) (g.R.Read.remaining c.args.input.now) (g.R.Read.remaining c.run.new.input) (g.W.Write.contents c.args.output.now) (g.W.Write.contents c.run.new.output)
+    no_arguments c.args.arguments.now (g.S.Store.files c.args.store.now)
+    (g.R.Read.remaining c.args.input.now) (g.R.Read.remaining c.run.new.input)
+    (g.W.Write.contents c.args.output.now) (g.W.Write.contents c.run.new.output)
     (g.E.Write.contents c.args.errors.now) (g.E.Write.contents c.run.new.errors) c.run.result (search rules)
     (known_runs _ _ _ _ g.W.Write.contents c.args.output.now c.run.new.output _ _ c.run.result c.run.ensures)

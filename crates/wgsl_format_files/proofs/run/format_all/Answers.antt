@@ -25,12 +25,17 @@ loop-source-preserved g c =
     let next = state (g.S.Store.files event.new.store) (g.R.Read.remaining event.new.input) in
     let output = g.W.Write.contents c.args.output.now in
     let errors = g.E.Write.contents c.args.errors.now in
-    let more = run_more becomes refuses how.mode how.quiet how.stdin_name.now (map input_view (take at.source-index c.args.inputs.now)) at.source-index
+    let more = run_more becomes refuses how.mode how.quiet how.stdin_name.now
+    (map input_view (take at.source-index c.args.inputs.now)) at.source-index
     old now output (g.W.Write.contents at.output) errors (g.E.Write.contents at.errors) at.tally at.invariant.so_far
-    (input_view item) event.result c.name-name.result.now told.result next (g.W.Write.contents told.new.output) (g.E.Write.contents told.new.errors) after.result
-    event.ensures c.name-name.ensures after.ensures.whole told.ensures.shown told.ensures.told after.ensures.changed after.ensures.failed after.ensures.status in
+    (input_view item) event.result c.name-name.result.now told.result next
+    (g.W.Write.contents told.new.output) (g.E.Write.contents told.new.errors) after.result
+    event.ensures c.name-name.ensures after.ensures.whole told.ensures.shown told.ensures.told
+    after.ensures.changed after.ensures.failed after.ensures.status in
     record {
-      so_far = subst (λ inputs. IsRunSoFar becomes refuses how.mode how.quiet how.stdin_name.now inputs (at.source-index + 1) old next output (g.W.Write.contents told.new.output) errors (g.E.Write.contents told.new.errors) after.result)
+      so_far = subst (λ inputs. IsRunSoFar becomes refuses how.mode how.quiet how.stdin_name.now
+          inputs (at.source-index + 1) old next output (g.W.Write.contents told.new.output) errors
+          (g.E.Write.contents told.new.errors) after.result)
           (inputs_more c.args.inputs.now at.source-index item c.loop-source-test.true (search rules)) more;
       within = search rules;
     }
@@ -46,15 +51,23 @@ returns g c =
     let now = state (g.S.Store.files at.store) (g.R.Read.remaining at.input) in
     let output = g.W.Write.contents c.args.output.now in
     let errors = g.E.Write.contents c.args.errors.now in
-    let whole : length c.args.inputs.now ≡ at.source-index = omega (arith, at.invariant.within, c.loop-source-test.false) in
-    let written = subst (λ n. WroteMore at.tally.whole end.ensures.0 (summary how.mode how.quiet n at.tally.changed at.tally.failed) (g.E.Write.contents at.errors) (g.E.Write.contents end.new.errors)) whole end.ensures.1 in
-    let ran = run_ends becomes refuses how.mode how.quiet how.stdin_name.now (map input_view (take at.source-index c.args.inputs.now)) at.source-index
+    let whole : length c.args.inputs.now ≡ at.source-index =
+    omega (arith, at.invariant.within, c.loop-source-test.false) in
+    let written = subst (λ n. WroteMore at.tally.whole end.ensures.0
+    (summary how.mode how.quiet n at.tally.changed at.tally.failed) (g.E.Write.contents at.errors)
+    (g.E.Write.contents end.new.errors)) whole end.ensures.1 in
+    let ran = run_ends becomes refuses how.mode how.quiet how.stdin_name.now
+    (map input_view (take at.source-index c.args.inputs.now)) at.source-index
     old now output (g.W.Write.contents at.output) errors (g.E.Write.contents at.errors) at.tally at.invariant.so_far
     end.ensures.0 (g.E.Write.contents end.new.errors) (code_of end.result) written end.ensures.2 in
-    let runs = subst (λ inputs. Runs becomes refuses how.mode how.quiet how.stdin_name.now (map input_view inputs) old now output (g.W.Write.contents at.output) errors (g.E.Write.contents end.new.errors) (code_of end.result))
+    let runs = subst (λ inputs. Runs becomes refuses how.mode how.quiet how.stdin_name.now
+    (map input_view inputs) old now output (g.W.Write.contents at.output) errors
+    (g.E.Write.contents end.new.errors) (code_of end.result))
     (take_all at.source-index c.args.inputs.now c.loop-source-test.false) ran in
     record {
       runs = runs;
-      named = only_named becomes refuses how.mode how.stdin_name.now (map input_view c.args.inputs.now) old now runs.came runs.each;
-      checked = λ other. none_written becomes refuses how.mode how.stdin_name.now (map input_view c.args.inputs.now) old now runs.came other runs.each;
+      named = only_named becomes refuses how.mode how.stdin_name.now
+          (map input_view c.args.inputs.now) old now runs.came runs.each;
+      checked = λ other. none_written becomes refuses how.mode how.stdin_name.now
+          (map input_view c.args.inputs.now) old now runs.came other runs.each;
     }

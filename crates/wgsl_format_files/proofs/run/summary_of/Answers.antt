@@ -6,5 +6,6 @@ pub returns : goal.returns
 returns c =
     let tally = c.args.tally in
     subst (λ words. IfOk c.format.result (λ text. string_bytes text
-    ≡ decimal c.args.count ++ (codes " files, " ++ (decimal tally.changed ++ (words ++ (decimal tally.failed ++ codes " with errors\n"))))))
+    ≡ decimal c.args.count ++ (codes " files, "
+    ++ (decimal tally.changed ++ (words ++ (decimal tally.failed ++ codes " with errors\n"))))))
     c.changed_words-words.ensures c.format.ensures.ok

@@ -1,6 +1,6 @@
 use Rattle.std.proofs.Common.{◌∷◌, Some, None, chars, sym, ap, ◌∙◌}
 use Rattle.std.proofs.lemmas.Str.{chars-nil}
-use Rattle.wgsl_model.specs.Tokens.Classes.{BlockComment}
+use Rattle.wgsl_model.specs.Tokens.ClassTable.{BlockComment}
 use Rattle.wgsl_model.specs.Tokens.Trivia.{outside}
 use Rattle.wgsl_model_tidy.specs.Pieces.{OpenComment, comments}
 use Rattle.wgsl_theory_tidy.proofs.Comments.{piece, whole_block, nothing_left}
@@ -10,9 +10,11 @@ use Rattle.wgsl_format_layout.proofs.comment.block_comment.Goals as goal
 pub returns-in_default-clause-comment : goal.returns-in_default-clause-comment
 returns-in_default-clause-comment c b n =
     let body = chars c.args.body.now in
-    ap (comments b outside n) c.requires.sign ∙ whole_block b n OpenComment body body (b 0) (told_end body None c.in_default.ensures.value b n)
+    ap (comments b outside n) c.requires.sign
+    ∙ whole_block b n OpenComment body body (b 0) (told_end body None c.in_default.ensures.value b n)
     ∙ ap (λ xs. piece OpenComment xs n ∷ b 0) (sym c.requires.sign)
-    ∙ ap (λ ps. piece OpenComment (chars c.args.text.now) n ∷ ps) (sym (ap (comments b outside 0) chars-nil ∙ nothing_left b 0))
+    ∙ ap (λ ps. piece OpenComment (chars c.args.text.now) n ∷ ps)
+    (sym (ap (comments b outside 0) chars-nil ∙ nothing_left b 0))
 
 pub before-requires : goal.before-requires
 before-requires c =

@@ -15,7 +15,8 @@ pieces-preserved-in-Some-comment_at c =
       text = search rules;
       follows = λ behind h.
           c.pieces.invariant.follows behind h ∙ ap is_followed (c.in-Some-comment_at.ensures.value behind 0)
-          ∙ over_comment (comment_class comment.kind) (chars comment.text.now) (comments behind outside 0 (chars comment.rest.now)) (classed comment.kind);
+          ∙ over_comment (comment_class comment.kind) (chars comment.text.now)
+          (comments behind outside 0 (chars comment.rest.now)) (classed comment.kind);
     }
 
 pub pieces-preserved : goal.pieces-preserved
@@ -24,18 +25,23 @@ pieces-preserved c =
     record {
       text = search rules;
       follows = λ behind h.
-          c.pieces.invariant.follows behind h ∙ ap is_followed (c.in_default-comment_at.ensures.value behind 0 c.in-Some.c after c.in-Some.ensures.parts)
-          ∙ ap (λ n. is_followed (comments behind outside n after)) (ap (λ k. 0 + k) (sym c.line_ends_at.ensures) ∙ not_ended c.line_ends_at.result c.if-line_ends_at-gt0.false);
+          c.pieces.invariant.follows behind h ∙ ap is_followed
+          (c.in_default-comment_at.ensures.value behind 0 c.in-Some.c after c.in-Some.ensures.parts)
+          ∙ ap (λ n. is_followed (comments behind outside n after)) (ap (λ k. 0 + k)
+          (sym c.line_ends_at.ensures) ∙ not_ended c.line_ends_at.result c.if-line_ends_at-gt0.false);
     }
 
 pub returns-then-line_ends_at-gt0 : goal.returns-then-line_ends_at-gt0
 returns-then-line_ends_at-gt0 c behind h =
     let after = chars c.in-Some.after.now in
-    c.pieces.invariant.follows behind h ∙ ap is_followed (c.in_default-comment_at.ensures.value behind 0 c.in-Some.c after c.in-Some.ensures.parts)
+    c.pieces.invariant.follows behind h
+    ∙ ap is_followed (c.in_default-comment_at.ensures.value behind 0 c.in-Some.c after c.in-Some.ensures.parts)
     ∙ ap (λ k. is_followed (comments behind outside (0 + k) after)) (sym c.line_ends_at.ensures)
-    ∙ ended behind (λ m. h (suc m) ∙ behind_end m c.args.has_next) c.line_ends_at.result after c.if-line_ends_at-gt0.true
+    ∙ ended behind (λ m. h (suc m) ∙ behind_end m c.args.has_next) c.line_ends_at.result after
+    c.if-line_ends_at-gt0.true
 
 pub returns : goal.returns
 returns c behind h =
-    c.pieces.invariant.follows behind h ∙ ap (λ xs. is_followed (comments behind outside 0 xs)) c.in_default.ensures.parts
+    c.pieces.invariant.follows behind h
+    ∙ ap (λ xs. is_followed (comments behind outside 0 xs)) c.in_default.ensures.parts
     ∙ ap is_followed (nothing_left behind 0) ∙ h 0

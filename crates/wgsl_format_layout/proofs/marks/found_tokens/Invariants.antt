@@ -9,7 +9,9 @@ use Rattle.wgsl_format_layout.proofs.marks.found_tokens.Given as goal
 abbrev pub invariant-tokens : goal.invariant-tokens
 invariant-tokens l = record {
   left : AreLeftFrom l.source l.place (tokens_left l.left);
-  found : (fs : List MarkedToken) (last : Trivia) → AreFound (chars l.source) l.place (tokens_left l.left) fs last → AreFound (chars l.source) 0 (tokens_left l.initial.left) (l.tokens.items ++ fs) last;
+  found : (fs : List MarkedToken) (last : Trivia)
+      → AreFound (chars l.source) l.place (tokens_left l.left) fs last
+      → AreFound (chars l.source) 0 (tokens_left l.initial.left) (l.tokens.items ++ fs) last;
 }
 
 abbrev pub decreases-tokens : goal.decreases-tokens

@@ -16,6 +16,8 @@ returns c =
     let size : length marked ≡ length items = c.mark.auto.tokens ∙ ap length c.deref_mut.ensures.value in
     let rest : drop (length marked) items ≡ [] = drop_all (length marked) items (omega (arith, size)) in
     let whole : take found.tokens.len (marked ++ drop (length marked) items) ≡ marks items found.last =
-    ap (λ k. take k (marked ++ drop (length marked) items)) (found.tokens.ok.0 ∙ sym size) ∙ ap (λ xs. take (length marked) (marked ++ xs)) rest ∙ ap (take (length marked)) (append-nil marked) ∙ take-length marked
+    ap (λ k. take k (marked ++ drop (length marked) items)) (found.tokens.ok.0 ∙ sym size)
+    ∙ ap (λ xs. take (length marked) (marked ++ xs)) rest
+    ∙ ap (take (length marked)) (append-nil marked) ∙ take-length marked
     ∙ c.in_ok-mark.ensures ∙ ap (λ xs. marks xs found.last) c.deref_mut.ensures.value in
     subst (AreMarked source ts) (sym whole) (all_marked source 0 ts items found.last c.in_ok-tokens.ensures)

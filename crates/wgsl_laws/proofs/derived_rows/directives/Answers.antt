@@ -15,4 +15,5 @@ pub returns-clause-unknown_severity : goal.returns-clause-unknown_severity
 returns-clause-unknown_severity c = answers_are_true global_directive unknown_severity_tokens finished
 
 pub returns-clause-reserved_word_as_a_severity : goal.returns-clause-reserved_word_as_a_severity
-returns-clause-reserved_word_as_a_severity c = answers_are_true global_directive reserved_word_as_a_severity_tokens finished
+returns-clause-reserved_word_as_a_severity c =
+    answers_are_true global_directive reserved_word_as_a_severity_tokens finished

@@ -39,7 +39,8 @@ pub returns-clause-doubled_comma : goal.returns-clause-doubled_comma
 returns-clause-doubled_comma c = answers_are_true expression doubled_comma_tokens finished
 
 pub returns-clause-fault_behind_an_unexpected_token : goal.returns-clause-fault_behind_an_unexpected_token
-returns-clause-fault_behind_an_unexpected_token c = answers_are_true expression fault_behind_an_unexpected_token_tokens finished
+returns-clause-fault_behind_an_unexpected_token c =
+    answers_are_true expression fault_behind_an_unexpected_token_tokens finished
 
 pub returns-clause-fault_at_an_unexpected_token : goal.returns-clause-fault_at_an_unexpected_token
 returns-clause-fault_at_an_unexpected_token c = answers_are_true expression fault_at_an_unexpected_token_tokens finished

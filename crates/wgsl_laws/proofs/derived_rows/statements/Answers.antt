@@ -45,7 +45,8 @@ pub returns-clause-assignment_to_a_template : goal.returns-clause-assignment_to_
 returns-clause-assignment_to_a_template c = answers_are_true statement assignment_to_a_template_tokens finished
 
 pub returns-clause-attribute_before_an_assignment : goal.returns-clause-attribute_before_an_assignment
-returns-clause-attribute_before_an_assignment c = (answers_are_true statement attribute_before_an_assignment_tokens finished).1
+returns-clause-attribute_before_an_assignment c =
+    (answers_are_true statement attribute_before_an_assignment_tokens finished).1
 
 pub returns-clause-attributes_in_a_for_header : goal.returns-clause-attributes_in_a_for_header
 returns-clause-attributes_in_a_for_header c = (answers_are_true statement attributes_in_a_for_header_tokens finished).1
@@ -57,7 +58,8 @@ pub returns-clause-attributes_in_a_loop : goal.returns-clause-attributes_in_a_lo
 returns-clause-attributes_in_a_loop c = (answers_are_true statement attributes_in_a_loop_tokens finished).1
 
 pub returns-clause-arguments_before_an_assignment : goal.returns-clause-arguments_before_an_assignment
-returns-clause-arguments_before_an_assignment c = answers_are_true statement arguments_before_an_assignment_tokens finished
+returns-clause-arguments_before_an_assignment c =
+    answers_are_true statement arguments_before_an_assignment_tokens finished
 
 pub returns-clause-attribute_before_parentheses : goal.returns-clause-attribute_before_parentheses
 returns-clause-attribute_before_parentheses c = answers_are_true statement attribute_before_parentheses_tokens finished
@@ -69,4 +71,5 @@ pub returns-clause-attribute_before_else : goal.returns-clause-attribute_before_
 returns-clause-attribute_before_else c = answers_are_true statement attribute_before_else_tokens finished
 
 pub returns-clause-attribute_before_a_wrong_template : goal.returns-clause-attribute_before_a_wrong_template
-returns-clause-attribute_before_a_wrong_template c = answers_are_true statement attribute_before_a_wrong_template_tokens finished
+returns-clause-attribute_before_a_wrong_template c =
+    answers_are_true statement attribute_before_a_wrong_template_tokens finished

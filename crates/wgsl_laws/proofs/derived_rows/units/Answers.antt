@@ -18,13 +18,17 @@ pub returns-clause-attribute_before_a_directive : goal.returns-clause-attribute_
 returns-clause-attribute_before_a_directive c = (answers_are_true unit attribute_before_a_directive_tokens finished).1
 
 pub returns-clause-attribute_before_the_first_declaration : goal.returns-clause-attribute_before_the_first_declaration
-returns-clause-attribute_before_the_first_declaration c = (answers_are_true unit attribute_before_the_first_declaration_tokens finished).1
+returns-clause-attribute_before_the_first_declaration c =
+    (answers_are_true unit attribute_before_the_first_declaration_tokens finished).1
 
-pub returns-clause-directive_with_an_attribute_behind_a_declaration : goal.returns-clause-directive_with_an_attribute_behind_a_declaration
-returns-clause-directive_with_an_attribute_behind_a_declaration c = answers_are_true unit directive_with_an_attribute_behind_a_declaration_tokens finished
+pub returns-clause-directive_with_an_attribute_behind_a_declaration :
+    goal.returns-clause-directive_with_an_attribute_behind_a_declaration
+returns-clause-directive_with_an_attribute_behind_a_declaration c =
+    answers_are_true unit directive_with_an_attribute_behind_a_declaration_tokens finished
 
 pub returns-clause-bare_attribute_before_a_function : goal.returns-clause-bare_attribute_before_a_function
-returns-clause-bare_attribute_before_a_function c = answers_are_true unit bare_attribute_before_a_function_tokens finished
+returns-clause-bare_attribute_before_a_function c =
+    answers_are_true unit bare_attribute_before_a_function_tokens finished
 
 pub returns-clause-attribute_before_no_statement : goal.returns-clause-attribute_before_no_statement
 returns-clause-attribute_before_no_statement c = answers_are_true unit attribute_before_no_statement_tokens finished

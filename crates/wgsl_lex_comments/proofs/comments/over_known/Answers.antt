@@ -14,5 +14,7 @@ returns c =
     record {
       leaves = subst (Leaves (chars c.args.text.now)) (sym same) is.leaves;
       end = (at.0, at.1);
-      shorter = shorter_at (chars c.args.source.now) c.args.text.now c.text_at.result.now c.in_ok-found.found.comment.start c.in_ok-found.found.comment.end c.utf8.text c.text_at.utf8 is.start at is.forward;
+      shorter = shorter_at (chars c.args.source.now) c.args.text.now c.text_at.result.now
+          c.in_ok-found.found.comment.start c.in_ok-found.found.comment.end c.utf8.text
+          c.text_at.utf8 is.start at is.forward;
     }

@@ -26,4 +26,6 @@ pieces-preserved-in-Blank c =
 
 pub returns-clause-behind : goal.returns-clause-behind
 returns-clause-behind c =
-    subst (BeginsAt (chars c.args.source.now) c.place.result) (sym (over_none (chars c.pieces.rest.now) c.in_default.ensures.value) ∙ c.pieces.invariant.rest) c.place.ensures
+    subst (BeginsAt (chars c.args.source.now) c.place.result)
+    (sym (over_none (chars c.pieces.rest.now) c.in_default.ensures.value) ∙ c.pieces.invariant.rest)
+    c.place.ensures

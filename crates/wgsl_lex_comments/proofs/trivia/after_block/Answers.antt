@@ -4,7 +4,8 @@ use Rattle.wgsl_lex_comments.proofs.CommentSteps.{after_one, after_two, goes, go
 use Rattle.wgsl_lex_comments.proofs.trivia.after_block.Goals as goal
 
 pub returns-in-Ends-clause-rest : goal.returns-in-Ends-clause-rest
-returns-in-Ends-clause-rest c n = none_left (out_of_block n) (in_block (n + c.steps.depth)) (chars c.steps.rest.now) c.in-Ends.ensures.value ∙ c.steps.invariant.rest n
+returns-in-Ends-clause-rest c n = none_left (out_of_block n) (in_block (n + c.steps.depth))
+    (chars c.steps.rest.now) c.in-Ends.ensures.value ∙ c.steps.invariant.rest n
 
 pub steps-preserved-in-Goes : goal.steps-preserved-in-Goes
 steps-preserved-in-Goes c =
@@ -21,7 +22,8 @@ steps-preserved-in-Goes c =
 pub steps-preserved-in-Some : goal.steps-preserved-in-Some
 steps-preserved-in-Some c = record {
   text = search rules;
-  rest = λ n. goes_over (n + c.steps.depth) (chars c.steps.rest.now) (chars c.in-Opens.body.now) (chars c.in-Some.over.now) c.in-Opens.ensures.value c.in-Some.ensures.leaves ∙ c.steps.invariant.rest n;
+  rest = λ n. goes_over (n + c.steps.depth) (chars c.steps.rest.now) (chars c.in-Opens.body.now)
+      (chars c.in-Some.over.now) c.in-Opens.ensures.value c.in-Some.ensures.leaves ∙ c.steps.invariant.rest n;
   end = c.in-Some.ensures.end;
   within = omega (arith, c.steps.invariant.within, c.in-Some.ensures.shorter);
 }
@@ -33,18 +35,22 @@ steps-preserved-in-Opens c =
     record {
       text = search rules;
       rest = λ n. let same : n + (c.steps.depth + 1) ≡ suc (n + c.steps.depth) = omega arith in
-          ap (λ m. after_trivia (in_block m) body) same ∙ goes_in (n + c.steps.depth) rest body c.in-Opens.ensures.value ∙ c.steps.invariant.rest n;
-      end = after_two (chars c.args.source.now) rest body 47 42 c.steps.invariant.end c.in-Opens.ensures.value;
+          ap (λ m. after_trivia (in_block m) body) same
+          ∙ goes_in (n + c.steps.depth) rest body c.in-Opens.ensures.value ∙ c.steps.invariant.rest n;
+      end = after_two (chars c.args.source.now) rest body 47 42 c.steps.invariant.end
+          c.in-Opens.ensures.value;
       within = omega (arith, c.steps.invariant.within, c.in-Opens.ensures.shorter);
     }
 
 pub returns-then-depth-eq0-clause-rest : goal.returns-then-depth-eq0-clause-rest
 returns-then-depth-eq0-clause-rest c n =
     let same : n ≡ n + c.steps.depth = omega (arith, c.if-depth-eq0.true) in
-    goes_out n (chars c.steps.rest.now) (chars c.in-Closes.after.now) c.in-Closes.ensures.value ∙ ap (λ m. after_trivia (in_block m) (chars c.steps.rest.now)) same ∙ c.steps.invariant.rest n
+    goes_out n (chars c.steps.rest.now) (chars c.in-Closes.after.now) c.in-Closes.ensures.value
+    ∙ ap (λ m. after_trivia (in_block m) (chars c.steps.rest.now)) same ∙ c.steps.invariant.rest n
 
 pub returns-then-depth-eq0-clause-end : goal.returns-then-depth-eq0-clause-end
-returns-then-depth-eq0-clause-end c = after_two (chars c.args.source.now) (chars c.steps.rest.now) (chars c.in-Closes.after.now) 42 47 c.steps.invariant.end c.in-Closes.ensures.value
+returns-then-depth-eq0-clause-end c = after_two (chars c.args.source.now) (chars c.steps.rest.now)
+    (chars c.in-Closes.after.now) 42 47 c.steps.invariant.end c.in-Closes.ensures.value
 
 pub steps-preserved : goal.steps-preserved
 steps-preserved c =
@@ -53,7 +59,9 @@ steps-preserved c =
     record {
       text = search rules;
       rest = λ n. let less = one_less n c.steps.depth c.if-depth-eq0.false in
-          ap (λ p. after_trivia p after) (sym (closed_deeper (n + c.steps.depth) (n + (c.steps.depth - 1)) less)) ∙ goes_out (n + c.steps.depth) rest after c.in-Closes.ensures.value ∙ c.steps.invariant.rest n;
-      end = after_two (chars c.args.source.now) rest after 42 47 c.steps.invariant.end c.in-Closes.ensures.value;
+          ap (λ p. after_trivia p after) (sym (closed_deeper (n + c.steps.depth) (n + (c.steps.depth - 1)) less))
+          ∙ goes_out (n + c.steps.depth) rest after c.in-Closes.ensures.value ∙ c.steps.invariant.rest n;
+      end = after_two (chars c.args.source.now) rest after 42 47 c.steps.invariant.end
+          c.in-Closes.ensures.value;
       within = omega (arith, c.steps.invariant.within, c.in-Closes.ensures.shorter);
     }

@@ -9,7 +9,8 @@ loop-after-preserved c =
     record {
       text = search rules;
       rest = sym (along rest after c.in-Some.ensures.value) ∙ c.loop-after.invariant.rest;
-      end = after_one (chars c.args.source.now) rest after c.in-Some.ensures.value.0 c.loop-after.invariant.end c.in-Some.ensures.value.1;
+      end = after_one (chars c.args.source.now) rest after c.in-Some.ensures.value.0
+          c.loop-after.invariant.end c.in-Some.ensures.value.1;
       within = omega (arith, c.loop-after.invariant.within, c.in-Some.ensures.shorter);
     }
 

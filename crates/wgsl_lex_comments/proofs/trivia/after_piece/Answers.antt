@@ -16,16 +16,20 @@ returns-in-Blank-clause-shorter c text begins =
 
 pub returns-in-LineComment-clause-leaves : goal.returns-in-LineComment-clause-leaves
 returns-in-LineComment-clause-leaves c text begins =
-    leaves_line text (chars c.in-LineComment.body.now) (chars c.after_line.result.now) (subst (BeginsWith text) c.in-LineComment.is begins) c.after_line.ensures.rest
+    leaves_line text (chars c.in-LineComment.body.now) (chars c.after_line.result.now)
+    (subst (BeginsWith text) c.in-LineComment.is begins) c.after_line.ensures.rest
 
 pub returns-in-LineComment-clause-shorter : goal.returns-in-LineComment-clause-shorter
 returns-in-LineComment-clause-shorter c text begins =
-    narrower text c.in-LineComment.body.now c.after_line.result.now (search rules) c.after_line.utf8 (47, 47 ∷ [], subst (BeginsWith text) c.in-LineComment.is begins) c.after_line.ensures.within
+    narrower text c.in-LineComment.body.now c.after_line.result.now (search rules) c.after_line.utf8
+    (47, 47 ∷ [], subst (BeginsWith text) c.in-LineComment.is begins) c.after_line.ensures.within
 
 pub returns-in-BlockComment-clause-leaves : goal.returns-in-BlockComment-clause-leaves
 returns-in-BlockComment-clause-leaves c text begins =
-    leaves_block text (chars c.in-BlockComment.body.now) (chars c.after_block.result.now) (subst (BeginsWith text) c.in-BlockComment.is begins) c.after_block.ensures.rest
+    leaves_block text (chars c.in-BlockComment.body.now) (chars c.after_block.result.now)
+    (subst (BeginsWith text) c.in-BlockComment.is begins) c.after_block.ensures.rest
 
 pub returns-in-BlockComment-clause-shorter : goal.returns-in-BlockComment-clause-shorter
 returns-in-BlockComment-clause-shorter c text begins =
-    narrower text c.in-BlockComment.body.now c.after_block.result.now (search rules) c.after_block.utf8 (47, 42 ∷ [], subst (BeginsWith text) c.in-BlockComment.is begins) c.after_block.ensures.within
+    narrower text c.in-BlockComment.body.now c.after_block.result.now (search rules) c.after_block.utf8
+    (47, 42 ∷ [], subst (BeginsWith text) c.in-BlockComment.is begins) c.after_block.ensures.within

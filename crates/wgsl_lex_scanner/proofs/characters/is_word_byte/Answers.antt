@@ -6,4 +6,5 @@ use Rattle.wgsl_lex_scanner.specs.declared.characters.TheConstants.{WORD_BYTES}
 use Rattle.wgsl_lex_scanner.proofs.characters.is_word_byte.Goals as goal
 
 pub returns : goal.returns
-returns c = agree_below_at (λ b. not (nat_eq (get_or WORD_BYTES b 0) 46)) (λ b. is_ascii_alphanumeric b || b == 95) 256 c.args.byte refl (omega arith)
+returns c = agree_below_at (λ b. not (nat_eq (get_or WORD_BYTES b 0) 46))
+    (λ b. is_ascii_alphanumeric b || b == 95) 256 c.args.byte refl (omega arith)

@@ -11,7 +11,13 @@ loop-c-preserved c =
     let rest = chars c.in-Some.after.now in
     record {
       text = search rules;
-      rest = sym (skip_digits-step c.args.radix c.in-Some.c rest digit.0) ∙ ap (skip_digits c.args.radix) (sym parts) ∙ c.loop-c.invariant.rest;
-      value = (known.0 * c.args.radix + c.in-Some-to_digit.digit, c.with_digit-value.ensures known.0 known.1, rw digit.1 (sym (read_digits-step c.args.radix known.0 c.in-Some.c rest digit.0)) ∙ ap (read_digits c.args.radix known.0) (sym parts) ∙ known.2);
+      rest = sym (skip_digits-step c.args.radix c.in-Some.c rest digit.0)
+          ∙ ap (skip_digits c.args.radix) (sym parts) ∙ c.loop-c.invariant.rest;
+      value = (
+        known.0 * c.args.radix + c.in-Some-to_digit.digit,
+        c.with_digit-value.ensures known.0 known.1,
+        rw digit.1 (sym (read_digits-step c.args.radix known.0 c.in-Some.c rest digit.0))
+            ∙ ap (read_digits c.args.radix known.0) (sym parts) ∙ known.2,
+      );
       within = omega (arith, c.in-Some.ensures.shorter);
     }

@@ -8,7 +8,8 @@ abbrev pub invariant-loop-c : goal.invariant-loop-c
 invariant-loop-c l = record {
   text : shadow (Utf8 l.rest);
   rest : skip_digits l.radix (chars l.rest) ≡ skip_digits l.radix (chars l.text);
-  value : (n : ℕ) × Fits l.value n × (read_digits l.radix n (chars l.rest) ≡ read_digits l.radix l.first (chars l.text));
+  value : (n : ℕ) × Fits l.value n
+      × (read_digits l.radix n (chars l.rest) ≡ read_digits l.radix l.first (chars l.text));
   within : length l.rest ≤ length l.text;
 }
 

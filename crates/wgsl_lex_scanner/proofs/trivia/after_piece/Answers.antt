@@ -6,7 +6,8 @@ use Rattle.wgsl_lex_scanner.proofs.Pieces.{over_none, over_blank, over_line, ove
 use Rattle.wgsl_lex_scanner.proofs.trivia.after_piece.Goals as goal
 
 pub returns-in_err-after-clause-step : goal.returns-in_err-after-clause-step
-returns-in_err-after-clause-step c = rw c.from_residual.ensures (over_none (chars c.args.text.now) c.in_err-after.ensures.value)
+returns-in_err-after-clause-step c = rw c.from_residual.ensures
+    (over_none (chars c.args.text.now) c.in_err-after.ensures.value)
 
 pub returns-in-Blank-clause-step : goal.returns-in-Blank-clause-step
 returns-in-Blank-clause-step c =
@@ -24,4 +25,5 @@ pub returns-in-BlockComment-clause-step : goal.returns-in-BlockComment-clause-st
 returns-in-BlockComment-clause-step c =
     let text = chars c.args.text.now in
     let sign = subst (BeginsWith text) c.in-BlockComment.is c.in_ok-after.ensures.value in
-    over_block text (chars c.in-BlockComment.body.now) c.after_block.result _ sign c.after_block.ensures.value chars-nil ∙ ap (λ rest. after_trivia outside (chars rest.now)) (sym c.unwrap_or.ensures)
+    over_block text (chars c.in-BlockComment.body.now) c.after_block.result _ sign c.after_block.ensures.value chars-nil
+    ∙ ap (λ rest. after_trivia outside (chars rest.now)) (sym c.unwrap_or.ensures)

@@ -9,4 +9,5 @@ returns-clause-right c =
     right_at c.args.table.now c.place.result _ c.requires.right low
 
 pub returns-clause-only : goal.returns-clause-only
-returns-clause-only c = only_at c.args.table.now c.place.result _ c.args.word.now c.requires.whole (c.place.ensures.value ∙ ap slot_of c.as_bytes-bytes.ensures.value)
+returns-clause-only c = only_at c.args.table.now c.place.result _ c.args.word.now c.requires.whole
+    (c.place.ensures.value ∙ ap slot_of c.as_bytes-bytes.ensures.value)

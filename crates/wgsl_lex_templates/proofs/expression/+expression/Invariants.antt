@@ -63,7 +63,8 @@ decreases-relation_rest l = 16 * length (classes l.kinds.now) + 0
 abbrev pub invariant-bitwise_operands-operands : goal.invariant-bitwise_operands-operands
 invariant-bitwise_operands-operands l =
     record {
-      whole : bitwise_more (class_of_kind l.fn.operator) (classes l.left) ≡ bitwise_operands (class_of_kind l.fn.operator) (classes l.fn.kinds);
+      whole : bitwise_more (class_of_kind l.fn.operator) (classes l.left)
+          ≡ bitwise_operands (class_of_kind l.fn.operator) (classes l.fn.kinds);
       shorter : length (classes l.left) < length (classes l.fn.kinds);
     }
 
@@ -73,7 +74,8 @@ decreases-bitwise_operands-operands l = length (classes l.left)
 abbrev pub invariant-relations-relations : goal.invariant-relations-relations
 invariant-relations-relations l =
     record {
-      whole : relations_more (class_of_kind l.fn.operator) (classes l.left) ≡ relations (class_of_kind l.fn.operator) (classes l.fn.kinds);
+      whole : relations_more (class_of_kind l.fn.operator) (classes l.left)
+          ≡ relations (class_of_kind l.fn.operator) (classes l.fn.kinds);
       shorter : length (classes l.left) < length (classes l.fn.kinds);
     }
 
@@ -123,7 +125,8 @@ decreases-components-components l = length (classes l.left)
 abbrev pub invariant-template_items-items : goal.invariant-template_items-items
 invariant-template_items-items l =
     record {
-      whole : advances (further template_more) (classes l.left) ≡ advances (further template_items) (classes l.fn.kinds);
+      whole : advances (further template_more) (classes l.left)
+          ≡ advances (further template_items) (classes l.fn.kinds);
       shorter : length (classes l.left) < length (classes l.fn.kinds);
     }
 

@@ -8,4 +8,5 @@ use Rattle.wgsl_lex_templates.proofs.expression_list.is_expression_list.Goals as
 
 pub returns-in_default : goal.returns-in_default
 unfolding whole_list_at
-returns-in_default c = λ ts e. refused (classes c.args.kinds.now) ts e (let whole = whole_list_is (classes c.args.kinds.now) in search rules)
+returns-in_default c = λ ts e. refused (classes c.args.kinds.now) ts e
+    (let whole = whole_list_is (classes c.args.kinds.now) in search rules)

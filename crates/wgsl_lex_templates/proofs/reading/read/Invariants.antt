@@ -18,7 +18,9 @@ invariant-tokens l = record {
   lists : TellLists (length l.source) l.tried.lists.spans.items (chars l.rest);
   known : AreComments (chars l.source) l.comments.found.items;
   more : BeginWith l.initial.kept.pieces.items l.kept.pieces.items;
-  reached : Reaches (length l.source) (chars l.text) (held l.kept.pieces.items (length l.initial.kept.pieces.items) (length l.kept.pieces.items)) l.behind_word l.depth (chars l.rest);
+  reached : Reaches (length l.source) (chars l.text)
+      (held l.kept.pieces.items (length l.initial.kept.pieces.items) (length l.kept.pieces.items))
+      l.behind_word l.depth (chars l.rest);
 }
 
 abbrev pub decreases-tokens : goal.decreases-tokens

@@ -5,4 +5,5 @@ use Rattle.wgsl_model.specs.Tokens.Trivia.{outside}
 use Rattle.wgsl_lex_templates.proofs.reading.take.Goals as goal
 
 pub returns-clause-value : goal.returns-clause-value
-returns-clause-value c = c.scan.ensures.value ∙ ap raw c.in_ok-rest.ensures.rest ∙ ap raw_at (behind_trivia outside (chars c.args.text.now))
+returns-clause-value c = c.scan.ensures.value ∙ ap raw c.in_ok-rest.ensures.rest
+    ∙ ap raw_at (behind_trivia outside (chars c.args.text.now))

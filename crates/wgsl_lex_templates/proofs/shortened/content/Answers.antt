@@ -16,4 +16,5 @@ pub returns-then-is_expression_list : goal.returns-then-is_expression_list
 returns-then-is_expression_list c =
     let cs = classes c.args.kinds.now in
     let ts = map token_of_class cs in
-    list_replaced cs ((c.is_expression_list.ensures ts (bare_classes cs)).0 c.if-is_expression_list.true) (λ o. clash _ ((c.is_expression.ensures ts (bare_classes cs)).1 o) c.if-is_expression.false)
+    list_replaced cs ((c.is_expression_list.ensures ts (bare_classes cs)).0 c.if-is_expression_list.true)
+    (λ o. clash _ ((c.is_expression.ensures ts (bare_classes cs)).1 o) c.if-is_expression.false)

@@ -10,6 +10,9 @@ pub returns : goal.returns
 returns c =
     let source = chars c.args.source.now in
     let from = chars c.in-Found.from.now in
-    let start = c.place.ensures ∙ ap (λ total. total - width from) (sym (bytes_width c.args.source.now c.utf8.source)) in
-    rw (c.is_some.ensures ∙ ap is_some c.end_of.ensures) (recognized source from (chars c.in-Found.after.now) (lexeme_view c.in-Found.lexeme) c.in_ok-templates.templates.lists.spans.items c.place.result
+    let start = c.place.ensures
+    ∙ ap (λ total. total - width from) (sym (bytes_width c.args.source.now c.utf8.source)) in
+    rw (c.is_some.ensures ∙ ap is_some c.end_of.ensures)
+    (recognized source from (chars c.in-Found.after.now)
+    (lexeme_view c.in-Found.lexeme) c.in_ok-templates.templates.lists.spans.items c.place.result
     (sym c.in-Found.ensures.value) c.in_ok-templates.ensures.lists start)

@@ -6,4 +6,6 @@ pub returns : goal.returns
 returns g c =
     let gave = c.in_ok-collect_tokens.ensures in
     let found = c.in_ok-collect_tokens.field-0 in
-    parsed_is g.P.Parsed.symbol g.P.Parsed.view (g.T.IntoIterator.into_iter_gives c.args.tokens) g.T.IntoIter.Iterator.next_gives gave.0 found c.read_collected.result gave.1 gave.2 c.read_collected.ensures
+    parsed_is g.P.Parsed.symbol g.P.Parsed.view
+    (g.T.IntoIterator.into_iter_gives c.args.tokens) g.T.IntoIter.Iterator.next_gives gave.0 found
+    c.read_collected.result gave.1 gave.2 c.read_collected.ensures

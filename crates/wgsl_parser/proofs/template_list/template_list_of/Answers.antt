@@ -6,5 +6,7 @@ use Rattle.wgsl_parser.proofs.template_list.template_list_of.Goals as goal
 
 pub returns : goal.returns
 returns c =
-    span_answered (λ args. map template_arg_view args.items) (tokens_view c.args.found) (ending_view c.args.found.error) c.span_of-span.result c.read_collected.result c.in_ok-read_collected.field-0
+    span_answered (λ args. map template_arg_view args.items) (tokens_view c.args.found)
+    (ending_view c.args.found.error) c.span_of-span.result c.read_collected.result
+    c.in_ok-read_collected.field-0
     c.read_collected.ensures c.in_ok-read_collected.was c.span_of-span.ensures

@@ -10,7 +10,8 @@ use Rattle.wgsl_read_attribute.proofs.attributes.parse_attributes.Given as goal
 abbrev pub invariant-attributes : goal.invariant-attributes
 invariant-attributes l =
     record {
-      whole : attributes_from (next_start (state l.fn.tokens)) (attributes_view l.attributes.items) (state l.tokens) ≡ reader (further attribute_list) (state l.fn.tokens);
+      whole : attributes_from (next_start (state l.fn.tokens)) (attributes_view l.attributes.items)
+          (state l.tokens) ≡ reader (further attribute_list) (state l.fn.tokens);
       shorter : length (state l.tokens).rest ≤ length (state l.fn.tokens).rest;
     }
 

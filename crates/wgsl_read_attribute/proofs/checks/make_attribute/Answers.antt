@@ -12,4 +12,5 @@ returns-in_ok-into_string-in_default c =
     let arguments = option_map expressions_view c.args.arguments in
     let kept = custom_is c.as_str.result.now arguments (search rules) in
     ap (λ name. checked_attribute name arguments) (sym c.as_str.ensures) ∙ kept
-    ∙ ap (λ name. right (custom (record { name = name; arguments = arguments }))) (c.as_str.ensures ∙ sym c.in_ok-into_string-in_default.ensures)
+    ∙ ap (λ name. right (custom (record { name = name; arguments = arguments })))
+    (c.as_str.ensures ∙ sym c.in_ok-into_string-in_default.ensures)

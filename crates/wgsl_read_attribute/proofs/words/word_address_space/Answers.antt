@@ -5,4 +5,6 @@ use Rattle.wgsl_read_attribute.proofs.UntemplatedNames.{address_space_named}
 use Rattle.wgsl_read_attribute.proofs.words.word_address_space.Goals as goal
 
 pub returns : goal.returns
-returns c = ap (option_map address_space_view) c.ok.ensures.value ∙ address_space_named (expression_node_view c.args.expression) c.in_ok-name_alone.field-0 (search rules) c.from_str.result (search rules)
+returns c = ap (option_map address_space_view) c.ok.ensures.value
+    ∙ address_space_named (expression_node_view c.args.expression) c.in_ok-name_alone.field-0
+    (search rules) c.from_str.result (search rules)

@@ -5,4 +5,6 @@ use Rattle.wgsl_read_attribute.proofs.UntemplatedNames.{interpolation_sampling_n
 use Rattle.wgsl_read_attribute.proofs.words.word_interpolation_sampling.Goals as goal
 
 pub returns : goal.returns
-returns c = ap (option_map interpolation_sampling_view) c.ok.ensures.value ∙ interpolation_sampling_named (expression_node_view c.args.expression) c.in_ok-name_alone.field-0 (search rules) c.from_str.result (search rules)
+returns c = ap (option_map interpolation_sampling_view) c.ok.ensures.value
+    ∙ interpolation_sampling_named (expression_node_view c.args.expression) c.in_ok-name_alone.field-0
+    (search rules) c.from_str.result (search rules)

@@ -24,4 +24,5 @@ returns-clause-value c =
     (severity_refused _ _ _ _ _ _ c.in_ok-expect.ensures.value c.in_ok-expect-2.ensures.value c.in_ok-name.ensures.value
     (λ severity e. c.in-Err.ensures severity (c.as_str.ensures.value ∙ c.in_ok-name.ensures.text ∙ e))
     ∙ ap (λ (span : Span). stop (faulty (diagnostic_severity span)))
-    (ap (λ start. span_from start (state c.name.new.self)) (sym c.start-start.ensures) ∙ ap span_view (sym c.span_from-span.ensures)))
+    (ap (λ start. span_from start (state c.name.new.self)) (sym c.start-start.ensures)
+    ∙ ap span_view (sym c.span_from-span.ensures)))

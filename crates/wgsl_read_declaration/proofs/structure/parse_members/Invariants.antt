@@ -10,7 +10,8 @@ use Rattle.wgsl_read_declaration.proofs.structure.parse_members.Given as goal
 abbrev pub invariant-members : goal.invariant-members
 invariant-members l =
     record {
-      whole : members_from (map (spanned_view member_view) l.members.items) (state l.tokens) ≡ reader (further member_items) (state l.fn.tokens);
+      whole : members_from (map (spanned_view member_view) l.members.items) (state l.tokens)
+          ≡ reader (further member_items) (state l.fn.tokens);
       shorter : length (state l.tokens).rest < length (state l.fn.tokens).rest;
     }
 

@@ -16,7 +16,9 @@ decreases-accept_each l = suc (work (steps_view l.each.now) (state l.tokens.now)
 
 abbrev pub invariant-accept-steps : goal.invariant-accept-steps
 invariant-accept-steps l =
-    IsWorkLeft (dialect_view l.fn.dialect) (follow (dialect_view l.fn.dialect) (steps_view l.fn.steps) (state l.fn.tokens)) (work (steps_view l.fn.steps) (state l.fn.tokens)) (steps_view l.left) (state l.tokens)
+    IsWorkLeft (dialect_view l.fn.dialect)
+    (follow (dialect_view l.fn.dialect) (steps_view l.fn.steps) (state l.fn.tokens))
+    (work (steps_view l.fn.steps) (state l.fn.tokens)) (steps_view l.left) (state l.tokens)
 
 abbrev pub decreases-accept-steps : goal.decreases-accept-steps
 decreases-accept-steps l = work (steps_view l.left) (state l.tokens)
@@ -24,7 +26,9 @@ decreases-accept-steps l = work (steps_view l.left) (state l.tokens)
 abbrev pub invariant-accept_each-items : goal.invariant-accept_each-items
 invariant-accept_each-items l =
     record {
-      whole : repeated (classes l.fn.kinds) (follow (dialect_view l.fn.dialect) (steps_view l.fn.each)) (state l.tokens) ≡ repeated (classes l.fn.kinds) (follow (dialect_view l.fn.dialect) (steps_view l.fn.each)) (state l.fn.tokens);
+      whole : repeated (classes l.fn.kinds) (follow (dialect_view l.fn.dialect) (steps_view l.fn.each))
+          (state l.tokens) ≡ repeated (classes l.fn.kinds)
+          (follow (dialect_view l.fn.dialect) (steps_view l.fn.each)) (state l.fn.tokens);
       shorter : length (state l.tokens).rest ≤ length (state l.fn.tokens).rest;
     }
 

@@ -11,8 +11,10 @@ use Rattle.wgsl_read_dialect.proofs.accept.take_any.Goals as goal
 pub returns-then-eat : goal.returns-then-eat
 returns-then-eat c =
     let i = c.loop-kind.invariant in
-    let found = this_kind c.args.kinds.now c.loop-kind.kind-index _ (state c.loop-kind.tokens) c.loop-kind-test.true (sym c.if-eat.ensures.value) in
-    ap (λ (r : Read Token). forgotten r) (sym i.left ∙ ap (take_any (classes _)) (sym i.same) ∙ found) ∙ ap (done tt) (sym c.if-eat.ensures.rest)
+    let found = this_kind c.args.kinds.now c.loop-kind.kind-index _
+    (state c.loop-kind.tokens) c.loop-kind-test.true (sym c.if-eat.ensures.value) in
+    ap (λ (r : Read Token). forgotten r) (sym i.left ∙ ap (take_any (classes _)) (sym i.same) ∙ found)
+    ∙ ap (done tt) (sym c.if-eat.ensures.rest)
 
 pub loop-kind-preserved : goal.loop-kind-preserved
 loop-kind-preserved c =
@@ -29,5 +31,7 @@ returns c =
     let left = state c.loop-kind.tokens in
     let none = no_kind c.args.kinds.now c.loop-kind.kind-index left c.loop-kind-test.false in
     let all : forgotten (take_any (classes c.args.kinds.now) (state c.args.tokens.now)) ≡ refused left =
-    ap (λ (r : Read Token). forgotten r) (sym i.left ∙ ap (take_any (classes _)) (sym i.same) ∙ none) ∙ refused_forgotten _ left in
-    subst (Fails c.refuse.result) (refused_forgotten _ left ∙ sym all) (fails_forgotten c.refuse.result _ c.refuse.ensures)
+    ap (λ (r : Read Token). forgotten r) (sym i.left ∙ ap (take_any (classes _)) (sym i.same) ∙ none)
+    ∙ refused_forgotten _ left in
+    subst (Fails c.refuse.result) (refused_forgotten _ left ∙ sym all)
+    (fails_forgotten c.refuse.result _ c.refuse.ensures)

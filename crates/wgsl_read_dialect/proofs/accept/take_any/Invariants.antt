@@ -9,5 +9,6 @@ abbrev pub invariant-loop-kind : goal.invariant-loop-kind
 invariant-loop-kind l =
     record {
       same : state l.tokens ≡ state l.fn.tokens;
-      left : take_any (classes (drop l.kind-index l.kinds)) (state l.fn.tokens) ≡ take_any (classes l.kinds) (state l.fn.tokens);
+      left : take_any (classes (drop l.kind-index l.kinds)) (state l.fn.tokens)
+          ≡ take_any (classes l.kinds) (state l.fn.tokens);
     }

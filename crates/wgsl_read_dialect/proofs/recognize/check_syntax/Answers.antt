@@ -11,18 +11,21 @@ returns-clause-accepted c =
     let ts = tokens_left c.args.tokens in
     let ending = ending_left c.args.tokens in
     let source = chars c.args.source.now in
-    accepted_is parsed source ts ending c.recognize_unit.result c.requires (c.recognize_unit.ensures ts ending c.of_tokens-tokens.ensures (no_want source ts ending c.requires))
+    accepted_is parsed source ts ending c.recognize_unit.result c.requires
+    (c.recognize_unit.ensures ts ending c.of_tokens-tokens.ensures (no_want source ts ending c.requires))
 
 pub returns-clause-refused : goal.returns-clause-refused
 returns-clause-refused c =
     let ts = tokens_left c.args.tokens in
     let ending = ending_left c.args.tokens in
     let source = chars c.args.source.now in
-    refused_is parsed source ts ending c.recognize_unit.result c.requires (c.recognize_unit.ensures ts ending c.of_tokens-tokens.ensures (no_want source ts ending c.requires))
+    refused_is parsed source ts ending c.recognize_unit.result c.requires
+    (c.recognize_unit.ensures ts ending c.of_tokens-tokens.ensures (no_want source ts ending c.requires))
 
 pub returns-clause-placed : goal.returns-clause-placed
 returns-clause-placed c =
     let ts = tokens_left c.args.tokens in
     let ending = ending_left c.args.tokens in
     let source = chars c.args.source.now in
-    placed_is parsed c.args.source.now ts ending c.recognize_unit.result c.utf8.source c.requires (c.recognize_unit.ensures ts ending c.of_tokens-tokens.ensures (no_want source ts ending c.requires))
+    placed_is parsed c.args.source.now ts ending c.recognize_unit.result c.utf8.source c.requires
+    (c.recognize_unit.ensures ts ending c.of_tokens-tokens.ensures (no_want source ts ending c.requires))

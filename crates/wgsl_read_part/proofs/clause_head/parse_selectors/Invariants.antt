@@ -9,7 +9,8 @@ use Rattle.wgsl_read_part.proofs.clause_head.parse_selectors.Given as goal
 abbrev pub invariant-selectors : goal.invariant-selectors
 invariant-selectors l =
     record {
-      whole : selectors_behind (map selector_view l.selectors.items) (state l.tokens) ≡ reader (further selectors) (state l.fn.tokens);
+      whole : selectors_behind (map selector_view l.selectors.items) (state l.tokens)
+          ≡ reader (further selectors) (state l.fn.tokens);
       shorter : length (state l.tokens).rest < length (state l.fn.tokens).rest;
     }
 

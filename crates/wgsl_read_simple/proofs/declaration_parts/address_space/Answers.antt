@@ -18,5 +18,7 @@ returns-in-Some-default-default-None c =
     let checked =
     space_is (map template_arg_view items)
     ∙ ap space_of (seen template_arg_view items ∙ ap (option_map (seen_by template_arg_view)) counted)
-    ∙ ap (λ (e : ExpressionNode). space_with_mode (untemplated_word address_spaces e) (option_map template_arg_view mode)) (argument_view space) in
-    told c.space_with_mode.result var_template_view (λ (text : Bor (List ℕ)). text.now) _ _ checked c.space_with_mode.ensures
+    ∙ ap (λ (e : ExpressionNode). space_with_mode (untemplated_word address_spaces e)
+    (option_map template_arg_view mode)) (argument_view space) in
+    told c.space_with_mode.result var_template_view
+    (λ (text : Bor (List ℕ)). text.now) _ _ checked c.space_with_mode.ensures

@@ -9,7 +9,8 @@ use Rattle.wgsl_read_unit.proofs.function.parse_parameters.Given as goal
 abbrev pub invariant-parameters : goal.invariant-parameters
 invariant-parameters l =
     record {
-      whole : parameters_from (map parameter_view l.parameters.items) (state l.tokens) ≡ reader (further parameter_rest) (state l.fn.tokens);
+      whole : parameters_from (map parameter_view l.parameters.items) (state l.tokens)
+          ≡ reader (further parameter_rest) (state l.fn.tokens);
       shorter : length (state l.tokens).rest ≤ length (state l.fn.tokens).rest;
     }
 

@@ -9,7 +9,8 @@ use Rattle.wgsl_read_unit.proofs.unit.parse_front.Given as goal
 abbrev pub invariant-directives : goal.invariant-directives
 invariant-directives l =
     record {
-      whole : front_from (map global_directive_view l.directives.items) (state l.tokens) ≡ reader (further front) (state l.fn.tokens);
+      whole : front_from (map global_directive_view l.directives.items) (state l.tokens)
+          ≡ reader (further front) (state l.fn.tokens);
       shorter : length (state l.tokens).rest ≤ length (state l.fn.tokens).rest;
     }
 

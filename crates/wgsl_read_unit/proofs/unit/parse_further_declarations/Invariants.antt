@@ -8,7 +8,8 @@ use Rattle.wgsl_read_unit.proofs.unit.parse_further_declarations.Given as goal
 abbrev pub invariant-declarations : goal.invariant-declarations
 invariant-declarations l =
     record {
-      whole : further_declarations_at (map (spanned_view global_declaration_view) l.declarations.items) (state l.tokens) ≡ further_declarations_at (map (spanned_view global_declaration_view) l.fn.some.items) (state l.fn.tokens);
+      whole : further_declarations_at (map (spanned_view global_declaration_view) l.declarations.items) (state l.tokens)
+          ≡ further_declarations_at (map (spanned_view global_declaration_view) l.fn.some.items) (state l.fn.tokens);
       shorter : length (state l.tokens).rest ≤ length (state l.fn.tokens).rest;
     }
 

@@ -19,12 +19,15 @@ nodes-preserved-then-not-f g c =
     let lt : i < length ys = search rules in
     let called : R c.nodes.f x.node.value false c.f.new.self c.f.new.arg2 =
     subst (λ b. R c.nodes.f x.node.value b c.f.new.self c.f.new.arg2) c.if-not-f.true
-    (subst (λ v. R c.nodes.f v c.f.result c.f.new.self c.f.new.arg2) c.node_mut.ensures.value (Called-Mut g.F.FnMut c.f.ensures)) in (
+    (subst (λ v. R c.nodes.f v c.f.result c.f.new.self c.f.new.arg2) c.node_mut.ensures.value
+    (Called-Mut g.F.FnMut c.f.ensures)) in (
       search rules,
       length-set ys i y ∙ c.nodes.invariant.1,
       search of_calls,
-      sift_false (NodeCalled R) c.args.f c.args.nodes.now.items c.nodes.f c.f.new.self ys (set ys i y) k i x y lt c.index_mut.ensures.value c.nodes.invariant.3
-          (drop-set-lt (i + 1) ys i y (omega arith)) (take-set-le k ys i y c.nodes.invariant.0) (called, refl),
+      sift_false (NodeCalled R) c.args.f c.args.nodes.now.items c.nodes.f c.f.new.self ys
+          (set ys i y) k i x y lt c.index_mut.ensures.value c.nodes.invariant.3
+          (drop-set-lt (i + 1) ys i y (omega arith)) (take-set-le k ys i y c.nodes.invariant.0)
+          (called, refl),
     )
 
 pub nodes-preserved : goal.nodes-preserved
@@ -39,13 +42,15 @@ nodes-preserved g c =
     let lt : i < length ys = search rules in
     let called : R c.nodes.f x.node.value true c.f.new.self c.f.new.arg2 =
     subst (λ b. R c.nodes.f x.node.value b c.f.new.self c.f.new.arg2) c.if-not-f.false
-    (subst (λ v. R c.nodes.f v c.f.result c.f.new.self c.f.new.arg2) c.node_mut.ensures.value (Called-Mut g.F.FnMut c.f.ensures)) in
+    (subst (λ v. R c.nodes.f v c.f.result c.f.new.self c.f.new.arg2) c.node_mut.ensures.value
+    (Called-Mut g.F.FnMut c.f.ensures)) in
     let le = c.nodes.invariant.0 in
     let at = c.swap.ensures.by_index in (
       search rules,
       swapped_length ys zs k i y le lt at ∙ c.nodes.invariant.1,
       search of_calls,
-      sift_true (NodeCalled R) c.args.f c.args.nodes.now.items c.nodes.f c.f.new.self ys zs k i x y lt c.index_mut.ensures.value c.nodes.invariant.3
+      sift_true (NodeCalled R) c.args.f c.args.nodes.now.items c.nodes.f c.f.new.self ys zs k i x y
+          lt c.index_mut.ensures.value c.nodes.invariant.3
           (swapped_drop ys zs k i y le lt at) (swapped_take ys zs k i y le lt at) (called, refl),
     )
 

@@ -59,7 +59,8 @@ module _ (Y : RattleType) where
   abbrev stayed : Stays (F.ended Y).signature.params (F.ended Y).kept
   stayed = (stay_dropped (RefMutOf (0 ∷ []) tt (plain (λ _. param 0 Y)) (λ _. tt)) no, tt)
 
-module _ (Y : RattleType) {M : Type 1} {𝓤 : Ura M} (𝓛 : Logic 𝓤) (memory : Memory → SProp 𝓤) (run : Routine → Fun 𝓤) where
+module _ (Y : RattleType) {M : Type 1} {𝓤 : Ura M} (𝓛 : Logic 𝓤) (memory : Memory → SProp 𝓤)
+    (run : Routine → Fun 𝓤) where
   open 𝓛 use {H}
 
   abbrev held : Clauses 𝓤 (F.ended Y)
@@ -76,7 +77,8 @@ module _ (Y : RattleType) {M : Type 1} {𝓤 : Ura M} (𝓛 : Logic 𝓤) (memor
     Post us = (walk_of 𝓛 (F.ended Y) (stayed Y) held).post (At us)
 
     abbrev Goes : List Val → Type 1
-    Goes us = ent 𝓤 ((walk_of 𝓛 (F.ended Y) (stayed Y) held).pre (At us)) (WpFn 𝓤 H C Λ (function Y) (us ++ []) (Post us))
+    Goes us = ent 𝓤 ((walk_of 𝓛 (F.ended Y) (stayed Y) held).pre (At us))
+        (WpFn 𝓤 H C Λ (function Y) (us ++ []) (Post us))
 
     abbrev b : ℕ
     b = z.0.3.0.ref_ptr.0
@@ -90,23 +92,33 @@ module _ (Y : RattleType) {M : Type 1} {𝓤 : Ura M} (𝓛 : Logic 𝓤) (memor
     abbrev Node : SProp 𝓤
     Node = sem 𝓛 ((mem R).own_at x b o)
 
-    back : (b' : ℕ) (ws : List Item.Denot) → length ws ≡ 0 → ent 𝓤 (sep 𝓤 (sem 𝓛 (cells (mem Item) ws b' zero)) Node) Node
+    back : (b' : ℕ) (ws : List Item.Denot) → length ws ≡ 0
+        → ent 𝓤 (sep 𝓤 (sem 𝓛 (cells (mem Item) ws b' zero)) Node) Node
     back b' ws e = qed 𝓛 (‵ (cells (mem Item) ws b' zero) ∷ raw Node ∷ []) ∵ drop ! $ done !
 
     walks : Goes (vptr b o ∷ [])
-    walks = let κ = z.0.0.0 in let q = z.0.1.0 in let γ : GName = z.0.3.0.ghost_name in
-        qed 𝓛 (((‵ (flft κ q) ⊛ ‵ (flft z.0.0.1.0 z.0.1.1.0) ⊛ ‵ ftrue) ⊛ ‵ (owns (types_at (F.ended Y).signature.params z.0.0) z.0.3 (vptr b o ∷ [], tt))) ∷ raw ((held z.0.0 z.0.3).requires z.1) ∷ []) ∵
+    walks =
+        let κ = z.0.0.0 in let q = z.0.1.0 in let γ : GName = z.0.3.0.ghost_name in
+        qed 𝓛 (((‵ (flft κ q) ⊛ ‵ (flft z.0.0.1.0 z.0.1.1.0) ⊛ ‵ ftrue) ⊛ ‵ (owns (types_at (F.ended
+        Y).signature.params z.0.0) z.0.3 (vptr b o ∷ [], tt))) ∷ raw ((held z.0.0 z.0.3).requires z.1) ∷ []) ∵
         split ! $ split ! $ move ! (2 ∷ []) $ fsplit ! $ fsplit3 ! $ keep ! (1 ∷ 2 ∷ 4 ∷ 5 ∷ []) $
-        enter ! C Λ (function Y) (vptr b o ∷ []) _ $ alloc_all ! (λ l. pass_all ! refl ((tt, tt), tt) $ let En = env (function Y).locals l in
-        let b' : ℕ = (spot_of 𝓤 H En 2).1 in let got : GName → MutBor (List Item.Denot) = λ δ. record { ref_ptr = (b', zero); ghost_name = δ; now = [] } in
+        enter ! C Λ (function Y) (vptr b o ∷ []) _
+        $ alloc_all ! (λ l. pass_all ! refl ((tt, tt), tt) $ let En = env (function Y).locals l in
+        let b' : ℕ = (spot_of 𝓤 H En 2).1 in let got : GName → MutBor (List Item.Denot) =
+        λ δ. record { ref_ptr = (b', zero); ghost_name = δ; now = [] } in
         open_ref ! tt (mem R) $ nothing ! $ move ! (2 ∷ 3 ∷ 4 ∷ 0 ∷ 1 ∷ []) $ group ! 5 $
-        use1 𝓛 (later (some (λ (δ : GName). ‵ ((MutSlice (named 0) κ Item).own_val (got δ) (slice_val (b', zero) 0 ∷ [])) ⊛ ‵ (flft κ q) ⊛ ‵ (follows R (Array Item 0) γ δ (λ _. x)))))
-        (lends_Elements 𝓛 R Item (λ _. x) (named 0) κ q b o b' zero γ [] (omega arith, omega arith) Node (back b') (R.coded.code x) (R.coded.code x)) $ await ! tt $ pick ! (λ δ. split3 ! $
+        use1 𝓛 (later (some (λ (δ : GName). ‵ ((MutSlice (named 0) κ Item).own_val (got δ)
+        (slice_val (b', zero) 0 ∷ [])) ⊛ ‵ (flft κ q) ⊛ ‵ (follows R (Array Item 0) γ δ (λ _. x)))))
+        (lends_Elements 𝓛 R Item (λ _. x) (named 0) κ q b o b' zero γ [] (omega arith, omega arith)
+        Node (back b') (R.coded.code x) (R.coded.code x)) $ await ! tt $ pick ! (λ δ. split3 ! $
         sets ! (agg ! (no_more !)) refl (tt, tt) $
         sets ! (addr ! (from ! (stop !))) refl (tt, tt) $
-        sets ! (agg ! (and_then ! (get ! refl) (and_then ! (lit ! tt) (no_more !)))) refl (tt, (tt, (record { fits = lit< tt }, tt))) $
-        returns ! (look_at ! 0 refl) $ free_all ! refl $ suffices ! _ (ends_at 𝓛 (F.ended Y) (stayed Y) held (At (vptr b o ∷ [])) (slice_val (b', zero) 0) (got δ) (tt, tt) (tt, tt)) $
-        nothing ! $ nothing ! $ fjoin ! $ move ! (2 ∷ 4 ∷ []) $ join ! $ move ! (1 ∷ 2 ∷ []) $ join ! $ move ! (1 ∷ 0 ∷ []) $ join ! $ frame ! $ says ! refl $ keep ! (0 ∷ []) $ done !))
+        sets ! (agg ! (and_then ! (get ! refl) (and_then ! (lit ! tt) (no_more !)))) refl
+        (tt, (tt, (record { fits = lit< tt }, tt))) $
+        returns ! (look_at ! 0 refl) $ free_all ! refl $ suffices ! _ (ends_at 𝓛 (F.ended Y)
+        (stayed Y) held (At (vptr b o ∷ [])) (slice_val (b', zero) 0) (got δ) (tt, tt) (tt, tt)) $
+        nothing ! $ nothing ! $ fjoin ! $ move ! (2 ∷ 4 ∷ []) $ join ! $ move ! (1 ∷ 2 ∷ [])
+        $ join ! $ move ! (1 ∷ 0 ∷ []) $ join ! $ frame ! $ says ! refl $ keep ! (0 ∷ []) $ done !))
 
     entry : (us : List Val) → (us ≡ vptr b o ∷ []) × (Unit {0} × Unit {0}) → Goes us
     entry us p = subst Goes (sym p.0) walks
@@ -115,13 +127,19 @@ module _ (Y : RattleType) {M : Type 1} {𝓤 : Ura M} (𝓛 : Logic 𝓤) (memor
   meets 𝓣 =
       walk_Meets 𝓛 (F.ended Y) (stayed Y) (Goes-spent_ref 𝓛 2 (0 ∷ []) tt (plain (λ _. R)), tt) held
       (WpFn 𝓤 H 𝓣.C 𝓣.Λ (function Y)) (WpFn-mono 𝓤 H 𝓛.laws 𝓣 (function Y))
-      (λ z. let a = z.0.3 in let vss = z.0.4 in let Rs : List RattleType = types_at (F.ended Y).signature.params z.0.0 in
-      fact_use 𝓤 (Are Rs (Ises Rs) a vss) (via 𝓤 (sem 𝓛 (owns Rs a vss)) (via 𝓤 (on_entry 𝓛 (F.ended Y).signature z.0.0 z.0.1 a vss) (fst∗ 𝓤 (on_entry 𝓛 (F.ended Y).signature z.0.0 z.0.1 a vss) ((held z.0.0 a).requires z.1)) (snd∗ 𝓤 (alive 𝓛 (F.ended Y).signature z.0.0 z.0.1) (sem 𝓛 (owns Rs a vss)))) (owns_show 𝓛 Rs (Ises Rs) (showss 𝓛 Rs) a vss)) (λ are.
+      (λ z. let a = z.0.3 in let vss = z.0.4 in
+      let Rs : List RattleType = types_at (F.ended Y).signature.params z.0.0 in
+      fact_use 𝓤 (Are Rs (Ises Rs) a vss) (via 𝓤 (sem 𝓛 (owns Rs a vss)) (via 𝓤 (on_entry 𝓛
+      (F.ended Y).signature z.0.0 z.0.1 a vss) (fst∗ 𝓤 (on_entry 𝓛 (F.ended Y).signature z.0.0 z.0.1
+      a vss) ((held z.0.0 a).requires z.1)) (snd∗ 𝓤 (alive 𝓛 (F.ended Y).signature z.0.0 z.0.1)
+      (sem 𝓛 (owns Rs a vss)))) (owns_show 𝓛 Rs (Ises Rs) (showss 𝓛 Rs) a vss)) (λ are.
       entry 𝓣.C 𝓣.Λ z vss.0 are.0))
 
 pub no_attributes_spec : {M : Type 1} → stated.statement M
 unfolding tables_of
 no_attributes_spec 𝓤 𝓛 𝓜 𝓡 wired Y laws =
     let 𝓣 : Tables 𝓤 𝓛.H = tables_of 𝓤 𝓛.H 𝓜 (tables 𝓤 𝓛.H 𝓜 𝓡 𝓡.env) in
-    entered 𝓤 𝓛.H (triple_of 𝓛 (F.ended Y).signature (closing 𝓛 (F.ended Y) (F.clauses Y 𝓛 𝓜.mem 𝓡.returns))) 𝓣.C 𝓣.Λ (#self (layouts (a_type ∷ []) (Y, tt))) (function Y) (code.unfolded 𝓤 𝓛.H 𝓜 𝓡 wired (Y, tt))
+    entered 𝓤 𝓛.H
+    (triple_of 𝓛 (F.ended Y).signature (closing 𝓛 (F.ended Y) (F.clauses Y 𝓛 𝓜.mem 𝓡.returns))) 𝓣.C
+    𝓣.Λ (#self (layouts (a_type ∷ []) (Y, tt))) (function Y) (code.unfolded 𝓤 𝓛.H 𝓜 𝓡 wired (Y, tt))
     (meets Y 𝓛 𝓜.mem 𝓡.returns 𝓣)

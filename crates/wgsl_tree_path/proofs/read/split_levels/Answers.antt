@@ -7,14 +7,16 @@ use Rattle.wgsl_tree_path.proofs.read.split_levels.Goals as goal
 pub returns-then-ne-clause-levels : goal.returns-then-ne-clause-levels
 returns-then-ne-clause-levels c =
     let parts = more_parts c.levels.left.now c.in-Some.part c.in-Some.rest c.in-Some.ensures.cases in
-    let none = ap levels parts ∙ levels_other c.in-Some.part.now (path_parts c.in-Some.rest.now) (is_other _ c.if-ne.ensures) in
+    let none = ap levels parts
+    ∙ levels_other c.in-Some.part.now (path_parts c.in-Some.rest.now) (is_other _ c.if-ne.ensures) in
     omega (arith, none, c.levels.invariant.1)
 
 pub returns-then-ne-clause-rest : goal.returns-then-ne-clause-rest
 returns-then-ne-clause-rest c =
     let left = c.levels.left.now in
     let parts = more_parts left c.in-Some.part c.in-Some.rest c.in-Some.ensures.cases in
-    let none = ap levels parts ∙ levels_other c.in-Some.part.now (path_parts c.in-Some.rest.now) (is_other _ c.if-ne.ensures) in
+    let none = ap levels parts
+    ∙ levels_other c.in-Some.part.now (path_parts c.in-Some.rest.now) (is_other _ c.if-ne.ensures) in
     sym (ap (λ n. drop n (path_parts left)) none) ∙ c.levels.invariant.2
 
 pub levels-preserved : goal.levels-preserved
@@ -26,7 +28,11 @@ levels-preserved c =
       search rules,
       omega (arith, ap levels parts ∙ levels_super part rest same, c.levels.invariant.1),
       sym (behind_super part rest same) ∙ sym (ap (λ xs. drop (levels xs) xs) parts) ∙ c.levels.invariant.2,
-      omega (arith, shorter c.levels.left.now c.in-Some.part c.in-Some.rest c.in-Some.ensures.cases, c.levels.invariant.3),
+      omega (
+        arith,
+        shorter c.levels.left.now c.in-Some.part c.in-Some.rest c.in-Some.ensures.cases,
+        c.levels.invariant.3,
+      ),
     )
 
 pub returns-else-eq-clause-levels : goal.returns-else-eq-clause-levels

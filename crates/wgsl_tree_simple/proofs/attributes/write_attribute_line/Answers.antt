@@ -19,20 +19,24 @@ no_line (x ∷ xs) e = elim (eqb_tells (length (x ∷ xs)) 0) [
   | inr h ↦ absurd (true≢false (sym e ∙ h.0))
 ]
 
-line_is : (xs : List (Spanned Attribute)) → (length xs == 0) ≡ false → print_attributes [] (attributes_view xs) ++ codes "\n" ≡ print_attribute_line (attributes_view xs)
+line_is : (xs : List (Spanned Attribute)) → (length xs == 0) ≡ false
+    → print_attributes [] (attributes_view xs) ++ codes "\n" ≡ print_attribute_line (attributes_view xs)
 line_is [] e = absurd (true≢false e)
 line_is (x ∷ xs) e =
-    let shown = joined (codes " ") (map (λ (a : plain_tree.Spanned plain.Attribute). print_attribute a.node) (attributes_view (x ∷ xs))) in
+    let shown = joined (codes " ")
+    (map (λ (a : plain_tree.Spanned plain.Attribute). print_attribute a.node) (attributes_view (x ∷ xs))) in
     ap (λ z. z ++ codes "\n") (append-nil shown)
 
 pub returns-then-is_empty : goal.returns-then-is_empty
 returns-then-is_empty g c = λ ok.
     let list = c.as_slice-list.result.now in
-    wrote_of_eq _ _ _ _ _ (no_line list (sym c.is_empty.ensures ∙ c.if-is_empty.true) ∙ ap (λ (xs : List (Spanned Attribute)). print_attribute_line (attributes_view xs)) c.as_slice-list.ensures.value)
+    wrote_of_eq _ _ _ _ _ (no_line list (sym c.is_empty.ensures ∙ c.if-is_empty.true)
+    ∙ ap (λ (xs : List (Spanned Attribute)). print_attribute_line (attributes_view xs)) c.as_slice-list.ensures.value)
     (wrote_nothing g.W.Write.write_str_gives _)
 
 pub returns : goal.returns
 returns g c = λ ok.
     let list = c.as_slice-list.result.now in
-    wrote_of_eq _ _ _ _ _ (line_is list (sym c.is_empty.ensures ∙ c.if-is_empty.false) ∙ ap (λ (xs : List (Spanned Attribute)). print_attribute_line (attributes_view xs)) c.as_slice-list.ensures.value)
+    wrote_of_eq _ _ _ _ _ (line_is list (sym c.is_empty.ensures ∙ c.if-is_empty.false)
+    ∙ ap (λ (xs : List (Spanned Attribute)). print_attribute_line (attributes_view xs)) c.as_slice-list.ensures.value)
     (c.in_ok-write_value.ensures refl ▸ c.write_line_end.ensures ok)

@@ -15,7 +15,8 @@ abbrev text : Option BreakIfStatement → List ℕ
 text o = break_if_line (option_map break_if_view o)
 
 pub returns-in-None : goal.returns-in-None
-returns-in-None g c = λ ok. wrote_of_eq _ _ _ _ _ (sym (ap text c.in-None.is)) (wrote_nothing g.W.Write.write_str_gives _)
+returns-in-None g c =
+    λ ok. wrote_of_eq _ _ _ _ _ (sym (ap text c.in-None.is)) (wrote_nothing g.W.Write.write_str_gives _)
 
 pub returns-in_ok-write_value-in-Some : goal.returns-in_ok-write_value-in-Some
 returns-in_ok-write_value-in-Some g c = λ ok.
@@ -24,6 +25,7 @@ returns-in_ok-write_value-in-Some g c = λ ok.
     let line = print_attributed print_break_if b in
     wrote_of_eq _ _ _ _ _ (sym (ap text c.in-Some.is))
     (wrote_within took _ _ _ _ line (c.in_ok-indent-in-Some.ensures refl)
-    (wrote_of_eq _ _ _ _ _ (begun_filled line (break_if_filled b)) (c.in_ok-write_piece-in-Some.ensures refl ▸ c.in_ok-write_value-in-Some.ensures refl))
+    (wrote_of_eq _ _ _ _ _ (begun_filled line (break_if_filled b))
+    (c.in_ok-write_piece-in-Some.ensures refl ▸ c.in_ok-write_value-in-Some.ensures refl))
     c.unindent.ensures
     ▸ c.write_line_end.ensures ok)

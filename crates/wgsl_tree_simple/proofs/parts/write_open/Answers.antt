@@ -8,5 +8,6 @@ use Rattle.wgsl_tree_simple.proofs.parts.write_open.Goals as goal
 
 pub returns : goal.returns
 returns g c = λ ok.
-    wrote_of_eq _ _ _ _ _ (append_assoc (print_attribute_line (attributes_view c.args.attributes.now.items)) (codes "{") (codes "\n"))
+    wrote_of_eq _ _ _ _ _ (append_assoc
+    (print_attribute_line (attributes_view c.args.attributes.now.items)) (codes "{") (codes "\n"))
     (c.in_ok-write_attribute_line.ensures refl ▸ c.in_ok-write_piece.ensures refl ▸ c.write_line_end.ensures ok)

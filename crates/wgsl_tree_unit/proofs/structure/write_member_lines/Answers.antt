@@ -26,16 +26,19 @@ lines-preserved g c =
     let texts = member_texts before in
     let text = print_member (member_view (spanned_node item)) in
     let same = members_more items c.lines.member-index item (search rules) c.member-item.is in
-    let written : block_lines end texts ++ before_line end c.lines.first ++ text ≡ block_lines end (member_texts (take (c.lines.member-index + 1) items)) =
+    let written : block_lines end texts ++ before_line end c.lines.first ++ text
+    ≡ block_lines end (member_texts (take (c.lines.member-index + 1) items)) =
     ap (λ (b : Bool). block_lines end texts ++ before_line end b ++ text) c.lines.invariant.0
     ∙ block_more end texts text (members_filled before) (member_filled (member_view (spanned_node item)))
     ∙ ap (block_lines end) same in (
       not_nil texts text ∙ ap is_nil same,
-      wrote_of_eq _ _ _ _ _ written (c.lines.invariant.1 ▸ c.in_ok-write_member_gap.ensures refl ▸ c.in_ok-write_value.ensures refl),
+      wrote_of_eq _ _ _ _ _ written
+          (c.lines.invariant.1 ▸ c.in_ok-write_member_gap.ensures refl ▸ c.in_ok-write_value.ensures refl),
     )
 
 pub returns : goal.returns
 returns g c = λ ok.
     wrote_within g.W.Write.write_str_gives _ _ _ _ (print_members c.args.members.now) (c.in_ok-indent.ensures refl)
-    (wrote_of_eq _ _ _ _ _ (ap (λ (xs : List (Spanned StructMember)). block_lines (codes ",\n") (member_texts xs)) (take_all _ c.args.members.now c.lines-test.false)) c.lines.invariant.1)
+    (wrote_of_eq _ _ _ _ _ (ap (λ (xs : List (Spanned StructMember)). block_lines (codes ",\n")
+    (member_texts xs)) (take_all _ c.args.members.now c.lines-test.false)) c.lines.invariant.1)
     c.unindent.ensures

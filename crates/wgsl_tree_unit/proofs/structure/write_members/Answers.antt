@@ -3,4 +3,5 @@ use Rattle.wgsl_writer.proofs.Within.{printed}
 use Rattle.wgsl_tree_unit.proofs.structure.write_members.Goals as goal
 
 pub returns : goal.returns
-returns g c = printed g.W.Write.write_str_gives _ _ _ c.into_inner.result _ _ _ c.new-out.ensures.to c.new-out.ensures.depth c.write_member_lines-outcome.ensures c.into_inner.ensures (λ same. search rules)
+returns g c = printed g.W.Write.write_str_gives _ _ _ c.into_inner.result _ _ _ c.new-out.ensures.to
+    c.new-out.ensures.depth c.write_member_lines-outcome.ensures c.into_inner.ensures (λ same. search rules)

@@ -10,7 +10,8 @@ use Rattle.wgsl_error.specs.Printing.{print_message, print_error_in_file}
 use Rattle.wgsl_error.proofs.in_file.ErrorInFileDisplay.fmt.Goals as goal
 
 -- the parts in the groups of the definition
-regrouped : (a s l c e m n k : List ℕ) → (((a ++ (s ++ (l ++ (s ++ (c ++ e))))) ++ m) ++ n) ++ k ≡ a ++ s ++ l ++ s ++ c ++ e ++ m ++ n ++ k
+regrouped : (a s l c e m n k : List ℕ)
+    → (((a ++ (s ++ (l ++ (s ++ (c ++ e))))) ++ m) ++ n) ++ k ≡ a ++ s ++ l ++ s ++ c ++ e ++ m ++ n ++ k
 regrouped a s l c e m n k = simp append_assoc
 
 -- a name and a place
@@ -18,12 +19,16 @@ abbrev heading : List ℕ → ℕ → ℕ → List ℕ
 heading name line column = name ++ (codes ":" ++ (decimal line ++ (codes ":" ++ (decimal column ++ codes ": error: "))))
 
 -- what the writes give is the message in its file, if they are given its parts
-written : (name message source : List ℕ) (span : Span) (line column : ℕ) → line ≡ line_number source span → column ≡ column_number source span
-    → ((heading name line column ++ message) ++ codes "\n") ++ marked_line source span ≡ message_in_file name message source span
+written : (name message source : List ℕ) (span : Span) (line column : ℕ)
+    → line ≡ line_number source span → column ≡ column_number source span
+    → ((heading name line column ++ message) ++ codes "\n") ++ marked_line source span
+    ≡ message_in_file name message source span
 written name message source span line column line_is column_is =
     ap (λ n. ((heading name n column ++ message) ++ codes "\n") ++ marked_line source span) line_is
-    ∙ ap (λ n. ((heading name (line_number source span) n ++ message) ++ codes "\n") ++ marked_line source span) column_is
-    ∙ regrouped name (codes ":") (decimal (line_number source span)) (decimal (column_number source span)) (codes ": error: ") message (codes "\n") (marked_line source span)
+    ∙ ap (λ n. ((heading name (line_number source span) n ++ message) ++ codes "\n")
+    ++ marked_line source span) column_is
+    ∙ regrouped name (codes ":") (decimal (line_number source span)) (decimal (column_number source span))
+    (codes ": error: ") message (codes "\n") (marked_line source span)
 
 pub returns-clause-writes : goal.returns-clause-writes
 returns-clause-writes g c = λ plain ok.
@@ -35,7 +40,9 @@ returns-clause-writes g c = λ plain ok.
     let two = c.write_message.ensures one.plain (search rules) in
     let three = c.write_str.ensures.writes two.plain (search rules) in
     let four = c.write_marked_line.ensures three.plain ok in
-    let whole = has_written_append _ _ _ _ _ _ (has_written_append _ _ _ _ _ _ (has_written_append _ _ _ _ _ _ one two) three) four in
+    let whole = has_written_append _ _ _ _ _ _
+    (has_written_append _ _ _ _ _ _ (has_written_append _ _ _ _ _ _ one two) three) four in
     has_written_of_eq g.W.Write.write_str_gives c.args.f.now _ (print_error_in_file e) c.write_marked_line.new.f
-    (written e.name.now message (chars e.source.now) span place.result.0 place.result.1 place.ensures.line place.ensures.column)
+    (written e.name.now message
+    (chars e.source.now) span place.result.0 place.result.1 place.ensures.line place.ensures.column)
     whole

@@ -8,6 +8,7 @@ pub invariant_of-self : goal.invariant_of-self
 invariant_of-self c =
     let self = c.args.self.now in
     record {
-      each = all_pushed (λ path. is_listed_below self.root.now (string_bytes path) ≡ true) self.listed.items c.push.new.self.items c.args.path
+      each = all_pushed (λ path. is_listed_below self.root.now (string_bytes path) ≡ true)
+          self.listed.items c.push.new.self.items c.args.path
           (is_ok c.push.result) c.push.ensures.items self.each (search rules);
     }

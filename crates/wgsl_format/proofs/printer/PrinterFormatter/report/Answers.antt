@@ -12,10 +12,12 @@ pub returns-in_default-clause-due : goal.returns-in_default-clause-due
 returns-in_default-clause-due c = not_utf8 (no_text _ c.in_default.ensures.cases.0)
 
 -- the text is the printed unit
-written : (c : goal.In_ok-write-in-Ok-parse_within) → string_bytes c.write.new.self ≡ print_unit (unit_view c.in-Ok-parse_within.unit)
+written : (c : goal.In_ok-write-in-Ok-parse_within)
+    → string_bytes c.write.new.self ≡ print_unit (unit_view c.in-Ok-parse_within.unit)
 written c =
     let empty = c.in_ok-printed-in-Ok-parse_within.ensures.bytes in
-    c.in_ok-write-in-Ok-parse_within.ensures.bytes ∙ ap (λ before. before ++ print_unit (unit_view c.in-Ok-parse_within.unit)) empty
+    c.in_ok-write-in-Ok-parse_within.ensures.bytes
+    ∙ ap (λ before. before ++ print_unit (unit_view c.in-Ok-parse_within.unit)) empty
 
 pub returns-in_ok-write-in-Ok-parse_within-clause-due : goal.returns-in_ok-write-in-Ok-parse_within-clause-due
 returns-in_ok-write-in-Ok-parse_within-clause-due c =
@@ -27,13 +29,15 @@ pub returns-in_ok-write-in-Ok-parse_within-clause-made : goal.returns-in_ok-writ
 returns-in_ok-write-in-Ok-parse_within-clause-made c = λ _.
     let source = c.in-Ok.ensures.cases in
     let derived = rw source.0 at c.in-Ok-parse_within.ensures.accepted in
-    reprinted _ _ (unit_view c.in-Ok-parse_within.unit) derived (written c) (is_utf8-from_IsUtf8 _ (IsUtf8-had _ c.write.new.self.ok))
+    reprinted _ _ (unit_view c.in-Ok-parse_within.unit) derived (written c)
+    (is_utf8-from_IsUtf8 _ (IsUtf8-had _ c.write.new.self.ok))
 
 pub returns-in-Err-clause-due : goal.returns-in-Err-clause-due
 returns-in-Err-clause-due c =
     let source = c.in-Ok.ensures.cases in
     let named = rw source.0 at c.in-Err.ensures.refused in
-    refused_writes Formats _ _ _ _ (λ x fault. refused x (is_utf8-from_IsUtf8 _ source.1) fault) named c.refused.ensures.told c.refused.ensures.memory
+    refused_writes Formats _ _ _ _ (λ x fault. refused x (is_utf8-from_IsUtf8 _ source.1) fault)
+    named c.refused.ensures.told c.refused.ensures.memory
 
 pub returns-in-Err-clause-made : goal.returns-in-Err-clause-made
 returns-in-Err-clause-made c = refused_makes (IsReprinted c.args.source.now) _ c.refused.result c.refused.ensures.told

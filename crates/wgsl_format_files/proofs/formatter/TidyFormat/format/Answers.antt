@@ -7,7 +7,8 @@ use Rattle.wgsl_format_files.proofs.Refusals.{refused_undecoded, refused_named}
 use Rattle.wgsl_format_files.proofs.formatter.TidyFormat.format.Goals as goal
 
 pub returns-in_default-clause-err : goal.returns-in_default-clause-err
-returns-in_default-clause-err c = refused_undecoded _ c.not_utf8.result (no_text _ c.in_default.ensures.cases.0) c.not_utf8.ensures
+returns-in_default-clause-err c = refused_undecoded _ c.not_utf8.result
+    (no_text _ c.in_default.ensures.cases.0) c.not_utf8.ensures
 
 pub returns-in-Ok-tidy_within-clause-ok : goal.returns-in-Ok-tidy_within-clause-ok
 returns-in-Ok-tidy_within-clause-ok c =
@@ -25,4 +26,5 @@ returns-in-Ok-tidy_within-clause-ok c =
 pub returns-in-Err-clause-err : goal.returns-in-Err-clause-err
 returns-in-Err-clause-err c =
     let source = c.in-Ok.ensures.cases in
-    refused_named _ c.in-Err.error c.refusal.result (is_utf8-from_IsUtf8 _ source.1) (rw source.0 at c.in-Err.ensures.refused) (rw source.0 at c.refusal.ensures)
+    refused_named _ c.in-Err.error c.refusal.result (is_utf8-from_IsUtf8 _ source.1)
+    (rw source.0 at c.in-Err.ensures.refused) (rw source.0 at c.refusal.ensures)

@@ -9,6 +9,8 @@ pub returns : goal.returns
 returns c =
     let old = chars (string_bytes c.args.self.text.string) in
     elim c.if-ends_line.branch [
-      | then-ends_line+in_ok-put w ↦ ap (λ (t : Text). chars (string_bytes t.string)) w.text-is ∙ w.in_ok-put.ensures.written ∙ ap (λ xs. old ++ xs) (line_chars ∙ w.if-ends_line.ensures)
-      | else-ends_line w ↦ ap (λ (t : Text). chars (string_bytes t.string)) w.text-is ∙ sym (append-nil old) ∙ ap (λ xs. old ++ xs) w.if-ends_line.ensures
+      | then-ends_line+in_ok-put w ↦ ap (λ (t : Text). chars (string_bytes t.string)) w.text-is
+          ∙ w.in_ok-put.ensures.written ∙ ap (λ xs. old ++ xs) (line_chars ∙ w.if-ends_line.ensures)
+      | else-ends_line w ↦ ap (λ (t : Text). chars (string_bytes t.string)) w.text-is
+          ∙ sym (append-nil old) ∙ ap (λ xs. old ++ xs) w.if-ends_line.ensures
     ]

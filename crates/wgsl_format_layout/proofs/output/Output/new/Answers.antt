@@ -13,7 +13,10 @@ returns-clause-laid c ps =
     let text = c.in_ok-with_capacity.field-0 in
     let empty = c.in_ok-with_capacity.ensures in
     let state = state_view c.new.result in
-    ap (λ cs. cs ++ laid_from (layout_view text.line.layout) (record { state = state; last = token; column = text.line.column }) ps) empty.nothing
-    ∙ ap (λ (l : Layout). laid_from (layout_view l) (record { state = state; last = token; column = text.line.column }) ps) empty.chosen
-    ∙ ap (λ n. laid_from (layout_view c.args.layout) (record { state = state; last = token; column = n }) ps) empty.column
+    ap (λ cs. cs ++ laid_from (layout_view text.line.layout)
+    (record { state = state; last = token; column = text.line.column }) ps) empty.nothing
+    ∙ ap (λ (l : Layout). laid_from (layout_view l)
+    (record { state = state; last = token; column = text.line.column }) ps) empty.chosen
+    ∙ ap (λ n. laid_from (layout_view c.args.layout)
+    (record { state = state; last = token; column = n }) ps) empty.column
     ∙ ap (λ s. laid_from (layout_view c.args.layout) (record { state = s; last = token; column = 0 }) ps) c.new.ensures

@@ -27,14 +27,20 @@ returns-clause-laid c ps e i =
     let text = shown_piece (indentation layout depth ++ codes " ") begins (piece class source 0) in
     let written = gap_text layout gap ++ text in
     let last = last_view c.comment_last-self.result in
-    let more = comment_added old.text c.put_gap.new.self new gap depth begins class source c.in_ok-put_gap.ensures c.in_ok-put_comment.ensures in
-    ap (shown old.text) (comment_written layout class (classed c.args.comment.kind) (spot_of old) (role_view c.args.right) c.args.owned [] source text (gap_text layout gap) written
+    let more = comment_added old.text c.put_gap.new.self new gap depth begins class source
+    c.in_ok-put_gap.ensures c.in_ok-put_comment.ensures in
+    ap (shown old.text) (comment_written layout class (classed c.args.comment.kind) (spot_of old)
+    (role_view c.args.right) c.args.owned [] source text (gap_text layout gap) written
     c.args.line_ends depth new.line.column gap last ps e i c.in_ok-gap.ensures
-    (ap₂ (λ d b. shown_piece (indentation layout d ++ codes " ") b (piece class source 0)) c.depth_behind-depth.ensures c.begins_line-begins.ensures)
+    (ap₂ (λ d b. shown_piece (indentation layout d ++ codes " ") b (piece class source 0))
+    c.depth_behind-depth.ensures c.begins_line-begins.ensures)
     refl refl c.depth_behind-depth.ensures c.comment_last-self.ensures more.line.column)
     ∙ shown_on old.text new written _ more
-    ∙ ap (λ (l : Layout). shown new (laid_from (layout_view l) (record { state = in_line_of (spot_of old).state depth; last = last; column = new.line.column }) ps)) (sym more.line.layout)
+    ∙ ap (λ (l : Layout). shown new (laid_from (layout_view l)
+    (record { state = in_line_of (spot_of old).state depth; last = last; column = new.line.column }) ps))
+    (sym more.line.layout)
 
 pub returns-clause-text : goal.returns-clause-text
 returns-clause-text c =
-    adds_continues c.args.self.now.text c.put_comment.new.self _ (adds_both c.args.self.now.text c.put_gap.new.self c.put_comment.new.self _ _ c.in_ok-put_gap.ensures c.in_ok-put_comment.ensures)
+    adds_continues c.args.self.now.text c.put_comment.new.self _ (adds_both c.args.self.now.text
+    c.put_gap.new.self c.put_comment.new.self _ _ c.in_ok-put_gap.ensures c.in_ok-put_comment.ensures)

@@ -20,14 +20,21 @@ pieces-preserved-in-Some-comment_at c =
       laid = λ behind h k.
           let left = comments behind outside 0 (chars c.in-Some-comment_at.comment.rest.now) in
           let next : next_role (state_view old.state) left ≡ right =
-          ap (λ s. next_role s left) c.pieces.invariant.stays ∙ next_in_line start old.state.line left ∙ next_behind start right behind h outside 0 (chars c.in-Some-comment_at.comment.rest.now) in
-          c.pieces.invariant.laid behind h k ∙ ap (seen_with old) (c.in-Some-comment_at.ensures.value behind c.pieces.line_ends) ∙ c.in_ok-write_comment.ensures.laid left next (c.is_owned-owned.ensures behind k);
-      stays = c.in_ok-write_comment.ensures.state ∙ ap (λ s. in_line_of s c.write_comment.new.self.state.line) c.pieces.invariant.stays;
-      goes_on = continues_both c.args.self.now.text old.text c.write_comment.new.self.text c.pieces.invariant.goes_on c.in_ok-write_comment.ensures.text;
+          ap (λ s. next_role s left) c.pieces.invariant.stays ∙ next_in_line start old.state.line left
+          ∙ next_behind start right behind h outside 0 (chars c.in-Some-comment_at.comment.rest.now) in
+          c.pieces.invariant.laid behind h k
+          ∙ ap (seen_with old) (c.in-Some-comment_at.ensures.value behind c.pieces.line_ends)
+          ∙ c.in_ok-write_comment.ensures.laid left next (c.is_owned-owned.ensures behind k);
+      stays = c.in_ok-write_comment.ensures.state
+          ∙ ap (λ s. in_line_of s c.write_comment.new.self.state.line) c.pieces.invariant.stays;
+      goes_on = continues_both c.args.self.now.text old.text c.write_comment.new.self.text
+          c.pieces.invariant.goes_on c.in_ok-write_comment.ensures.text;
       within = omega (arith, c.pieces.invariant.within, c.in-Some-comment_at.ensures.shorter);
     }
 
 pub returns-clause-laid : goal.returns-clause-laid
 returns-clause-laid c behind h k =
     let left = c.pieces.line_ends in
-    c.pieces.invariant.laid behind h k ∙ ap (λ xs. seen_with c.pieces.self (comments behind outside left xs)) c.in_default.ensures.parts ∙ ap (seen_with c.pieces.self) (nothing_left behind left)
+    c.pieces.invariant.laid behind h k
+    ∙ ap (λ xs. seen_with c.pieces.self (comments behind outside left xs)) c.in_default.ensures.parts
+    ∙ ap (seen_with c.pieces.self) (nothing_left behind left)

@@ -18,8 +18,11 @@ use Rattle.wgsl_format_layout.proofs.output.Output.write_token.Goals as goal
 use Rattle.wgsl_format_layout.proofs.output.Output.write_token.Goals.{After-take, then-token, else-token}
 
 -- the gap and the token are added
-added : (c : After-take) → Adds c.args.self.now.text (gap_text (layout_view c.args.self.now.text.line.layout) (gap_view c.in_ok-gap.gap) ++ chars c.args.text.now) c.put.new.self
-added c = adds_both c.args.self.now.text c.put_gap.new.self c.put.new.self _ _ c.in_ok-put_gap.ensures c.in_ok-put.ensures
+added : (c : After-take)
+    → Adds c.args.self.now.text (gap_text (layout_view c.args.self.now.text.line.layout)
+    (gap_view c.in_ok-gap.gap) ++ chars c.args.text.now) c.put.new.self
+added c = adds_both c.args.self.now.text c.put_gap.new.self c.put.new.self _ _
+    c.in_ok-put_gap.ensures c.in_ok-put.ensures
 
 first : (c : After-take) → style_view c.if-token.style ≡ at_first c.args.token.lines
 first c =
@@ -32,7 +35,9 @@ first c =
 abbrev after : After-take → Output
 after c = record { text = c.put.new.self; state = c.take.new.self; last = Token }
 
-written : (c : After-take) → state_view c.take.new.self ≡ behind_token (state_view c.args.self.now.state) c.depth_behind-self.result (class_of_kind c.args.token.kind) (role_view c.args.right) (style_view c.if-token.style)
+written : (c : After-take)
+    → state_view c.take.new.self ≡ behind_token (state_view c.args.self.now.state) c.depth_behind-self.result
+    (class_of_kind c.args.token.kind) (role_view c.args.right) (style_view c.if-token.style)
     → IsWritten c.args.self.now c.args.token (role_view c.args.right) (chars c.args.text.now) c.args.line_ends (after c)
 written c taken = record {
   depth = c.depth_behind-self.result;
@@ -41,17 +46,23 @@ written c taken = record {
   gap_is = c.in_ok-gap.ensures;
   depth_is = c.depth_behind-self.ensures;
   adds = added c;
-  state = taken ∙ ap (behind_token (state_view c.args.self.now.state) c.depth_behind-self.result (class_of_kind c.args.token.kind) (role_view c.args.right)) (first c);
+  state = taken ∙ ap (behind_token (state_view c.args.self.now.state) c.depth_behind-self.result
+      (class_of_kind c.args.token.kind) (role_view c.args.right)) (first c);
   last = refl;
 }
 
 pub returns-clause-laid : goal.returns-clause-laid
 returns-clause-laid c =
-    IfOk-weaker c.take.result _ _ (λ _ taken. token_seen c.args.self.now c.args.token (role_view c.args.right) (chars c.args.text.now) c.args.line_ends (after c) (written c taken)) c.take.ensures
+    IfOk-weaker c.take.result _ _
+    (λ _ taken. token_seen c.args.self.now c.args.token (role_view c.args.right)
+    (chars c.args.text.now) c.args.line_ends (after c) (written c taken)) c.take.ensures
 
 pub returns-clause-parts : goal.returns-clause-parts
 returns-clause-parts c =
-    IfOk-weaker c.take.result _ _ (λ _ taken. token_parts c.args.self.now c.args.token (role_view c.args.right) (chars c.args.text.now) c.args.line_ends (after c) (written c taken)) c.take.ensures
+    IfOk-weaker c.take.result _ _
+    (λ _ taken. token_parts c.args.self.now c.args.token (role_view c.args.right)
+    (chars c.args.text.now) c.args.line_ends (after c) (written c taken)) c.take.ensures
 
 pub returns-clause-text : goal.returns-clause-text
-returns-clause-text c = IfOk-weaker c.take.result _ _ (λ _ taken. adds_continues c.args.self.now.text c.put.new.self _ (added c)) c.take.ensures
+returns-clause-text c = IfOk-weaker c.take.result _ _
+    (λ _ taken. adds_continues c.args.self.now.text c.put.new.self _ (added c)) c.take.ensures

@@ -9,7 +9,9 @@ returns c =
     let text = chars c.args.text.now in
     let rest = c.text_at.ensures (after_trivia outside text) c.in_ok-behind.ensures.behind in
     record {
-      known = c.in_ok-keep.ensures (chars c.args.source.now) (after_trivia outside text) c.in_ok-behind.ensures.behind c.requires.known c.in_ok-behind.ensures.run;
+      known = c.in_ok-keep.ensures (chars c.args.source.now) (after_trivia outside text)
+          c.in_ok-behind.ensures.behind c.requires.known c.in_ok-behind.ensures.run;
       rest = rest;
-      within = no_longer c.args.text.now c.text_at.result.now c.utf8.text c.text_at.utf8 (subst (EndsWith text) (sym rest) (trivia-ends outside text));
+      within = no_longer c.args.text.now c.text_at.result.now c.utf8.text c.text_at.utf8
+          (subst (EndsWith text) (sym rest) (trivia-ends outside text));
     }

@@ -18,6 +18,9 @@ loop-kind-preserved c =
     let kind = get_or kinds i _ in
     record {
       more = one_more first ps now (Token kind) c.in_ok-push.ensures c.loop-kind.invariant.more;
-      held = (token_held ps now kind (length first) c.in_ok-push.ensures (no_shorter first ps c.loop-kind.invariant.more)).0 ∙ ap (λ x. x ++ class_of_kind kind ∷ []) c.loop-kind.invariant.held
-          ∙ sym (pushed (take i kinds) (take (i + 1) kinds) kind (ap (λ n. take n kinds) next ∙ take-suc kinds i _ c.loop-kind-test.true));
+      held = (token_held ps now kind (length first) c.in_ok-push.ensures
+          (no_shorter first ps c.loop-kind.invariant.more)).0
+          ∙ ap (λ x. x ++ class_of_kind kind ∷ []) c.loop-kind.invariant.held
+          ∙ sym (pushed (take i kinds) (take (i + 1) kinds) kind
+          (ap (λ n. take n kinds) next ∙ take-suc kinds i _ c.loop-kind-test.true));
     }

@@ -8,21 +8,26 @@ use Rattle.wgsl_lex_templates.proofs.kept.Kept.push_kinds.Goals as goal
 
 -- the last rest is taken
 pub pieces-smaller-then-left : goal.pieces-smaller-then-left
-pieces-smaller-then-left c = less_at_rest c.pieces.left.at c.pieces.left.to c.pieces.rests.items c.pop.new.self.items c.in-Some.rest c.in-Some.ensures.items
+pieces-smaller-then-left c = less_at_rest c.pieces.left.at c.pieces.left.to c.pieces.rests.items
+    c.pop.new.self.items c.in-Some.rest c.in-Some.ensures.items
 
 pub pieces-preserved-then-left : goal.pieces-preserved-then-left
 pieces-preserved-then-left c =
     let ps = c.args.self.now.pieces.items in
-    let each = All-pop (λ r. r.to ≤ length ps) c.pieces.rests.items c.pop.new.self.items (Some c.in-Some.rest) c.in-Some.ensures.items c.pieces.invariant.each in
+    let each = All-pop (λ r. r.to ≤ length ps) c.pieces.rests.items c.pop.new.self.items
+    (Some c.in-Some.rest) c.in-Some.ensures.items c.pieces.invariant.each in
     record {
       within = each.1;
       each = each.0;
-      whole = ap (λ u. classes c.pieces.kinds.items ++ u) (sym (rest_begun ps c.pieces.left.at c.pieces.left.to c.pieces.rests.items c.pop.new.self.items c.in-Some.rest c.if-left.true c.in-Some.ensures.items)) ∙ c.pieces.invariant.whole;
+      whole = ap (λ u. classes c.pieces.kinds.items ++ u)
+          (sym (rest_begun ps c.pieces.left.at c.pieces.left.to c.pieces.rests.items c.pop.new.self.items
+          c.in-Some.rest c.if-left.true c.in-Some.ensures.items)) ∙ c.pieces.invariant.whole;
     }
 
 -- a token
 pub pieces-smaller-in-Token : goal.pieces-smaller-in-Token
-pieces-smaller-in-Token c = less_behind c.pieces.left.at c.pieces.left.to c.pieces.rests.items (omega (arith, c.if-left.false))
+pieces-smaller-in-Token c = less_behind c.pieces.left.at c.pieces.left.to c.pieces.rests.items
+    (omega (arith, c.if-left.false))
 
 pub pieces-preserved-in-Token : goal.pieces-preserved-in-Token
 pieces-preserved-in-Token c =
@@ -31,9 +36,12 @@ pieces-preserved-in-Token c =
     record {
       within = c.pieces.invariant.within;
       each = c.pieces.invariant.each;
-      whole = gone_through (classes c.pieces.kinds.items) (classes c.push.new.self.items) (class_of_kind c.in-Token.kind ∷ []) (held_left ps (c.pieces.left.at + 1) c.pieces.left.to rs) (held_left ps c.pieces.left.at c.pieces.left.to rs) _
+      whole = gone_through (classes c.pieces.kinds.items) (classes c.push.new.self.items)
+          (class_of_kind c.in-Token.kind ∷ []) (held_left ps (c.pieces.left.at + 1) c.pieces.left.to rs)
+          (held_left ps c.pieces.left.at c.pieces.left.to rs) _
           (pushed c.pieces.kinds.items c.push.new.self.items c.in-Token.kind c.in_ok-push-in-Token.ensures.items)
-          (token_taken ps c.pieces.left.at c.pieces.left.to rs c.index.result.now c.in-Token.kind (omega (arith, c.if-left.false)) c.pieces.invariant.within c.index.ensures c.in-Token.is)
+          (token_taken ps c.pieces.left.at c.pieces.left.to rs c.index.result.now c.in-Token.kind
+          (omega (arith, c.if-left.false)) c.pieces.invariant.within c.index.ensures c.in-Token.is)
           c.pieces.invariant.whole;
     }
 
@@ -42,15 +50,20 @@ pub pieces-smaller-then-left-2 : goal.pieces-smaller-then-left-2
 pieces-smaller-then-left-2 c =
     let ps = c.args.self.now.pieces.items in
     let less : c.pieces.left.at < length ps = omega (arith, c.if-left.false, c.pieces.invariant.within) in
-    let ends = ends_before ps c.pieces.left.at c.index.result.now c.in-Stretch.start c.in-Stretch.end c.args.self.now.earlier less c.index.ensures c.in-Stretch.is in
-    less_at_last c.pieces.left.at c.pieces.left.to c.pieces.rests.items c.in-Stretch.start c.in-Stretch.end (omega (arith, c.if-left.false)) ends
+    let ends = ends_before ps c.pieces.left.at c.index.result.now c.in-Stretch.start
+    c.in-Stretch.end c.args.self.now.earlier less c.index.ensures c.in-Stretch.is in
+    less_at_last c.pieces.left.at c.pieces.left.to c.pieces.rests.items c.in-Stretch.start
+    c.in-Stretch.end (omega (arith, c.if-left.false)) ends
 
 pub pieces-preserved-then-left-2 : goal.pieces-preserved-then-left-2
 pieces-preserved-then-left-2 c =
     let ps = c.args.self.now.pieces.items in
     let less : c.pieces.left.at < length ps = omega (arith, c.if-left.false, c.pieces.invariant.within) in
-    let ends = ends_before ps c.pieces.left.at c.index.result.now c.in-Stretch.start c.in-Stretch.end c.args.self.now.earlier less c.index.ensures c.in-Stretch.is in
-    let same = last_begun ps c.pieces.left.at c.pieces.left.to c.pieces.rests.items c.index.result.now c.in-Stretch.start c.in-Stretch.end c.if-left-2.true c.pieces.invariant.within ends c.index.ensures c.in-Stretch.is in
+    let ends = ends_before ps c.pieces.left.at c.index.result.now c.in-Stretch.start
+    c.in-Stretch.end c.args.self.now.earlier less c.index.ensures c.in-Stretch.is in
+    let same = last_begun ps c.pieces.left.at c.pieces.left.to c.pieces.rests.items
+    c.index.result.now c.in-Stretch.start c.in-Stretch.end c.if-left-2.true
+    c.pieces.invariant.within ends c.index.ensures c.in-Stretch.is in
     record {
       within = omega (arith, ends, less);
       each = c.pieces.invariant.each;
@@ -62,17 +75,26 @@ pub pieces-smaller : goal.pieces-smaller
 pieces-smaller c =
     let ps = c.args.self.now.pieces.items in
     let less : c.pieces.left.at < length ps = omega (arith, c.if-left.false, c.pieces.invariant.within) in
-    let ends = ends_before ps c.pieces.left.at c.index.result.now c.in-Stretch.start c.in-Stretch.end c.args.self.now.earlier less c.index.ensures c.in-Stretch.is in
-    less_at_stretch c.pieces.left.at c.pieces.left.to c.pieces.rests.items c.push-in-Stretch.new.self.items c.in-Stretch.start c.in-Stretch.end (omega (arith, c.if-left.false)) ends c.in_ok-push-in-Stretch.ensures.items
+    let ends = ends_before ps c.pieces.left.at c.index.result.now c.in-Stretch.start
+    c.in-Stretch.end c.args.self.now.earlier less c.index.ensures c.in-Stretch.is in
+    less_at_stretch c.pieces.left.at c.pieces.left.to c.pieces.rests.items
+    c.push-in-Stretch.new.self.items c.in-Stretch.start c.in-Stretch.end
+    (omega (arith, c.if-left.false)) ends c.in_ok-push-in-Stretch.ensures.items
 
 pub pieces-preserved : goal.pieces-preserved
 pieces-preserved c =
     let ps = c.args.self.now.pieces.items in
     let less : c.pieces.left.at < length ps = omega (arith, c.if-left.false, c.pieces.invariant.within) in
-    let ends = ends_before ps c.pieces.left.at c.index.result.now c.in-Stretch.start c.in-Stretch.end c.args.self.now.earlier less c.index.ensures c.in-Stretch.is in
-    let same = stretch_begun ps c.pieces.left.at c.pieces.left.to c.pieces.rests.items c.push-in-Stretch.new.self.items c.index.result.now c.in-Stretch.start c.in-Stretch.end (omega (arith, c.if-left.false)) c.pieces.invariant.within ends c.index.ensures c.in-Stretch.is c.in_ok-push-in-Stretch.ensures.items in
+    let ends = ends_before ps c.pieces.left.at c.index.result.now c.in-Stretch.start
+    c.in-Stretch.end c.args.self.now.earlier less c.index.ensures c.in-Stretch.is in
+    let same = stretch_begun ps c.pieces.left.at c.pieces.left.to c.pieces.rests.items
+    c.push-in-Stretch.new.self.items c.index.result.now c.in-Stretch.start c.in-Stretch.end
+    (omega (arith, c.if-left.false)) c.pieces.invariant.within ends c.index.ensures c.in-Stretch.is
+    c.in_ok-push-in-Stretch.ensures.items in
     record {
       within = omega (arith, ends, less);
-      each = All-same (λ r. r.to ≤ length ps) c.push-in-Stretch.new.self.items _ c.in_ok-push-in-Stretch.ensures.items (All-push (λ r. r.to ≤ length ps) c.pieces.rests.items _ c.pieces.invariant.each c.pieces.invariant.within);
+      each = All-same (λ r. r.to ≤ length ps) c.push-in-Stretch.new.self.items _
+          c.in_ok-push-in-Stretch.ensures.items (All-push (λ r. r.to ≤ length ps)
+          c.pieces.rests.items _ c.pieces.invariant.each c.pieces.invariant.within);
       whole = ap (λ u. classes c.pieces.kinds.items ++ u) (sym same) ∙ c.pieces.invariant.whole;
     }

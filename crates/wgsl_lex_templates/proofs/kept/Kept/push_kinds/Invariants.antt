@@ -10,7 +10,8 @@ abbrev pub invariant-pieces : goal.invariant-pieces
 invariant-pieces l = record {
   within : l.left.to ≤ length l.self.pieces.items;
   each : All (λ r. r.to ≤ length l.self.pieces.items) l.rests.items;
-  whole : classes l.kinds.items ++ held_left l.self.pieces.items l.left.at l.left.to l.rests.items ≡ classes l.fn.kinds.items ++ held l.fn.self.pieces.items l.fn.start l.fn.end;
+  whole : classes l.kinds.items ++ held_left l.self.pieces.items l.left.at l.left.to l.rests.items
+      ≡ classes l.fn.kinds.items ++ held l.fn.self.pieces.items l.fn.start l.fn.end;
 }
 
 abbrev pub decreases-pieces : goal.decreases-pieces

@@ -14,11 +14,17 @@ invariant_of-result c =
       within = omega arith;
       told = source_known text spans c.utf8.source c.in_ok-templates.ensures.lists;
       reserved = omega (arith, c.in_ok-ends.ensures.len, c.in_ok-ends.ensures.capacity);
-      enough = omega (arith, at_most_all (length text - length text) spans, c.in_ok-templates.ensures.found, c.attempts-room.ensures);
+      enough = omega (
+        arith,
+        at_most_all (length text - length text) spans,
+        c.in_ok-templates.ensures.found,
+        c.attempts-room.ensures,
+      );
     }
 
 pub returns : goal.returns
 returns c ts e h =
     let text = c.args.source.now in
     let same : width (chars text) ≡ length text = ap length (encodes-chars text c.utf8.source) in
-    whole_left (chars text) (length text) (reverse c.in_ok-ends.ends.items) (sym same) (ap reverse c.in_ok-ends.ensures.items) ts e h
+    whole_left (chars text) (length text) (reverse c.in_ok-ends.ends.items) (sym same)
+    (ap reverse c.in_ok-ends.ensures.items) ts e h

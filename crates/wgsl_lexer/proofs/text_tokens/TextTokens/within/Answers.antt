@@ -3,4 +3,5 @@ use Rattle.wgsl_lexer.proofs.Behind.{whole_behind}
 use Rattle.wgsl_lexer.proofs.text_tokens.TextTokens.within.Goals as goal
 
 pub returns : goal.returns
-returns c = whole_behind (chars c.args.source.now) c.in_ok-tokens.tokens _ _ c.in_ok-tokens.ensures c.go_on.ensures.left c.go_on.ensures.ending
+returns c = whole_behind (chars c.args.source.now) c.in_ok-tokens.tokens _ _ c.in_ok-tokens.ensures
+    c.go_on.ensures.left c.go_on.ensures.ending

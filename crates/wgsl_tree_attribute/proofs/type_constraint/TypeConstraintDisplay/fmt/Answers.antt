@@ -7,7 +7,8 @@ use Rattle.wgsl_tree_attribute.proofs.type_constraint.TypeConstraintDisplay.fmt.
 
 pub returns-clause-writes : goal.returns-clause-writes
 returns-clause-writes g c = λ plain ok.
-    let variants = displays_joined type_expression_view print_type (codes " | ") g.W.Write.write_str_gives _ c.args.self.now.variants.items c.deref.ensures.value _ _ _ c.write_joined.ensures in
+    let variants = displays_joined type_expression_view print_type (codes " | ") g.W.Write.write_str_gives
+    _ c.args.self.now.variants.items c.deref.ensures.value _ _ _ c.write_joined.ensures in
     let one = c.write.ensures.writes plain (search rules) in
     let two = variants one.plain ok in
     has_written_append _ _ _ _ _ _ one two

@@ -13,6 +13,8 @@ returns-in-Some-clause-kept g c =
     let before = c.in-Some.list.now in
     let left = c.retain_nodes.new.nodes in
     let was : Some before ≡ node.list_of c.args.self.now = c.in-Some.ensures.value in
-    let is : node.list_of (node.with_list c.args.self.now left) ≡ Some left = c.in-Some.ensures.change left ∙ ap (option_map (λ _. left)) (sym was) in
-    subst (λ list. RetainsInTurn R c.args.f (attributes_in list) (attributes_in (node.list_of (node.with_list c.args.self.now left)))) was
+    let is : node.list_of (node.with_list c.args.self.now left) ≡ Some left =
+    c.in-Some.ensures.change left ∙ ap (option_map (λ _. left)) (sym was) in
+    subst (λ list. RetainsInTurn R c.args.f (attributes_in list)
+    (attributes_in (node.list_of (node.with_list c.args.self.now left)))) was
     (subst (λ list. RetainsInTurn R c.args.f before.items (attributes_in list)) (sym is) c.retain_nodes.ensures)

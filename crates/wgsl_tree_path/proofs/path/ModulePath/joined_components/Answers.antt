@@ -11,14 +11,19 @@ returns c =
     let origin = c.args.suffix.now.origin in
     let front = kept (map string_bytes names) (origin_view origin) in
     let count = sym (ap length c.deref.ensures.value) ∙ c.deref.ensures.len in
-    let copied = c.in_ok-names.ensures ∙ ap (λ xs. map string_bytes (take c.match-suffix.kept xs)) c.deref.ensures.value in
+    let copied = c.in_ok-names.ensures
+    ∙ ap (λ xs. map string_bytes (take c.match-suffix.kept xs)) c.deref.ensures.value in
     let added = c.in_ok-extend_with_clones.ensures.items in
     let front_copied : map string_bytes c.in_ok-names.names.items ≡ front =
     elim c.match-suffix.branch [
       | in-Relative w ↦ copied
-          ∙ ap (λ n. map string_bytes (take n names)) (w.kept-is ∙ w.saturating_sub-kept.ensures ∙ ap (λ n. n - w.in-Relative.levels) (w.len.ensures ∙ sym count))
-          ∙ kept_names names w.in-Relative.levels ∙ ap (λ o. kept (map string_bytes names) (origin_view o)) (sym w.in-Relative.is)
-      | in_default w ↦ copied ∙ ap (λ n. map string_bytes (take n names)) w.kept-is ∙ none_kept (map string_bytes names) origin w.in_default.not-Relative
+          ∙ ap (λ n. map string_bytes (take n names)) (w.kept-is ∙ w.saturating_sub-kept.ensures
+          ∙ ap (λ n. n - w.in-Relative.levels) (w.len.ensures ∙ sym count))
+          ∙ kept_names names w.in-Relative.levels
+          ∙ ap (λ o. kept (map string_bytes names) (origin_view o)) (sym w.in-Relative.is)
+      | in_default w ↦ copied ∙ ap (λ n. map string_bytes (take n names)) w.kept-is
+          ∙ none_kept (map string_bytes names) origin w.in_default.not-Relative
     ] in
-    joined_names c.extend_with_clones.new.self.items c.in_ok-names.names.items added.0 c.deref-2.result.now front added.1 front_copied added.2
+    joined_names c.extend_with_clones.new.self.items c.in_ok-names.names.items added.0
+    c.deref-2.result.now front added.1 front_copied added.2
     ∙ ap (λ xs. front ++ map string_bytes xs) c.deref-2.ensures.value

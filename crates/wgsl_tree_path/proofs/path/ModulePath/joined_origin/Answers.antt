@@ -10,4 +10,5 @@ returns-in_ok-format-in-Package-Package c =
     let inner = string_bytes c.in-Package-Package.inner in
     let count = length c.args.self.now.components.items in
     ap of_package (c.in_ok-format-in-Package-Package.ensures.ok ∙ sym (append_assoc name (codes "/") inner))
-    ∙ (λ i. joined_origin (origin_view (sym c.in-Package-Package.is-0 i)) count (origin_view (sym c.in-Package-Package.is-1 i)))
+    ∙ (λ i. joined_origin (origin_view (sym c.in-Package-Package.is-0 i)) count
+    (origin_view (sym c.in-Package-Package.is-1 i)))

@@ -10,5 +10,6 @@ returns-then-eq c =
     let prefix = c.args.prefix.now in
     let origin = (origins_agree path.origin prefix.origin).0 (sym c.if-eq.ensures) in
     let start = names_start path.components.items prefix.components.items c.starts_with.result
-    (c.starts_with.ensures.value ∙ (λ i. starts_with string_eq (c.deref.ensures.value i) (c.deref-then-eq.ensures.value i))) in
+    (c.starts_with.ensures.value
+    ∙ (λ i. starts_with string_eq (c.deref.ensures.value i) (c.deref-then-eq.ensures.value i))) in
     (λ yes. (origin, start.0 yes), λ starts. start.1 starts.1)

@@ -12,5 +12,6 @@ components-preserved g c = λ plain ok.
     let name = c.component-item.result in
     let index = c.components.component-index in
     let at = c.component-item.is ∙ ap (λ names. get_or names index name) c.deref-component-items.ensures.value in
-    has_written_of_eq _ _ _ _ _ (sym (one_component_more (origin_text (origin_view path.origin)) path.components.items index name (search rules) at))
+    has_written_of_eq _ _ _ _ _ (sym (one_component_more (origin_text (origin_view path.origin))
+    path.components.items index name (search rules) at))
     (has_written_append _ _ _ _ _ _ before (c.in_ok-write.ensures.writes before.plain (refl {a = true})))

@@ -11,7 +11,8 @@ use Rattle.wgsl_tree_unit.proofs.function.FunctionDisplay.fmt.Goals as goal
 
 pub returns-clause-writes : goal.returns-clause-writes
 returns-clause-writes g c = λ plain ok.
-    let parameters = displays_joined parameter_view print_parameter (codes ", ") g.W.Write.write_str_gives _ c.args.self.now.parameters.items c.deref.ensures.value _ _ _ c.write_joined.ensures in
+    let parameters = displays_joined parameter_view print_parameter (codes ", ") g.W.Write.write_str_gives
+    _ c.args.self.now.parameters.items c.deref.ensures.value _ _ _ c.write_joined.ensures in
     let one = c.write_head.ensures plain (search rules) in
     let two = parameters one.plain (search rules) in
     let three = c.write_str.ensures.writes two.plain (search rules) in
@@ -23,5 +24,7 @@ returns-clause-writes g c = λ plain ok.
     let list = joined (codes ", ") (map print_parameter function.node.parameters) in
     let returned = print_result function.node.return_attributes function.node.return_type in
     let body = print_compound function.node.body in
-    let whole : line ++ codes "fn " ++ ident ++ codes "(" ++ list ++ codes ") " ++ returned ++ body ≡ line ++ (codes "fn " ++ ident ++ codes "(" ++ list ++ codes ") " ++ returned ++ body) = simp append_assoc in
-    has_written_of_eq _ _ _ _ _ whole (has_written_append _ _ _ _ _ _ (has_written_append _ _ _ _ _ _ (has_written_append _ _ _ _ _ _ (has_written_append _ _ _ _ _ _ one two) three) four) five)
+    let whole : line ++ codes "fn " ++ ident ++ codes "(" ++ list ++ codes ") " ++ returned ++ body
+    ≡ line ++ (codes "fn " ++ ident ++ codes "(" ++ list ++ codes ") " ++ returned ++ body) = simp append_assoc in
+    has_written_of_eq _ _ _ _ _ whole (has_written_append _ _ _ _ _ _ (has_written_append _ _ _ _ _ _
+    (has_written_append _ _ _ _ _ _ (has_written_append _ _ _ _ _ _ one two) three) four) five)

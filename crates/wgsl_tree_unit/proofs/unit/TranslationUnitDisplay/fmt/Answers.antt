@@ -16,7 +16,8 @@ declarations-preserved-then-is_void g c =
     let item = c.declaration-item.result in
     let declaration = global_declaration_view (spanned_node item) in
     let texts = shown (take k items) in
-    let empty : is_void declaration ≡ true = ap (λ d. is_void (global_declaration_view d)) (sym c.node.ensures) ∙ sym c.is_void.ensures ∙ c.if-is_void.true in
+    let empty : is_void declaration ≡ true = ap (λ d. is_void (global_declaration_view d))
+    (sym c.node.ensures) ∙ sym c.is_void.ensures ∙ c.if-is_void.true in
     let same : shown (take (k + 1) items) ≡ texts =
     shown_more items k item (search rules) c.declaration-item.is
     ∙ ap (λ b. texts ++ (if b then [] else print_global_declaration declaration ∷ [])) empty
@@ -24,7 +25,8 @@ declarations-preserved-then-is_void g c =
     record {
       before = c.declarations.invariant.before ∙ ap (before_next separator) (sym same);
       utf8 = search rules;
-      written = λ plain. has_written_of_eq _ _ _ _ _ (ap (joined separator) (sym same)) (c.declarations.invariant.written plain);
+      written = λ plain. has_written_of_eq _ _ _ _ _ (ap (joined separator) (sym same))
+          (c.declarations.invariant.written plain);
     }
 
 pub declarations-preserved : goal.declarations-preserved
@@ -36,7 +38,8 @@ declarations-preserved g c =
     let declaration = global_declaration_view (spanned_node item) in
     let texts = shown (take k items) in
     let text = print_global_declaration declaration in
-    let not_empty : is_void declaration ≡ false = ap (λ d. is_void (global_declaration_view d)) (sym c.node.ensures) ∙ sym c.is_void.ensures ∙ c.if-is_void.false in
+    let not_empty : is_void declaration ≡ false = ap (λ d. is_void (global_declaration_view d))
+    (sym c.node.ensures) ∙ sym c.is_void.ensures ∙ c.if-is_void.false in
     let more : shown (take (k + 1) items) ≡ texts ++ (text ∷ []) =
     shown_more items k item (search rules) c.declaration-item.is
     ∙ ap (λ b. texts ++ (if b then [] else text ∷ [])) not_empty in

@@ -12,5 +12,6 @@ invariant-declarations g l =
     record {
       before : l.before ≡ before_next (codes "\n\n") texts;
       utf8 : shadow (Utf8 l.before);
-      written : IsPlainFormatter l.initial.f → HasWritten g.W.Write.write_str_gives l.initial.f (joined (codes "\n\n") texts) l.f;
+      written : IsPlainFormatter l.initial.f
+          → HasWritten g.W.Write.write_str_gives l.initial.f (joined (codes "\n\n") texts) l.f;
     }

@@ -8,5 +8,6 @@ pub returns : goal.returns
 returns g c = λ ok. record {
   depth = refl;
   lent = refl;
-  written = λ plain. has_written_of_eq _ _ _ _ _ (sym (after_one_line (spaces c.args.self.now.depth) c.args.text.now c.requires)) (c.write_str.ensures.writes plain ok);
+  written = λ plain. has_written_of_eq _ _ _ _ _ (sym (after_one_line (spaces c.args.self.now.depth)
+      c.args.text.now c.requires)) (c.write_str.ensures.writes plain ok);
 }

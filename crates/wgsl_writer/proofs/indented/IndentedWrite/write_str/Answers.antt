@@ -9,6 +9,7 @@ returns-in-None g c = record {
   ok = λ ok. record {
     depth = refl;
     lent = refl;
-    written = λ plain. has_written_of_eq _ _ _ _ _ (sym (after_none (spaces c.args.self.now.depth) c.args.s.now c.in-None.ensures)) (c.write_str.ensures.writes plain ok);
+    written = λ plain. has_written_of_eq _ _ _ _ _ (sym (after_none (spaces c.args.self.now.depth)
+        c.args.s.now c.in-None.ensures)) (c.write_str.ensures.writes plain ok);
   };
 }

@@ -1,0 +1,13 @@
+pub mod Rows
+pub mod Reading
+pub mod ReadWordNodes
+pub mod ReadOperatorNodes
+pub mod ReadExpressionNodes
+pub mod ReadAttributeNodes
+pub mod ReadStatementNodes
+pub mod ReadUnitNodes
+pub mod Spanless
+pub mod SpanlessExpressionNodes
+pub mod SpanlessAttributeNodes
+pub mod SpanlessStatementNodes
+pub mod SpanlessUnitNodes

@@ -1,0 +1,11 @@
+pub mod Code
+pub mod Form
+pub mod Same
+pub mod Laws
+pub mod Lists
+pub mod WordNodes
+pub mod OperatorNodes
+pub mod ExpressionNodes
+pub mod AttributeNodes
+pub mod StatementNodes
+pub mod UnitNodes

@@ -1,9 +1,0 @@
-pub mod Code
-pub mod Laws
-pub mod Lists
-pub mod Expressions
-pub mod NamedValues
-pub mod Attributes
-pub mod Declarations
-pub mod Statements
-pub mod Units

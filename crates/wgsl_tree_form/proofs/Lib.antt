@@ -1,0 +1,5 @@
+pub mod Texts
+pub mod Openings
+pub mod Lists
+pub mod Views
+pub mod Statements

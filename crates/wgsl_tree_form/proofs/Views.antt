@@ -1,0 +1,84 @@
+-- What each view is of one layer.
+use Rattle.std.proofs.Common.{◌≡◌, refl, sym, ◌∙◌, ap, List, [], ◌∷◌, Option, None, Some, map}
+use Rattle.std.specs.declared.vec.Vec.{Vec}
+use Rattle.std.specs.declared.alloc.Global.{Global}
+use Rattle.wgsl_model.specs.Trees.Expressions as plain
+use Rattle.wgsl_span.specs.declared.Spanned.{Spanned}
+use Rattle.wgsl_tree_expression.specs.declared.ident.Ident.{Ident}
+use Rattle.wgsl_tree_expression.specs.declared.expression.Expression.{Expression}
+use Rattle.wgsl_tree_expression.specs.declared.function_call.FunctionCall.{FunctionCall}
+use Rattle.wgsl_tree_expression.specs.declared.type_expression.TemplateArg.{TemplateArg}
+use Rattle.wgsl_tree_expression.specs.declared.type_expression.TypeExpression.{TypeExpression}
+use Rattle.wgsl_tree_expression.specs.declared.unary.UnaryExpression.{UnaryExpression}
+use Rattle.wgsl_tree_expression.specs.declared.expression.Expression.TheFolds as folds
+use Rattle.wgsl_tree_expression.specs.declared.expression.Expression.TheViews as layers
+use Rattle.wgsl_tree_expression.specs.View as V
+use Rattle.wgsl_tree_words.specs.View.{unary_operator_view}
+
+-- a spanned expression, seen through its box
+seen : Spanned Expression → Spanned plain.Expression
+seen s = record {
+  node = record {
+    ptr = s.node.ptr;
+    alloc = s.node.alloc;
+    value = V.expression_view
+        s.node.value;
+  };
+  span = s.span;
+}
+
+nodes_seen : (xs : List (Spanned Expression)) → V.nodes_of (map seen xs) ≡ V.expression_nodes_view
+    xs
+unfolding seen
+nodes_seen [] = refl
+nodes_seen (s ∷ ss) = ap (plain.expression_before (V.expression_node_view s)) (nodes_seen ss)
+
+pub call_view_out : (c : FunctionCall) → V.function_call_view c ≡ plain.call
+    (V.type_expression_view (layers.out-FunctionCall c).ty) (V.expression_nodes_view
+    (layers.out-FunctionCall c).arguments.items)
+unfolding seen
+call_view_out c = folds.fold_out-FunctionCall plain.Expression plain.Expression plain.FunctionCall
+    plain.Expression plain.Expression plain.Expression plain.ExpressionNode plain.TypeExpression
+    plain.Expression V.expression_step V.binary_expression_step V.function_call_step
+    V.indexing_expression_step V.named_component_expression_step V.parenthesized_expression_step
+    V.template_arg_step V.type_expression_step V.unary_expression_step c ∙ ap (plain.call
+    (V.type_expression_view (layers.out-FunctionCall c).ty)) (nodes_seen (layers.out-FunctionCall
+    c).arguments.items)
+
+args_seen : (xs : List TemplateArg) → plain.expressions_of (map V.template_arg_view xs) ≡
+    V.template_arg_nodes_view xs
+args_seen [] = refl
+args_seen (a ∷ xs) = ap (plain.expression_before (V.template_arg_view a)) (args_seen xs)
+
+pub type_view_roll : (i : Ident) (o : Option (Vec TemplateArg Global)) → V.type_expression_view
+    (layers.roll-TypeExpression (record { ident = i; template_args = o })) ≡ plain.type_expression
+    (V.ident_name i) (V.template_args_view o)
+type_view_roll i None = folds.fold-roll-TypeExpression plain.Expression plain.Expression
+    plain.FunctionCall plain.Expression plain.Expression plain.Expression plain.ExpressionNode
+    plain.TypeExpression plain.Expression V.expression_step V.binary_expression_step
+    V.function_call_step V.indexing_expression_step V.named_component_expression_step
+    V.parenthesized_expression_step V.template_arg_step V.type_expression_step
+    V.unary_expression_step (record { ident = i; template_args = None })
+type_view_roll i (Some v) = folds.fold-roll-TypeExpression plain.Expression plain.Expression
+    plain.FunctionCall plain.Expression plain.Expression plain.Expression plain.ExpressionNode
+    plain.TypeExpression plain.Expression V.expression_step V.binary_expression_step
+    V.function_call_step V.indexing_expression_step V.named_component_expression_step
+    V.parenthesized_expression_step V.template_arg_step V.type_expression_step
+    V.unary_expression_step (record { ident = i; template_args = Some v }) ∙ ap (λ z.
+    plain.type_expression (V.ident_name i) (plain.template z)) (args_seen v.items)
+
+pub type_view_out : (t : TypeExpression) → V.type_expression_view t ≡ plain.type_expression
+    (V.ident_name (layers.out-TypeExpression t).ident) (V.template_args_view
+    (layers.out-TypeExpression t).template_args)
+type_view_out t = ap V.type_expression_view (sym (layers.roll-out-TypeExpression t)) ∙
+    type_view_roll (layers.out-TypeExpression t).ident (layers.out-TypeExpression t).template_args
+
+pub unary_view_out : (e : UnaryExpression) → V.unary_expression_view e ≡ plain.unary
+    (unary_operator_view (layers.out-UnaryExpression e).operator) (V.expression_node_view
+    (layers.out-UnaryExpression e).operand)
+unary_view_out e = folds.fold_out-UnaryExpression plain.Expression plain.Expression
+    plain.FunctionCall plain.Expression plain.Expression plain.Expression plain.ExpressionNode
+    plain.TypeExpression plain.Expression V.expression_step V.binary_expression_step
+    V.function_call_step V.indexing_expression_step V.named_component_expression_step
+    V.parenthesized_expression_step V.template_arg_step V.type_expression_step
+    V.unary_expression_step e

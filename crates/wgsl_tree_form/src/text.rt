@@ -1,0 +1,87 @@
+//! Texts.
+
+ghost use Rattle.std.specs.Prelude.{◌<◌, string_bytes, ℕ, List};
+ghost use Rattle.std.specs.Fmt.{WritesOnOk};
+ghost use Rattle.std.specs.Char.{encode_utf8};
+ghost use Rattle.wgsl_tree_code.specs.Code.{text};
+ghost use Rattle.wgsl_tree_code.specs.Form.{escaped, quoted};
+ghost use Rattle.wgsl_span.specs.View.{span_view};
+ghost use Rattle.wgsl_tree_expression.specs.View.{ident_name};
+ghost use Rattle.wgsl_tree_form.specs.Openings.{place};
+ghost use Rattle.wgsl_tree_form.specs.Texts.{control};
+
+use crate::traits::Form;
+use std::fmt;
+use std::fmt::Write;
+use wgsl_span::Span;
+use wgsl_tree_expression::Ident;
+
+impl Form for String {
+    ghost Plain = { List ℕ };
+
+    ghost view = { string_bytes };
+
+    ghost code = { text };
+
+    fn write_form<W: fmt::Write>(&self, f: &mut fmt::Formatter<W>) -> fmt::Result {
+        write_text(self.as_str(), f)
+    }
+}
+
+impl Form for Ident {
+    ghost Plain = { List ℕ };
+
+    ghost view = { ident_name };
+
+    ghost code = { text };
+
+    fn write_form<W: fmt::Write>(&self, f: &mut fmt::Formatter<W>) -> fmt::Result {
+        write_text(self.name(), f)
+    }
+}
+
+/// Writes what is before a node: where it is.
+pub fn write_place<W: fmt::Write>(span: Span, f: &mut fmt::Formatter<W>) -> fmt::Result
+    ensures { WritesOnOk W.write_str_gives f.old result (place (span_view span)) f.new }
+{
+    let start = span.start;
+    let end = span.end;
+    write!(f, "{{\"span\":[{start},{end}],\"node\":")
+}
+
+/// Writes a text between quotation marks.
+pub fn write_text<W: fmt::Write>(text: &str, f: &mut fmt::Formatter<W>) -> fmt::Result
+    ensures { WritesOnOk W.write_str_gives f.old result (quoted text.now) f.new }
+{
+    f.write_str("\"")?;
+    'text: for c in text.chars() {
+        write_character(c, f)?;
+    }
+    f.write_str("\"")
+}
+
+/// Writes a character of a text: after a `\` if it is a quotation mark or a `\`, and by its number
+/// if it is a control character.
+fn write_character<W: fmt::Write>(c: char, f: &mut fmt::Formatter<W>) -> fmt::Result
+    ensures { WritesOnOk W.write_str_gives f.old result (escaped (encode_utf8 c)) f.new }
+{
+    let number = u32::from(c);
+    if number == 34 {
+        return f.write_str("\\\"");
+    }
+    if number == 92 {
+        return f.write_str("\\\\");
+    }
+    if number < 32 {
+        return write_control(number, f);
+    }
+    f.write_char(c)
+}
+
+/// Writes a control character by its number.
+fn write_control<W: fmt::Write>(number: u32, f: &mut fmt::Formatter<W>) -> fmt::Result
+    requires { number < 32 }
+    ensures { WritesOnOk W.write_str_gives f.old result (control number) f.new }
+{
+    write!(f, "\\u00{number:02x}")
+}
