@@ -1,9 +1,10 @@
 /* WGSL, the shading language of WebGPU: read, checked and printed by a library of which every
  * function is proved to be safe, to return on every input, and to meet its contract.
  *
- *     cc -Iinclude program.c build/libwgsl.a
+ *     cc program.c $(pkg-config --cflags --libs wgsl)
  *
- * `make lib` makes build/libwgsl.a. docs/USE.md has a whole program, examples/c/format.c.
+ * `make lib` makes the library and `make install` installs it; a release has it in the folder lib.
+ * docs/USE.md has a whole program, examples/c/format.c.
  *
  * Texts. A text is bytes and their number; no byte 0 ends it. Bytes that are no UTF-8 are answered
  * by WGSL_NOT_UTF8. Places are offsets in bytes, from 0; what ends at a place ends before it.
@@ -22,7 +23,9 @@
  * brackets, blocks, template lists and prefix operators do, and each takes stack while the text is
  * read: as measured over wgsl_recognize, wgsl_check, wgsl_format and wgsl_tree, at most 2,750 bytes
  * for a block with its statement and 1,200 for each other.
- * wgsl_nesting tells beforehand how deep a text nests, and takes no such stack.
+ * wgsl_nesting tells beforehand how deep a text nests, and takes no such stack. In wgsl_print each
+ * node inside another takes at most 5,700 bytes for a block with its statement and 2,300 for each
+ * other. A left operand, and what is before a component or an index, takes none.
  *
  * Memory. While it runs, a call takes memory by the program's malloc, realloc and free, and gives
  * all of it back before it returns. Where they refuse, the status is WGSL_OUT_OF_MEMORY. The three
@@ -48,7 +51,7 @@ enum wgsl_status {
     /* The text is refused. The answer has the kind and the place of the fault. Where its texts fit
      * into the room, as they do if `size` is at most the size of the room, they stand there: the
      * message and then each text of what was expected, a byte 0 behind each; else the room is as it
-     * was. wgsl_tokens gives no texts. */
+     * was. wgsl_tokens gives no texts: its message is WGSL_INVALID_TOKEN_MESSAGE. */
     WGSL_REFUSED = 1,
     /* The bytes are no UTF-8: `start` is where they stop being it. */
     WGSL_NOT_UTF8 = 2,
@@ -76,8 +79,14 @@ enum wgsl_fault {
     /* An attribute whose arguments do not fit. */
     WGSL_ATTRIBUTE = 7,
     /* A `var` template whose arguments do not fit. */
-    WGSL_VAR_TEMPLATE = 8
+    WGSL_VAR_TEMPLATE = 8,
+    /* A text that is not the form of a node, or a number or a span in it that no node has. Only
+     * wgsl_print returns it. */
+    WGSL_NOT_A_FORM = 10
 };
+
+/* The message of each WGSL_INVALID_TOKEN, which expects nothing. */
+#define WGSL_INVALID_TOKEN_MESSAGE "invalid token"
 
 /* What a call answers beside its status. A number that does not go with the status is 0. */
 struct wgsl_answer {
@@ -105,16 +114,30 @@ struct wgsl_place {
     size_t end;
 };
 
-/* What a text may be the tree of. */
+/* What a text may be the tree of, and what may be printed. */
 enum wgsl_tree_kind {
     WGSL_UNIT = 0,
     WGSL_DIRECTIVE = 1,
     WGSL_DECLARATION = 2,
     WGSL_STATEMENT = 3,
-    WGSL_EXPRESSION = 4
+    WGSL_EXPRESSION = 4,
+    /* Only wgsl_print takes those from here on. Each other node is one of these in a larger form: a
+     * struct of a statement is printed as the statement, with its name around it. */
+    WGSL_ATTRIBUTE_NODE = 5,
+    WGSL_STRUCT_MEMBER = 6,
+    WGSL_PARAMETER = 7,
+    WGSL_DECLARATION_KIND = 8,
+    WGSL_CASE_SELECTOR = 9,
+    WGSL_IF_CLAUSE = 10,
+    WGSL_ELSE_IF_CLAUSE = 11,
+    WGSL_ELSE_CLAUSE = 12,
+    WGSL_SWITCH_CLAUSE = 13,
+    WGSL_CONTINUING = 14,
+    WGSL_BREAK_IF = 15,
+    WGSL_TYPE_CONSTRAINT = 16
 };
 
-/* The kinds of tokens, written by tools/nodes.py. No call gives a comment. */
+/* The kinds of tokens, written by tools/tokens.py. No call gives a comment. */
 enum wgsl_token_kind {
     WGSL_SYM_AND = 0,
     WGSL_SYM_AND_AND = 1,
@@ -213,6 +236,8 @@ uint32_t wgsl_c_recognize(const uint8_t *text, size_t size, uint8_t *room, size_
                           struct wgsl_answer *answer);
 uint32_t wgsl_c_tree(uint32_t kind, const uint8_t *text, size_t size, uint8_t *room,
                      size_t room_size, struct wgsl_answer *answer);
+uint32_t wgsl_c_print(uint32_t kind, const uint8_t *form, size_t size, uint8_t *room,
+                     size_t room_size, struct wgsl_answer *answer);
 uint32_t wgsl_c_tokens(const uint8_t *text, size_t size, struct wgsl_token *room, size_t room_size,
                        struct wgsl_answer *answer);
 uint32_t wgsl_c_lists(const uint8_t *text, size_t size, struct wgsl_place *room, size_t room_size,
@@ -281,6 +306,20 @@ static inline uint32_t wgsl_tree(uint32_t kind, const char *text, size_t size, c
                        room_size, answer);
 }
 
+/* The printed text of the node of a kind that a form describes, as wgsl_tree writes it and
+ * docs/TREE.md says: exactly so, without blank space. The text does not depend on the spans, but
+ * none of them may start after its end. Where the form is refused the answer has the place in the
+ * form at which that shows, and the room has the message if it fits. WGSL_UNKNOWN where the kind is
+ * none. */
+static inline uint32_t wgsl_print(uint32_t kind, const char *form, size_t size, char *room,
+                                  size_t room_size, struct wgsl_answer *answer) {
+    if (!wgsl_is_memory(form, size, 1) || !wgsl_is_memory(room, room_size, 1) || answer == NULL) {
+        return WGSL_BAD_ARGUMENT;
+    }
+    return wgsl_c_print(kind, (const uint8_t *)wgsl_at(form), size, (uint8_t *)wgsl_at(room),
+                        room_size, answer);
+}
+
 /* The tokens of a text, into a room of so many tokens. WGSL_REFUSED where text that is no token
  * ends them: the answer has its place, and the tokens before it are in the room, `size` of them.
  * Where the room is too small it holds the first ones. */
@@ -324,6 +363,52 @@ static inline uint32_t wgsl_nesting(const char *text, size_t size, struct wgsl_a
         return WGSL_BAD_ARGUMENT;
     }
     return wgsl_c_nesting((const uint8_t *)wgsl_at(text), size, answer);
+}
+
+/* The name of a kind of token, as the libraries for Rust and Rattle have it, such as "SymAnd" of
+ * WGSL_SYM_AND, or null if the number is that of none. Written by tools/tokens.py. */
+static inline const char *wgsl_token_kind_name(size_t kind) {
+    static const char *const names[] = {
+        "SymAnd", "SymAndAnd", "SymArrow", "SymAttr", "SymForwardSlash", "SymBang",
+        "SymBracketLeft", "SymBracketRight", "SymBraceLeft", "SymBraceRight", "SymColon",
+        "SymComma", "SymEqual", "SymEqualEqual", "SymNotEqual", "SymGreaterThan",
+        "SymGreaterThanEqual", "SymShiftRight", "SymLessThan", "SymLessThanEqual", "SymShiftLeft",
+        "SymModulo", "SymMinus", "SymMinusMinus", "SymPeriod", "SymPlus", "SymPlusPlus", "SymOr",
+        "SymOrOr", "SymParenLeft", "SymParenRight", "SymSemicolon", "SymStar", "SymTilde",
+        "SymUnderscore", "SymXor", "SymPlusEqual", "SymMinusEqual", "SymTimesEqual",
+        "SymDivisionEqual", "SymModuloEqual", "SymAndEqual", "SymOrEqual", "SymXorEqual",
+        "SymShiftRightAssign", "SymShiftLeftAssign", "KwAlias", "KwBreak", "KwCase", "KwConst",
+        "KwConstAssert", "KwContinue", "KwContinuing", "KwDefault", "KwDiagnostic", "KwDiscard",
+        "KwElse", "KwEnable", "KwFalse", "KwFn", "KwFor", "KwIf", "KwLet", "KwLoop", "KwOverride",
+        "KwRequires", "KwReturn", "KwStruct", "KwSwitch", "KwTrue", "KwVar", "KwWhile", "Ident",
+        "ReservedWord", "AbstractInt", "I32", "U32", "AbstractFloat", "F32", "F16",
+        "TemplateArgsStart", "TemplateArgsEnd", "LineComment", "BlockComment"
+    };
+    return kind < sizeof names / sizeof *names ? names[kind] : NULL;
+}
+
+/* A place of a text as people count it. */
+struct wgsl_position {
+    /* From 1. A line ends with a line feed. */
+    size_t line;
+    /* From 1, in characters. */
+    size_t column;
+};
+
+/* The line and the column of a byte offset of a text, which is read up to there. An offset inside a
+ * character counts as the end of that character, and one after the text as the end of the text. */
+static inline struct wgsl_position wgsl_position_of(const char *text, size_t size, size_t offset) {
+    struct wgsl_position found = {1, 1};
+    size_t at;
+    for (at = 0; at < size && at < offset; at++) {
+        if (text[at] == '\n') {
+            found.line++;
+            found.column = 1;
+        } else if (((unsigned char)text[at] & 0xc0) != 0x80) {
+            found.column++;
+        }
+    }
+    return found;
 }
 
 #ifdef __cplusplus

@@ -10,8 +10,9 @@ BUILT = crates.TOP / "build"
 SHARED = BUILT / "libwgsl.so"
 
 DONE, REFUSED, TOO_SMALL = 0, 1, 4
-# the kinds of trees, by their numbers
+# the kinds of trees that a text is read as, and of some that are printed, by their numbers
 TREES = ("unit", "directive", "declaration", "statement", "expression")
+PRINTED = (*TREES, "attribute")
 # the kinds of faults that tell what was expected
 EXPECTING = (3, 4)
 
@@ -98,6 +99,11 @@ class Library:
     def tree(self, kind, text):
         """The tree of a kind that a text is, as its text form."""
         return json.loads(self.text("tree", text, TREES.index(kind)))
+
+    def print(self, kind, tree):
+        """The print of a tree of a kind, which has its text form."""
+        form = json.dumps(tree, ensure_ascii=False, separators=(",", ":"))
+        return self.text("print", form.encode(), PRINTED.index(kind))
 
     def tokens(self, text):
         """The kind, the start and the end of each token, and the fault that ends them, if any."""

@@ -2,6 +2,7 @@
    first check that fails, or 0. */
 #include <string.h>
 
+#include "library_forms.h"
 #include "wgsl.h"
 
 #define CHECK(holds) \
@@ -204,9 +205,105 @@ static int check_trees(void) {
     return 0;
 }
 
+static uint32_t print(uint32_t kind, const char *form, char *room, size_t room_size) {
+    return wgsl_print(kind, form, strlen(form), room, room_size, &answer);
+}
+
+/* A form is printed, whatever its kind. */
+static int check_prints(void) {
+    const struct printed_form *it = printed_forms;
+    for (; it < printed_forms + sizeof printed_forms / sizeof *printed_forms; it++) {
+        size_t size = strlen(it->text);
+        char room[64];
+        memset(room, '#', sizeof room);
+        CHECK(print(it->kind, it->form, NULL, 0) == WGSL_TOO_SMALL && is_size(size));
+        CHECK(print(it->kind, it->form, room, size - 1) == WGSL_TOO_SMALL && is_size(size));
+        CHECK(is_filled(room, sizeof room));
+        CHECK(print(it->kind, it->form, room, sizeof room) == WGSL_DONE && is_size(size));
+        CHECK(memcmp(room, it->text, size) == 0 && is_filled(room + size, sizeof room - size));
+    }
+    return 0;
+}
+
+/* Another text is refused, with the place where that shows and a message if there is room. */
+static int check_refused_forms(void) {
+    const struct refused_form *it = refused_forms;
+    for (; it < refused_forms + sizeof refused_forms / sizeof *refused_forms; it++) {
+        size_t size = strlen(it->message) + 1;
+        char room[64];
+        memset(room, '#', sizeof room);
+        CHECK(print(it->kind, it->form, room, size - 1) == WGSL_REFUSED);
+        CHECK(is_answer(size, it->place, it->place, WGSL_NOT_A_FORM, 0));
+        CHECK(is_filled(room, sizeof room));
+        CHECK(print(it->kind, it->form, room, sizeof room) == WGSL_REFUSED);
+        CHECK(is_answer(size, it->place, it->place, WGSL_NOT_A_FORM, 0));
+        CHECK(memcmp(room, it->message, size) == 0 && is_filled(room + size, sizeof room - size));
+    }
+    return 0;
+}
+
+/* No kind has another number, and what is no text or no memory is told first. */
+static int check_print_arguments(void) {
+    char room[64];
+    memset(room, '#', sizeof room);
+    CHECK(print(WGSL_TYPE_CONSTRAINT + 1, "\"Void\"", room, sizeof room) == WGSL_UNKNOWN);
+    CHECK(is_size(0) && print(UINT32_MAX, "", room, sizeof room) == WGSL_UNKNOWN && is_size(0));
+    CHECK(print(WGSL_STATEMENT, "\"\xff", room, sizeof room) == WGSL_NOT_UTF8);
+    CHECK(is_answer(0, 1, 1, 0, 0));
+    CHECK(print(UINT32_MAX, "\xff", room, sizeof room) == WGSL_NOT_UTF8 && is_size(0));
+    CHECK(wgsl_print(WGSL_STATEMENT, NULL, 1, room, 1, &answer) == WGSL_BAD_ARGUMENT);
+    CHECK(wgsl_print(WGSL_STATEMENT, "", SIZE_MAX, room, 1, &answer) == WGSL_BAD_ARGUMENT);
+    CHECK(wgsl_print(WGSL_STATEMENT, "", 0, NULL, 1, &answer) == WGSL_BAD_ARGUMENT);
+    CHECK(wgsl_print(WGSL_STATEMENT, "", 0, room, SIZE_MAX, &answer) == WGSL_BAD_ARGUMENT);
+    CHECK(wgsl_print(WGSL_STATEMENT, "", 0, room, 1, NULL) == WGSL_BAD_ARGUMENT);
+    CHECK(wgsl_print(WGSL_STATEMENT, NULL, 0, NULL, 0, &answer) == WGSL_REFUSED);
+    CHECK(answer.kind == WGSL_NOT_A_FORM && answer.size > 0 && is_filled(room, sizeof room));
+    return 0;
+}
+
+static int is_position(const char *text, size_t offset, size_t line, size_t column) {
+    struct wgsl_position found = wgsl_position_of(text, strlen(text), offset);
+    return found.line == line && found.column == column;
+}
+
+/* A line ends with a line feed, and a column is a character, of one byte to four. */
+static int check_positions(void) {
+    static const char text[] = "a\xc3\xa4\r\n\n\xe2\x82\xac\xf0\x9f\x98\x80z";
+    CHECK(is_position("", 0, 1, 1) && is_position("", 1, 1, 1));
+    CHECK(is_position(text, 0, 1, 1) && is_position(text, 1, 1, 2));
+    CHECK(is_position(text, 2, 1, 3) && is_position(text, 3, 1, 3));
+    CHECK(is_position(text, 4, 1, 4) && is_position(text, 5, 2, 1) && is_position(text, 6, 3, 1));
+    CHECK(is_position(text, 9, 3, 2) && is_position(text, 13, 3, 3));
+    CHECK(is_position(text, 14, 3, 4) && is_position(text, SIZE_MAX, 3, 4));
+    CHECK(wgsl_position_of(NULL, 0, 0).line == 1);
+    return 0;
+}
+
+/* Each kind of token has a name, and no other number has one. */
+static int check_names(void) {
+    CHECK(strcmp(wgsl_token_kind_name(WGSL_SYM_AND), "SymAnd") == 0);
+    CHECK(strcmp(wgsl_token_kind_name(WGSL_KW_CONST_ASSERT), "KwConstAssert") == 0);
+    CHECK(strcmp(wgsl_token_kind_name(WGSL_F16), "F16") == 0);
+    CHECK(strcmp(wgsl_token_kind_name(WGSL_BLOCK_COMMENT), "BlockComment") == 0);
+    CHECK(wgsl_token_kind_name(WGSL_BLOCK_COMMENT + 1) == NULL);
+    CHECK(wgsl_token_kind_name(SIZE_MAX) == NULL);
+    return 0;
+}
+
+/* The message of an invalid token is what the calls say of one that have room for it. */
+static int check_message(void) {
+    char room[64];
+    CHECK(wgsl_check("#", 1, room, sizeof room, &answer) == WGSL_REFUSED);
+    CHECK(is_answer(sizeof WGSL_INVALID_TOKEN_MESSAGE, 0, 1, WGSL_INVALID_TOKEN, 0));
+    CHECK(strcmp(room, WGSL_INVALID_TOKEN_MESSAGE) == 0);
+    return 0;
+}
+
 static int (*const checks[])(void) = {
-    check_text_calls, check_other_calls, check_no_bytes, check_rooms,
-    check_faults,     check_tokens,      check_lists,    check_trees,
+    check_text_calls, check_other_calls,   check_no_bytes,        check_rooms,
+    check_faults,     check_tokens,        check_lists,           check_trees,
+    check_prints,     check_refused_forms, check_print_arguments, check_positions,
+    check_names,      check_message,
 };
 
 int main(void) {

@@ -32,9 +32,9 @@ static char *read_all(const char *name, size_t *size) {
     return text;
 }
 
-/* Tells what is wrong with a text, by the texts of the fault. */
-static void tell(const char *name, const struct wgsl_answer *answer, const char *texts) {
-    fprintf(stderr, "%s: bytes %zu..%zu: %s\n", name, answer->start, answer->end, texts);
+/* Reports what is wrong with a text, and where, by the message of the fault. */
+static void report(const char *name, struct wgsl_position at, const char *message) {
+    fprintf(stderr, "%s:%zu:%zu: error: %s\n", name, at.line, at.column, message);
 }
 
 int main(int count, char **arguments) {
@@ -69,10 +69,10 @@ int main(int count, char **arguments) {
         fwrite(room, 1, answer.size, stdout);
         break;
     case WGSL_REFUSED:
-        tell(arguments[1], &answer, room);
+        report(arguments[1], wgsl_position_of(text, size, answer.start), room);
         break;
     case WGSL_NOT_UTF8:
-        tell(arguments[1], &answer, "this is no UTF-8");
+        report(arguments[1], wgsl_position_of(text, size, answer.start), "this is not UTF-8");
         break;
     default:
         fprintf(stderr, "out of memory\n");

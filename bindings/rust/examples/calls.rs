@@ -1,5 +1,6 @@
-//! Prints a module, and reads a module and an expression to their trees.
+//! Prints a module, reads a module and an expression to their trees, and prints a changed tree.
 
+use centrelilac::syntax::GlobalDeclaration;
 use std::error::Error;
 
 fn main() -> Result<(), Box<dyn Error>> {
@@ -9,5 +10,10 @@ fn main() -> Result<(), Box<dyn Error>> {
     print!("{printed}");
     println!("{unit:?}");
     println!("{sum:?}");
+
+    let mut module = centrelilac::parse("const a = 1;")?;
+    let function: GlobalDeclaration = "fn f() {}".parse()?;
+    module.global_declarations.push(function.into());
+    print!("{module}");
     Ok(())
 }

@@ -6,7 +6,8 @@ use crate::ffi::{
     PlacedKind, Said,
 };
 use crate::kind::TokenKind;
-use crate::syntax::{Span, TranslationUnit};
+use crate::span::Span;
+use crate::syntax::TranslationUnit;
 
 /// `WGSL_DONE` of `wgsl.h`.
 pub(crate) const DONE: u32 = 0;
@@ -17,24 +18,36 @@ pub(crate) const REFUSED: u32 = 1;
 /// `WGSL_TOO_SMALL` of `wgsl.h`.
 pub(crate) const TOO_SMALL: u32 = 4;
 
-/// How much room a fault's texts have at first.
-const FAULT_ROOM: usize = 1024;
+/// The least size of a buffer, in which the texts of most faults fit.
+const LEAST_SIZE: usize = 1024;
 
-/// Makes a call that writes bytes, with so much room at first, and again where that was too small.
-fn text_of(call: Call, text: &str, first: usize) -> Result<String, Fault> {
-    let mut room = vec![0; first.max(FAULT_ROOM)];
+/// Makes a call that writes bytes, with a buffer of about a size, and again if that was too small.
+/// Returns what it wrote too.
+fn written(call: Call, text: &str, size: usize) -> (Said, Vec<u8>) {
+    let mut buffer = vec![0; size.max(LEAST_SIZE)];
     loop {
-        let Said { status, answer } = text_call(call, text, &mut room);
-        let fits = answer.size <= room.len();
-        match status {
-            DONE => {
-                room.truncate(answer.size);
-                return Ok(String::from_utf8(room).expect("the library writes UTF-8"));
-            }
-            REFUSED if fits => return Err(Fault::told(text, &answer, &room[..answer.size])),
-            REFUSED | TOO_SMALL => room = vec![0; answer.size],
-            _ => return Err(Fault::out_of_memory()),
+        let said = text_call(call, text, &mut buffer);
+        let size = said.answer.size;
+        if size <= buffer.len() {
+            buffer.truncate(size);
+            return (said, buffer);
         }
+        buffer = vec![0; size];
+    }
+}
+
+/// The bytes that a call wrote as a text.
+fn utf8(bytes: Vec<u8>) -> String {
+    String::from_utf8(bytes).expect("the library writes UTF-8")
+}
+
+/// The text that a call writes, with a buffer of about a size at first.
+fn text_of(call: Call, text: &str, size: usize) -> Result<String, Fault> {
+    let (said, bytes) = written(call, text, size);
+    match said.status {
+        DONE => Ok(utf8(bytes)),
+        REFUSED => Err(Fault::told(text, &said.answer, &bytes)),
+        _ => Err(Fault::out_of_memory()),
     }
 }
 
@@ -42,7 +55,7 @@ fn text_of(call: Call, text: &str, first: usize) -> Result<String, Fault> {
 ///
 /// # Errors
 ///
-/// The fault of the text, or want of memory.
+/// The fault of the text, or that allocation fails.
 ///
 /// # Examples
 ///
@@ -59,7 +72,7 @@ pub fn format(text: &str) -> Result<String, Fault> {
 ///
 /// # Errors
 ///
-/// The fault of the text, or want of memory.
+/// The fault of the text, or that allocation fails.
 ///
 /// # Examples
 ///
@@ -76,7 +89,7 @@ pub fn check(text: &str) -> Result<(), Fault> {
 ///
 /// # Errors
 ///
-/// The fault of the text, or want of memory.
+/// The fault of the text, or that allocation fails.
 ///
 /// # Examples
 ///
@@ -94,10 +107,7 @@ pub fn recognize(text: &str) -> Result<(), Fault> {
 ///
 /// # Errors
 ///
-/// The fault of the text, or want of memory. A tree whose text form has more than 4,000 objects
-/// and lists in one another is refused by the kind [`TooDeep`](crate::FaultKind::TooDeep): one of
-/// 1,300 parentheses, operators, components or indices, of 990 blocks or of 600 `if` statements
-/// still passes.
+/// The fault of the text, or that allocation fails.
 ///
 /// # Examples
 ///
@@ -161,14 +171,9 @@ impl Token {
     fn from_placed(placed: &PlacedKind) -> Token {
         Token {
             kind: TokenKind::ALL[placed.kind],
-            span: span(placed.start, placed.end),
+            span: Span::new(placed.start..placed.end),
         }
     }
-}
-
-/// A part of a text.
-fn span(start: usize, end: usize) -> Span {
-    Span { start, end }
 }
 
 /// Where each template list of a text stands, from its `<` to behind its `>`, in the order of
@@ -196,7 +201,7 @@ pub fn template_lists(text: &str) -> Result<Vec<Span>, Fault> {
                 let found = &room[..answer.size];
                 return Ok(found
                     .iter()
-                    .map(|list| span(list.start, list.end))
+                    .map(|list| Span::new(list.start..list.end))
                     .collect());
             }
             TOO_SMALL => room = vec![Place::default(); answer.size],
@@ -224,7 +229,8 @@ pub fn begins_with_template_list(text: &str) -> Result<bool, Fault> {
 
 /// The greatest number of brackets, blocks, template lists and prefix operators that are open at
 /// one place. What reads, prints and drops a text takes stack for each: in the library at most
-/// 1,200 bytes for a bracket, a template list or an operator, and 2,750 for a block.
+/// 1,200 bytes for a bracket, a template list or an operator, and 2,750 for a block. [Printing a
+/// tree](crate::syntax#printing) takes more.
 ///
 /// # Errors
 ///
@@ -251,4 +257,12 @@ fn number(said: Said) -> Result<usize, Fault> {
 /// The tree with a number, by its text form.
 pub(crate) fn form_of(what: u32, text: &str) -> Result<String, Fault> {
     text_of(Call::Tree(what), text, text.len() * 32)
+}
+
+/// The printed text of the node of a kind that a form describes, unless allocation fails.
+pub(crate) fn print_of(kind: u32, form: &str) -> Option<String> {
+    let (said, bytes) = written(Call::Print(kind), form, form.len() / 4);
+    let text = utf8(bytes);
+    assert_ne!(said.status, REFUSED, "the form of a tree is read: {text}");
+    (said.status == DONE).then_some(text)
 }

@@ -1,9 +1,15 @@
 //! What is wrong with a text.
 
+use crate::error::ErrorWithSource;
 use crate::ffi::Answer;
-use crate::syntax::Span;
+use crate::lines::LineIndex;
+use crate::span::Span;
+use std::borrow::Cow;
 use std::error::Error;
 use std::fmt;
+
+/// How many of the expected tokens a message names, unless one more is all.
+const NAMED: usize = 4;
 
 /// What kind of fault it is.
 #[derive(Clone, Copy, Debug, PartialEq, Eq, Hash)]
@@ -25,8 +31,6 @@ pub enum FaultKind {
     VarTemplate,
     /// Memory was refused.
     OutOfMemory,
-    /// A tree is too deep to be read into Rust data: see [`crate::parse`].
-    TooDeep,
 }
 
 impl FaultKind {
@@ -75,9 +79,9 @@ pub struct Fault {
     pub line: usize,
     /// The character of the line where it starts, from 1.
     pub column: usize,
-    /// What is wrong, in words, with what was expected.
+    /// What is wrong, in words, with what was expected: of many tokens, the first four.
     pub message: String,
-    /// What could stand there, where a token or the end was unexpected.
+    /// All that was expected there, where a token or the end was unexpected.
     pub expected: Vec<String>,
 }
 
@@ -88,64 +92,67 @@ impl Fault {
             .split(|byte| *byte == 0)
             .map(|text| String::from_utf8_lossy(text).into_owned());
         let message = texts.next().unwrap_or_default();
-        let (line, column) = place(text, answer.start);
+        let expected: Vec<_> = texts.take(answer.expected).collect();
+        let place = LineIndex::new(text).position(answer.start);
         Fault {
             kind: FaultKind::from_number(answer.kind),
-            span: Span {
-                start: answer.start,
-                end: answer.end,
-            },
-            line,
-            column,
-            message,
-            expected: texts.take(answer.expected).collect(),
+            span: Span::new(answer.start..answer.end),
+            line: place.line,
+            column: place.column,
+            message: shortened(message, &expected),
+            expected,
         }
     }
 
-    /// A fault of no place.
-    fn of_no_place(kind: FaultKind, message: &str) -> Fault {
-        Fault {
-            kind,
-            span: Span::default(),
-            line: 1,
-            column: 1,
-            message: message.to_owned(),
-            expected: Vec::new(),
-        }
+    /// The same with the text that it is about, which is written with the line where it starts.
+    ///
+    /// ```
+    /// let text = "const a = 1;\nconst = 2;";
+    /// let fault = centrelilac::parse(text).unwrap_err();
+    /// let shown = fault.with_source(text.into()).to_string();
+    /// assert!(shown.ends_with("\n --> line 2, column 7\nconst = 2;\n      ^"));
+    /// ```
+    #[must_use]
+    pub fn with_source(self, source: Cow<'_, str>) -> ErrorWithSource<'_> {
+        ErrorWithSource::new(self, source)
+    }
+
+    /// Whether it is about a place in the text.
+    pub(crate) fn has_place(&self) -> bool {
+        self.kind != FaultKind::OutOfMemory
     }
 
     /// Memory was refused.
     pub(crate) fn out_of_memory() -> Fault {
-        Fault::of_no_place(FaultKind::OutOfMemory, "out of memory")
-    }
-
-    /// A tree that this crate does not read.
-    pub(crate) fn too_deep() -> Fault {
-        Fault::of_no_place(FaultKind::TooDeep, "the tree is too deep")
+        Fault {
+            kind: FaultKind::OutOfMemory,
+            span: Span::default(),
+            line: 1,
+            column: 1,
+            message: "out of memory".to_owned(),
+            expected: Vec::new(),
+        }
     }
 }
 
-/// The line and the column of a place in bytes.
-fn place(text: &str, at: usize) -> (usize, usize) {
-    let before = text.get(..at).unwrap_or(text);
-    let line = 1 + before.matches('\n').count();
-    let front = before.rsplit('\n').next().unwrap_or(before);
-    (line, 1 + front.chars().count())
+/// A message that ends with all expected tokens, with the first of them if they are many.
+fn shortened(message: String, expected: &[String]) -> String {
+    let all = format!("`{}`", expected.join(", "));
+    match message.strip_suffix(&all) {
+        Some(front) if expected.len() > NAMED + 1 => {
+            let (named, others) = expected.split_at(NAMED);
+            format!("{front}`{}` or {} others", named.join(", "), others.len())
+        }
+        _ => message,
+    }
 }
 
 impl fmt::Display for Fault {
     fn fmt(&self, f: &mut fmt::Formatter<'_>) -> fmt::Result {
-        let Fault {
-            kind,
-            line,
-            column,
-            message,
-            ..
-        } = self;
-        match kind {
-            FaultKind::OutOfMemory | FaultKind::TooDeep => f.write_str(message),
-            _ => write!(f, "line {line}, column {column}: {message}"),
+        if self.has_place() {
+            write!(f, "line {}, column {}: ", self.line, self.column)?;
         }
+        f.write_str(&self.message)
     }
 }
 

@@ -2,8 +2,9 @@
 //!
 //! What a call is owed, as `wgsl.h` says, is what Rust's references give: memory that can be read
 //! or written, lies apart and stays as it is for the call. Of the stack, each level of nesting
-//! takes at most 2,750 bytes as measured, so that a text which nests too deep meets the guard
-//! page behind a stack, as a recursion of Rust's does, and ends the process.
+//! takes at most 2,750 bytes as measured, and 5,700 where a tree is printed, so that a text or a
+//! tree which nests too deep reaches the guard page at the end of the stack, as a recursion of
+//! Rust's does, and ends the process.
 
 /// What a call answers beside its status: `struct wgsl_answer` of `wgsl.h`.
 #[repr(C)]
@@ -74,6 +75,14 @@ extern "C" {
         room_size: usize,
         answer: *mut Answer,
     ) -> u32;
+    fn wgsl_c_print(
+        what: u32,
+        form: *const u8,
+        size: usize,
+        room: *mut u8,
+        room_size: usize,
+        answer: *mut Answer,
+    ) -> u32;
     fn wgsl_c_tokens(
         text: *const u8,
         size: usize,
@@ -112,6 +121,8 @@ pub enum Call {
     Recognize,
     /// The text form of the tree with this number.
     Tree(u32),
+    /// The printed text of the form of a node of the kind with this number.
+    Print(u32),
 }
 
 /// Makes a call, which writes into the room.
@@ -129,6 +140,7 @@ pub fn text_call(call: Call, text: &str, room: &mut [u8]) -> Said {
             Call::Check => wgsl_c_check(at, size, to, room_size, &mut answer),
             Call::Recognize => wgsl_c_recognize(at, size, to, room_size, &mut answer),
             Call::Tree(what) => wgsl_c_tree(what, at, size, to, room_size, &mut answer),
+            Call::Print(what) => wgsl_c_print(what, at, size, to, room_size, &mut answer),
         }
     };
     Said { status, answer }

@@ -14,20 +14,24 @@
 //! # Ok::<(), Box<dyn std::error::Error>>(())
 //! ```
 
+mod holes;
 mod reader;
 mod values;
+mod writer;
 
 use crate::calls::form_of;
 use crate::fault::Fault;
 use std::error::Error;
 use std::fmt;
-use std::panic::resume_unwind;
 use std::str::FromStr;
-use std::thread;
 
+use crate::nested::Coded;
+use crate::visit::Accept;
+pub(crate) use holes::Kind;
 pub(crate) use reader::Reader;
 use sealed::Written;
 pub(crate) use values::write_text;
+pub(crate) use writer::Writer;
 
 /// Why a text is not read as a tree.
 #[derive(Clone, Copy, Debug, PartialEq, Eq, Hash)]
@@ -35,18 +39,12 @@ pub(crate) use values::write_text;
 pub enum FormError {
     /// It is not the form of such a tree.
     Malformed,
-    /// It has more than 4,000 objects and lists in one another.
-    TooDeep,
-    /// The thread that would read it could not be started.
-    OutOfMemory,
 }
 
 impl fmt::Display for FormError {
     fn fmt(&self, f: &mut fmt::Formatter<'_>) -> fmt::Result {
         f.write_str(match self {
             FormError::Malformed => "this is not the text form of such a tree",
-            FormError::TooDeep => "the tree is too deep",
-            FormError::OutOfMemory => "out of memory",
         })
     }
 }
@@ -55,9 +53,9 @@ impl Error for FormError {}
 
 /// What has a text form: each type of [`crate::syntax`], and what their fields hold. No type
 /// outside this crate can have one.
-pub trait Form: Written {}
+pub trait Form: Written + Coded + Accept {}
 
-impl<T: Written> Form for T {}
+impl<T: Written + Coded + Accept> Form for T {}
 
 /// A tree that is read from a text by itself: a module, a directive, a declaration, a statement or
 /// an expression.
@@ -65,18 +63,18 @@ pub trait Source: Form + FromStr<Err = Fault> + sealed::Numbered {}
 
 /// What only this crate gives a type.
 pub(crate) mod sealed {
-    use super::{FormError, Reader};
+    use super::{FormError, Reader, Writer};
 
     /// A type with a text form.
     pub trait Written: Sized + Send {
-        /// Writes it behind a text.
-        fn write(&self, out: &mut String);
+        /// Writes it at the end of a form.
+        fn write<'t>(&'t self, out: &mut Writer<'t>);
 
         /// Reads it from the front of a text.
         fn read(from: &mut Reader<'_>) -> Result<Self, FormError>;
     }
 
-    /// A type that the library reads from a text.
+    /// A type that the library prints, or reads from a text too.
     pub trait Numbered {
         /// Its number in `enum wgsl_tree_kind` of `wgsl.h`.
         const NUMBER: u32;
@@ -112,28 +110,17 @@ pub fn text_form<T: Source>(text: &str) -> Result<String, Fault> {
 /// assert_eq!(to_form(&LiteralExpression::U32(4)), r#"{"U32":4}"#);
 /// ```
 pub fn to_form<T: Form>(tree: &T) -> String {
-    let mut form = String::new();
+    let mut form = Writer::default();
     tree.write(&mut form);
-    form
+    form.finish()
 }
 
-/// How many objects and lists may stand in one another in a form that is read.
-const DEEPEST: usize = 4_000;
-
-/// How many may where the stack of the caller is used.
-const SHALLOW: usize = 100;
-
-/// The stack that reading takes for each, at most, where nothing is optimized.
-const STACK: usize = 16 << 10;
-
 /// The tree that a whole text is the form of, as [`text_form`] and [`to_form`] write it: with no
-/// blank space, and fields in their order. A text with more than 100 objects and lists in one
-/// another is read by a thread of its own, which has the stack for it.
+/// blank space, and fields in their order. It may be of any depth.
 ///
 /// # Errors
 ///
-/// A text that is no such form, or has more than 4,000 objects and lists in one another, and want
-/// of memory for the stack.
+/// A text that is no such form.
 ///
 /// # Examples
 ///
@@ -145,50 +132,5 @@ const STACK: usize = 16 << 10;
 /// assert_eq!(from_form::<Statement>(r#"{"U32":4}"#), Err(FormError::Malformed));
 /// ```
 pub fn from_form<T: Form>(text: &str) -> Result<T, FormError> {
-    match depth(text) {
-        ..=SHALLOW => read_all(text),
-        depth @ ..=DEEPEST => read_apart(text, depth),
-        _ => Err(FormError::TooDeep),
-    }
-}
-
-/// Reads the tree of a whole text on a thread with the stack for such a depth.
-fn read_apart<T: Form>(text: &str, depth: usize) -> Result<T, FormError> {
-    thread::scope(|scope| {
-        let builder = thread::Builder::new().stack_size(depth * STACK);
-        let reading = builder.spawn_scoped(scope, || read_all(text));
-        let reading = reading.map_err(|_| FormError::OutOfMemory)?;
-        reading.join().unwrap_or_else(|panic| resume_unwind(panic))
-    })
-}
-
-/// Reads the tree of a whole text.
-fn read_all<T: Form>(text: &str) -> Result<T, FormError> {
-    let mut reader = Reader::new(text);
-    let tree = T::read(&mut reader)?;
-    if reader.is_empty() {
-        Ok(tree)
-    } else {
-        Err(FormError::Malformed)
-    }
-}
-
-/// How many objects and lists stand in one another in a form.
-fn depth(text: &str) -> usize {
-    let (mut depth, mut greatest) = (0usize, 0);
-    let (mut in_text, mut escaped) = (false, false);
-    for byte in text.bytes() {
-        match byte {
-            _ if escaped => escaped = false,
-            b'\\' if in_text => escaped = true,
-            b'"' => in_text = !in_text,
-            b'{' | b'[' if !in_text => {
-                depth += 1;
-                greatest = greatest.max(depth);
-            }
-            b'}' | b']' if !in_text => depth = depth.saturating_sub(1),
-            _ => {}
-        }
-    }
-    greatest
+    holes::read_all(text)
 }

@@ -3,7 +3,7 @@
 use crate::calls::{DONE, REFUSED, TOO_SMALL};
 use crate::fault::FaultKind;
 use crate::form::sealed::Numbered;
-use crate::syntax::{Expression, GlobalDeclaration, GlobalDirective, Statement, TranslationUnit};
+use crate::syntax::*;
 
 const HEADER: &str = include_str!("../../../include/wgsl.h");
 
@@ -21,13 +21,25 @@ fn numbers(name: &str) -> Vec<(&'static str, usize)> {
 }
 
 #[test]
-fn trees_have_the_numbers_of_the_header() {
+fn kinds_have_the_numbers_of_the_header() {
     let here = [
         ("UNIT", TranslationUnit::NUMBER),
         ("DIRECTIVE", GlobalDirective::NUMBER),
         ("DECLARATION", GlobalDeclaration::NUMBER),
         ("STATEMENT", Statement::NUMBER),
         ("EXPRESSION", Expression::NUMBER),
+        ("ATTRIBUTE_NODE", Attribute::NUMBER),
+        ("STRUCT_MEMBER", StructMember::NUMBER),
+        ("PARAMETER", FormalParameter::NUMBER),
+        ("DECLARATION_KIND", DeclarationKind::NUMBER),
+        ("CASE_SELECTOR", CaseSelector::NUMBER),
+        ("IF_CLAUSE", IfClause::NUMBER),
+        ("ELSE_IF_CLAUSE", ElseIfClause::NUMBER),
+        ("ELSE_CLAUSE", ElseClause::NUMBER),
+        ("SWITCH_CLAUSE", SwitchClause::NUMBER),
+        ("CONTINUING", ContinuingStatement::NUMBER),
+        ("BREAK_IF", BreakIfStatement::NUMBER),
+        ("TYPE_CONSTRAINT", TypeConstraint::NUMBER),
     ];
     let here = here.map(|(name, number)| (name, number as usize));
     assert_eq!(numbers("wgsl_tree_kind"), here);
@@ -43,8 +55,10 @@ fn statuses_and_faults_have_the_numbers_of_the_header() {
     ] {
         assert!(statuses.contains(&(name, number as usize)), "{name}");
     }
+    // each tree has a form that the library reads
     let faults: Vec<_> = numbers("wgsl_fault")
         .into_iter()
+        .filter(|(name, _)| *name != "NOT_A_FORM")
         .map(|(_, it)| it)
         .collect();
     assert_eq!(faults, FaultKind::NUMBERED.map(|(number, _)| number));

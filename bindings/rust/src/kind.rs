@@ -18,7 +18,7 @@ macro_rules! kinds {
 }
 
 kinds! {
-    // Written by tools/nodes.py from crates/wgsl_model/specs/Tokens/Classes.antt.
+    // Written by tools/tokens.py from crates/wgsl_model/tokens.
     /// The symbol `&`.
     SymAnd,
     /// The symbol `&&`.

@@ -9,25 +9,30 @@
 //! # Ok::<(), centrelilac::Fault>(())
 //! ```
 //!
-//! Trees are plain Rust data, with the names of the library:
+//! Trees are plain Rust data, with the names of the library and of the crate `wgsl-parse`:
 //!
 //! ```
-//! use centrelilac::syntax::{Expression, BinaryOperator};
+//! use centrelilac::syntax::{BinaryOperator, Expression};
 //!
 //! let tree: Expression = "a + b * c".parse()?;
 //! let Expression::Binary(sum) = tree else { panic!("no operator") };
 //! assert_eq!(sum.operator, BinaryOperator::Addition);
-//! assert_eq!((sum.right.span.start, sum.right.span.end), (4, 9));
+//! assert_eq!(sum.right.span().range(), 4..9);
+//! assert_eq!(sum.right.to_string(), "b * c");
 //! # Ok::<(), centrelilac::Fault>(())
 //! ```
 //!
-//! What nests takes stack, in the library as in this crate: [`nesting`] tells beforehand how deep
-//! a text nests. A tree is read by a thread of its own where it nests deeply; the deepest that is
-//! read takes half a megabyte to be dropped, and four to be copied, where nothing is optimized.
-//! All calls may be made from any thread, at the same time too.
+//! [`visit`] walks over them, [`LineIndex`] finds lines and columns, and [`form`] has their text
+//! form.
+//!
+//! What nests takes stack when the library reads or prints it: [`nesting`] returns how deep a text
+//! nests. A tree of any depth is dropped, copied, compared and hashed with little stack; walks,
+//! `{}` and `{:?}` take stack for each level. All calls may be made from any thread, at the same
+//! time too.
 #![deny(unsafe_code, missing_docs)]
 
 mod calls;
+pub mod error;
 mod fault;
 #[allow(unsafe_code)]
 mod ffi;
@@ -35,17 +40,30 @@ pub mod form;
 #[cfg(test)]
 mod header;
 mod kind;
+mod lines;
+mod nested;
+pub mod parser;
+pub mod span;
 pub mod syntax;
+pub mod visit;
 mod words;
 
 pub use calls::{
     begins_with_template_list, check, format, nesting, parse, recognize, template_lists, tokens,
     Token,
 };
-pub use fault::{Fault, FaultKind};
+pub use fault::{Fault, Fault as Error, FaultKind};
 pub use kind::TokenKind;
+pub use lines::{LineIndex, Position};
+pub use parser::{parse_str, recognize_str};
+pub use syntax::SyntaxNode;
 
-/// What is answered may be used by each thread, also by several at once.
+/// Its examples are tested.
+#[cfg(doctest)]
+#[doc = include_str!("../README.md")]
+struct Readme;
+
+/// What calls return may be used by each thread, also by several at once.
 const _: () = {
     const fn is_shared<T: Send + Sync>() {}
     is_shared::<Fault>();

@@ -1,7 +1,8 @@
 //! The values that stand for words of their own, and the operators.
 
 use crate::form::sealed::Written;
-use crate::form::{write_text, FormError, Reader};
+use crate::form::{write_text, FormError, Reader, Writer};
+use crate::nested::{Code, Coded, Copies};
 use std::error::Error;
 use std::fmt;
 use std::str::FromStr;
@@ -67,13 +68,23 @@ macro_rules! words {
         }
 
         impl Written for $name {
-            fn write(&self, out: &mut String) {
-                write_text(self.word(), out);
+            fn write<'t>(&'t self, out: &mut Writer<'t>) {
+                write_text(self.word(), &mut out.form);
             }
 
             fn read(from: &mut Reader<'_>) -> Result<Self, FormError> {
                 let word = String::read(from)?;
                 word.parse().map_err(|_| FormError::Malformed)
+            }
+        }
+
+        impl Coded for $name {
+            fn code<'t>(&'t self, code: &mut Code<'t>) {
+                code.text(self.word());
+            }
+
+            fn copied<'t>(&'t self, _: &mut Copies<'t>) -> Self {
+                *self
             }
         }
     )*

@@ -1,41 +1,172 @@
-//! Trees that nest deeply, up to what is read.
+//! Trees that nest deeply: made by hand and read from texts, with a small stack.
 
-use centrelilac::form::to_form;
-use centrelilac::syntax::{Expression, Statement};
-use centrelilac::FaultKind;
+use centrelilac::form::{from_form, to_form, FormError};
+use centrelilac::span::equal_with_spans;
+use centrelilac::syntax::*;
+use std::collections::hash_map::DefaultHasher;
+use std::hash::{Hash, Hasher};
 
-/// Runs a test with the stack that the library takes for what nests.
-fn with_stack(test: fn()) {
-    let thread = std::thread::Builder::new().stack_size(32 << 20);
+/// How deep the trees are.
+const LEVELS: usize = 100_000;
+
+/// Runs a test with so many kilobytes of stack.
+fn with_stack(kilobytes: usize, test: fn()) {
+    let thread = std::thread::Builder::new().stack_size(kilobytes << 10);
     thread.spawn(test).expect("a thread").join().expect("holds");
 }
 
-#[test]
-fn chains_are_read() {
-    let chain = |count| vec!["a"; count].join(" + ");
-    let tree: Expression = chain(1_300).parse().expect("a chain");
-    assert!(to_form(&tree).len() > 100_000);
-    let fault = chain(1_400).parse::<Expression>().unwrap_err();
-    assert_eq!(fault.kind, FaultKind::TooDeep);
+/// The hash of a tree.
+fn hash_of(tree: &impl Hash) -> u64 {
+    let mut hasher = DefaultHasher::new();
+    tree.hash(&mut hasher);
+    hasher.finish()
+}
+
+/// A name in parentheses.
+fn parentheses(name: &str) -> Expression {
+    let name = Expression::from(Ident::from(name));
+    (0..LEVELS).fold(name, |inside, at| {
+        let expression = Spanned::new(inside, Span::new(at..at + 1));
+        ParenthesizedExpression { expression }.into()
+    })
+}
+
+/// A sum that begins with a name.
+fn sum(name: &str) -> Expression {
+    let name = Expression::from(Ident::from(name));
+    (0..LEVELS).fold(name, |left, number| {
+        Expression::from(BinaryExpression {
+            operator: BinaryOperator::Addition,
+            right: Expression::from(number as i64).into(),
+            left: left.into(),
+        })
+    })
+}
+
+/// A `return` of a name in blocks and `if` statements, in turn.
+fn blocks(name: &str) -> Statement {
+    let name = Expression::from(Ident::from(name));
+    let innermost = Statement::from(ReturnStatement::from(name));
+    (0..LEVELS).fold(innermost, |inside, level| {
+        let body = CompoundStatement {
+            attributes: Vec::new(),
+            statements: vec![Statement::Void.into(), inside.into()],
+        };
+        if level % 2 == 0 {
+            return body.into();
+        }
+        let expression = Expression::from(true).into();
+        Statement::from(IfStatement {
+            attributes: Vec::new(),
+            if_clause: IfClause { expression, body },
+            else_if_clauses: Vec::new(),
+            else_clause: None,
+        })
+    })
+}
+
+/// Checks that a tree is copied, compared, hashed, written, read and dropped, and differs from
+/// another.
+fn check<T>(tree: T, other: T)
+where
+    T: centrelilac::form::Form + Clone + Eq + Hash,
+{
+    let (copy, hash) = (tree.clone(), hash_of(&tree));
+    assert!(copy == tree && equal_with_spans(&copy, &tree));
+    assert!(tree != other && hash != hash_of(&other));
+    assert_eq!(hash_of(&copy), hash);
+    let form = to_form(&tree);
+    let read: T = from_form(&form).expect("a form");
+    assert!(equal_with_spans(&read, &tree));
+    assert!(to_form(&copy) == form);
+    drop((tree, copy, read));
 }
 
 #[test]
-fn parentheses_are_read() {
-    with_stack(|| {
-        let nested = |count| format!("{}a{}", "(".repeat(count), ")".repeat(count));
-        assert!(nested(1_300).parse::<Expression>().is_ok());
-        let fault = nested(1_400).parse::<Expression>().unwrap_err();
-        assert_eq!(fault.kind, FaultKind::TooDeep);
+fn deep_expressions_take_little_stack() {
+    with_stack(512, || check(parentheses("a"), parentheses("b")));
+    with_stack(512, || check(sum("a"), sum("b")));
+}
+
+#[test]
+fn deep_statements_take_little_stack() {
+    with_stack(512, || check(blocks("a"), blocks("b")));
+    with_stack(512, || {
+        let mut function = Function::new(Ident::from("f"));
+        function.body.statements.push(blocks("a").into());
+        let mut unit = TranslationUnit::new();
+        let function = GlobalDeclaration::from(function);
+        unit.global_declarations.push(function.into());
+        assert!(unit.clone() == unit);
+        unit.remove_voids();
+        assert!(!to_form(&unit).contains("Void"));
     });
 }
 
+/// The spans are compared at every depth.
 #[test]
-fn blocks_and_ifs_are_read() {
-    with_stack(|| {
-        let nested = |open: &str, count| format!("{}{}", open.repeat(count), "}".repeat(count));
-        assert!(nested("{", 990).parse::<Statement>().is_ok());
-        assert!(nested("if a {", 600).parse::<Statement>().is_ok());
-        let fault = nested("{", 1_010).parse::<Statement>().unwrap_err();
-        assert_eq!(fault.kind, FaultKind::TooDeep);
+fn spans_are_compared_where_they_are_asked_for() {
+    with_stack(512, || {
+        let tree = parentheses("a");
+        let mut other = tree.clone();
+        let mut inside = &mut other;
+        while let Expression::Parenthesized(node) = inside {
+            if node.expression.is_type_or_identifier() {
+                node.expression.span = Span::new(7..9);
+            }
+            inside = &mut *node.expression;
+        }
+        assert!(tree == other && hash_of(&tree) == hash_of(&other));
+        assert!(!equal_with_spans(&tree, &other));
+    });
+}
+
+/// A deep form that does not end, or has something else deep inside, is rejected.
+#[test]
+fn other_deep_texts_are_no_form() {
+    with_stack(512, || {
+        let open = r#"{"Parenthesized":{"expression":{"span":[0,1],"node":"#;
+        let form = |inside: &str, close: &str| {
+            let (front, end) = (open.repeat(LEVELS), close.repeat(LEVELS));
+            from_form::<Expression>(&format!("{front}{inside}{end}"))
+        };
+        let name = r#"{"TypeOrIdentifier":{"ident":"{]\"","template_args":null}}"#;
+        assert!(form(name, "}}}").is_ok());
+        assert_eq!(form(name, "}}"), Err(FormError::Malformed));
+        assert_eq!(form(name, ""), Err(FormError::Malformed));
+        assert_eq!(form(name, "}}} "), Err(FormError::Malformed));
+        assert_eq!(
+            form(r#"{"TypeOrIdentifier":1}"#, "}}}"),
+            Err(FormError::Malformed)
+        );
+        assert_eq!(form("\"Void\"", "}}}"), Err(FormError::Malformed));
+        assert_eq!(form("]", "}}}"), Err(FormError::Malformed));
+    });
+}
+
+/// The library reads and prints a chain without recursion, and takes stack for what nests.
+#[test]
+fn deep_texts_are_read_and_printed() {
+    with_stack(512, || {
+        let text = vec!["a"; LEVELS].join(" + ");
+        let chain: Expression = text.parse().expect("a chain");
+        assert_eq!(chain.clone(), chain);
+        assert!(chain.to_string() == text);
+        let text = format!("a{}", ".b[0]".repeat(LEVELS));
+        let chain: Expression = text.parse().expect("a chain");
+        assert!(chain.to_string() == text);
+    });
+    with_stack(256 << 10, || {
+        let nested = |open: &str, inside: &str, close: &str, levels: usize| {
+            [&open.repeat(levels), inside, &close.repeat(levels)].concat()
+        };
+        let text = nested("(", "a", ")", 10_000);
+        let parentheses: Expression = text.parse().expect("an expression");
+        assert!(parentheses.to_string() == text);
+        let blocks = nested("if a {", "", "}", 10_000);
+        assert!(blocks.parse::<Statement>().is_ok());
+        // the print of each level is indented
+        let blocks: Statement = nested("if a {", "", "}", 500).parse().expect("a statement");
+        assert!(blocks.to_string().parse() == Ok(blocks));
     });
 }

@@ -1,85 +1,18 @@
 //! The rows of texts with what is wanted of them, which `tools/rows` and `crates/wgsl_test_texts`
 //! check too.
 
+mod row;
 mod text;
 
 use centrelilac::form::{from_form, text_form, to_form, FormError, Source};
+use centrelilac::span::equal_with_spans;
 use centrelilac::syntax::{
-    Expression, GlobalDeclaration, GlobalDirective, Statement, TranslationUnit,
+    Expression, GlobalDeclaration, GlobalDirective, ModulePath, Statement, TranslationUnit,
 };
 use centrelilac::{Fault, FaultKind};
+use row::{rows, Row};
 use std::fmt::Debug;
-use std::fs;
-use std::path::PathBuf;
 use text::texts_of;
-
-/// A row: how its text is read, the text, and what is wanted of it, each by its word and the rest.
-#[derive(Debug, Default)]
-struct Row {
-    place: String,
-    read: String,
-    text: Vec<u8>,
-    wanted: Vec<(String, String)>,
-}
-
-impl Row {
-    fn wanted(&self, word: &str) -> Option<&str> {
-        let found = self.wanted.iter().find(|(wanted, _)| wanted == word);
-        found.map(|(_, rest)| rest.as_str())
-    }
-}
-
-/// The rows of a file.
-fn rows_of(name: &str, data: &str) -> Vec<Row> {
-    let mut rows = Vec::new();
-    for (index, part) in data.split("\n\n").enumerate() {
-        let lines = part.lines().filter(|line| !line.starts_with('#'));
-        let mut joined: Vec<String> = Vec::new();
-        for line in lines {
-            match joined.last_mut() {
-                // a text that goes on behind a line end
-                Some(last) if line.trim_start().starts_with('"') => {
-                    last.push_str(" \"\\n\" ");
-                    last.push_str(line.trim_start());
-                }
-                _ => joined.push(line.to_owned()),
-            }
-        }
-        let mut lines = joined.into_iter();
-        let Some(first) = lines.next() else { continue };
-        let Some((read, text)) = first.split_once(' ') else {
-            continue;
-        };
-        let split = |line: String| match line.split_once(' ') {
-            Some((word, rest)) => (word.to_owned(), rest.to_owned()),
-            None => (line, String::new()),
-        };
-        rows.push(Row {
-            place: format!("{name}, part {index}: {first}"),
-            read: read.to_owned(),
-            text: texts_of(text.trim_start_matches(|c| c != '"')),
-            wanted: lines.map(split).collect(),
-        });
-    }
-    rows
-}
-
-/// All rows.
-fn rows() -> Vec<Row> {
-    let top = PathBuf::from(env!("CARGO_MANIFEST_DIR")).join("../..");
-    let mut names: Vec<_> = ["tests/rows", "crates/wgsl_test_texts/data"]
-        .iter()
-        .flat_map(|folder| fs::read_dir(top.join(folder)).expect("the rows are there"))
-        .map(|entry| entry.expect("a file").path())
-        .filter(|path| path.extension().is_some_and(|extension| extension == "txt"))
-        .collect();
-    names.sort();
-    let rows = |path: &PathBuf| {
-        let data = fs::read_to_string(path).expect("a file of rows");
-        rows_of(&path.display().to_string(), &data)
-    };
-    names.iter().flat_map(rows).collect()
-}
 
 /// Checks a fault: `START..END MESSAGE`.
 fn check_fault(row: &Row, text: &str, wanted: &str, fault: &Fault) {
@@ -92,7 +25,14 @@ fn check_fault(row: &Row, text: &str, wanted: &str, fault: &Fault) {
         FaultKind::UnexpectedToken | FaultKind::UnexpectedEof
     ) {
         assert!(!fault.expected.is_empty(), "{}", row.place);
-        message = format!("{message}, expected `{joined}`");
+        let named = match fault.expected.get(5) {
+            None => format!("`{joined}`"),
+            Some(_) => {
+                let (named, others) = fault.expected.split_at(4);
+                format!("`{}` or {} others", named.join(", "), others.len())
+            }
+        };
+        message = format!("{message}, expected {named}");
     }
     assert_eq!(fault.message, message, "{}", row.place);
     if let Some(expected) = row.wanted("expected") {
@@ -101,18 +41,21 @@ fn check_fault(row: &Row, text: &str, wanted: &str, fault: &Fault) {
     check_place(row, text, fault);
 }
 
-/// Checks the line and the column of a fault, also by the snippet of it where that is wanted.
+/// Checks the line and the column of a fault, and those that are printed with its source.
 fn check_place(row: &Row, text: &str, fault: &Fault) {
     let Fault { line, column, .. } = fault;
     let before = &text[..fault.span.start];
     let front = &before[before.rfind('\n').map_or(0, |end| end + 1)..];
     assert_eq!(*line, 1 + before.matches('\n').count(), "{}", row.place);
     assert_eq!(*column, 1 + front.chars().count(), "{}", row.place);
-    if let Some(snippet) = row.wanted("snippet") {
-        let snippet = String::from_utf8(texts_of(snippet)).expect("a snippet");
-        let told = format!(" --> line {line}, column {column}");
-        assert_eq!(snippet.lines().nth(1), Some(told.as_str()), "{}", row.place);
-    }
+    let printed = fault.clone().with_source(text.into()).to_string();
+    let place = format!(" --> line {line}, column {column}");
+    assert_eq!(
+        printed.lines().nth(1),
+        Some(place.as_str()),
+        "{}",
+        row.place
+    );
 }
 
 /// Checks a text that may be a tree: its form is read and written back as it stands.
@@ -130,17 +73,10 @@ fn check_tree<T: Source + PartialEq + Debug>(row: &Row) {
         }
         None => {
             let form = text_form::<T>(text).expect(&row.place);
-            match from_form::<T>(&form) {
-                Ok(tree) => {
-                    assert_eq!(to_form(&tree), form, "{}", row.place);
-                    assert_eq!(text.parse::<T>(), Ok(tree), "{}", row.place);
-                }
-                Err(error) => {
-                    assert_eq!(error, FormError::TooDeep, "{}", row.place);
-                    let fault = text.parse::<T>().expect_err(&row.place);
-                    assert_eq!(fault.kind, FaultKind::TooDeep, "{}", row.place);
-                }
-            }
+            let tree = from_form::<T>(&form).expect(&row.place);
+            assert_eq!(to_form(&tree), form, "{}", row.place);
+            let read = text.parse::<T>().expect(&row.place);
+            assert!(equal_with_spans(&read, &tree), "{}", row.place);
         }
     }
 }
@@ -223,6 +159,40 @@ fn check_lists(row: &Row, text: &str) {
     assert_eq!(lists.join("\n").as_bytes(), wanted, "{}", row.place);
 }
 
+/// Checks the path of a module.
+fn check_path(row: &Row, text: &str) {
+    let path = match text.parse::<ModulePath>() {
+        Ok(path) => path,
+        Err(error) => {
+            let refused = row.wanted("refused").expect(&row.place);
+            assert_eq!(
+                error.to_string().as_bytes(),
+                texts_of(refused),
+                "{}",
+                row.place
+            );
+            return;
+        }
+    };
+    let printed = row.wanted("printed").expect(&row.place);
+    assert_eq!(
+        path.to_string().as_bytes(),
+        texts_of(printed),
+        "{}",
+        row.place
+    );
+    for (_, joined) in row.wanted.iter().filter(|(word, _)| word == "joined") {
+        let (suffix, wanted) = joined.split_once(' ').expect("a path and what it means");
+        let joined = path.join_path(&suffix.parse().expect(&row.place));
+        assert_eq!(
+            joined.to_string().as_bytes(),
+            texts_of(wanted),
+            "{}",
+            row.place
+        );
+    }
+}
+
 /// Checks a row, unless this crate has no call for it, and tells whether it did.
 fn check_row(row: &Row) -> bool {
     let text = String::from_utf8_lossy(&row.text);
@@ -240,6 +210,7 @@ fn check_row(row: &Row) -> bool {
         "nesting" => check_nesting(row, &text),
         "template" => check_template(row, &text),
         "discover" => check_lists(row, &text),
+        "path" => check_path(row, &text),
         _ => return false,
     }
     true
@@ -273,8 +244,8 @@ fn other_texts_are_no_form() {
         assert_eq!(read, Err(FormError::Malformed), "{text}");
     }
     assert_eq!(from_form(r#""Void""#), Ok(Statement::Void));
-    let lists = "[".repeat(4_001);
-    assert_eq!(from_form::<Statement>(&lists), Err(FormError::TooDeep));
+    let lists = "[".repeat(100_000);
+    assert_eq!(from_form::<Statement>(&lists), Err(FormError::Malformed));
 }
 
 /// Characters that stand behind a `\` in a form are read back.

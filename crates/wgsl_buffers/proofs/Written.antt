@@ -6,7 +6,7 @@ use Rattle.grammar.specs.Tokens.{Token}
 use Rattle.wgsl_model.specs.Tokens.Places.{width}
 use Rattle.wgsl_theory_grammar.proofs.Tokens.Places.{bytes_width}
 use Rattle.wgsl_span.specs.declared.Span.{Span}
-use Rattle.wgsl_lex_token.specs.declared.kind.TokenKind.{TokenKind}
+use Rattle.wgsl_lex_token.specs.declared.kind_table.TokenKind.{TokenKind}
 use Rattle.wgsl_lex_token.specs.View.{class_of_kind}
 use Rattle.wgsl_lex_templates.specs.Lists.{AreLists}
 use Rattle.wgsl_lex_templates.specs.Spans.{end_from}
@@ -25,27 +25,34 @@ pub none_stored : {X Y : Type 0} (view : X → Y) (room : List X) → Stored vie
 none_stored view room = record { counted = refl; held = sym (take_all (length room) [] (omega arith)) }
 
 -- where there is room for one more, it is written
-pub one_more : {X Y : Type 0} (view : X → Y) (items : List Y) (room : List X) (n : ℕ) (x : X) → length room < 2 ^ 63 → n < length room → Stored view items room n
+pub one_more : {X Y : Type 0} (view : X → Y) (items : List Y) (room : List X) (n : ℕ) (x : X)
+    → length room < 2 ^ 63 → n < length room → Stored view items room n
     → Stored view (items ++ (view x ∷ [])) (set room n x) (min (n + 1) (2 ^ 64 - 1))
 one_more view items room n x bound fits s =
     let at_end : n ≡ length items = omega (arith, s.counted, bound, fits) in
-    let longer : length (items ++ (view x ∷ [])) ≡ n + 1 = length-append items (view x ∷ []) ∙ ap (λ k. k + 1) (sym at_end) in
+    let longer : length (items ++ (view x ∷ [])) ≡ n + 1 = length-append items (view x ∷ [])
+    ∙ ap (λ k. k + 1) (sym at_end) in
     record {
       counted = omega (arith, longer, bound, fits);
-      held = ap (λ k. map view (take k (set room n x))) longer ∙ ap (map view) (take_more_set room n x fits) ∙ map-append view (take n room) (x ∷ [])
-          ∙ ap (λ ys. ys ++ (view x ∷ [])) (ap (λ k. map view (take k room)) at_end ∙ s.held ∙ take_all (length room) items (omega (arith, at_end, fits)))
-          ∙ sym (take_all (length (set room n x)) (items ++ (view x ∷ [])) (omega (arith, longer, length-set room n x, fits)));
+      held = ap (λ k. map view (take k (set room n x))) longer
+          ∙ ap (map view) (take_more_set room n x fits) ∙ map-append view (take n room) (x ∷ [])
+          ∙ ap (λ ys. ys ++ (view x ∷ [])) (ap (λ k. map view (take k room)) at_end ∙ s.held
+          ∙ take_all (length room) items (omega (arith, at_end, fits)))
+          ∙ sym (take_all (length (set room n x)) (items ++ (view x ∷ []))
+          (omega (arith, longer, length-set room n x, fits)));
     }
 
 -- where there is none, it is counted alone
-pub one_beyond : {X Y : Type 0} (view : X → Y) (items : List Y) (room : List X) (n : ℕ) (y : Y) → length room < 2 ^ 63 → length room ≤ n → Stored view items room n
+pub one_beyond : {X Y : Type 0} (view : X → Y) (items : List Y) (room : List X) (n : ℕ) (y : Y)
+    → length room < 2 ^ 63 → length room ≤ n → Stored view items room n
     → Stored view (items ++ (y ∷ [])) room (min (n + 1) (2 ^ 64 - 1))
 one_beyond view items room n y bound full s =
     let longer : length (items ++ (y ∷ [])) ≡ length items + 1 = length-append items (y ∷ []) in
     let enough : length room ≤ length items = omega (arith, s.counted, full, bound) in
     record {
       counted = omega (arith, longer, s.counted);
-      held = ap (map view) (take_all (length (items ++ (y ∷ []))) room (omega (arith, longer, enough)) ∙ sym (take_all (length items) room enough)) ∙ s.held
+      held = ap (map view) (take_all (length (items ++ (y ∷ []))) room (omega (arith, longer, enough))
+          ∙ sym (take_all (length items) room enough)) ∙ s.held
           ∙ sym (take-append-le (length room) items (y ∷ []) enough);
     }
 
@@ -60,8 +67,10 @@ pub none_written : (all : List Token) (room : List PlacedKind) → Written all a
 none_written all room = record { done = []; whole = refl; stored = none_stored kind_and_place room }
 
 -- one more token is stored
-pub token_more : (all left : List Token) (room : List PlacedKind) (n : ℕ) (kind : TokenKind) (span : Span) → StartWithKind left kind → BeginAt left span → length room < 2 ^ 63 → n < length room
-    → Written all left room n → Written all (drop 1 left) (set room n (record { kind = class_of_kind kind; start = span.start; end = span.end })) (min (n + 1) (2 ^ 64 - 1))
+pub token_more : (all left : List Token) (room : List PlacedKind) (n : ℕ) (kind : TokenKind) (span : Span)
+    → StartWithKind left kind → BeginAt left span → length room < 2 ^ 63 → n < length room
+    → Written all left room n → Written all (drop 1 left) (set room n
+    (record { kind = class_of_kind kind; start = span.start; end = span.end })) (min (n + 1) (2 ^ 64 - 1))
 token_more all [] room n kind span first at bound fits w = absurd first
 token_more all (t ∷ ts) room n kind span first at bound fits w =
     let v : PlacedKind = record { kind = class_of_kind kind; start = span.start; end = span.end } in
@@ -69,55 +78,75 @@ token_more all (t ∷ ts) room n kind span first at bound fits w =
     record {
       done = w.done ++ (t ∷ []);
       whole = w.whole ∙ sym (append_assoc w.done (t ∷ []) ts);
-      stored = subst (λ items. Stored kind_and_place items (set room n v) (min (n + 1) (2 ^ 64 - 1))) (ap (λ x. token_items w.done ++ (x ∷ [])) same ∙ sym (map-append item_of_token w.done (t ∷ [])))
+      stored = subst (λ items. Stored kind_and_place items (set room n v) (min (n + 1) (2 ^ 64 - 1)))
+          (ap (λ x. token_items w.done ++ (x ∷ [])) same ∙ sym (map-append item_of_token w.done (t ∷ [])))
           (one_more kind_and_place (token_items w.done) room n v bound fits w.stored);
     }
 
 -- one more token is counted
-pub token_beyond : (all left : List Token) (room : List PlacedKind) (n : ℕ) (span : Span) → BeginAt left span → length room < 2 ^ 63 → length room ≤ n → Written all left room n
+pub token_beyond : (all left : List Token) (room : List PlacedKind) (n : ℕ) (span : Span)
+    → BeginAt left span → length room < 2 ^ 63 → length room ≤ n → Written all left room n
     → Written all (drop 1 left) room (min (n + 1) (2 ^ 64 - 1))
 token_beyond all [] room n span at bound full w = absurd at
 token_beyond all (t ∷ ts) room n span at bound full w = record {
   done = w.done ++ (t ∷ []);
   whole = w.whole ∙ sym (append_assoc w.done (t ∷ []) ts);
-  stored = subst (λ items. Stored kind_and_place items room (min (n + 1) (2 ^ 64 - 1))) (sym (map-append item_of_token w.done (t ∷ [])))
+  stored = subst (λ items. Stored kind_and_place items room (min (n + 1) (2 ^ 64 - 1)))
+      (sym (map-append item_of_token w.done (t ∷ [])))
       (one_beyond kind_and_place (token_items w.done) room n (item_of_token t) bound full w.stored);
 }
 
 -- where none is left, all are stored
-pub all_written : (all left : List Token) (room : List PlacedKind) (n : ℕ) → left ≡ [] → Written all left room n → (n ≡ count_of (length all)) × HoldItems kind_and_place (token_items all) room
+pub all_written : (all left : List Token) (room : List PlacedKind) (n : ℕ) → left ≡ []
+    → Written all left room n
+    → (n ≡ count_of (length all)) × HoldItems kind_and_place (token_items all) room
 all_written all left room n none w =
-    let all_done : w.done ≡ all = sym (w.whole ∙ ap (λ ts. w.done ++ ts) none ∙ append-nil w.done) in
-    (w.stored.counted ∙ ap count_of (length-map w.done item_of_token) ∙ ap (λ ts. count_of (length ts)) all_done, subst (λ ts. HoldItems kind_and_place (token_items ts) room) all_done w.stored.held)
+    let all_done : w.done ≡ all = sym (w.whole ∙ ap (λ ts. w.done ++ ts) none ∙ append-nil w.done) in (
+      w.stored.counted ∙ ap count_of (length-map w.done item_of_token)
+          ∙ ap (λ ts. count_of (length ts)) all_done,
+      subst (λ ts. HoldItems kind_and_place (token_items ts) room) all_done w.stored.held,
+    )
 
 -- what is listed before the next place
-list_next : (spans : List Span) (start : ℕ) (found : Option ℕ) → end_from spans start ≡ found → lists_before spans start ++ list_at start found ≡ lists_before spans (start + 1)
+list_next : (spans : List Span) (start : ℕ) (found : Option ℕ) → end_from spans start ≡ found
+    → lists_before spans start ++ list_at start found ≡ lists_before spans (start + 1)
 list_next spans start found told =
     let on : suc start ≡ start + 1 = omega arith in
     ap (λ x. lists_before spans start ++ list_at start x) (sym told) ∙ ap (lists_before spans) on
 
 -- one more list is stored
-pub list_more : (spans : List Span) (start end : ℕ) (room : List Place) (n : ℕ) → end_from spans start ≡ Some end → length room < 2 ^ 63 → n < length room → Stored start_and_end (lists_before spans start) room n
-    → Stored start_and_end (lists_before spans (start + 1)) (set room n (record { start = start; end = end })) (min (n + 1) (2 ^ 64 - 1))
+pub list_more : (spans : List Span) (start end : ℕ) (room : List Place) (n : ℕ)
+    → end_from spans start ≡ Some end → length room < 2 ^ 63 → n < length room
+    → Stored start_and_end (lists_before spans start) room n
+    → Stored start_and_end (lists_before spans (start + 1))
+    (set room n (record { start = start; end = end })) (min (n + 1) (2 ^ 64 - 1))
 list_more spans start end room n told bound fits s =
     let v : Place = record { start = start; end = end } in
-    subst (λ items. Stored start_and_end items (set room n v) (min (n + 1) (2 ^ 64 - 1))) (list_next spans start (Some end) told)
+    subst (λ items. Stored start_and_end items (set room n v) (min (n + 1) (2 ^ 64 - 1)))
+    (list_next spans start (Some end) told)
     (one_more start_and_end (lists_before spans start) room n v bound fits s)
 
 -- one more list is counted
-pub list_beyond : (spans : List Span) (start end : ℕ) (room : List Place) (n : ℕ) → end_from spans start ≡ Some end → length room < 2 ^ 63 → length room ≤ n → Stored start_and_end (lists_before spans start) room n
+pub list_beyond : (spans : List Span) (start end : ℕ) (room : List Place) (n : ℕ)
+    → end_from spans start ≡ Some end → length room < 2 ^ 63 → length room ≤ n
+    → Stored start_and_end (lists_before spans start) room n
     → Stored start_and_end (lists_before spans (start + 1)) room (min (n + 1) (2 ^ 64 - 1))
 list_beyond spans start end room n told bound full s =
     subst (λ items. Stored start_and_end items room (min (n + 1) (2 ^ 64 - 1))) (list_next spans start (Some end) told)
     (one_beyond start_and_end (lists_before spans start) room n (start, end) bound full s)
 
 -- no list starts at a place
-pub list_none : (spans : List Span) (start : ℕ) (room : List Place) (n : ℕ) → end_from spans start ≡ None → Stored start_and_end (lists_before spans start) room n → Stored start_and_end (lists_before spans (start + 1)) room n
+pub list_none : (spans : List Span) (start : ℕ) (room : List Place) (n : ℕ)
+    → end_from spans start ≡ None → Stored start_and_end (lists_before spans start) room n
+    → Stored start_and_end (lists_before spans (start + 1)) room n
 list_none spans start room n told s =
-    subst (λ items. Stored start_and_end items room n) (sym (append-nil (lists_before spans start)) ∙ list_next spans start None told) s
+    subst (λ items. Stored start_and_end items room n)
+    (sym (append-nil (lists_before spans start)) ∙ list_next spans start None told) s
 
 -- the places that are listed before the end of a text are those of all its lists
-pub all_places : (text : List ℕ) (spans : List Span) → IsUtf8 text → AreLists (width (chars text)) spans (chars text) → ArePlaces (chars text) (lists_before spans (length text))
+pub all_places : (text : List ℕ) (spans : List Span) → IsUtf8 text
+    → AreLists (width (chars text)) spans (chars text)
+    → ArePlaces (chars text) (lists_before spans (length text))
 all_places text spans valid lists = (spans, lists, ap (lists_before spans) (sym (bytes_width text valid)))
 
 -- the loop over template lists

@@ -37,13 +37,30 @@ nul_terminated text = text ++ (0 ∷ [])
 abbrev pub fault_texts : ErrorKind → List ℕ
 fault_texts kind = nul_terminated (print_error_kind kind) ++ flat_map nul_terminated (expected_texts kind)
 
--- the answer has the kind and the place of the error, and how many bytes its texts have; they stand at the front of the room if they fit, and else it stays as it was
+-- the answer has the kind and the place of the error, and how many bytes its texts have; they stand
+-- at the front of the room if they fit, and else it stays as it was
 abbrev pub TellsError : Error → List ℕ → List ℕ → Answer → Type 0
 TellsError e before room a =
     let texts = fault_texts e.error in
-    (a ≡ record { size = length texts; start = e.span.start; end = e.span.end; kind = kind_number e.error; expected = length (expected_texts e.error) })
+    (a ≡ record {
+      size = length texts;
+      start = e.span.start;
+      end = e.span.end;
+      kind = kind_number e.error;
+      expected = length (expected_texts e.error);
+    })
     × ((take (length texts) room ≡ texts) ⊎ ((length before < length texts) × (room ≡ before)))
 
--- the text is refused: the answer tells an error that is a fault of it, which stands in the text or ends one byte past it
+-- the text is refused: the answer tells an error that is a fault of it, which stands in the text or
+-- ends one byte past it
 abbrev pub Refuses : (List ℕ → Fault → Type 0) → List ℕ → List ℕ → List ℕ → Answer → Type 0
-Refuses IsNamed text before room a = (e : Error) × IsNamed (chars text) (fault_view e) × StandsWithin e.span (length text) × TellsError e before room a
+Refuses IsNamed text before room a = (e : Error) × IsNamed (chars text) (fault_view e)
+    × StandsWithin e.span (length text) × TellsError e before room a
+
+-- the text is not the form of a node: the answer has the place where that shows and the kind 10,
+-- and
+-- the message is at the front of the room if it fits, and else the room stays as it was
+abbrev pub RefusesForm : List ℕ → List ℕ → Answer → Type 0
+RefusesForm before room a = (message : List ℕ) × (place : ℕ)
+    × (a ≡ record { size = length message; start = place; end = place; kind = 10; expected = 0 })
+    × ((take (length message) room ≡ message) ⊎ ((length before < length message) × (room ≡ before)))

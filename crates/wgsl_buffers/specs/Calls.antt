@@ -1,4 +1,5 @@
--- What each call promises of a text, of the room before it and after it, of its answer and of its status.
+-- What each call promises of a text, of the room before it and after it, of its answer and of its
+-- status.
 use Rattle.std.specs.Prelude.{◌≡◌, ◌⊎◌, ◌≤◌, ◌<◌, ℕ, List, chars, length}
 use Rattle.std.specs.Str.{IsUtf8}
 use Rattle.grammar.specs.Tokens as grammar
@@ -15,8 +16,9 @@ use Rattle.wgsl_read_nesting.specs.Nesting.{nesting}
 use Rattle.wgsl_buffers.specs.declared.answer.Answer.{Answer}
 use Rattle.wgsl_buffers.specs.declared.lists.Place.{Place}
 use Rattle.wgsl_buffers.specs.declared.tokens.PlacedKind.{PlacedKind}
-use Rattle.wgsl_buffers.specs.Answers.{counted, Refuses, Holds, Lacks, IsNoText}
+use Rattle.wgsl_buffers.specs.Answers.{counted, Refuses, Holds, Lacks, RefusesForm, IsNoText}
 use Rattle.wgsl_buffers.specs.Items.{count_of, counted_to, HoldItems, kind_and_place, token_items, start_and_end, ArePlaces}
+use Rattle.wgsl_buffers.specs.Kinds.{IsPrint, kind_of}
 use Rattle.wgsl_buffers.specs.Trees.{symbol_of, IsTree}
 
 -- what each call promises: 2 only for bytes that are no text, and 3 with nothing in the answer
@@ -27,9 +29,11 @@ pub record Reads (text : List ℕ) (answer : Answer) (result : ℕ) : Type 0 whe
 
 -- the text that a module is printed as, or the fault that is named
 pub record Formats (text before room : List ℕ) (answer : Answer) (result : ℕ) : Type 0 where
-  pub printed : result ≡ 0 → (unit : model.TranslationUnit) × IsUnit (chars text) unit × Holds (print_unit unit) room answer
+  pub printed : result ≡ 0
+      → (unit : model.TranslationUnit) × IsUnit (chars text) unit × Holds (print_unit unit) room answer
   pub refused : result ≡ 1 → Refuses IsFaultOf text before room answer
-  pub small : result ≡ 4 → (unit : model.TranslationUnit) × IsUnit (chars text) unit × Lacks (print_unit unit) before room answer
+  pub small : result ≡ 4
+      → (unit : model.TranslationUnit) × IsUnit (chars text) unit × Lacks (print_unit unit) before room answer
   pub status : result ≤ 4
   pub reads : Reads text answer result
 
@@ -57,13 +61,26 @@ pub record WritesTree (what : ℕ) (text before room : List ℕ) (answer : Answe
   pub status : result ≤ 5
   pub reads : Reads text answer result
 
+-- the printed text of the node of a kind that a form describes
+pub record PrintsForm (what : ℕ) (form before room : List ℕ) (answer : Answer) (result : ℕ) : Type 0 where
+  pub printed : result ≡ 0 → (text : List ℕ) × IsPrint (kind_of what) form text × Holds text room answer
+  pub refused : result ≡ 1 → RefusesForm before room answer
+  pub small : result ≡ 4 → (text : List ℕ) × IsPrint (kind_of what) form text × Lacks text before room answer
+  pub unknown : result ≡ 5 → (16 < what) × (answer ≡ counted 0)
+  pub known : 16 < what → (result ≡ 2) ⊎ (result ≡ 5)
+  pub status : result ≤ 5
+  pub reads : Reads form answer result
+
 -- the tokens of a text before its end or its first invalid token
 pub record WritesTokens (text : List ℕ) (room : List PlacedKind) (answer : Answer) (result : ℕ) : Type 0 where
-  pub all : result ≡ 0 → (ts : List grammar.Token) × IsTokenList (chars text) ts finished × HoldItems kind_and_place (token_items ts) room × (answer ≡ counted (length ts))
-  pub refused : result ≡ 1 → (ts : List grammar.Token) × (span : grammar.Span) × IsTokenList (chars text) ts (carried (invalid_token span))
+  pub all : result ≡ 0 → (ts : List grammar.Token) × IsTokenList (chars text) ts finished
+      × HoldItems kind_and_place (token_items ts) room × (answer ≡ counted (length ts))
+  pub refused : result ≡ 1 → (ts : List grammar.Token) × (span : grammar.Span)
+      × IsTokenList (chars text) ts (carried (invalid_token span))
       × HoldItems kind_and_place (token_items ts) room × (answer ≡ counted_to (length ts) span)
   pub small : result ≡ 4 → (ts : List grammar.Token) × (e : Ending) × IsTokenList (chars text) ts e
-      × HoldItems kind_and_place (token_items ts) room × (length room < length ts) × (answer ≡ counted (count_of (length ts)))
+      × HoldItems kind_and_place (token_items ts) room × (length room < length ts)
+      × (answer ≡ counted (count_of (length ts)))
   pub fits : result ≤ 1 → answer.size ≤ length room
   pub status : result ≤ 4
   pub reads : Reads text answer result
@@ -73,18 +90,21 @@ pub record WritesLists (text : List ℕ) (room : List Place) (answer : Answer) (
   pub all : result ≡ 0 → (places : List (ℕ × ℕ)) × ArePlaces (chars text) places
       × HoldItems start_and_end places room × (length places ≤ length room) × (answer ≡ counted (length places))
   pub small : result ≡ 4 → (places : List (ℕ × ℕ)) × ArePlaces (chars text) places
-      × HoldItems start_and_end places room × (length room < length places) × (answer ≡ counted (count_of (length places)))
+      × HoldItems start_and_end places room × (length room < length places)
+      × (answer ≡ counted (count_of (length places)))
   pub status : (result ≡ 0) ⊎ ((2 ≤ result) × (result ≤ 4))
   pub reads : Reads text answer result
 
 -- whether a text begins with a template list, after blank space and comments
 pub record FindsList (text : List ℕ) (answer : Answer) (result : ℕ) : Type 0 where
-  pub found : result ≡ 0 → (BeginsWithList (chars text) × (answer ≡ counted 1)) ⊎ (¬ (BeginsWithList (chars text)) × (answer ≡ counted 0))
+  pub found : result ≡ 0 → (BeginsWithList (chars text) × (answer ≡ counted 1))
+      ⊎ (¬ (BeginsWithList (chars text)) × (answer ≡ counted 0))
   pub status : (result ≡ 0) ⊎ ((result ≡ 2) ⊎ (result ≡ 3))
   pub reads : Reads text answer result
 
 -- how many brackets, blocks, template lists and prefix operators are open at one place of a text
 pub record MeasuresNesting (text : List ℕ) (answer : Answer) (result : ℕ) : Type 0 where
-  pub depth : result ≡ 0 → (ts : List grammar.Token) × (e : Ending) × IsTokenList (chars text) ts e × (answer ≡ counted (nesting ts))
+  pub depth : result ≡ 0 → (ts : List grammar.Token) × (e : Ending) × IsTokenList (chars text) ts e
+      × (answer ≡ counted (nesting ts))
   pub status : (result ≡ 0) ⊎ ((result ≡ 2) ⊎ (result ≡ 3))
   pub reads : Reads text answer result

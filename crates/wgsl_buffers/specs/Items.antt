@@ -50,4 +50,5 @@ lists_before spans (suc n) = lists_before spans n ++ list_at n (end_from spans n
 
 -- the places of the template lists of a text, in the order of their starts
 abbrev pub ArePlaces : List ℕ → List (ℕ × ℕ) → Type 0
-ArePlaces text places = (spans : List span.Span) × AreLists (width text) spans text × (places ≡ lists_before spans (width text))
+ArePlaces text places = (spans : List span.Span) × AreLists (width text) spans text
+    × (places ≡ lists_before spans (width text))

@@ -3,11 +3,15 @@
 ghost use Rattle.std.specs.Prelude.{◌≡◌, ◌⊎◌, ◌++◌, IfOk, OnOk, map, flat_map, string_bytes};
 ghost use Rattle.wgsl_error.specs.View.{kind_number, expected_texts};
 ghost use Rattle.wgsl_error.specs.declared.ErrorKind.TheVariants as kinds;
-ghost use Rattle.wgsl_buffers.specs.Answers.{counted, nul_terminated, fault_texts, TellsError};
+ghost use Rattle.wgsl_buffers.specs.Answers.{counted, nul_terminated, fault_texts, RefusesForm, TellsError};
 
 use crate::answer::{Answer, REFUSED, give, refuse_memory};
 use std::alloc::{AllocError, Global};
 use wgsl_error::{Error, ErrorKind};
+use wgsl_form_reader::{FormError, FormErrorKind};
+
+/// The number of the kind of an error of a text form.
+const NOT_A_FORM: usize = 10;
 
 /// The number of a kind.
 fn number_of(kind: &ErrorKind) -> usize
@@ -79,5 +83,29 @@ pub fn tell_error(alloc: Global, error: Error, room: &mut [u8], answer: &mut Ans
         expected: expected_of(&error.error).len(),
     };
     give(texts.as_bytes(), room);
+    REFUSED
+}
+
+/// Returns an error of a text form.
+pub fn tell_form_error(alloc: Global, error: FormError, room: &mut [u8], answer: &mut Answer) -> u32
+    ensures refused { result ≡ 1 → RefusesForm room.old room.new answer.new }
+    ensures memory { result ≡ 3 → answer.new ≡ counted 0 }
+    ensures status { (result ≡ 1) ⊎ (result ≡ 3) }
+{
+    if matches!(error.kind, FormErrorKind::OutOfMemory) {
+        return refuse_memory(answer);
+    }
+    let kind = error.kind;
+    let Ok(message) = format!(in alloc; "{kind}\0") else {
+        return refuse_memory(answer);
+    };
+    *answer = Answer {
+        size: message.len(),
+        start: error.place,
+        end: error.place,
+        kind: NOT_A_FORM,
+        expected: 0,
+    };
+    give(message.as_bytes(), room);
     REFUSED
 }

@@ -5,11 +5,13 @@ mod answer;
 mod fault;
 mod lists;
 mod modules;
+mod prints;
 mod tokens;
 mod trees;
 
 pub use answer::Answer;
 pub use lists::{Place, begins_with_list, write_lists};
 pub use modules::{check, format, measure_nesting, recognize};
+pub use prints::print_form;
 pub use tokens::{PlacedKind, write_tokens};
 pub use trees::write_tree;

@@ -3,7 +3,7 @@
 //! what a caller owes.
 #![tactic(auto)]
 
-ghost use Rattle.wgsl_buffers.specs.Calls.{Formats, Checks, Recognizes, WritesTree, WritesTokens, WritesLists, FindsList, MeasuresNesting};
+ghost use Rattle.wgsl_buffers.specs.Calls.{Formats, Checks, Recognizes, WritesTree, PrintsForm, WritesTokens, WritesLists, FindsList, MeasuresNesting};
 
 use std::alloc::Global;
 use wgsl_buffers::{Answer, Place, PlacedKind};
@@ -60,6 +60,24 @@ pub extern "C" fn wgsl_c_tree(
     ensures { WritesTree what text.now room.old room.new answer.new result }
 {
     wgsl_buffers::write_tree(alloc, what, text, room, answer)
+}
+
+/// The printed text of the node that a form describes: 0 asks for a module, 1 for a directive, 2
+/// for a declaration, 3 for a statement, 4 for an expression, 5 for an attribute, 6 for a member of
+/// a structure, 7 for a parameter, 8 for the kind of a declaration, 9 for a selector, 10 to 13 for a
+/// clause of `if`, `else if`, `else` and `switch`, 14 for `continuing`, 15 for `break if` and 16 for
+/// `@type`.
+#[unsafe(no_mangle)]
+pub extern "C" fn wgsl_c_print(
+    alloc: Global,
+    what: u32,
+    form: &[u8],
+    room: &mut [u8],
+    answer: &mut Answer,
+) -> u32
+    ensures { PrintsForm what form.now room.old room.new answer.new result }
+{
+    wgsl_buffers::print_form(alloc, what, form, room, answer)
 }
 
 /// The tokens of a text, as many as fit.

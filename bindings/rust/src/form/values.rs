@@ -1,11 +1,11 @@
 //! The forms of what the fields of nodes hold: numbers, texts, lists, and what may be left out.
 
 use super::sealed::Written;
-use super::{FormError, Reader};
+use super::{FormError, Reader, Writer};
 use std::fmt::Write;
 
 impl Written for bool {
-    fn write(&self, out: &mut String) {
+    fn write<'t>(&'t self, out: &mut Writer<'t>) {
         out.push_str(if *self { "true" } else { "false" });
     }
 
@@ -22,8 +22,8 @@ impl Written for bool {
 macro_rules! numbers {
     ($($number:ty)*) => {$(
         impl Written for $number {
-            fn write(&self, out: &mut String) {
-                let _ = write!(out, "{self}");
+            fn write<'t>(&'t self, out: &mut Writer<'t>) {
+                let _ = write!(out.form, "{self}");
             }
 
             fn read(from: &mut Reader<'_>) -> Result<Self, FormError> {
@@ -53,8 +53,8 @@ pub fn write_text(text: &str, out: &mut String) {
 }
 
 impl Written for String {
-    fn write(&self, out: &mut String) {
-        write_text(self, out);
+    fn write<'t>(&'t self, out: &mut Writer<'t>) {
+        write_text(self, &mut out.form);
     }
 
     fn read(from: &mut Reader<'_>) -> Result<Self, FormError> {
@@ -72,7 +72,7 @@ impl Written for String {
 }
 
 impl<T: Written> Written for Option<T> {
-    fn write(&self, out: &mut String) {
+    fn write<'t>(&'t self, out: &mut Writer<'t>) {
         match self {
             None => out.push_str("null"),
             Some(value) => value.write(out),
@@ -88,7 +88,7 @@ impl<T: Written> Written for Option<T> {
 }
 
 impl<T: Written> Written for Vec<T> {
-    fn write(&self, out: &mut String) {
+    fn write<'t>(&'t self, out: &mut Writer<'t>) {
         out.push('[');
         for (index, item) in self.iter().enumerate() {
             if index > 0 {
@@ -116,7 +116,7 @@ impl<T: Written> Written for Vec<T> {
 }
 
 impl<A: Written, B: Written> Written for (A, B) {
-    fn write(&self, out: &mut String) {
+    fn write<'t>(&'t self, out: &mut Writer<'t>) {
         out.push('[');
         self.0.write(out);
         out.push(',');

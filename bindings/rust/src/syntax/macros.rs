@@ -1,4 +1,4 @@
-//! The macros that declare the types of the trees, each with its form.
+//! The macros that declare the types of the trees, each with what follows from its fields.
 
 /// Structs, whose form is an object of their fields in order.
 macro_rules! structs {
@@ -8,7 +8,7 @@ macro_rules! structs {
     })*) => {
     $(
         $(#[$doc])*
-        #[derive(Clone, Debug, PartialEq)]
+        #[derive(Clone, Debug, PartialEq, Eq, Hash)]
         pub struct $name {
             $(#[$first_note])*
             pub $first: $first_type,
@@ -16,7 +16,7 @@ macro_rules! structs {
         }
 
         impl Written for $name {
-            fn write(&self, out: &mut String) {
+            fn write<'t>(&'t self, out: &mut Writer<'t>) {
                 out.push_str(concat!("{\"", stringify!($first), "\":"));
                 self.$first.write(out);
                 $(
@@ -37,6 +37,39 @@ macro_rules! structs {
                 Ok($name { $first, $($field,)* })
             }
         }
+
+        impl Coded for $name {
+            fn code<'t>(&'t self, code: &mut Code<'t>) {
+                self.$first.code(code);
+                $(self.$field.code(code);)*
+            }
+
+            fn copied<'t>(&'t self, copies: &mut Copies<'t>) -> Self {
+                $name {
+                    $first: self.$first.copied(copies),
+                    $($field: self.$field.copied(copies),)*
+                }
+            }
+        }
+
+        impl Walk for $name {
+            fn walk<'t, V: Visit<'t> + ?Sized>(&'t self, visitor: &mut V) {
+                $(if_left!($field, self.$field.accept(visitor));)*
+                self.$first.accept(visitor);
+                $(unless_left!($field, self.$field.accept(visitor));)*
+            }
+
+            fn walk_mut<V: VisitMut + ?Sized>(&mut self, visitor: &mut V) {
+                $(if_left!($field, self.$field.accept_mut(visitor));)*
+                self.$first.accept_mut(visitor);
+                $(unless_left!($field, self.$field.accept_mut(visitor));)*
+            }
+        }
+
+        impl SyntaxNode for $name {
+            declared_ident!($first $($field)*);
+            own_attributes!($first);
+        }
     )*
     };
 }
@@ -48,13 +81,13 @@ macro_rules! enums {
     })*) => {
     $(
         $(#[$doc])*
-        #[derive(Clone, Debug, PartialEq)]
+        #[derive(Clone, Debug, PartialEq, Eq, Hash)]
         pub enum $name {
             $($(#[$note])* $variant $(($held))?,)*
         }
 
         impl Written for $name {
-            fn write(&self, out: &mut String) {
+            fn write<'t>(&'t self, out: &mut Writer<'t>) {
                 $(write_variant!(self, out, $name $variant $(($held))?);)*
             }
 
@@ -62,6 +95,43 @@ macro_rules! enums {
                 let (name, holds) = from.variant()?;
                 $(read_variant!(from, name, holds, $name $variant $(($held))?);)*
                 Err(FormError::Malformed)
+            }
+        }
+
+        impl Coded for $name {
+            fn code<'t>(&'t self, code: &mut Code<'t>) {
+                match self {$(
+                    $name::$variant $((either!(held, $held)))? => {
+                        code.text(stringify!($variant));
+                        $(either!(held.code(code), $held);)?
+                    }
+                )*}
+            }
+
+            fn copied<'t>(&'t self, copies: &mut Copies<'t>) -> Self {
+                match self {$(
+                    $name::$variant $((either!(held, $held)))? => {
+                        $name::$variant $((either!(held.copied(copies), $held)))?
+                    }
+                )*}
+            }
+        }
+
+        impl Walk for $name {
+            fn walk<'t, V: Visit<'t> + ?Sized>(&'t self, visitor: &mut V) {
+                match self {$(
+                    $name::$variant $((either!(held, $held)))? => {
+                        $(either!(held.accept(visitor), $held);)?
+                    }
+                )*}
+            }
+
+            fn walk_mut<V: VisitMut + ?Sized>(&mut self, visitor: &mut V) {
+                match self {$(
+                    $name::$variant $((either!(held, $held)))? => {
+                        $(either!(held.accept_mut(visitor), $held);)?
+                    }
+                )*}
             }
         }
     )*
@@ -107,4 +177,68 @@ macro_rules! read_variant {
             return Ok($name::$variant(held));
         }
     };
+}
+
+/// What is said of a variant that holds something: a pattern or an expression.
+macro_rules! either {
+    ($name:ident, $held:ty) => {
+        $name
+    };
+    ($said:expr, $held:ty) => {
+        $said
+    };
+}
+
+/// Does something for a field that is declared last and written first in a text.
+macro_rules! if_left {
+    (base, $done:expr) => {
+        $done
+    };
+    (left, $done:expr) => {
+        $done
+    };
+    ($other:ident, $done:expr) => {};
+}
+
+/// Does something for every other field.
+macro_rules! unless_left {
+    (base, $done:expr) => {};
+    (left, $done:expr) => {};
+    ($other:ident, $done:expr) => {
+        $done
+    };
+}
+
+/// The methods of [`SyntaxNode`] for a struct whose first field is its attributes.
+macro_rules! own_attributes {
+    (attributes) => {
+        fn attributes(&self) -> &[AttributeNode] {
+            &self.attributes
+        }
+
+        fn attributes_mut(&mut self) -> &mut [AttributeNode] {
+            &mut self.attributes
+        }
+
+        fn retain_attributes_mut<F>(&mut self, mut predicate: F)
+        where
+            F: FnMut(&mut Attribute) -> bool,
+        {
+            self.attributes.retain_mut(|node| predicate(node))
+        }
+    };
+    ($other:ident) => {};
+}
+
+/// The method of [`SyntaxNode`] for a declaration: a struct with attributes and a name.
+macro_rules! declared_ident {
+    (attributes ident $($field:ident)*) => {
+        fn ident(&self) -> Option<Ident> {
+            Some(self.ident.clone())
+        }
+    };
+    (attributes $other:ident $($field:ident)*) => {
+        declared_ident!(attributes $($field)*);
+    };
+    ($($field:ident)*) => {};
 }

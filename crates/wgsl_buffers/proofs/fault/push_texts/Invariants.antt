@@ -5,4 +5,5 @@ use Rattle.wgsl_buffers.proofs.fault.push_texts.Given as goal
 
 abbrev pub invariant-texts : goal.invariant-texts
 invariant-texts l =
-    string_bytes l.texts ≡ string_bytes l.initial.texts ++ flat_map nul_terminated (map string_bytes (take l.text-index l.more))
+    string_bytes l.texts
+    ≡ string_bytes l.initial.texts ++ flat_map nul_terminated (map string_bytes (take l.text-index l.more))

@@ -11,9 +11,16 @@ returns-then-room-count c =
     let text = c.args.text.now in
     let spans = c.in-Ok.templates.lists.spans.items in
     let are : ArePlaces (chars text) (lists_before spans (length text)) =
-    all_places text spans c.in-Some.ensures.1 (subst (λ s. AreLists (width (chars s)) spans (chars s)) c.in-Some.ensures.0 c.in-Ok.ensures.lists) in
+    all_places text spans c.in-Some.ensures.1
+    (subst (λ s. AreLists (width (chars s)) spans (chars s)) c.in-Some.ensures.0 c.in-Ok.ensures.lists) in
     record {
-      small = λ _. (lists_before spans (length text), are, c.fill-count.ensures.held, omega (arith, c.fill-count.ensures.count, c.if-room-count.true), c.of_size.ensures ∙ ap counted c.fill-count.ensures.count);
+      small = λ _. (
+        lists_before spans (length text),
+        are,
+        c.fill-count.ensures.held,
+        omega (arith, c.fill-count.ensures.count, c.if-room-count.true),
+        c.of_size.ensures ∙ ap counted c.fill-count.ensures.count,
+      );
       all = search rules;
       status = search rules;
       reads = search rules;
@@ -24,10 +31,18 @@ returns c =
     let text = c.args.text.now in
     let spans = c.in-Ok.templates.lists.spans.items in
     let are : ArePlaces (chars text) (lists_before spans (length text)) =
-    all_places text spans c.in-Some.ensures.1 (subst (λ s. AreLists (width (chars s)) spans (chars s)) c.in-Some.ensures.0 c.in-Ok.ensures.lists) in
-    let count : c.fill-count.result ≡ length (lists_before spans (length text)) = omega (arith, c.fill-count.ensures.count, c.if-room-count.false) in
+    all_places text spans c.in-Some.ensures.1
+    (subst (λ s. AreLists (width (chars s)) spans (chars s)) c.in-Some.ensures.0 c.in-Ok.ensures.lists) in
+    let count : c.fill-count.result ≡ length (lists_before spans (length text)) =
+    omega (arith, c.fill-count.ensures.count, c.if-room-count.false) in
     record {
-      all = λ _. (lists_before spans (length text), are, c.fill-count.ensures.held, omega (arith, count, c.if-room-count.false), c.of_size.ensures ∙ ap counted count);
+      all = λ _. (
+        lists_before spans (length text),
+        are,
+        c.fill-count.ensures.held,
+        omega (arith, count, c.if-room-count.false),
+        c.of_size.ensures ∙ ap counted count,
+      );
       small = search rules;
       status = search rules;
       reads = search rules;

@@ -1,0 +1,96 @@
+//! Prints modules, whose files are named, as one. Each may use what another declares. A name that
+//! an earlier module declares too gets a number at its end.
+
+use centrelilac::syntax::*;
+use centrelilac::visit::{Accept, Visit, VisitMut};
+use std::collections::{HashMap, HashSet};
+use std::process::ExitCode;
+
+/// All names of modules.
+#[derive(Default)]
+struct Names(HashSet<Ident>);
+
+impl<'t> Visit<'t> for Names {
+    fn visit_ident(&mut self, ident: &'t Ident) {
+        self.0.insert(ident.clone());
+    }
+}
+
+impl Names {
+    /// A new name: another one with a number at its end.
+    fn numbered(&self, name: &Ident) -> Ident {
+        let mut numbered = (2u64..).map(|number| Ident::new(format!("{name}_{number}")));
+        let found = numbered.find(|name| !self.0.contains(name));
+        found.expect("there are more numbers than names")
+    }
+}
+
+/// Renames what is declared and its uses, also where a function declares the name again.
+struct Rename(HashMap<Ident, Ident>);
+
+impl VisitMut for Rename {
+    fn visit_ident_mut(&mut self, ident: &mut Ident) {
+        if let Some(new) = self.0.get(ident) {
+            *ident = new.clone();
+        }
+    }
+
+    // members and components have names of their own
+
+    fn visit_struct_member_mut(&mut self, member: &mut StructMember) {
+        member.attributes.accept_mut(self);
+        member.ty.accept_mut(self);
+    }
+
+    fn visit_named_component_expression_mut(&mut self, node: &mut NamedComponentExpression) {
+        node.base.accept_mut(self);
+    }
+}
+
+/// The names that a module declares.
+fn declared(unit: &TranslationUnit) -> HashSet<Ident> {
+    let declarations = unit.global_declarations.iter();
+    declarations.filter_map(SyntaxNode::ident).collect()
+}
+
+/// Two modules as one.
+pub fn link(mut first: TranslationUnit, mut second: TranslationUnit) -> TranslationUnit {
+    let mut names = Names::default();
+    first.accept(&mut names);
+    second.accept(&mut names);
+    let (taken, new) = (declared(&first), declared(&second));
+    let clashes = taken.intersection(&new);
+    let renamed = clashes.map(|name| (name.clone(), names.numbered(name)));
+    second.accept_mut(&mut Rename(renamed.collect()));
+
+    for directive in second.global_directives {
+        if !first.global_directives.contains(&directive) {
+            first.global_directives.push(directive);
+        }
+    }
+    first.global_declarations.extend(second.global_declarations);
+    first
+}
+
+/// The module in a file.
+fn read(name: &str) -> Result<TranslationUnit, String> {
+    let text = std::fs::read_to_string(name).map_err(|error| format!("{name}: {error}"))?;
+    centrelilac::parse(&text).map_err(|fault| format!("{name}: {fault}"))
+}
+
+fn main() -> ExitCode {
+    let mut modules = std::env::args().skip(1).map(|name| read(&name));
+    let linked = modules.try_fold(TranslationUnit::new(), |linked, module| {
+        module.map(|module| link(linked, module))
+    });
+    match linked {
+        Ok(module) => {
+            print!("{module}");
+            ExitCode::SUCCESS
+        }
+        Err(message) => {
+            eprintln!("{message}");
+            ExitCode::FAILURE
+        }
+    }
+}

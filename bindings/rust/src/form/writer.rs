@@ -1,0 +1,113 @@
+//! A form that is written from its front, with the same stack however deep its tree is.
+
+use super::sealed::Written;
+use crate::nested::Inner;
+use crate::span::Span;
+use std::fmt::Write;
+use std::vec::IntoIter;
+
+/// How many expressions and statements are written inside one another. What nests deeper is
+/// written by itself, and put into the form at the end.
+const DEEPEST: usize = 32;
+
+/// A form that is being written.
+#[derive(Debug, Default)]
+pub struct Writer<'t> {
+    /// What is written.
+    pub form: String,
+    /// Whether each span is written as 0 to 0.
+    without_spans: bool,
+    /// How many expressions and statements are open.
+    depth: usize,
+    /// What is left out, and where.
+    later: Vec<(usize, Inner<'t>)>,
+}
+
+impl<'t> Writer<'t> {
+    /// A form in which each span is 0 to 0, for a call that does not depend on spans.
+    pub fn without_spans() -> Self {
+        Writer {
+            without_spans: true,
+            ..Writer::default()
+        }
+    }
+
+    /// Writes a text.
+    pub fn push_str(&mut self, text: &str) {
+        self.form.push_str(text);
+    }
+
+    /// Writes a character.
+    pub fn push(&mut self, character: char) {
+        self.form.push(character);
+    }
+
+    /// Writes a span.
+    pub fn span(&mut self, span: Span) {
+        if self.without_spans {
+            self.push_str("[0,0]");
+        } else {
+            let _ = write!(self.form, "[{},{}]", span.start, span.end);
+        }
+    }
+
+    /// Writes an expression or a statement, or notes that it is left out.
+    pub fn inner(&mut self, inner: Inner<'t>) {
+        if self.depth == DEEPEST {
+            self.later.push((self.form.len(), inner));
+            return;
+        }
+        self.depth += 1;
+        match inner {
+            Inner::Expression(expression) => expression.write(self),
+            Inner::Statement(statement) => statement.write(self),
+        }
+        self.depth -= 1;
+    }
+
+    /// The form with all that is left out.
+    pub fn finish(self) -> String {
+        if self.later.is_empty() {
+            return self.form;
+        }
+        let without_spans = self.without_spans;
+        let mut form = String::new();
+        let mut open = vec![Part::new(self)];
+        while let Some(part) = open.last_mut() {
+            match part.later.next() {
+                Some((at, inner)) => {
+                    form.push_str(&part.form[part.done..at]);
+                    part.done = at;
+                    let mut writer = Writer {
+                        without_spans,
+                        ..Writer::default()
+                    };
+                    writer.inner(inner);
+                    open.push(Part::new(writer));
+                }
+                None => {
+                    form.push_str(&part.form[part.done..]);
+                    open.pop();
+                }
+            }
+        }
+        form
+    }
+}
+
+/// A part of a form, of which a beginning is done.
+struct Part<'t> {
+    form: String,
+    done: usize,
+    later: IntoIter<(usize, Inner<'t>)>,
+}
+
+impl<'t> Part<'t> {
+    fn new(writer: Writer<'t>) -> Self {
+        Part {
+            form: writer.form,
+            done: 0,
+            later: writer.later.into_iter(),
+        }
+    }
+}

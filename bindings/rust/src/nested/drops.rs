@@ -1,0 +1,63 @@
+//! Dropping nodes.
+
+use std::any::Any;
+use std::cell::{Cell, RefCell};
+
+/// How many nodes may be dropped inside one another.
+const DEEPEST: usize = 64;
+
+thread_local! {
+    /// How many nodes are being dropped, each inside the one before.
+    static OPEN: Cell<usize> = const { Cell::new(0) };
+
+    /// The nodes inside these that are dropped after them.
+    static LATER: RefCell<Vec<Box<dyn Any>>> = const { RefCell::new(Vec::new()) };
+}
+
+/// A node that is being dropped.
+struct Opened;
+
+impl Opened {
+    fn new() -> Self {
+        OPEN.set(OPEN.get() + 1);
+        Opened
+    }
+}
+
+impl Drop for Opened {
+    fn drop(&mut self) {
+        OPEN.set(OPEN.get() - 1);
+    }
+}
+
+/// Drops a node, or puts it on the list if it is too deep inside nodes that are being dropped. The
+/// first of these empties the list.
+pub fn drop_node<T: 'static>(node: Box<T>) {
+    match OPEN.get() {
+        0 => {
+            drop_inside(node);
+            while let Some(node) = next_later() {
+                drop_inside(node);
+            }
+        }
+        DEEPEST => put_later(node),
+        _ => drop_inside(node),
+    }
+}
+
+/// Drops a node, while what is inside it counts as deeper.
+fn drop_inside<T: ?Sized>(node: Box<T>) {
+    let _opened = Opened::new();
+    drop(node);
+}
+
+/// Puts a node on the list. At the end of a thread there may be no list any more.
+fn put_later(node: Box<dyn Any>) {
+    let mut node = Some(node);
+    let _ = LATER.try_with(|later| later.borrow_mut().extend(node.take()));
+}
+
+/// Takes a node from the list.
+fn next_later() -> Option<Box<dyn Any>> {
+    LATER.try_with(|later| later.borrow_mut().pop()).ok()?
+}

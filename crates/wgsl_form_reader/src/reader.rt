@@ -1,0 +1,104 @@
+//! What of a form is still to be read.
+
+ghost use Rattle.std.specs.Prelude.{◌≡◌, ◌≤◌, ◌++◌, [], length, true, false, IfOk, OnOk};
+ghost use Rattle.wgsl_tree_code.specs.Code.{absent, boolean, pair_of, natural};
+ghost use Rattle.wgsl_form_reader.specs.Reading.{rest, IsRead};
+
+use crate::error::{FormError, FormErrorKind};
+use wgsl_span::Span;
+
+/// What of a form is still to be read.
+#[derive(Drop)]
+pub struct Reader<'t> {
+    pub(crate) rest: &'t str,
+    size: usize,
+}
+
+impl<'t> Reader<'t> {
+    pub fn new(text: &'t str) -> Self
+        ensures { rest result ≡ text.now }
+    {
+        Reader {
+            rest: text,
+            size: text.len(),
+        }
+    }
+
+    /// The byte of the form that is read next.
+    pub fn place(&self) -> usize {
+        self.size.saturating_sub(self.rest.len())
+    }
+
+    /// An error at what is read next.
+    pub fn error(&self, kind: FormErrorKind) -> FormError {
+        FormError {
+            kind,
+            place: self.place(),
+        }
+    }
+
+    /// Passes over a part that is next, and tells whether it is.
+    pub fn eat(&mut self, part: &'static str) -> bool
+        ensures eaten { result ≡ true → rest self.old ≡ part.now ++ rest self.new }
+        ensures kept { result ≡ false → rest self.new ≡ rest self.old }
+    {
+        match self.rest.strip_prefix(part) {
+            Some(rest) => {
+                self.rest = rest;
+                true
+            }
+            None => false,
+        }
+    }
+
+    /// Passes over a part that has to be next.
+    pub fn expect(&mut self, part: &'static str) -> Result<(), FormError>
+        ensures { OnOk result (rest self.old ≡ part.now ++ rest self.new) }
+    {
+        if self.eat(part) {
+            Ok(())
+        } else {
+            Err(self.error(FormErrorKind::Expected(part)))
+        }
+    }
+
+    /// That nothing is left.
+    pub fn end(&self) -> Result<(), FormError>
+        ensures { OnOk result (rest self.now ≡ []) }
+    {
+        if self.rest.is_empty() {
+            Ok(())
+        } else {
+            Err(self.error(FormErrorKind::Trailing))
+        }
+    }
+
+    pub fn read_boolean(&mut self) -> Result<bool, FormError>
+        ensures { IfOk result (λ b. IsRead (boolean b) self.old self.new) }
+    {
+        if self.eat("true") {
+            return Ok(true);
+        }
+        if self.eat("false") {
+            return Ok(false);
+        }
+        Err(self.error(FormErrorKind::Expected("`true` or `false`")))
+    }
+
+    /// Reads a span, which ends where it starts or later.
+    pub fn read_span(&mut self) -> Result<Span, FormError>
+        ensures read { IfOk result (λ span. IsRead (pair_of (natural span.start) (natural span.end))
+            self.old self.new) }
+        ensures ordered { IfOk result (λ span. span.start ≤ span.end) }
+    {
+        self.expect("[")?;
+        let start = self.read_usize()?;
+        self.expect(",")?;
+        let end = self.read_usize()?;
+        self.expect("]")?;
+        if end < start {
+            return Err(self.error(FormErrorKind::SpanOrder));
+        }
+        Ok(Span { start, end })
+    }
+}

@@ -1,0 +1,7 @@
+pub mod ExpressionLists
+pub mod Lists
+pub mod Openings
+pub mod Readings
+pub mod Rows
+pub mod Statements
+pub mod Views

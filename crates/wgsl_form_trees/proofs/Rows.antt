@@ -1,0 +1,56 @@
+-- Nodes that are read field by field.
+use Rattle.std.proofs.Common.{ℕ, ◌≡◌, sym, ap, ◌∙◌, List, ◌++◌, append_assoc, codes}
+use Rattle.wgsl_tree_code.specs.Code.{Code, node, Fields, no_fields, field}
+use Rattle.wgsl_tree_code.specs.Form.{form, quoted, fields_form, further_fields}
+
+-- the fields of a node were read, and the fields after others
+pub record AreRead (fs : Fields) (before after : List ℕ) : Type 0 where
+  pub read : before ≡ codes "{" ++ (fields_form fs ++ after)
+
+pub record MoreRead (fs : Fields) (before after : List ℕ) : Type 0 where
+  pub read : before ≡ further_fields fs ++ after
+
+-- a field and what follows it
+regroup : (start label value more after : List ℕ) →
+    (start ++ label) ++ (value ++ (more ++ after)) ≡ start ++ (((label ++ value) ++ more) ++ after)
+regroup start label value more after = simp append_assoc
+
+field_read : (start label value more : List ℕ) {before inside between : List ℕ} (after : List ℕ) →
+    before ≡ (start ++ label) ++ inside → inside ≡ value ++ between → between ≡ more ++ after →
+    before ≡ start ++ (((label ++ value) ++ more) ++ after)
+field_read start label value more after e f g =
+    e ∙ ap (λ u. (start ++ label) ++ u) (f ∙ ap (λ u. value ++ u) g)
+    ∙ regroup start label value more after
+
+pub first : {name : List ℕ} {value : Code} {fs : Fields} {before inside between after : List ℕ} →
+    before ≡ (codes "{" ++ (quoted name ++ codes ":")) ++ inside →
+    inside ≡ form value ++ between → MoreRead fs between after →
+    AreRead (field name value fs) before after
+first {name = name} {value = value} {fs = fs} e f more =
+    record {
+      read = field_read (codes "{") (quoted name ++ codes ":") (form value)
+          (further_fields fs) _ e f more.read;
+    }
+
+pub next : {name : List ℕ} {value : Code} {fs : Fields} {before inside between after : List ℕ} →
+    before ≡ (codes "," ++ (quoted name ++ codes ":")) ++ inside →
+    inside ≡ form value ++ between → MoreRead fs between after →
+    MoreRead (field name value fs) before after
+next {name = name} {value = value} {fs = fs} e f more =
+    record {
+      read = field_read (codes ",") (quoted name ++ codes ":") (form value)
+          (further_fields fs) _ e f more.read;
+    }
+
+pub last : {before after : List ℕ} → before ≡ codes "}" ++ after → MoreRead no_fields before after
+last e = record { read = e }
+
+-- a node by its fields
+pub node_read : {c : Code} {fs : Fields} {before after : List ℕ} → c ≡ node fs →
+    AreRead fs before after → before ≡ form c ++ after
+node_read {after = after} same fields = fields.read ∙ ap (λ u. form u ++ after) (sym same)
+
+-- the form of a code by another that is the same
+pub read_as : {one two : Code} {before : List ℕ} (after : List ℕ) → one ≡ two →
+    before ≡ form two ++ after → before ≡ form one ++ after
+read_as after e read = read ∙ ap (λ c. form c ++ after) (sym e)

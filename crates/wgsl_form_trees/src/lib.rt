@@ -1,0 +1,17 @@
+//! Trees read from their text forms (docs/TREE.md), each exactly as its form is written.
+#![tactic(auto)]
+
+mod attribute_nodes;
+mod chain;
+mod expression;
+mod literal_nodes;
+mod number;
+mod opening;
+mod simple_nodes;
+mod statement_nodes;
+mod text;
+mod traits;
+mod unit_nodes;
+mod word_nodes;
+
+pub use traits::{FromForm, from_form};

@@ -1,0 +1,550 @@
+//! Written by tools/statement_readers.py from crates/wgsl_model/nodes: statements.
+
+ghost use Rattle.wgsl_model.specs.Trees.Statements as plain;
+ghost use Rattle.std.specs.Prelude.{IfOk, map};
+ghost use Rattle.std.specs.Option.{option_map};
+ghost use Rattle.wgsl_model.specs.Trees.Statements.{clauses_of, continuing_of, else_ifs_of, else_of, maybe_statement};
+ghost use Rattle.wgsl_tree_code.specs.Code.{attributed_code, list};
+ghost use Rattle.wgsl_tree_code.specs.StatementNodes.{clauses_code, compound_code, continuing_code, else_clause_code, else_code, else_if_clause_code, else_ifs_code, for_code, if_clause_code, if_code, loop_code, maybe_continuing_code, part_code, statement_code, statement_node_code, statements_code, switch_clause_code, switch_code, while_code};
+ghost use Rattle.wgsl_tree_statement.specs.View.{compound_statement_view, continuing_statement_view, else_clause_view, else_if_clause_view, for_statement_view, if_clause_view, if_statement_view, loop_statement_view, statement_node_view, statement_nodes_view, statement_view, switch_clause_view, switch_statement_view, while_statement_view};
+ghost use Rattle.wgsl_form_reader.specs.Reading.{IsRead};
+
+use crate::traits::FromForm;
+use std::alloc::Global;
+use wgsl_form_reader::{FormError, FormErrorKind, Reader};
+use wgsl_span::Spanned;
+use wgsl_tree_attribute::Attributes;
+use wgsl_tree_expression::ExpressionNode;
+use wgsl_tree_simple::{
+    AssignmentStatement, BreakStatement, ConstAssert, ContinueStatement, Declaration,
+    DecrementStatement, DiscardStatement, FunctionCallStatement, IncrementStatement,
+    ReturnStatement,
+};
+use wgsl_tree_statement::{
+    CompoundStatement, ContinuingStatement, ElseClause, ElseIfClause, ForStatement, IfClause,
+    IfStatement, LoopStatement, Statement, StatementNode, SwitchClause, SwitchStatement,
+    WhileStatement,
+};
+
+impl FromForm for Statement {
+    ghost Plain = { plain.Statement };
+
+    ghost view = { statement_view };
+
+    ghost code = { statement_code };
+
+    fn read_form(alloc: Global, reader: &mut Reader) -> Result<Self, FormError> {
+        read_statement(alloc, reader)
+    }
+}
+
+impl FromForm for CompoundStatement {
+    ghost Plain = { plain.CompoundStatement };
+
+    ghost view = { compound_statement_view };
+
+    ghost code = { compound_code };
+
+    fn read_form(alloc: Global, reader: &mut Reader) -> Result<Self, FormError> {
+        read_compound_statement(alloc, reader)
+    }
+}
+
+impl FromForm for IfClause {
+    ghost Plain = { plain.IfClause };
+
+    ghost view = { if_clause_view };
+
+    ghost code = { if_clause_code };
+
+    fn read_form(alloc: Global, reader: &mut Reader) -> Result<Self, FormError> {
+        read_if_clause(alloc, reader)
+    }
+}
+
+impl FromForm for ElseIfClause {
+    ghost Plain = { plain.ElseIfClause };
+
+    ghost view = { else_if_clause_view };
+
+    ghost code = { else_if_clause_code };
+
+    fn read_form(alloc: Global, reader: &mut Reader) -> Result<Self, FormError> {
+        read_else_if_clause(alloc, reader)
+    }
+}
+
+impl FromForm for ElseClause {
+    ghost Plain = { plain.ElseClause };
+
+    ghost view = { else_clause_view };
+
+    ghost code = { else_clause_code };
+
+    fn read_form(alloc: Global, reader: &mut Reader) -> Result<Self, FormError> {
+        read_else_clause(alloc, reader)
+    }
+}
+
+impl FromForm for SwitchClause {
+    ghost Plain = { plain.SwitchClause };
+
+    ghost view = { switch_clause_view };
+
+    ghost code = { switch_clause_code };
+
+    fn read_form(alloc: Global, reader: &mut Reader) -> Result<Self, FormError> {
+        read_switch_clause(alloc, reader)
+    }
+}
+
+impl FromForm for ContinuingStatement {
+    ghost Plain = { plain.ContinuingStatement };
+
+    ghost view = { continuing_statement_view };
+
+    ghost code = { continuing_code };
+
+    fn read_form(alloc: Global, reader: &mut Reader) -> Result<Self, FormError> {
+        read_continuing_statement(alloc, reader)
+    }
+}
+
+fn read_simple_statement(alloc: Global, reader: &mut Reader) -> Result<Statement, FormError>
+    ensures { IfOk result (λ node. IsRead
+        (statement_code (statement_view node))
+        reader.old reader.new) }
+{
+    if reader.eat("\"Void\"") {
+        return Ok(Statement::Void);
+    }
+    if reader.eat("{\"Assignment\":") {
+        let inner = AssignmentStatement::read_form(alloc, reader)?;
+        reader.expect("}")?;
+        return Ok(Statement::Assignment(inner));
+    }
+    if reader.eat("{\"Increment\":") {
+        let inner = IncrementStatement::read_form(alloc, reader)?;
+        reader.expect("}")?;
+        return Ok(Statement::Increment(inner));
+    }
+    if reader.eat("{\"Decrement\":") {
+        let inner = DecrementStatement::read_form(alloc, reader)?;
+        reader.expect("}")?;
+        return Ok(Statement::Decrement(inner));
+    }
+    if reader.eat("{\"Break\":") {
+        let inner = BreakStatement::read_form(alloc, reader)?;
+        reader.expect("}")?;
+        return Ok(Statement::Break(inner));
+    }
+    if reader.eat("{\"Continue\":") {
+        let inner = ContinueStatement::read_form(alloc, reader)?;
+        reader.expect("}")?;
+        return Ok(Statement::Continue(inner));
+    }
+    if reader.eat("{\"Return\":") {
+        let inner = ReturnStatement::read_form(alloc, reader)?;
+        reader.expect("}")?;
+        return Ok(Statement::Return(inner));
+    }
+    if reader.eat("{\"Discard\":") {
+        let inner = DiscardStatement::read_form(alloc, reader)?;
+        reader.expect("}")?;
+        return Ok(Statement::Discard(inner));
+    }
+    if reader.eat("{\"FunctionCall\":") {
+        let inner = FunctionCallStatement::read_form(alloc, reader)?;
+        reader.expect("}")?;
+        return Ok(Statement::FunctionCall(inner));
+    }
+    if reader.eat("{\"ConstAssert\":") {
+        let inner = ConstAssert::read_form(alloc, reader)?;
+        reader.expect("}")?;
+        return Ok(Statement::ConstAssert(inner));
+    }
+    if reader.eat("{\"Declaration\":") {
+        let inner = Declaration::read_form(alloc, reader)?;
+        reader.expect("}")?;
+        return Ok(Statement::Declaration(inner));
+    }
+    Err(reader.error(FormErrorKind::Expected("a statement")))
+}
+
+#[cycle(statements)]
+fn read_statement(alloc: Global, reader: &mut Reader) -> Result<Statement, FormError>
+    ensures { IfOk result (λ node. IsRead
+        (statement_code (statement_view node))
+        reader.old reader.new) }
+{
+    if reader.eat("{\"Compound\":") {
+        let inner = read_compound_statement(alloc, reader)?;
+        reader.expect("}")?;
+        return Ok(Statement::Compound(inner));
+    }
+    if reader.eat("{\"If\":") {
+        let inner = read_if_statement(alloc, reader)?;
+        reader.expect("}")?;
+        return Ok(Statement::If(inner));
+    }
+    if reader.eat("{\"Switch\":") {
+        let inner = read_switch_statement(alloc, reader)?;
+        reader.expect("}")?;
+        return Ok(Statement::Switch(inner));
+    }
+    if reader.eat("{\"Loop\":") {
+        let inner = read_loop_statement(alloc, reader)?;
+        reader.expect("}")?;
+        return Ok(Statement::Loop(inner));
+    }
+    if reader.eat("{\"For\":") {
+        let inner = read_for_statement(alloc, reader)?;
+        reader.expect("}")?;
+        return Ok(Statement::For(inner));
+    }
+    if reader.eat("{\"While\":") {
+        let inner = read_while_statement(alloc, reader)?;
+        reader.expect("}")?;
+        return Ok(Statement::While(inner));
+    }
+    read_simple_statement(alloc, reader)
+}
+
+#[cycle(statements)]
+fn read_statement_node(alloc: Global, reader: &mut Reader) -> Result<StatementNode, FormError>
+    ensures { IfOk result (λ node. IsRead
+        (statement_node_code (statement_node_view node))
+        reader.old reader.new) }
+{
+    reader.expect("{\"span\":")?;
+    let span = reader.read_span()?;
+    reader.expect(",\"node\":")?;
+    let node = read_statement(alloc, reader)?;
+    reader.expect("}")?;
+    Ok(Spanned::new(alloc, node, span)?)
+}
+
+#[cycle(statements)]
+fn read_compound_statement(
+    alloc: Global,
+    reader: &mut Reader,
+) -> Result<CompoundStatement, FormError>
+    ensures { IfOk result (λ node. IsRead
+        (compound_code (compound_statement_view node))
+        reader.old reader.new) }
+{
+    reader.expect("{\"attributes\":")?;
+    let attributes = Attributes::read_form(alloc, reader)?;
+    reader.expect(",\"statements\":")?;
+    let statements = read_statement_nodes(alloc, reader)?;
+    reader.expect("}")?;
+    Ok(CompoundStatement {
+        attributes,
+        statements,
+    })
+}
+
+#[cycle(statements)]
+fn read_if_statement(alloc: Global, reader: &mut Reader) -> Result<IfStatement, FormError>
+    ensures { IfOk result (λ node. IsRead
+        (attributed_code if_code (if_statement_view node))
+        reader.old reader.new) }
+{
+    reader.expect("{\"attributes\":")?;
+    let attributes = Attributes::read_form(alloc, reader)?;
+    reader.expect(",\"if_clause\":")?;
+    let if_clause = read_if_clause(alloc, reader)?;
+    reader.expect(",\"else_if_clauses\":")?;
+    let else_if_clauses = read_else_if_clauses(alloc, reader)?;
+    reader.expect(",\"else_clause\":")?;
+    let else_clause = read_optional_else_clause(alloc, reader)?;
+    reader.expect("}")?;
+    Ok(IfStatement {
+        attributes,
+        if_clause,
+        else_if_clauses,
+        else_clause,
+    })
+}
+
+#[cycle(statements)]
+fn read_if_clause(alloc: Global, reader: &mut Reader) -> Result<IfClause, FormError>
+    ensures { IfOk result (λ node. IsRead
+        (if_clause_code (if_clause_view node))
+        reader.old reader.new) }
+{
+    reader.expect("{\"expression\":")?;
+    let expression = ExpressionNode::read_form(alloc, reader)?;
+    reader.expect(",\"body\":")?;
+    let body = read_compound_statement(alloc, reader)?;
+    reader.expect("}")?;
+    Ok(IfClause { expression, body })
+}
+
+#[cycle(statements)]
+fn read_else_if_clause(alloc: Global, reader: &mut Reader) -> Result<ElseIfClause, FormError>
+    ensures { IfOk result (λ node. IsRead
+        (else_if_clause_code (else_if_clause_view node))
+        reader.old reader.new) }
+{
+    reader.expect("{\"attributes\":")?;
+    let attributes = Attributes::read_form(alloc, reader)?;
+    reader.expect(",\"expression\":")?;
+    let expression = ExpressionNode::read_form(alloc, reader)?;
+    reader.expect(",\"body\":")?;
+    let body = read_compound_statement(alloc, reader)?;
+    reader.expect("}")?;
+    Ok(ElseIfClause {
+        attributes,
+        expression,
+        body,
+    })
+}
+
+#[cycle(statements)]
+fn read_else_clause(alloc: Global, reader: &mut Reader) -> Result<ElseClause, FormError>
+    ensures { IfOk result (λ node. IsRead
+        (else_clause_code (else_clause_view node))
+        reader.old reader.new) }
+{
+    reader.expect("{\"attributes\":")?;
+    let attributes = Attributes::read_form(alloc, reader)?;
+    reader.expect(",\"body\":")?;
+    let body = read_compound_statement(alloc, reader)?;
+    reader.expect("}")?;
+    Ok(ElseClause { attributes, body })
+}
+
+#[cycle(statements)]
+fn read_switch_statement(alloc: Global, reader: &mut Reader) -> Result<SwitchStatement, FormError>
+    ensures { IfOk result (λ node. IsRead
+        (attributed_code switch_code (switch_statement_view node))
+        reader.old reader.new) }
+{
+    reader.expect("{\"attributes\":")?;
+    let attributes = Attributes::read_form(alloc, reader)?;
+    reader.expect(",\"expression\":")?;
+    let expression = ExpressionNode::read_form(alloc, reader)?;
+    reader.expect(",\"body_attributes\":")?;
+    let body_attributes = Attributes::read_form(alloc, reader)?;
+    reader.expect(",\"clauses\":")?;
+    let clauses = read_switch_clauses(alloc, reader)?;
+    reader.expect("}")?;
+    Ok(SwitchStatement {
+        attributes,
+        expression,
+        body_attributes,
+        clauses,
+    })
+}
+
+#[cycle(statements)]
+fn read_switch_clause(alloc: Global, reader: &mut Reader) -> Result<SwitchClause, FormError>
+    ensures { IfOk result (λ node. IsRead
+        (switch_clause_code (switch_clause_view node))
+        reader.old reader.new) }
+{
+    reader.expect("{\"attributes\":")?;
+    let attributes = Attributes::read_form(alloc, reader)?;
+    reader.expect(",\"case_selectors\":")?;
+    let case_selectors = Vec::read_form(alloc, reader)?;
+    reader.expect(",\"body\":")?;
+    let body = read_compound_statement(alloc, reader)?;
+    reader.expect("}")?;
+    Ok(SwitchClause {
+        attributes,
+        case_selectors,
+        body,
+    })
+}
+
+#[cycle(statements)]
+fn read_loop_statement(alloc: Global, reader: &mut Reader) -> Result<LoopStatement, FormError>
+    ensures { IfOk result (λ node. IsRead
+        (attributed_code loop_code (loop_statement_view node))
+        reader.old reader.new) }
+{
+    reader.expect("{\"attributes\":")?;
+    let attributes = Attributes::read_form(alloc, reader)?;
+    reader.expect(",\"body\":")?;
+    let body = read_compound_statement(alloc, reader)?;
+    reader.expect(",\"continuing\":")?;
+    let continuing = read_optional_continuing_statement(alloc, reader)?;
+    reader.expect("}")?;
+    Ok(LoopStatement {
+        attributes,
+        body,
+        continuing,
+    })
+}
+
+#[cycle(statements)]
+fn read_for_statement(alloc: Global, reader: &mut Reader) -> Result<ForStatement, FormError>
+    ensures { IfOk result (λ node. IsRead
+        (attributed_code for_code (for_statement_view node))
+        reader.old reader.new) }
+{
+    reader.expect("{\"attributes\":")?;
+    let attributes = Attributes::read_form(alloc, reader)?;
+    reader.expect(",\"initializer\":")?;
+    let initializer = read_optional_statement_node(alloc, reader)?;
+    reader.expect(",\"condition\":")?;
+    let condition = Option::read_form(alloc, reader)?;
+    reader.expect(",\"update\":")?;
+    let update = read_optional_statement_node(alloc, reader)?;
+    reader.expect(",\"body\":")?;
+    let body = read_compound_statement(alloc, reader)?;
+    reader.expect("}")?;
+    Ok(ForStatement {
+        attributes,
+        initializer,
+        condition,
+        update,
+        body,
+    })
+}
+
+#[cycle(statements)]
+fn read_while_statement(alloc: Global, reader: &mut Reader) -> Result<WhileStatement, FormError>
+    ensures { IfOk result (λ node. IsRead
+        (attributed_code while_code (while_statement_view node))
+        reader.old reader.new) }
+{
+    reader.expect("{\"attributes\":")?;
+    let attributes = Attributes::read_form(alloc, reader)?;
+    reader.expect(",\"condition\":")?;
+    let condition = ExpressionNode::read_form(alloc, reader)?;
+    reader.expect(",\"body\":")?;
+    let body = read_compound_statement(alloc, reader)?;
+    reader.expect("}")?;
+    Ok(WhileStatement {
+        attributes,
+        condition,
+        body,
+    })
+}
+
+#[cycle(statements)]
+fn read_continuing_statement(
+    alloc: Global,
+    reader: &mut Reader,
+) -> Result<ContinuingStatement, FormError>
+    ensures { IfOk result (λ node. IsRead
+        (continuing_code (continuing_statement_view node))
+        reader.old reader.new) }
+{
+    reader.expect("{\"attributes\":")?;
+    let attributes = Attributes::read_form(alloc, reader)?;
+    reader.expect(",\"body\":")?;
+    let body = read_compound_statement(alloc, reader)?;
+    reader.expect(",\"break_if\":")?;
+    let break_if = Option::read_form(alloc, reader)?;
+    reader.expect("}")?;
+    Ok(ContinuingStatement {
+        attributes,
+        body,
+        break_if,
+    })
+}
+
+#[cycle(statements)]
+fn read_statement_nodes(alloc: Global, reader: &mut Reader) -> Result<Vec<StatementNode>, FormError>
+    ensures { IfOk result (λ nodes. IsRead
+        (list (statements_code (statement_nodes_view nodes.items)))
+        reader.old reader.new) }
+{
+    reader.expect("[")?;
+    let mut nodes = Vec::new(alloc);
+    if reader.eat("]") {
+        return Ok(nodes);
+    }
+    nodes.push(read_statement_node(alloc, reader)?)?;
+    'nodes: while reader.eat(",") {
+        nodes.push(read_statement_node(alloc, reader)?)?;
+    }
+    reader.expect("]")?;
+    Ok(nodes)
+}
+
+#[cycle(statements)]
+fn read_else_if_clauses(alloc: Global, reader: &mut Reader) -> Result<Vec<ElseIfClause>, FormError>
+    ensures { IfOk result (λ nodes. IsRead
+        (list (else_ifs_code (else_ifs_of (map else_if_clause_view nodes.items))))
+        reader.old reader.new) }
+{
+    reader.expect("[")?;
+    let mut nodes = Vec::new(alloc);
+    if reader.eat("]") {
+        return Ok(nodes);
+    }
+    nodes.push(read_else_if_clause(alloc, reader)?)?;
+    'nodes: while reader.eat(",") {
+        nodes.push(read_else_if_clause(alloc, reader)?)?;
+    }
+    reader.expect("]")?;
+    Ok(nodes)
+}
+
+#[cycle(statements)]
+fn read_switch_clauses(alloc: Global, reader: &mut Reader) -> Result<Vec<SwitchClause>, FormError>
+    ensures { IfOk result (λ nodes. IsRead
+        (list (clauses_code (clauses_of (map switch_clause_view nodes.items))))
+        reader.old reader.new) }
+{
+    reader.expect("[")?;
+    let mut nodes = Vec::new(alloc);
+    if reader.eat("]") {
+        return Ok(nodes);
+    }
+    nodes.push(read_switch_clause(alloc, reader)?)?;
+    'nodes: while reader.eat(",") {
+        nodes.push(read_switch_clause(alloc, reader)?)?;
+    }
+    reader.expect("]")?;
+    Ok(nodes)
+}
+
+#[cycle(statements)]
+fn read_optional_statement_node(
+    alloc: Global,
+    reader: &mut Reader,
+) -> Result<Option<StatementNode>, FormError>
+    ensures { IfOk result (λ part. IsRead
+        (part_code (maybe_statement (option_map statement_node_view part)))
+        reader.old reader.new) }
+{
+    if reader.eat("null") {
+        return Ok(None);
+    }
+    Ok(Some(read_statement_node(alloc, reader)?))
+}
+
+#[cycle(statements)]
+fn read_optional_else_clause(
+    alloc: Global,
+    reader: &mut Reader,
+) -> Result<Option<ElseClause>, FormError>
+    ensures { IfOk result (λ part. IsRead
+        (else_code (else_of (option_map else_clause_view part)))
+        reader.old reader.new) }
+{
+    if reader.eat("null") {
+        return Ok(None);
+    }
+    Ok(Some(read_else_clause(alloc, reader)?))
+}
+
+#[cycle(statements)]
+fn read_optional_continuing_statement(
+    alloc: Global,
+    reader: &mut Reader,
+) -> Result<Option<ContinuingStatement>, FormError>
+    ensures { IfOk result (λ part. IsRead
+        (maybe_continuing_code (continuing_of (option_map continuing_statement_view part)))
+        reader.old reader.new) }
+{
+    if reader.eat("null") {
+        return Ok(None);
+    }
+    Ok(Some(read_continuing_statement(alloc, reader)?))
+}
