@@ -3,15 +3,19 @@
 PREFIX = /usr/local
 bin = $(DESTDIR)$(PREFIX)/bin
 man = $(DESTDIR)$(PREFIX)/share/man/man1
+headers = $(DESTDIR)$(PREFIX)/include
+libraries = $(DESTDIR)$(PREFIX)/lib
 
-.PHONY: help demo build lib tables test install uninstall clean
+.PHONY: help demo build lib tables test install uninstall dist clean
 
 help:
 	@echo "make demo       lays a shader out with wgsltidy and prints it with wgslfmt, without any proof"
 	@echo "make build      proves wgsltidy, wgslfmt and what they stand on, and leaves them in build/"
 	@echo "make lib        proves the library for C and Rust, and leaves it at build/libwgsl.a"
-	@echo "make install    puts the two and their man pages below PREFIX, which is $(PREFIX)"
+	@echo "make install    puts the two, their man pages, and the library if it is built, below PREFIX,"
+	@echo "                which is $(PREFIX)"
 	@echo "make uninstall  removes them"
+	@echo "make dist       packs what is built into an archive in build/ that needs no prover"
 	@echo "make tables     writes again what tools write from the definitions"
 	@echo "make test       runs everything: proofs, edits that must be refused, tests, programs"
 	@echo "make clean      removes build/ and what rt keeps in crates/*/out"
@@ -34,19 +38,24 @@ tables:
 	@tools/make_tables
 
 # The quotes in README.md, docs/USE.md and CALLING.md have to be in the sources; the documents have
-# to use the words of the dictionary; what tools write has to be up to date, and the table of nodes
-# to have the types of the library; each wrong body has to be one that can be applied; each crate
-# has to pass rt ci, and each wrong body has to be refused; each shader of examples/ has to print as
-# its file in examples/printed/, and that file as itself; the built programs are run on made texts
-# and on deep nests, and wgsltidy on its rows and on real files; each allocation of each call, of
-# both programs as filters and of wgsltidy over files fails in turn; the rows are run over the
-# library and the programs; and the library is called from C, and from Rust if there is cargo.
-# ANEW=--anew takes nothing from earlier runs.
+# to use the words of the dictionary, and each file the version of VERSION; each file of a crate has
+# to be in the layout of rt fmt, and no line of a definition or a proof may be too long; what tools
+# write has to be up to date, and the table of nodes to have the types of the library; each wrong
+# body has to be one that can be applied; each crate has to pass rt ci, and each wrong body has to
+# be refused; each shader of examples/ has to print as its file in examples/printed/, and that file
+# as itself; the built programs are run on made texts and on deep nests, and wgsltidy on its rows
+# and on real files; each allocation of each call, of both programs as filters and of wgsltidy over
+# files fails in turn; the rows are run over the library and the programs; the library is called
+# from C, and from Rust if there is cargo; and the archive of `make dist` is made twice, unpacked,
+# and used without the kit. ANEW=--anew takes nothing from earlier runs.
 test:
 	@test "$$(cat HANDLES)" = "Handles allowed: none." \
 	    || { echo "Failed: the file HANDLES."; exit 1; }
 	@tools/snippets || { echo "Failed: tools/snippets, as the lines above say."; exit 1; }
 	@tools/words || { echo "Failed: tools/words, as the lines above say."; exit 1; }
+	@tools/versions || { echo "Failed: tools/versions, as the lines above say."; exit 1; }
+	@tools/layout || { echo "Failed: tools/layout, as the lines above say."; exit 1; }
+	@tools/lines --check || { echo "Failed: run \`tools/lines\`."; exit 1; }
 	@tools/make_tables --check || { echo "Failed: run \`make tables\`."; exit 1; }
 	@tools/edits_apply || { echo "Failed: tools/edits_apply, as the lines above say."; exit 1; }
 	@tools/prove_all $(ANEW) || { echo "Failed: rt ci, as the lines above say."; exit 1; }
@@ -67,6 +76,8 @@ test:
 	@tools/build lib || { echo "Failed: tools/build lib, as above."; exit 1; }
 	@tools/rows || { echo "Failed: tools/rows, as the lines above say."; exit 1; }
 	@tools/library_tests || { echo "Failed: tools/library_tests, as above."; exit 1; }
+	@tools/build || { echo "Failed: tools/build, as above."; exit 1; }
+	@tools/dist_test || { echo "Failed: tools/dist_test, as above."; exit 1; }
 	@echo "All passed."
 
 install:
@@ -80,9 +91,20 @@ install:
 	        && install -m 644 man/$$program.1 "$(man)/$$program.1" || exit 1; \
 	    echo "Installed $(bin)/$$program and $(man)/$$program.1."; \
 	done
+	@if test -f build/libwgsl.a; then \
+	    install -d "$(headers)" "$(libraries)/pkgconfig" \
+	        && install -m 644 include/wgsl.h "$(headers)/wgsl.h" \
+	        && install -m 644 build/libwgsl.a "$(libraries)/libwgsl.a" \
+	        && install -m 644 include/wgsl.pc "$(libraries)/pkgconfig/wgsl.pc" || exit 1; \
+	    echo "Installed $(libraries)/libwgsl.a, $(headers)/wgsl.h and $(libraries)/pkgconfig/wgsl.pc."; \
+	fi
 
 uninstall:
 	@rm -f "$(bin)/wgsltidy" "$(man)/wgsltidy.1" "$(bin)/wgslfmt" "$(man)/wgslfmt.1"
+	@rm -f "$(headers)/wgsl.h" "$(libraries)/libwgsl.a" "$(libraries)/pkgconfig/wgsl.pc"
+
+dist:
+	@tools/dist
 
 clean:
 	@rm -rf build crates/*/out
