@@ -6,7 +6,7 @@ man = $(DESTDIR)$(PREFIX)/share/man/man1
 headers = $(DESTDIR)$(PREFIX)/include
 libraries = $(DESTDIR)$(PREFIX)/lib
 
-.PHONY: help demo build lib tables test install uninstall dist clean
+.PHONY: help demo build lib tables test programs install uninstall dist clean
 
 help:
 	@echo "make demo       lays a shader out with wgsltidy and prints it with wgslfmt, without any proof"
@@ -42,12 +42,13 @@ tables:
 # to be in the layout of rt fmt, and no line of a definition or a proof may be too long; what tools
 # write has to be up to date, and the table of nodes to have the types of the library; each wrong
 # body has to be one that can be applied; each crate has to pass rt ci, and each wrong body has to
-# be refused; each shader of examples/ has to print as its file in examples/printed/, and that file
-# as itself; the built programs are run on made texts and on deep nests, and wgsltidy on its rows
-# and on real files; each allocation of each call, of both programs as filters and of wgsltidy over
-# files fails in turn; the rows are run over the library and the programs; the library is called
-# from C, and from Rust if there is cargo; and the archive of `make dist` is made twice, unpacked,
-# and used without the kit. ANEW=--anew takes nothing from earlier runs.
+# be refused. Beside the last of the wrong bodies, make programs runs: each shader of examples/ has
+# to print as its file in examples/printed/, and that file as itself; the crates that hold tests
+# alone are run; so are the built programs, on made texts and on deep nests, and wgsltidy on its
+# rows and on real files; each allocation of each call, of both programs as filters and of wgsltidy
+# over files fails in turn; the rows are run over the library and the programs; the library is
+# called from C, and from Rust if there is cargo; and the archive of `make dist` is made twice,
+# unpacked, and used without the kit. ANEW=--anew takes nothing from earlier runs.
 test:
 	@test "$$(cat HANDLES)" = "Handles allowed: none." \
 	    || { echo "Failed: the file HANDLES."; exit 1; }
@@ -58,12 +59,16 @@ test:
 	@tools/lines --check || { echo "Failed: run \`tools/lines\`."; exit 1; }
 	@tools/make_tables --check || { echo "Failed: run \`make tables\`."; exit 1; }
 	@tools/edits_apply || { echo "Failed: tools/edits_apply, as the lines above say."; exit 1; }
-	@tools/prove_all $(ANEW) || { echo "Failed: rt ci, as the lines above say."; exit 1; }
-	@tools/edits $(ANEW) || { echo "Failed: tools/edits, as the lines above say."; exit 1; }
+	@tools/prove_all $(ANEW) || { echo "Failed: tools/prove_all, as above."; exit 1; }
+	@echo "All passed."
+
+# The tests of make test that need no prover, but for the static library, over what it proved.
+programs:
 	@cd examples && for shader in *.wgsl printed/*.wgsl; do \
 	    ../crates/wgslfmt/out/wgslfmt < $$shader | cmp - printed/$${shader##*/} \
 	        || { echo "Failed: the print of examples/$$shader."; exit 1; }; \
 	done
+	@tools/run_tests || { echo "Failed: tools/run_tests, as the lines above say."; exit 1; }
 	@tools/fuzz --program crates/wgslfmt/out/wgslfmt \
 	    || { echo "Failed: tools/fuzz, as the lines above say."; exit 1; }
 	@tools/nests --program crates/wgsltidy/out/wgsltidy --printer crates/wgslfmt/out/wgslfmt \
@@ -78,7 +83,6 @@ test:
 	@tools/library_tests || { echo "Failed: tools/library_tests, as above."; exit 1; }
 	@tools/build || { echo "Failed: tools/build, as above."; exit 1; }
 	@tools/dist_test || { echo "Failed: tools/dist_test, as above."; exit 1; }
-	@echo "All passed."
 
 install:
 	@for program in wgsltidy wgslfmt; do \

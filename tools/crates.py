@@ -59,6 +59,11 @@ def state():
     return sum_of(file for crate in listed() for file in files_of(crate))
 
 
+def is_made(crate, lines):
+    """Whether tools/prove_all left something of a crate. It leaves nothing of a static library."""
+    return is_static(crate, lines) or made_of(crate).exists()
+
+
 def are_proved(names, lines):
     """Whether tools/prove_all proved all crates as they are, and what it left of these is there."""
     made = [made_of(it) for it in names if it in lines]
@@ -93,6 +98,14 @@ def kit():
 def is_static(crate, lines):
     """Whether a crate is a static library."""
     return "staticlib" in lines[crate].partition(":")[0].split()
+
+
+def has_only_tests(crate):
+    """Whether a crate holds nothing but tests."""
+    root = TOP / "crates" / crate / "src/lib.rt"
+    lines = root.read_text().split("\n") if root.is_file() else []
+    modules = [at for at, line in enumerate(lines) if line.startswith(("mod ", "pub mod "))]
+    return bool(modules) and all(lines[at - 1] == "#[cfg(test)]" for at in modules)
 
 
 def rlib(crate, folder):

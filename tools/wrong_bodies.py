@@ -1,17 +1,21 @@
 """The wrong bodies of the must-fail edits: what each changes, and in which function.
 
 A wrong body is the pairs of lines `old:` and `new:` of an edit up to the next line that begins with
-`#` and says what is wrong in the next one. The function is the one that its lines stand in; where
-they stand in none, as those of a table do, a line `# fn: PATH` names it.
+`#` and says what is wrong in the next one. The function is the one that its lines are in; where
+they are in none, as those of a table are, a line `# fn: PATH` names it. A body may also be written
+into a copy of its function that comes after it, so that several bodies of one function, and a
+function and those that it calls, can be checked at once.
 """
 import difflib
 import re
-from dataclasses import dataclass, field
+from dataclasses import dataclass, field, replace
 from typing import NamedTuple
 
 # the head of a function, and of what holds functions, as `rt fmt` formats them
 FUNCTION = re.compile(r'((?:    )?)(?:pub(?:\([^)]*\))? )?(?:const |unsafe |extern "C" )*fn (\w+)')
 OWNER = re.compile(r"impl\b|(?:pub(?:\([^)]*\))? )?trait (\w+)")
+# a function that is proved together with others, or that others link by its name
+BOUND = re.compile(r"#\[(?:cycle|unsafe)\b")
 # what the prover leaves out of a type where it names an impl by it
 LEFT_OUT = re.compile(r"'\w+|\b(?:[A-Z]|mut|dyn)\b|\w+::|\W")
 
@@ -40,6 +44,8 @@ class Body:
     # what it changes, and the functions that it is in, by their paths in the crate
     hunks: list = field(default_factory=list)
     functions: list = field(default_factory=list)
+    # the function of which it changes a copy, if it does
+    copied: str = ""
 
     @property
     def name(self):
@@ -196,6 +202,63 @@ def place(body, folder, names):
                 body.functions += fits
     if not body.functions:
         raise Unread("it changes no function: name the one in a line `# fn: PATH`")
+
+
+def in_copy(body, folder, names):
+    """The body in a copy of its function after it. None where it changes more than one function, or
+    one of a trait or of its impl, of a cycle of calls, or that is exported."""
+    path = body.hunks[0].file
+    lines = (folder / path).read_text().split("\n")
+    for first, last, fits in functions_of(path, "\n".join(lines), names):
+        is_within = all(path == it.file and first <= it.first and it.last < last for it in body.hunks)
+        if is_within and fits == body.functions and is_free(lines, first):
+            copy = lines[first:last]
+            for hunk in sorted(body.hunks, reverse=True):
+                copy[hunk.first - first : hunk.last - first] = hunk.lines
+            name = f"{FUNCTION.match(lines[first])[2]}_{body.edit}_{body.number}".lower()
+            copy[0] = FUNCTION.sub(lambda it: it[0][: -len(it[2])] + name, copy[0], count=1)
+            to = "::".join([*fits[0].split("::")[:-1], name])
+            hunk = Hunk(path, last, last, ("", *copy))
+            return replace(body, hunks=[hunk], functions=[to], copied=fits[0])
+    return None
+
+
+def is_free(lines, first):
+    """Whether a copy may be made of the function at a line, under another name."""
+    above = first
+    while lines[above - 1].strip().startswith(("#[", "///")):
+        above -= 1
+    if any(BOUND.search(it) for it in lines[above:first]):
+        return False
+    if not lines[first].startswith(" "):
+        return True
+    at = next(at for at in range(first, -1, -1) if OWNER.match(lines[at]))
+    opens = next(it for it in range(at, first) if lines[it].endswith("{"))
+    head = " ".join(lines[at : opens + 1])
+    return head.startswith("impl") and " for " not in head
+
+
+def copied_proofs(body, folder, crate):
+    """The files of the proof of a body's copy, by their paths in the crate."""
+    if not body.copied:
+        return {}
+    at, to = (it.replace("::", "/") for it in (body.copied, body.functions[0]))
+    old, new = (f"Rattle.{crate}.proofs.{it.replace('/', '.')}." for it in (at, to))
+    files = sorted((folder / "proofs" / at).glob("*.antt"))
+    return {f"proofs/{to}/{it.name}": it.read_text().replace(old, new) for it in files}
+
+
+def is_called(body, folder):
+    """Whether another function of the crate may call the one that a body changes."""
+    called = re.compile(rf"(?<!fn )\b{body.functions[0].rpartition('::')[2]}\b")
+    files = sorted((folder / "src").rglob("*.rt"))
+    return any(called.search(line) for it in files for line in code_lines(it.read_text()))
+
+
+def code_lines(text):
+    """The lines of a text that are no comments, and import nothing."""
+    found = (line.strip() for line in text.split("\n"))
+    return (it for it in found if not it.startswith(("//", "use ", "pub use ", "ghost use ")))
 
 
 def joined(bodies, folder):
