@@ -114,6 +114,25 @@ struct wgsl_place {
     size_t end;
 };
 
+/* With what the lines of a formatted text end: with CR LF if the first line of its source does,
+ * otherwise with LF; with LF; with CR LF. */
+enum wgsl_newlines { WGSL_NEWLINES_AUTO = 0, WGSL_NEWLINES_LF = 1, WGSL_NEWLINES_CRLF = 2 };
+
+/* What is chosen of the layout of a formatted text. */
+struct wgsl_layout {
+    /* How many columns a line may have, or 0 if no line is broken for its length. */
+    size_t width;
+    /* How many columns a level of indentation has. */
+    uint8_t indent;
+    /* 0 if a level is spaces, any other number if it is a tab. */
+    uint8_t tab;
+    /* One of enum wgsl_newlines. Any other number is taken as WGSL_NEWLINES_CRLF. */
+    uint8_t newlines;
+};
+
+/* Lines of up to 100 columns, four spaces a level, and the line ends of the source. */
+#define WGSL_STANDARD_LAYOUT { 100, 4, 0, WGSL_NEWLINES_AUTO }
+
 /* What a text may be the tree of, and what may be printed. */
 enum wgsl_tree_kind {
     WGSL_UNIT = 0,
@@ -230,6 +249,8 @@ enum wgsl_token_kind {
  * and what is counted has at most WGSL_GREATEST bytes. */
 uint32_t wgsl_c_format(const uint8_t *text, size_t size, uint8_t *room, size_t room_size,
                        struct wgsl_answer *answer);
+uint32_t wgsl_c_tidy(const struct wgsl_layout *layout, const uint8_t *text, size_t size,
+                     uint8_t *room, size_t room_size, struct wgsl_answer *answer);
 uint32_t wgsl_c_check(const uint8_t *text, size_t size, uint8_t *room, size_t room_size,
                       struct wgsl_answer *answer);
 uint32_t wgsl_c_recognize(const uint8_t *text, size_t size, uint8_t *room, size_t room_size,
@@ -270,6 +291,19 @@ static inline uint32_t wgsl_format(const char *text, size_t size, char *room, si
     }
     return wgsl_c_format((const uint8_t *)wgsl_at(text), size, (uint8_t *)wgsl_at(room), room_size,
                          answer);
+}
+
+/* The formatted text of a module, with its comments, as wgsltidy writes it, into the room; by the
+ * standard layout if the layout is null. Names are not checked, so a module with a name that this
+ * library does not know is formatted too. */
+static inline uint32_t wgsl_tidy(const struct wgsl_layout *layout, const char *text, size_t size,
+                                 char *room, size_t room_size, struct wgsl_answer *answer) {
+    static const struct wgsl_layout standard = WGSL_STANDARD_LAYOUT;
+    if (!wgsl_is_memory(text, size, 1) || !wgsl_is_memory(room, room_size, 1) || answer == NULL) {
+        return WGSL_BAD_ARGUMENT;
+    }
+    return wgsl_c_tidy(layout != NULL ? layout : &standard, (const uint8_t *)wgsl_at(text), size,
+                       (uint8_t *)wgsl_at(room), room_size, answer);
 }
 
 /* Whether a text is a module: WGSL_DONE with the size 0, or WGSL_REFUSED. The room is for the texts

@@ -27,7 +27,12 @@ static uint32_t tree(const char *text, size_t size, char *room, size_t room_size
     return wgsl_tree(WGSL_UNIT, text, size, room, room_size, said);
 }
 
-static text_call *const text_calls[] = {wgsl_format, wgsl_check, wgsl_recognize, tree};
+static uint32_t tidy(const char *text, size_t size, char *room, size_t room_size,
+                     struct wgsl_answer *said) {
+    return wgsl_tidy(NULL, text, size, room, room_size, said);
+}
+
+static text_call *const text_calls[] = {wgsl_format, tidy, wgsl_check, wgsl_recognize, tree};
 
 /* Whether a room is as it was filled: with one byte again and again. */
 static int is_filled(const char *room, size_t size) {
@@ -118,6 +123,37 @@ static int check_rooms(void) {
     memset(room, '#', sizeof room);
     CHECK(wgsl_format("const N=0x1f;", 13, room, 32, &answer) == WGSL_DONE && is_size(14));
     CHECK(memcmp(room, "const N = 31;\n", 14) == 0 && is_filled(room + 14, sizeof room - 14));
+    return 0;
+}
+
+/* Whether a text is formatted so by a layout. */
+static int is_tidied(const struct wgsl_layout *layout, const char *text, const char *formatted) {
+    char room[256];
+    size_t size = strlen(formatted);
+    memset(room, '#', sizeof room);
+    return wgsl_tidy(layout, text, strlen(text), room, sizeof room, &answer) == WGSL_DONE
+        && is_size(size) && memcmp(room, formatted, size) == 0
+        && is_filled(room + size, sizeof room - size);
+}
+
+/* A formatted text keeps comments and unknown names, and has the layout that is chosen. */
+static int check_layouts(void) {
+    static const char text[] = "fn f(a:i32){x=a;} // f";
+    struct wgsl_layout layout = WGSL_STANDARD_LAYOUT;
+    CHECK(is_tidied(NULL, text, "fn f(a: i32) {\n    x = a;\n} // f\n"));
+    CHECK(is_tidied(&layout, text, "fn f(a: i32) {\n    x = a;\n} // f\n"));
+    CHECK(is_tidied(NULL, "@new const class=1;\r\n", "@new const class = 1;\r\n"));
+    layout.indent = 2;
+    CHECK(is_tidied(&layout, text, "fn f(a: i32) {\n  x = a;\n} // f\n"));
+    layout.tab = 1;
+    CHECK(is_tidied(&layout, text, "fn f(a: i32) {\n\tx = a;\n} // f\n"));
+    layout.newlines = WGSL_NEWLINES_CRLF;
+    CHECK(is_tidied(&layout, text, "fn f(a: i32) {\r\n\tx = a;\r\n} // f\r\n"));
+    layout.newlines = WGSL_NEWLINES_LF;
+    CHECK(is_tidied(&layout, "const a=1;\r\n", "const a = 1;\n"));
+    layout.width = 8;
+    CHECK(is_tidied(&layout, "const a=f(1,2);", "const a = f(\n\t1,\n\t2\n);\n"));
+    CHECK(wgsl_tidy(&layout, text, sizeof text - 1, NULL, 0, &answer) == WGSL_TOO_SMALL);
     return 0;
 }
 
@@ -301,9 +337,9 @@ static int check_message(void) {
 
 static int (*const checks[])(void) = {
     check_text_calls, check_other_calls,   check_no_bytes,        check_rooms,
-    check_faults,     check_tokens,        check_lists,           check_trees,
-    check_prints,     check_refused_forms, check_print_arguments, check_positions,
-    check_names,      check_message,
+    check_layouts,    check_faults,        check_tokens,          check_lists,
+    check_trees,      check_prints,        check_refused_forms,   check_print_arguments,
+    check_positions,  check_names,         check_message,
 };
 
 int main(void) {

@@ -51,7 +51,7 @@ struct said {
     size_t room[4096];
 };
 
-enum { FORMAT, CHECKED, RECOGNIZED, TOKENS, LISTS, BEGINS, NESTING, TREES };
+enum { FORMAT, TIDIED, CHECKED, RECOGNIZED, TOKENS, LISTS, BEGINS, NESTING, TREES };
 enum { PRINTS = TREES + WGSL_EXPRESSION + 1, CALLS = PRINTS + WGSL_TYPE_CONSTRAINT + 1 };
 
 /* Makes a call; those from TREES on ask for the kinds of trees, one after another, and those from
@@ -64,6 +64,8 @@ static uint32_t make(int call, const char *text, size_t size, struct said *said)
     switch (call) {
     case FORMAT:
         return wgsl_format(text, size, room, room_size, &said->answer);
+    case TIDIED:
+        return wgsl_tidy(NULL, text, size, room, room_size, &said->answer);
     case CHECKED:
         return wgsl_check(text, size, room, room_size, &said->answer);
     case RECOGNIZED:

@@ -1,13 +1,14 @@
-//! Prints a module, reads a module and an expression to their trees, and prints a changed tree.
+//! Prints and formats a module, reads a module and an expression to their trees, and prints a changed tree.
 
 use centrelilac::syntax::GlobalDeclaration;
 use std::error::Error;
 
 fn main() -> Result<(), Box<dyn Error>> {
     let printed = centrelilac::format("const N=0x1f;")?;
+    let tidied = centrelilac::tidy("const N=0x1f; // thirty-one")?;
     let unit = centrelilac::parse("alias A = B;")?;
     let sum: centrelilac::syntax::Expression = "a + b".parse()?;
-    print!("{printed}");
+    print!("{printed}{tidied}");
     println!("{unit:?}");
     println!("{sum:?}");
 

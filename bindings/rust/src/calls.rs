@@ -42,7 +42,7 @@ fn utf8(bytes: Vec<u8>) -> String {
 }
 
 /// The text that a call writes, with a buffer of about a size at first.
-fn text_of(call: Call, text: &str, size: usize) -> Result<String, Fault> {
+pub(crate) fn text_of(call: Call, text: &str, size: usize) -> Result<String, Fault> {
     let (said, bytes) = written(call, text, size);
     match said.status {
         DONE => Ok(utf8(bytes)),

@@ -44,9 +44,31 @@ pub struct Place {
     pub end: usize,
 }
 
+/// `struct wgsl_layout` of `wgsl.h`.
+#[repr(C)]
+#[derive(Clone, Copy, Debug)]
+pub struct Choices {
+    /// How many columns a line may have.
+    pub width: usize,
+    /// How many columns a level has.
+    pub indent: u8,
+    /// Whether it is a tab.
+    pub tab: u8,
+    /// With what lines end.
+    pub newlines: u8,
+}
+
 // The exports of the crate `wgsl_c`, of which a slice is a pointer and a length here.
 extern "C" {
     fn wgsl_c_format(
+        text: *const u8,
+        size: usize,
+        room: *mut u8,
+        room_size: usize,
+        answer: *mut Answer,
+    ) -> u32;
+    fn wgsl_c_tidy(
+        choices: *const Choices,
         text: *const u8,
         size: usize,
         room: *mut u8,
@@ -115,6 +137,8 @@ pub struct Said {
 pub enum Call {
     /// The printed text.
     Format,
+    /// The formatted text, by a layout.
+    Tidy(Choices),
     /// Whether it is a module.
     Check,
     /// Whether it is a module of the dialect.
@@ -133,10 +157,11 @@ pub fn text_call(call: Call, text: &str, room: &mut [u8]) -> Said {
     // SAFETY: the declarations above are those of the exports. The text and the room are those of
     // one `&str` and one `&mut [u8]`, which are never null, are apart from each other and from
     // the answer, and are borrowed for the call, and no slice of Rust's is longer than the
-    // exports take. An export requires nothing else, and writes nowhere else.
+    // exports take; the layout lives as long as the call. An export requires nothing else, and writes nowhere else.
     let status = unsafe {
         match call {
             Call::Format => wgsl_c_format(at, size, to, room_size, &mut answer),
+            Call::Tidy(by) => wgsl_c_tidy(&by, at, size, to, room_size, &mut answer),
             Call::Check => wgsl_c_check(at, size, to, room_size, &mut answer),
             Call::Recognize => wgsl_c_recognize(at, size, to, room_size, &mut answer),
             Call::Tree(what) => wgsl_c_tree(what, at, size, to, room_size, &mut answer),

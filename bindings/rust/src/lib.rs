@@ -40,6 +40,7 @@ pub mod form;
 #[cfg(test)]
 mod header;
 mod kind;
+mod layout;
 mod lines;
 mod nested;
 pub mod parser;
@@ -54,6 +55,7 @@ pub use calls::{
 };
 pub use fault::{Fault, Fault as Error, FaultKind};
 pub use kind::TokenKind;
+pub use layout::{tidy, tidy_with, Indent, Layout, Newlines};
 pub use lines::{LineIndex, Position};
 pub use parser::{parse_str, recognize_str};
 pub use syntax::SyntaxNode;

@@ -11,6 +11,9 @@ use Rattle.wgsl_model.specs.Program.{IsUnit, IsFaultOf}
 use Rattle.wgsl_model.specs.SourceTrees.{IsFaultIn}
 use Rattle.wgsl_model.specs.Tokens.TokenList.{IsTokenList}
 use Rattle.wgsl_lexer.specs.Left.{BeginsWithList}
+use Rattle.wgsl_model_tidy.specs.Layout.{Layout}
+use Rattle.wgsl_model_tidy.specs.Syntax.{IsFaultAfterMark}
+use Rattle.wgsl_format.specs.RunOutput.{IsTidiedBy}
 use Rattle.wgsl_read_dialect.specs.Recognized.{IsRecognized, IsRefused}
 use Rattle.wgsl_read_nesting.specs.Nesting.{nesting}
 use Rattle.wgsl_buffers.specs.declared.answer.Answer.{Answer}
@@ -34,6 +37,14 @@ pub record Formats (text before room : List ℕ) (answer : Answer) (result : ℕ
   pub refused : result ≡ 1 → Refuses IsFaultOf text before room answer
   pub small : result ≡ 4
       → (unit : model.TranslationUnit) × IsUnit (chars text) unit × Lacks (print_unit unit) before room answer
+  pub status : result ≤ 4
+  pub reads : Reads text answer result
+
+-- the formatted text of a module, with its comments, or the fault that is named
+pub record Tidies (layout : Layout) (text before room : List ℕ) (answer : Answer) (result : ℕ) : Type 0 where
+  pub formatted : result ≡ 0 → (out : List ℕ) × IsTidiedBy layout text out × Holds out room answer
+  pub refused : result ≡ 1 → Refuses IsFaultAfterMark text before room answer
+  pub small : result ≡ 4 → (out : List ℕ) × IsTidiedBy layout text out × Lacks out before room answer
   pub status : result ≤ 4
   pub reads : Reads text answer result
 

@@ -6,6 +6,7 @@ mod fault;
 mod lists;
 mod modules;
 mod prints;
+mod tidied;
 mod tokens;
 mod trees;
 
@@ -13,5 +14,6 @@ pub use answer::Answer;
 pub use lists::{Place, begins_with_list, write_lists};
 pub use modules::{check, format, measure_nesting, recognize};
 pub use prints::print_form;
+pub use tidied::{Choices, tidy};
 pub use tokens::{PlacedKind, write_tokens};
 pub use trees::write_tree;

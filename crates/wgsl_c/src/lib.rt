@@ -3,10 +3,11 @@
 //! what a caller owes.
 #![tactic(auto)]
 
-ghost use Rattle.wgsl_buffers.specs.Calls.{Formats, Checks, Recognizes, WritesTree, PrintsForm, WritesTokens, WritesLists, FindsList, MeasuresNesting};
+ghost use Rattle.wgsl_buffers.specs.Calls.{Formats, Tidies, Checks, Recognizes, WritesTree, PrintsForm, WritesTokens, WritesLists, FindsList, MeasuresNesting};
+ghost use Rattle.wgsl_buffers.specs.Layouts.{layout_of};
 
 use std::alloc::Global;
-use wgsl_buffers::{Answer, Place, PlacedKind};
+use wgsl_buffers::{Answer, Choices, Place, PlacedKind};
 
 /// The canonical text of a module.
 #[unsafe(no_mangle)]
@@ -19,6 +20,20 @@ pub extern "C" fn wgsl_c_format(
     ensures { Formats text.now room.old room.new answer.new result }
 {
     wgsl_buffers::format(alloc, text, room, answer)
+}
+
+/// The formatted text of a module, with its comments.
+#[unsafe(no_mangle)]
+pub extern "C" fn wgsl_c_tidy(
+    alloc: Global,
+    choices: &Choices,
+    text: &[u8],
+    room: &mut [u8],
+    answer: &mut Answer,
+) -> u32
+    ensures { Tidies (layout_of choices.now) text.now room.old room.new answer.new result }
+{
+    wgsl_buffers::tidy(alloc, choices, text, room, answer)
 }
 
 /// Whether a text is a module.

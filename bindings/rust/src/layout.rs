@@ -1,0 +1,116 @@
+//! Modules formatted with their comments, by a layout that is chosen.
+
+use crate::calls::text_of;
+use crate::fault::Fault;
+use crate::ffi::{Call, Choices};
+
+/// How long a line may be, how far it is indented, and with what it ends.
+///
+/// # Examples
+///
+/// ```
+/// use centrelilac::{Indent, Layout};
+///
+/// let layout = Layout { indent: Indent::Tab(8), ..Layout::default() };
+/// assert_eq!(layout.width, 100);
+/// ```
+#[derive(Clone, Copy, Debug, PartialEq, Eq, Hash)]
+pub struct Layout {
+    /// A line with more columns is broken at its brackets, as far as it has any. If 0, none is.
+    pub width: usize,
+    /// What one level of indentation is.
+    pub indent: Indent,
+    /// With what lines end.
+    pub newlines: Newlines,
+}
+
+/// What one level of indentation is.
+#[derive(Clone, Copy, Debug, PartialEq, Eq, Hash)]
+pub enum Indent {
+    /// A number of spaces. A tab in a comment counts as many columns.
+    Spaces(u8),
+    /// A tab, which counts as a number of columns.
+    Tab(u8),
+}
+
+/// With what lines end.
+#[derive(Clone, Copy, Debug, PartialEq, Eq, Hash)]
+pub enum Newlines {
+    /// With CR LF if the first line of the source does, otherwise with LF.
+    Auto,
+    /// With LF.
+    Lf,
+    /// With CR LF.
+    CrLf,
+}
+
+impl Default for Layout {
+    /// Lines of up to 100 columns, four spaces a level, and the line ends of the source.
+    fn default() -> Layout {
+        Layout {
+            width: 100,
+            indent: Indent::Spaces(4),
+            newlines: Newlines::Auto,
+        }
+    }
+}
+
+impl Layout {
+    /// What the library is told of it.
+    fn choices(self) -> Choices {
+        let (tab, indent) = match self.indent {
+            Indent::Spaces(columns) => (0, columns),
+            Indent::Tab(columns) => (1, columns),
+        };
+        let newlines = match self.newlines {
+            Newlines::Auto => 0,
+            Newlines::Lf => 1,
+            Newlines::CrLf => 2,
+        };
+        Choices {
+            width: self.width,
+            indent,
+            tab,
+            newlines,
+        }
+    }
+}
+
+/// The formatted text of a module, with its comments, as the program `wgsltidy` writes it. Names
+/// are not checked, so a module with a name that this library does not know is formatted too.
+///
+/// # Errors
+///
+/// The fault of the text, or that allocation fails.
+///
+/// # Examples
+///
+/// ```
+/// let text = centrelilac::tidy("fn f(){x=1;} // f")?;
+/// assert_eq!(text, "fn f() {\n    x = 1;\n} // f\n");
+/// # Ok::<(), centrelilac::Fault>(())
+/// ```
+pub fn tidy(text: &str) -> Result<String, Fault> {
+    tidy_with(text, Layout::default())
+}
+
+/// [`tidy`] by another layout.
+///
+/// # Errors
+///
+/// The fault of the text, or that allocation fails.
+///
+/// # Examples
+///
+/// ```
+/// use centrelilac::{Indent, Layout, Newlines};
+///
+/// let layout = Layout { width: 8, indent: Indent::Spaces(2), newlines: Newlines::Lf };
+/// let text = centrelilac::tidy_with("const a=f(1,2);\r\n", layout)?;
+/// assert_eq!(text, "const a = f(\n  1,\n  2\n);\n");
+/// # Ok::<(), centrelilac::Fault>(())
+/// ```
+pub fn tidy_with(text: &str, layout: Layout) -> Result<String, Fault> {
+    let call = Call::Tidy(layout.choices());
+    text_of(call, text, text.len() + text.len() / 2)
+}
