@@ -2,13 +2,13 @@
 
 All wrong bodies of a crate are put into one copy of it, which is checked once, and the prover's
 line for each function is read: the function of a wrong body has to fail by itself, and not because
-it calls one that fails. So a body in a function that others call, or that has another body, is put
-into a copy of that function beside it, with its proof. Bodies that such a copy does not show to be
-refused are tried in further checks over what the first one proved, in their functions themselves,
-and of these alone. What was refused is kept below the user's cache folder, by the sums of
-everything that was read, so a later run tries only what changed. A body that is refused only since
-a proof names what the body takes away is told from the others: a change of a value that keeps the
-names says more of the contract.
+it calls one that fails. So a body in a function that other wrong ones lead to, or that has another
+body, is put into a copy of that function beside it, with its proof. Bodies for which there can be
+no copy, or that it does not show to be refused, are tried in further checks over what the first one
+proved, in their functions themselves, and of these alone. What was refused is kept below the user's
+cache folder, by the sums of everything that was read, so a later run tries only what changed. A
+body that is refused only since a proof names what the body takes away is told from the others: a
+change of a value that keeps the names says more of the contract.
 """
 import hashlib
 import json
@@ -24,7 +24,7 @@ from pathlib import Path
 
 import crates
 from wrong_bodies import (
-    Unread, apart, bodies_of, copied_proofs, free_functions, in_copy, is_called, joined, place,
+    Unread, apart, bodies_of, copied_proofs, free_functions, in_copy, joined, place,
 )
 
 CRATES = crates.TOP / "crates"
@@ -108,7 +108,8 @@ class Tried:
         self.crate, self.lines, self.libraries = crate, lines, libraries
         self.folder = CRATES / crate
         self.bodies, self.verdicts, self.seconds = bodies_of(self.folder), {}, []
-        self.names = names_of(crate, lines, libraries)
+        self.calls, self.reaches = calls_of(crate, lines, libraries), {}
+        self.names = set(self.calls)
         for body in self.bodies:
             try:
                 place(body, self.folder, self.names)
@@ -124,20 +125,19 @@ class Tried:
         return [it for it in found if it[1][0] not in verdicts]
 
     def run(self, room):
-        """Tries what is left until each body has a verdict."""
+        """Tries what is left until each body has a verdict, callers before what they call, so that
+        none waits for a function that fails."""
         self.try_copies(room)
         while left := self.left():
-            taken, _ = apart(left)
+            taken, _ = apart([it for it in left if not self.is_below(it, left)])
             self.settle(taken, room)
 
     def try_copies(self, room):
-        """Tries all bodies at once that can be, those in copies of their functions that others call
-        or that have several; notes those that are refused, unless a text can't be read."""
-        in_place, more = apart([it for it in self.left() if not self.copy_of_called(it)])
-        copies = [self.copy_of_called(it) for it in self.left()]
-        copies += [in_copy(it, self.folder, self.names) for it in more]
-        if not any(copies):
-            return
+        """Tries all bodies at once that can be, those in copies of their functions that others lead
+        to or that have several; notes those that are refused, unless a text can't be read."""
+        left = self.left()
+        in_place, _ = apart([it for it in left if not self.is_below(it, left)])
+        copies = [in_copy(it, self.folder, self.names) for it in left if it not in in_place]
         bodies = in_place + [it for it in copies if it]
         said, places = self.check(bodies, room)
         if unreadable(said, places):
@@ -147,10 +147,23 @@ class Tried:
             if verdict is Verdict.REFUSED:
                 self.verdicts[body.name] = verdict, why
 
-    def copy_of_called(self, body):
-        """The body in a copy of its function, if others may call that."""
-        called = is_called(body, self.folder)
-        return in_copy(body, self.folder, self.names) if called else None
+    def is_below(self, body, others):
+        """Whether the function of another body leads to that of a body, and not the reverse."""
+        own = {*body.functions}
+        below = {name for it in own for name in self.reached(it)}
+        above = {name for it in others for name in it.functions} - own - below
+        return any(own & self.reached(it) for it in above)
+
+    def reached(self, name):
+        """The functions of the crate that one calls, and those that these call."""
+        if name not in self.reaches:
+            found, left = set(), [name]
+            while left:
+                new = self.calls.get(left.pop(), set()) - found
+                found |= new
+                left += new
+            self.reaches[name] = found
+        return self.reaches[name]
 
     def settle(self, bodies, room):
         """Tries some bodies at once; where that tells nothing of any, in halves, and then alone."""
@@ -226,13 +239,16 @@ def first_error(said):
     return lines[0][:200]
 
 
-def names_of(crate, lines, libraries):
-    """The functions of a crate by their paths in it, as the library that `rt ci` built has them. Of
-    a static library, which is not built there, the functions in no impl."""
+def calls_of(crate, lines, libraries):
+    """The functions of a crate by their paths in it, each with those that it names, as the library
+    that `rt ci` built has them. Of a static library, which is not built there, the functions in no
+    impl, which name none."""
     if crates.is_static(crate, lines):
-        return free_functions(CRATES / crate)
+        return {name: set() for name in free_functions(CRATES / crate)}
     file = crates.rlib(crate, libraries) / "toolchain" / "mir.json"
-    return {name.partition("::")[2] for name, _ in json.loads(file.read_text())}
+    found = {name.partition("::")[2]: code for name, code in json.loads(file.read_text())}
+    named = re.compile(rf'"{crate}::([^"]+)"')
+    return {name: found.keys() & {*named.findall(json.dumps(code))} for name, code in found.items()}
 
 
 @cache

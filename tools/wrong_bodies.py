@@ -248,19 +248,6 @@ def copied_proofs(body, folder, crate):
     return {f"proofs/{to}/{it.name}": it.read_text().replace(old, new) for it in files}
 
 
-def is_called(body, folder):
-    """Whether another function of the crate may call the one that a body changes."""
-    called = re.compile(rf"(?<!fn )\b{body.functions[0].rpartition('::')[2]}\b")
-    files = sorted((folder / "src").rglob("*.rt"))
-    return any(called.search(line) for it in files for line in code_lines(it.read_text()))
-
-
-def code_lines(text):
-    """The lines of a text that are no comments, and import nothing."""
-    found = (line.strip() for line in text.split("\n"))
-    return (it for it in found if not it.startswith(("//", "use ", "pub use ", "ghost use ")))
-
-
 def joined(bodies, folder):
     """The texts of the files with these bodies, and at which lines of them each stands."""
     texts, places = {}, []
