@@ -134,7 +134,8 @@ class Tried:
 
     def try_copies(self, room):
         """Tries all bodies at once that can be, those in copies of their functions that others lead
-        to or that have several; notes those that are refused, unless a text can't be read."""
+        to or that have several. Unless a text can't be read, notes what is told of those that are
+        in place, and which of the others are refused."""
         left = self.left()
         in_place, _ = apart([it for it in left if not self.is_below(it, left)])
         copies = [in_copy(it, self.folder, self.names) for it in left if it not in in_place]
@@ -144,7 +145,7 @@ class Tried:
             return
         for body in bodies:
             verdict, why = verdict_of_body(body, said)
-            if verdict is Verdict.REFUSED:
+            if verdict is Verdict.REFUSED or verdict and not body.copied:
                 self.verdicts[body.name] = verdict, why
 
     def is_below(self, body, others):
