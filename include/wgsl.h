@@ -6,26 +6,26 @@
  * `make lib` makes the library and `make install` installs it; a release has it in the folder lib.
  * docs/USE.md has a whole program, examples/c/format.c.
  *
- * Texts. A text is bytes and their number; no byte 0 ends it. Bytes that are no UTF-8 are answered
- * by WGSL_NOT_UTF8. Places are offsets in bytes, from 0; what ends at a place ends before it.
+ * Texts. A text is bytes and their number; no byte 0 ends it. For bytes that are not UTF-8 the
+ * status is WGSL_NOT_UTF8. Places are byte offsets, from 0; what ends at a place ends before it.
  *
- * Room. What a call has to give it writes into memory of the caller's, the room. Where that is too
- * small the status is WGSL_TOO_SMALL, `size` of the answer says how much is needed, and the call is
- * made again; a room of no bytes only asks for the size. The library keeps nothing between calls,
- * so there is nothing to release.
+ * Buffer. A call writes what it returns into memory of the caller, the buffer. If that is too
+ * small, the status is WGSL_TOO_SMALL, `size` of the answer says how much is needed, and the call
+ * is made again; a buffer of no bytes only asks for the size. The library keeps nothing between
+ * calls, so there is nothing to free.
  *
- * Null. Each pointer may be null where its number is 0. A null pointer with another number, a null
- * answer and a number that no memory has are answered by WGSL_BAD_ARGUMENT, and nothing is written.
+ * Null. Each pointer may be null if its number is 0. For a null pointer with another number, a null
+ * answer, or a number that no memory has, the status is WGSL_BAD_ARGUMENT, and nothing is written.
  *
- * What a caller owes, since no call can test it: the bytes of a text can be read, and stay as they
- * are until the call returns; the room and the answer can be written, whatever they hold; the text,
- * the room and the answer lie apart; and there is stack enough. A text nests as deep as its
- * brackets, blocks, template lists and prefix operators do, and each takes stack while the text is
- * read: as measured over wgsl_recognize, wgsl_check, wgsl_format and wgsl_tree, at most 2,750 bytes
- * for a block with its statement and 1,200 for each other.
- * wgsl_nesting tells beforehand how deep a text nests, and takes no such stack. In wgsl_print each
- * node inside another takes at most 5,700 bytes for a block with its statement and 2,300 for each
- * other. A left operand, and what is before a component or an index, takes none.
+ * What a caller must see to, since no call can test it: the bytes of a text can be read, and do not
+ * change until the call returns; the buffer and the answer can be written, whatever they hold; the
+ * text, the buffer and the answer do not overlap; and there is enough stack. A text nests as deep
+ * as its brackets, blocks, template lists and prefix operators do, and each takes stack while the
+ * text is read: as measured over wgsl_recognize, wgsl_check, wgsl_format and wgsl_tree, at most
+ * 2,750 bytes for a block with its statement and 1,200 for each other, and in wgsl_tidy 1,250 for
+ * each. wgsl_nesting tells beforehand how deep a text nests, and takes no such stack. In wgsl_print
+ * each node inside another takes at most 5,700 bytes for a block with its statement and 2,300 for
+ * each other. A left operand, and what is before a component or an index, takes none.
  *
  * Memory. While it runs, a call takes memory by the program's malloc, realloc and free, and gives
  * all of it back before it returns. Where they refuse, the status is WGSL_OUT_OF_MEMORY. The three
@@ -44,19 +44,20 @@
 extern "C" {
 #endif
 
-/* What a call answers. */
+/* What a call returns. */
 enum wgsl_status {
     /* The call did what it is for. */
     WGSL_DONE = 0,
-    /* The text is refused. The answer has the kind and the place of the fault. Where its texts fit
-     * into the room, as they do if `size` is at most the size of the room, they stand there: the
-     * message and then each text of what was expected, a byte 0 behind each; else the room is as it
-     * was. wgsl_tokens gives no texts: its message is WGSL_INVALID_TOKEN_MESSAGE. */
+    /* The text is refused. The answer has the kind and the place of the fault. If its texts fit
+     * into the buffer, as they do if `size` is at most the size of the buffer, they are there: the
+     * message and then each text of what was expected, each with a byte 0 after it; otherwise the
+     * buffer does not change. wgsl_tokens gives no texts: its message is
+     * WGSL_INVALID_TOKEN_MESSAGE. */
     WGSL_REFUSED = 1,
-    /* The bytes are no UTF-8: `start` is where they stop being it. */
+    /* The bytes are not UTF-8: `start` is the first place where they stop being so. */
     WGSL_NOT_UTF8 = 2,
     WGSL_OUT_OF_MEMORY = 3,
-    /* The room is too small for what `size` says is needed. A room of bytes is as it was. */
+    /* The buffer is too small for what `size` says is needed. A buffer of bytes does not change. */
     WGSL_TOO_SMALL = 4,
     /* No tree has the number that was asked for. */
     WGSL_UNKNOWN = 5,
@@ -70,9 +71,9 @@ enum wgsl_fault {
     WGSL_INVALID_TOKEN = 1,
     /* A reserved word where a name is wanted. */
     WGSL_RESERVED_WORD_USED = 2,
-    /* A token that cannot stand where it stands. */
+    /* A token that cannot be where it is. */
     WGSL_UNEXPECTED_TOKEN = 3,
-    /* The text ends too early: from the end of its last token to one byte behind. */
+    /* The text ends too early: from the end of its last token to one byte after. */
     WGSL_UNEXPECTED_END = 4,
     /* A severity that is none. */
     WGSL_DIAGNOSTIC_SEVERITY = 6,
@@ -88,7 +89,7 @@ enum wgsl_fault {
 /* The message of each WGSL_INVALID_TOKEN, which expects nothing. */
 #define WGSL_INVALID_TOKEN_MESSAGE "invalid token"
 
-/* What a call answers beside its status. A number that does not go with the status is 0. */
+/* What a call returns beside its status. A number that does not go with the status is 0. */
 struct wgsl_answer {
     /* How many bytes or items there are to give, or the number that was asked for. */
     size_t size;
@@ -247,22 +248,22 @@ enum wgsl_token_kind {
 /* The exports of the library, which the functions below call. They are for languages that read no
  * header. They test no pointer and no number: none of theirs may be null, even with the number 0,
  * and what is counted has at most WGSL_GREATEST bytes. */
-uint32_t wgsl_c_format(const uint8_t *text, size_t size, uint8_t *room, size_t room_size,
+uint32_t wgsl_c_format(const uint8_t *text, size_t size, uint8_t *buffer, size_t buffer_size,
                        struct wgsl_answer *answer);
 uint32_t wgsl_c_tidy(const struct wgsl_layout *layout, const uint8_t *text, size_t size,
-                     uint8_t *room, size_t room_size, struct wgsl_answer *answer);
-uint32_t wgsl_c_check(const uint8_t *text, size_t size, uint8_t *room, size_t room_size,
+                     uint8_t *buffer, size_t buffer_size, struct wgsl_answer *answer);
+uint32_t wgsl_c_check(const uint8_t *text, size_t size, uint8_t *buffer, size_t buffer_size,
                       struct wgsl_answer *answer);
-uint32_t wgsl_c_recognize(const uint8_t *text, size_t size, uint8_t *room, size_t room_size,
+uint32_t wgsl_c_recognize(const uint8_t *text, size_t size, uint8_t *buffer, size_t buffer_size,
                           struct wgsl_answer *answer);
-uint32_t wgsl_c_tree(uint32_t kind, const uint8_t *text, size_t size, uint8_t *room,
-                     size_t room_size, struct wgsl_answer *answer);
-uint32_t wgsl_c_print(uint32_t kind, const uint8_t *form, size_t size, uint8_t *room,
-                     size_t room_size, struct wgsl_answer *answer);
-uint32_t wgsl_c_tokens(const uint8_t *text, size_t size, struct wgsl_token *room, size_t room_size,
-                       struct wgsl_answer *answer);
-uint32_t wgsl_c_lists(const uint8_t *text, size_t size, struct wgsl_place *room, size_t room_size,
-                      struct wgsl_answer *answer);
+uint32_t wgsl_c_tree(uint32_t kind, const uint8_t *text, size_t size, uint8_t *buffer,
+                     size_t buffer_size, struct wgsl_answer *answer);
+uint32_t wgsl_c_print(uint32_t kind, const uint8_t *form, size_t size, uint8_t *buffer,
+                      size_t buffer_size, struct wgsl_answer *answer);
+uint32_t wgsl_c_tokens(const uint8_t *text, size_t size, struct wgsl_token *buffer,
+                       size_t buffer_size, struct wgsl_answer *answer);
+uint32_t wgsl_c_lists(const uint8_t *text, size_t size, struct wgsl_place *buffer,
+                      size_t buffer_size, struct wgsl_answer *answer);
 uint32_t wgsl_c_begins_with_list(const uint8_t *text, size_t size, struct wgsl_answer *answer);
 uint32_t wgsl_c_nesting(const uint8_t *text, size_t size, struct wgsl_answer *answer);
 
@@ -281,106 +282,112 @@ static inline void *wgsl_at(const void *at) {
     return at != NULL ? (void *)(uintptr_t)at : (void *)&nothing;
 }
 
-/* The canonical text of a module, into the room: without comments, blank lines and the author's
- * line breaks, and with no byte 0 behind it. Most texts fit where the room is half as large again
+/* The canonical text of a module, into the buffer: without comments, blank lines and the author's
+ * line breaks, and with no byte 0 after it. Most texts fit where the buffer is half as large again
  * as the text. */
-static inline uint32_t wgsl_format(const char *text, size_t size, char *room, size_t room_size,
+static inline uint32_t wgsl_format(const char *text, size_t size, char *buffer, size_t buffer_size,
                                    struct wgsl_answer *answer) {
-    if (!wgsl_is_memory(text, size, 1) || !wgsl_is_memory(room, room_size, 1) || answer == NULL) {
+    if (!wgsl_is_memory(text, size, 1) || !wgsl_is_memory(buffer, buffer_size, 1)
+        || answer == NULL) {
         return WGSL_BAD_ARGUMENT;
     }
-    return wgsl_c_format((const uint8_t *)wgsl_at(text), size, (uint8_t *)wgsl_at(room), room_size,
-                         answer);
+    return wgsl_c_format((const uint8_t *)wgsl_at(text), size, (uint8_t *)wgsl_at(buffer),
+                         buffer_size, answer);
 }
 
-/* The formatted text of a module, with its comments, as wgsltidy writes it, into the room; by the
+/* The formatted text of a module, with its comments, as wgsltidy writes it, into the buffer; by the
  * standard layout if the layout is null. Names are not checked, so a module with a name that this
  * library does not know is formatted too. */
 static inline uint32_t wgsl_tidy(const struct wgsl_layout *layout, const char *text, size_t size,
-                                 char *room, size_t room_size, struct wgsl_answer *answer) {
+                                 char *buffer, size_t buffer_size, struct wgsl_answer *answer) {
     static const struct wgsl_layout standard = WGSL_STANDARD_LAYOUT;
-    if (!wgsl_is_memory(text, size, 1) || !wgsl_is_memory(room, room_size, 1) || answer == NULL) {
+    if (!wgsl_is_memory(text, size, 1) || !wgsl_is_memory(buffer, buffer_size, 1)
+        || answer == NULL) {
         return WGSL_BAD_ARGUMENT;
     }
     return wgsl_c_tidy(layout != NULL ? layout : &standard, (const uint8_t *)wgsl_at(text), size,
-                       (uint8_t *)wgsl_at(room), room_size, answer);
+                       (uint8_t *)wgsl_at(buffer), buffer_size, answer);
 }
 
-/* Whether a text is a module: WGSL_DONE with the size 0, or WGSL_REFUSED. The room is for the texts
- * of the fault. */
-static inline uint32_t wgsl_check(const char *text, size_t size, char *room, size_t room_size,
+/* Whether a text is a module: WGSL_DONE with the size 0, or WGSL_REFUSED. The buffer is for the
+ * texts of the fault. */
+static inline uint32_t wgsl_check(const char *text, size_t size, char *buffer, size_t buffer_size,
                                   struct wgsl_answer *answer) {
-    if (!wgsl_is_memory(text, size, 1) || !wgsl_is_memory(room, room_size, 1) || answer == NULL) {
+    if (!wgsl_is_memory(text, size, 1) || !wgsl_is_memory(buffer, buffer_size, 1)
+        || answer == NULL) {
         return WGSL_BAD_ARGUMENT;
     }
-    return wgsl_c_check((const uint8_t *)wgsl_at(text), size, (uint8_t *)wgsl_at(room), room_size,
-                        answer);
+    return wgsl_c_check((const uint8_t *)wgsl_at(text), size, (uint8_t *)wgsl_at(buffer),
+                        buffer_size, answer);
 }
 
 /* Whether a text is a module of the smaller dialect in which names are identifiers alone and
  * nothing is checked: as wgsl_check. */
-static inline uint32_t wgsl_recognize(const char *text, size_t size, char *room, size_t room_size,
-                                      struct wgsl_answer *answer) {
-    if (!wgsl_is_memory(text, size, 1) || !wgsl_is_memory(room, room_size, 1) || answer == NULL) {
+static inline uint32_t wgsl_recognize(const char *text, size_t size, char *buffer,
+                                      size_t buffer_size, struct wgsl_answer *answer) {
+    if (!wgsl_is_memory(text, size, 1) || !wgsl_is_memory(buffer, buffer_size, 1)
+        || answer == NULL) {
         return WGSL_BAD_ARGUMENT;
     }
-    return wgsl_c_recognize((const uint8_t *)wgsl_at(text), size, (uint8_t *)wgsl_at(room),
-                            room_size, answer);
+    return wgsl_c_recognize((const uint8_t *)wgsl_at(text), size, (uint8_t *)wgsl_at(buffer),
+                            buffer_size, answer);
 }
 
-/* The tree of a kind (enum wgsl_tree_kind) that a text is, by its text form into the room: JSON,
- * with each field of each node and its place, as docs/TREE.md says, and no byte 0 behind it.
+/* The tree of a kind (enum wgsl_tree_kind) that a text is, by its text form into the buffer: JSON,
+ * with each field of each node and its place, as docs/TREE.md says, and no byte 0 after it.
  * WGSL_UNKNOWN where the kind is none. */
-static inline uint32_t wgsl_tree(uint32_t kind, const char *text, size_t size, char *room,
-                                 size_t room_size, struct wgsl_answer *answer) {
-    if (!wgsl_is_memory(text, size, 1) || !wgsl_is_memory(room, room_size, 1) || answer == NULL) {
+static inline uint32_t wgsl_tree(uint32_t kind, const char *text, size_t size, char *buffer,
+                                 size_t buffer_size, struct wgsl_answer *answer) {
+    if (!wgsl_is_memory(text, size, 1) || !wgsl_is_memory(buffer, buffer_size, 1)
+        || answer == NULL) {
         return WGSL_BAD_ARGUMENT;
     }
-    return wgsl_c_tree(kind, (const uint8_t *)wgsl_at(text), size, (uint8_t *)wgsl_at(room),
-                       room_size, answer);
+    return wgsl_c_tree(kind, (const uint8_t *)wgsl_at(text), size, (uint8_t *)wgsl_at(buffer),
+                       buffer_size, answer);
 }
 
 /* The printed text of the node of a kind that a form describes, as wgsl_tree writes it and
  * docs/TREE.md says: exactly so, without blank space. The text does not depend on the spans, but
  * none of them may start after its end. Where the form is refused the answer has the place in the
- * form at which that shows, and the room has the message if it fits. WGSL_UNKNOWN where the kind is
- * none. */
-static inline uint32_t wgsl_print(uint32_t kind, const char *form, size_t size, char *room,
-                                  size_t room_size, struct wgsl_answer *answer) {
-    if (!wgsl_is_memory(form, size, 1) || !wgsl_is_memory(room, room_size, 1) || answer == NULL) {
-        return WGSL_BAD_ARGUMENT;
-    }
-    return wgsl_c_print(kind, (const uint8_t *)wgsl_at(form), size, (uint8_t *)wgsl_at(room),
-                        room_size, answer);
-}
-
-/* The tokens of a text, into a room of so many tokens. WGSL_REFUSED where text that is no token
- * ends them: the answer has its place, and the tokens before it are in the room, `size` of them.
- * Where the room is too small it holds the first ones. */
-static inline uint32_t wgsl_tokens(const char *text, size_t size, struct wgsl_token *room,
-                                   size_t room_size, struct wgsl_answer *answer) {
-    if (!wgsl_is_memory(text, size, 1) || !wgsl_is_memory(room, room_size, sizeof *room)
+ * form at which that shows, and the buffer has the message if it fits. WGSL_UNKNOWN where the kind
+ * is none. */
+static inline uint32_t wgsl_print(uint32_t kind, const char *form, size_t size, char *buffer,
+                                  size_t buffer_size, struct wgsl_answer *answer) {
+    if (!wgsl_is_memory(form, size, 1) || !wgsl_is_memory(buffer, buffer_size, 1)
         || answer == NULL) {
         return WGSL_BAD_ARGUMENT;
     }
-    return wgsl_c_tokens((const uint8_t *)wgsl_at(text), size,
-                         (struct wgsl_token *)wgsl_at(room), room_size, answer);
+    return wgsl_c_print(kind, (const uint8_t *)wgsl_at(form), size, (uint8_t *)wgsl_at(buffer),
+                        buffer_size, answer);
 }
 
-/* The template lists of a text, into a room of so many places: each from its `<` to behind its `>`,
- * in the order of their starts. They are found in comments too. Where the room is too small it
+/* The tokens of a text, into a buffer for tokens. WGSL_REFUSED where text that is no token
+ * ends them: the answer has its place, and the tokens before it are in the buffer, `size` of them.
+ * Where the buffer is too small it holds the first ones. */
+static inline uint32_t wgsl_tokens(const char *text, size_t size, struct wgsl_token *buffer,
+                                   size_t buffer_size, struct wgsl_answer *answer) {
+    if (!wgsl_is_memory(text, size, 1) || !wgsl_is_memory(buffer, buffer_size, sizeof *buffer)
+        || answer == NULL) {
+        return WGSL_BAD_ARGUMENT;
+    }
+    return wgsl_c_tokens((const uint8_t *)wgsl_at(text), size, (struct wgsl_token *)wgsl_at(buffer),
+                         buffer_size, answer);
+}
+
+/* The template lists of a text, into a buffer for places: each from its `<` to after its `>`,
+ * in the order of their starts. They are found in comments too. Where the buffer is too small it
  * holds the first ones. */
-static inline uint32_t wgsl_template_lists(const char *text, size_t size, struct wgsl_place *room,
-                                           size_t room_size, struct wgsl_answer *answer) {
-    if (!wgsl_is_memory(text, size, 1) || !wgsl_is_memory(room, room_size, sizeof *room)
+static inline uint32_t wgsl_template_lists(const char *text, size_t size, struct wgsl_place *buffer,
+                                           size_t buffer_size, struct wgsl_answer *answer) {
+    if (!wgsl_is_memory(text, size, 1) || !wgsl_is_memory(buffer, buffer_size, sizeof *buffer)
         || answer == NULL) {
         return WGSL_BAD_ARGUMENT;
     }
-    return wgsl_c_lists((const uint8_t *)wgsl_at(text), size, (struct wgsl_place *)wgsl_at(room),
-                        room_size, answer);
+    return wgsl_c_lists((const uint8_t *)wgsl_at(text), size, (struct wgsl_place *)wgsl_at(buffer),
+                        buffer_size, answer);
 }
 
-/* Whether a text begins with a template list, behind blank space and comments: `size` is 1 where it
+/* Whether a text begins with a template list, after blank space and comments: `size` is 1 where it
  * does, and else 0. */
 static inline uint32_t wgsl_begins_with_template_list(const char *text, size_t size,
                                                       struct wgsl_answer *answer) {

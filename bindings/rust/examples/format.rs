@@ -1,4 +1,4 @@
-//! Formats shaders: each file that is named is printed, or its fault is told.
+//! Formats shaders: each file that is named is printed, or its fault is reported.
 
 use std::process::ExitCode;
 

@@ -125,12 +125,12 @@ pub fn parse(text: &str) -> Result<TranslationUnit, Fault> {
     text.parse()
 }
 
-/// A token of a text: what it is, and where it stands in bytes.
+/// A token of a text: what it is, and where it is, in bytes.
 #[derive(Clone, Copy, Debug, PartialEq, Eq, Hash)]
 pub struct Token {
     /// Which token it is.
     pub kind: TokenKind,
-    /// Where it stands.
+    /// Where it is.
     pub span: Span,
 }
 
@@ -138,7 +138,7 @@ pub struct Token {
 ///
 /// # Errors
 ///
-/// The first invalid token, or want of memory.
+/// The first invalid token, or that allocation fails.
 ///
 /// # Examples
 ///
@@ -176,12 +176,12 @@ impl Token {
     }
 }
 
-/// Where each template list of a text stands, from its `<` to behind its `>`, in the order of
-/// their starts. They are found in comments too.
+/// Where each template list of a text is, from its `<` to after its `>`, in the order of their
+/// starts. They are found in comments too.
 ///
 /// # Errors
 ///
-/// Want of memory alone.
+/// Only that allocation fails.
 ///
 /// # Examples
 ///
@@ -210,11 +210,11 @@ pub fn template_lists(text: &str) -> Result<Vec<Span>, Fault> {
     }
 }
 
-/// Whether a text begins with a template list, behind blank space and comments.
+/// Whether a text begins with a template list, after blank space and comments.
 ///
 /// # Errors
 ///
-/// Want of memory alone.
+/// Only that allocation fails.
 ///
 /// # Examples
 ///
@@ -229,12 +229,12 @@ pub fn begins_with_template_list(text: &str) -> Result<bool, Fault> {
 
 /// The greatest number of brackets, blocks, template lists and prefix operators that are open at
 /// one place. What reads, prints and drops a text takes stack for each: in the library at most
-/// 1,200 bytes for a bracket, a template list or an operator, and 2,750 for a block. [Printing a
+/// 1,250 bytes for a bracket, a template list or an operator, and 2,750 for a block. [Printing a
 /// tree](crate::syntax#printing) takes more.
 ///
 /// # Errors
 ///
-/// Want of memory alone.
+/// Only that allocation fails.
 ///
 /// # Examples
 ///
@@ -246,7 +246,7 @@ pub fn nesting(text: &str) -> Result<usize, Fault> {
     number(nesting_call(text))
 }
 
-/// The number that a call answers, unless memory was refused.
+/// The number that a call returns, unless allocation fails.
 fn number(said: Said) -> Result<usize, Fault> {
     match said.status {
         DONE => Ok(said.answer.size),

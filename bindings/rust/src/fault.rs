@@ -19,7 +19,7 @@ pub enum FaultKind {
     InvalidToken,
     /// A reserved word where a name is wanted.
     ReservedWord,
-    /// A token that cannot stand where it stands.
+    /// A token that cannot be where it is.
     UnexpectedToken,
     /// The text ends too early.
     UnexpectedEof,
@@ -72,8 +72,8 @@ impl FaultKind {
 pub struct Fault {
     /// What kind of fault it is.
     pub kind: FaultKind,
-    /// Where it stands, in bytes. Where the text ends too early this is from the end of its last
-    /// token to one byte behind, which may be past the text.
+    /// Where it is, in bytes. If the text ends too early, this is from the end of its last token to
+    /// one byte after, which may be past the text.
     pub span: Span,
     /// The line where it starts, from 1. Lines end at a line feed.
     pub line: usize,

@@ -1,12 +1,12 @@
 //! The calls of the static library, made safe. No other file has `unsafe`.
 //!
-//! What a call is owed, as `wgsl.h` says, is what Rust's references give: memory that can be read
+//! What a call requires, as `wgsl.h` says, is what Rust's references give: memory that can be read
 //! or written, lies apart and stays as it is for the call. Of the stack, each level of nesting
 //! takes at most 2,750 bytes as measured, and 5,700 where a tree is printed, so that a text or a
 //! tree which nests too deep reaches the guard page at the end of the stack, as a recursion of
 //! Rust's does, and ends the process.
 
-/// What a call answers beside its status: `struct wgsl_answer` of `wgsl.h`.
+/// What a call returns beside its status: `struct wgsl_answer` of `wgsl.h`.
 #[repr(C)]
 #[derive(Clone, Copy, Debug, Default)]
 pub struct Answer {

@@ -85,7 +85,7 @@ pub(crate) mod sealed {
 ///
 /// # Errors
 ///
-/// The fault of the text, or want of memory.
+/// The fault of the text, or that allocation fails.
 ///
 /// # Examples
 ///

@@ -11,7 +11,7 @@ const HEADER: &str = include_str!("../../../include/wgsl.h");
 fn numbers(name: &str) -> Vec<(&'static str, usize)> {
     let (_, inside) = HEADER
         .split_once(&format!("enum {name} {{\n"))
-        .expect("the enum stands in the header");
+        .expect("the enum is in the header");
     let (inside, _) = inside.split_once("};").expect("the enum ends");
     let lines = inside.lines().map(|line| line.trim().trim_end_matches(','));
     let pairs = lines.filter_map(|line| line.strip_prefix("WGSL_")?.split_once(" = "));

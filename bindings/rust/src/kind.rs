@@ -3,7 +3,7 @@
 /// The kinds, in the order of their numbers.
 macro_rules! kinds {
     ($($(#[$note:meta])* $kind:ident,)*) => {
-        /// Which token it is, without what it holds. They stand in the order of their numbers in
+        /// Which token it is, without what it holds. They are in the order of their numbers in
         /// `wgsl.h`. No call gives a comment.
         #[derive(Clone, Copy, Debug, PartialEq, Eq, Hash)]
         pub enum TokenKind {

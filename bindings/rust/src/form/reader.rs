@@ -83,7 +83,7 @@ impl<'t> Reader<'t> {
         Ok(Some(self.holes.len() - 1))
     }
 
-    /// Takes a text, if it stands next.
+    /// Takes a text, if it is next.
     pub fn takes(&mut self, text: &str) -> bool {
         match self.left.strip_prefix(text) {
             Some(left) => {
@@ -94,7 +94,7 @@ impl<'t> Reader<'t> {
         }
     }
 
-    /// Takes a text, which has to stand next.
+    /// Takes a text, which has to be next.
     pub fn expect(&mut self, text: &str) -> Result<(), FormError> {
         if self.takes(text) {
             Ok(())
@@ -103,7 +103,7 @@ impl<'t> Reader<'t> {
         }
     }
 
-    /// Takes what stands before the first character that a test does not hold of.
+    /// Takes what is before the first character that a test does not hold of.
     pub fn take_while(&mut self, test: impl Fn(char) -> bool) -> &'t str {
         let end = self.left.find(|c| !test(c)).unwrap_or(self.left.len());
         let (taken, left) = self.left.split_at(end);
@@ -111,7 +111,7 @@ impl<'t> Reader<'t> {
         taken
     }
 
-    /// Takes the name of a field, with what stands before it and the colon behind it.
+    /// Takes the name of a field, with what is before it and the colon after it.
     pub fn field(&mut self, before: &str, name: &str) -> Result<(), FormError> {
         self.expect(before)?;
         self.expect("\"")?;
@@ -119,7 +119,7 @@ impl<'t> Reader<'t> {
         self.expect("\":")
     }
 
-    /// Takes the name of a variant, and tells whether it holds something, which stands next.
+    /// Takes the name of a variant, and tells whether it holds something, which is next.
     pub fn variant(&mut self) -> Result<(&'t str, bool), FormError> {
         let holds = self.takes("{");
         self.expect("\"")?;
@@ -128,7 +128,7 @@ impl<'t> Reader<'t> {
         Ok((name, holds))
     }
 
-    /// Takes a character of a text that is written behind a `\`.
+    /// Takes a character of a text that is written after a `\`.
     pub fn escaped(&mut self) -> Result<char, FormError> {
         if self.takes("\"") {
             return Ok('"');

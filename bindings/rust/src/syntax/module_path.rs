@@ -9,7 +9,7 @@ use std::str::FromStr;
 pub enum PathOrigin {
     /// At the root of the package: `package`.
     Absolute,
-    /// At the module itself, or so many levels above it: `self`, or `super` so often.
+    /// At the module itself, or a number of levels above it: `self`, or `super` so often.
     Relative(usize),
     /// At the root of the package with this name.
     Package(String),
@@ -177,7 +177,7 @@ impl ModulePath {
         ModulePath::new(origin, suffix.components.clone())
     }
 
-    /// The components of a path so many levels above this one.
+    /// The components of a path that is a number of levels above this one.
     fn join_relative(&self, levels: usize, suffix: &Self) -> Self {
         let kept = self.components.len().saturating_sub(levels);
         let above = levels.saturating_sub(self.components.len());
