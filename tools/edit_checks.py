@@ -125,11 +125,10 @@ class Tried:
         return [it for it in found if it[1][0] not in verdicts]
 
     def run(self, room):
-        """Tries what is left until each body has a verdict, callers before what they call, so that
-        none waits for a function that fails."""
+        """Tries what is left until each body has a verdict."""
         self.try_copies(room)
         while left := self.left():
-            taken, _ = apart([it for it in left if not self.is_below(it, left)])
+            taken, _ = apart(left)
             self.settle(taken, room)
 
     def try_copies(self, room):
@@ -137,9 +136,10 @@ class Tried:
         to or that have several. Unless a text can't be read, notes what is told of those that are
         in place, and which of the others are refused."""
         left = self.left()
-        in_place, _ = apart([it for it in left if not self.is_below(it, left)])
-        copies = [in_copy(it, self.folder, self.names) for it in left if it not in in_place]
-        bodies = in_place + [it for it in copies if it]
+        copies = {it.name: self.copied(it) for it in left if self.is_below(it, left)}
+        in_place, more = apart([it for it in left if not copies.get(it.name)])
+        bodies = [*in_place, *copies.values(), *map(self.copied, more)]
+        bodies = [it for it in bodies if it]
         said, places = self.check(bodies, room)
         if unreadable(said, places):
             return
@@ -147,6 +147,9 @@ class Tried:
             verdict, why = verdict_of_body(body, said)
             if verdict is Verdict.REFUSED or verdict and not body.copied:
                 self.verdicts[body.name] = verdict, why
+
+    def copied(self, body):
+        return in_copy(body, self.folder, self.names)
 
     def is_below(self, body, others):
         """Whether the function of another body leads to that of a body, and not the reverse."""
