@@ -1,4 +1,6 @@
 -- The trees, as plain data, and paths of modules.
+pub mod WordTables
+pub mod WordNodes
 pub mod Operators
 pub mod NamedValues
 pub mod Spanned

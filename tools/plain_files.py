@@ -1,0 +1,46 @@
+"""Parts of the files of definitions that follow from crates/wgsl_model/nodes."""
+import re
+import textwrap
+
+import antt
+from node_table import snake
+from nodes import fill
+
+
+def said(doc):
+    """What the table says of something, as a comment says it."""
+    return doc[0].lower() + doc[1:].rstrip(".")
+
+
+def spoken(name):
+    """A name in words, with its article."""
+    words = snake(name).replace("_", " ").replace("builtin", "built-in")
+    return f"{'an' if words[0] in 'aeio' else 'a'} {words}"
+
+
+def comment(text):
+    """The lines of a comment."""
+    return textwrap.wrap(text, 100, initial_indent="-- ", subsequent_indent="-- ",
+                         break_long_words=False, break_on_hyphens=False)
+
+
+def constructors(names, type_):
+    """The lines of constructors that hold the same."""
+    return textwrap.wrap(f"{' '.join(names)} : {type_}", 100, initial_indent="  ",
+                         subsequent_indent="      ", break_on_hyphens=False)
+
+
+def public_names(text):
+    """What a file defines, its types with their constructors."""
+    for item in antt.items(text):
+        head = re.match(r"(?:abbrev )?pub (data )?(?:record )?(\S+)", item)
+        if not head:
+            continue
+        yield head[2]
+        for line in re.split(r"\n {2,4}(?! )", item)[1:] if head[1] else []:
+            yield from (f"{head[2]}.{name}" for name in line.split(" : ")[0].split())
+
+
+def pass_on(path, file, names):
+    """Writes the line by which a file passes on names of another one."""
+    fill(path, f"\npub use Rattle.wgsl_model.specs.{file}.{{", ", ".join(names), "}\n")
