@@ -4,6 +4,7 @@ A term is a tuple: ("name", x), ("app", head, arguments), ("op", sign, left, rig
 ("lambda", patterns, body), ("tuple", terms) or ("record", fields).
 """
 import re
+from pathlib import Path
 
 TOKEN = re.compile(r'"[^"]*"|\w[\w\'-]*(?:\.\w+)*|\+\+|\[\]|\S')
 # how tightly the signs between terms bind, and whether to the left
@@ -35,6 +36,15 @@ def items(text):
         else:
             found.append(line)
     return found
+
+
+def source(path):
+    """The text of a file, after those of the files written by tools from which it passes names on."""
+    text = path.read_text()
+    passed = re.findall(r"^pub use Rattle\.([\w.]+Nodes)\.\{", text, re.M)
+    files = [Path("crates", *module.split(".")).with_suffix(".antt")
+             for module in dict.fromkeys(passed)]
+    return "".join([*map(source, files), text])
 
 
 def last(name):
@@ -174,7 +184,7 @@ class Module:
     def __init__(self, path):
         self.name = "Rattle." + ".".join(path.with_suffix("").parts[1:])
         self.uses, self.aliases, self.clauses, self.signatures = {}, {}, {}, []
-        for item in items(path.read_text()):
+        for item in items(source(path)):
             self.read(item)
 
     def read(self, item):

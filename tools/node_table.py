@@ -26,10 +26,11 @@ class Kind:
 
 
 class Table:
-    """The kinds in the order of the table, what it says of fields and variants, and the examples of
-    the variants of each enum."""
+    """The kinds in the order of the table, the section of each, what it says of fields and variants,
+    and the examples of the variants of each enum."""
 
     def __init__(self):
+        self.sections = sections()
         text = re.sub(r"^(?:#.*|--.*|)\n", "", TABLE.read_text(), flags=re.M)
         self.kinds, self.docs, self.examples = [], {}, {}
         for line in re.sub(r"\n +", " ", text).splitlines():
@@ -69,6 +70,13 @@ class Table:
     def variant(self, name, held):
         """A variant as Rust declares it."""
         return f"{name}({self.rust(held)})" if held else name
+
+
+def sections():
+    """The section of each kind."""
+    parts = re.split(r"^# (.*)\n", TABLE.read_text(), flags=re.M)[1:]
+    return {name: title for title, text in zip(parts[::2], parts[1::2])
+            for _, _, name in re.findall(r"^(spanned )?(struct|enum|words) (\w+):", text, re.M)}
 
 
 def separated(text):

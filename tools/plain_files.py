@@ -7,11 +7,6 @@ from node_table import snake
 from nodes import fill
 
 
-def said(doc):
-    """What the table says of something, as a comment says it."""
-    return doc[0].lower() + doc[1:].rstrip(".")
-
-
 def spoken(name):
     """A name in words, with its article."""
     words = snake(name).replace("_", " ").replace("builtin", "built-in")
@@ -24,10 +19,17 @@ def comment(text):
                          break_long_words=False, break_on_hyphens=False)
 
 
-def constructors(names, type_):
-    """The lines of constructors that hold the same."""
-    return textwrap.wrap(f"{' '.join(names)} : {type_}", 100, initial_indent="  ",
-                         subsequent_indent="      ", break_on_hyphens=False)
+def data(doc, name, values):
+    """A type of values that hold nothing."""
+    values = textwrap.wrap(f"{' '.join(values)} : {name}", 100, initial_indent="  ",
+                           subsequent_indent="      ", break_on_hyphens=False)
+    return [*comment(doc), f"pub data {name} : Type 0 where", *values, ""]
+
+
+def texts(doc, name, type_, words):
+    """What gives the texts of values."""
+    return [f"-- {doc}", f"abbrev pub {name} : {type_} → List ℕ",
+            *(f'{name} {value} = codes "{word}"' for value, word in words), ""]
 
 
 def public_names(text):

@@ -10,7 +10,8 @@ It reads crates/wgsl_model/nodes.
 from pathlib import Path
 
 from node_table import TABLE, Table, snake
-from plain_files import comment, constructors, pass_on, public_names, said, spoken
+from plain_files import comment, data, pass_on, public_names, spoken, texts
+from tree_codes import plain_doc
 from tree_words import is_operator, stem
 
 TREES = Path("crates/wgsl_model/specs/Trees")
@@ -31,18 +32,16 @@ def plural(name):
 def enum(kind):
     """An enum of words."""
     words = ", ".join(f"`{word}`" for _, word in kind.parts)
-    doc = f"{said(kind.doc)}: {words}" if is_operator(kind) else said(kind.doc)
+    doc = f"{plain_doc(kind.doc)}: {words}" if is_operator(kind) else plain_doc(kind.doc)
     section = f' (WGSL, "{SECTIONS[kind.name]}")' if kind.name in SECTIONS else ""
-    return [*comment(doc + section), f"pub data {kind.name} : Type 0 where",
-            *constructors([snake(name) for name, _ in kind.parts], kind.name), ""]
+    return data(doc + section, kind.name, [snake(name) for name, _ in kind.parts])
 
 
-def texts(kind):
+def enum_texts(kind):
     """The texts of the values of an enum."""
-    name = f"{stem(kind)}_text"
-    return [f"-- the {'text' if is_operator(kind) else 'word'} of {spoken(stem(kind))}",
-            f"abbrev pub {name} : {kind.name} → List ℕ",
-            *(f'{name} {snake(value)} = codes "{word}"' for value, word in kind.parts), ""]
+    doc = f"the {'text' if is_operator(kind) else 'word'} of {spoken(stem(kind))}"
+    return texts(doc, f"{stem(kind)}_text", kind.name,
+                 [(snake(name), word) for name, word in kind.parts])
 
 
 def table(kind):
@@ -57,13 +56,13 @@ def main():
     kinds = Table().of_form("words")
     operators = [kind for kind in kinds if is_operator(kind)]
     values = [line for kind in kinds if kind not in operators
-              for line in enum(kind) + texts(kind) + table(kind)]
+              for line in enum(kind) + enum_texts(kind) + table(kind)]
     title = f"Written by tools/plain_words.py from {TABLE}: operators and words."
     (TREES / "WordNodes.antt").write_text("\n".join([
         *comment(title),
         "use Rattle.std.specs.Prelude.{ℕ, List, [], ◌∷◌, codes}",
         "use Rattle.wgsl_model.specs.Trees.WordTables.{WordTable, with_words}", "",
-        *(line for kind in operators for line in enum(kind) + texts(kind)), *values]))
+        *(line for kind in operators for line in enum(kind) + enum_texts(kind)), *values]))
     for file, lines in [("Operators", sum(map(enum, operators), [])), ("NamedValues", values)]:
         pass_on(TREES / f"{file}.antt", "Trees.WordNodes", public_names("\n".join(lines)))
 

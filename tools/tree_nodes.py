@@ -13,6 +13,7 @@ import re
 from dataclasses import dataclass
 from pathlib import Path
 
+from antt import source
 from node_table import TABLE, TREES, WORDS, Table, snake
 
 PLAIN = Path("crates/wgsl_model/specs")
@@ -71,7 +72,7 @@ class Plain:
     """The plain trees of a file: what each type is made by, with the types of its arguments."""
 
     def __init__(self, file):
-        self.text = (PLAIN / f"{file.replace('.', '/')}.antt").read_text()
+        self.text = source(PLAIN / f"{file.replace('.', '/')}.antt")
         self.made = {}
         for name, body in re.findall(r"^ *pub data (\w+) : .*\n((?: +\w.*\n)+)", self.text, re.M):
             self.made[name] = {

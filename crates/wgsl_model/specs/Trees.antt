@@ -5,6 +5,7 @@ pub mod Operators
 pub mod NamedValues
 pub mod Spanned
 pub mod Expressions
+pub mod AttributeNodes
 pub mod Attributes
 pub mod Attributed
 pub mod Statements
