@@ -1,27 +1,22 @@
-"""How the plain trees of wgsl_model differ from crates/wgsl_model/nodes."""
-from node_table import snake
+"""How the plain trees of wgsl_model differ from crates/wgsl_model/nodes.
 
-# the structs whose plain tree is made by a constructor, with its parts in order
-CONSTRUCTED = {
-    "ParenthesizedExpression": "parenthesized expression",
-    "NamedComponentExpression": "named_component base component",
-    "IndexingExpression": "indexing base index",
-    "UnaryExpression": "unary operator operand",
-    "BinaryExpression": "binary operator left right",
-    "FunctionCall": "call ty arguments",
-    "TypeExpression": "type_expression ident template_args",
-    "CompoundStatement": "compound_statement attributes statements",
-    "IfStatement": "if_else first_clause else_if_clauses else_clause",
-    "IfClause": "if_clause expression body",
-    "ElseIfClause": "else_if_clause attributes expression body",
-    "ElseClause": "else_clause attributes body",
-    "SwitchStatement": "switch expression body_attributes clauses",
-    "SwitchClause": "switch_clause attributes case_selectors body",
-    "LoopStatement": "repeat body continuing",
-    "ContinuingStatement": "continuing attributes body break_if",
-    "ForStatement": "repeat_for initializer condition update body",
-    "WhileStatement": "repeat_while condition body",
+A struct in a cycle of types is made by a constructor, and so are its lists and optional parts; the
+others are records. Names follow from those of the kinds, where they are not listed here.
+"""
+import re
+
+from node_specs import cycle
+from node_table import Table, snake
+
+# the constructors of structs with other names than theirs
+CONSTRUCTORS = {
+    "FunctionCall": "call", "TypeExpression": "type_expression",
+    "CompoundStatement": "compound_statement", "IfStatement": "if_else", "LoopStatement": "repeat",
+    "ForStatement": "repeat_for", "WhileStatement": "repeat_while",
 }
+# the parts of those that have them in another order than their fields
+PARTS = {"NamedComponentExpression": "base component", "IndexingExpression": "base index",
+         "BinaryExpression": "operator left right"}
 # in a plain tree these have no type of their own: variants hold their parts
 INLINE = ["ParenthesizedExpression", "NamedComponentExpression", "IndexingExpression",
           "UnaryExpression", "BinaryExpression"]
@@ -38,52 +33,39 @@ OWN = {
     "SwitchClause*": ("SwitchClauses", "no_clauses", "clause_before"),
     "ContinuingStatement?": ("MaybeContinuing", "no_continuing", "one_continuing"),
 }
+# what makes those types of lists and optional parts, where it has another name than its functions
+MAKERS = {"MaybeContinuing": "continuing_of", "MaybeStatement": "maybe_statement"}
 # the structs that have their attributes among their fields there; those of others are apart
 WITH_ATTRIBUTES = ["CompoundStatement", "ElseIfClause", "ElseClause", "SwitchClause",
                    "ContinuingStatement", "StructMember", "FormalParameter"]
 # the types of variants whose attributes are apart
 UNATTRIBUTED = {"Statement": "UnattributedStatement", "GlobalDirective": "UnattributedDirective",
                 "GlobalDeclaration": "UnattributedDeclaration"}
-# what a field is called in CONSTRUCTED, where its name is a constructor there
+# what a field is called as a part, where its name is a constructor
 RENAMED = {"if_clause": "first_clause"}
-# the constructors of variants with other names than theirs
+# the word that ends the constructors of the variants of an enum; of a statement, of those that hold
+# a struct of that name
+ENDINGS = {"DeclarationKind": "kind", "CaseSelector": "selector", "Statement": "statement"}
+# the constructors of variants with other names
 VARIANTS = {
     "LiteralExpression": {"Bool": "boolean"},
-    "DeclarationKind": {name: f"{snake(name)}_kind" for name in [
-        "Const", "Override", "Let", "Var"]},
-    "CaseSelector": {"Default": "default_selector", "Expression": "expression_selector"},
-    "Statement": {name: f"{snake(name)}_statement" for name in [
-        "If", "Switch", "Loop", "For", "While", "Break", "Continue", "Return", "Discard",
-        "FunctionCall"]},
+    "Statement": {name: snake(name) for name in [
+        "Compound", "Assignment", "Increment", "Decrement"]},
     "GlobalDeclaration": {"Struct": "structure"},
     "Attribute": {"If": "if_attribute", "Elif": "elif_attribute", "Const": "const_attribute",
                   "Else": "else_attribute"},
 }
-# the kinds whose functions have other names than theirs
+# the kinds whose functions have other names than theirs without a last word
 SHORT = {
-    "LiteralExpression": "literal", "FunctionCall": "call", "TypeExpression": "type",
-    "TemplateArguments": "template", "DiagnosticAttribute": "diagnostic",
-    "InterpolateAttribute": "interpolate", "WorkgroupSizeAttribute": "workgroup_size",
-    "CustomAttribute": "custom", "AssignmentStatement": "assignment",
-    "IncrementStatement": "increment", "DecrementStatement": "decrement",
-    "BreakStatement": "break", "ContinueStatement": "continue", "ReturnStatement": "return",
-    "DiscardStatement": "discard", "FunctionCallStatement": "call_statement",
-    "ConstAssert": "assert", "BreakIfStatement": "break_if", "CaseSelector": "selector",
-    "CompoundStatement": "compound", "IfStatement": "if", "SwitchStatement": "switch",
-    "LoopStatement": "loop", "ContinuingStatement": "continuing", "ForStatement": "for",
-    "WhileStatement": "while", "UnattributedStatement": "unattributed",
+    "FunctionCall": "call", "TemplateArguments": "template",
+    "FunctionCallStatement": "call_statement", "ConstAssert": "assert", "CaseSelector": "selector",
     "StatementNodes": "statements", "MaybeStatement": "part", "ElseIfClauses": "else_ifs",
     "MaybeElseClause": "else", "SwitchClauses": "clauses", "StructMember": "member",
     "FormalParameter": "parameter", "TranslationUnit": "unit",
 }
 # what gives a plain tree without its spans, where that has another name than its code
-WITHOUT_SPANS = {
-    "ExpressionNodes": "bare_expressions", "TemplateExpressions": "bare_expressions",
-    "GlobalDirective": "bare_directive",
-    "IfStatement": "changed_if without_spans", "SwitchStatement": "changed_switch without_spans",
-    "LoopStatement": "changed_loop without_spans", "ForStatement": "changed_for without_spans",
-    "WhileStatement": "changed_while without_spans",
-}
+WITHOUT_SPANS = {"ExpressionNodes": "bare_expressions", "TemplateExpressions": "bare_expressions",
+                 "GlobalDirective": "bare_directive"}
 # the kinds in which there are no spans
 SPANLESS = ["LiteralExpression", "DiagnosticAttribute", "InterpolateAttribute", "DeclarationKind",
             "DiagnosticDirective", "EnableDirective", "RequiresDirective", "UnattributedDirective"]
@@ -93,7 +75,17 @@ WORDS = {"DiagnosticSeverity": "severity_text"}
 
 def constructor(kind, name):
     """The constructor of a variant."""
-    return VARIANTS.get(kind.name, {}).get(name, snake(name))
+    held = dict(kind.parts)[name]
+    ending = ENDINGS.get(kind.name)
+    if kind.name == "Statement" and not held.endswith("Statement"):
+        ending = None
+    made = f"{snake(name)}_{ending}" if ending else snake(name)
+    return VARIANTS.get(kind.name, {}).get(name, made)
+
+
+def without_last(name):
+    """The name of a kind, without the word that many end with."""
+    return snake(re.sub(r"(?<=\w)(Statement|Expression|Attribute)$", "", name))
 
 
 def is_apart(kind):
@@ -107,11 +99,40 @@ def word_text(kind):
     return WORDS.get(kind.name, f"{snake(kind.name)}_text")
 
 
+def short(name):
+    """What names the functions of a kind."""
+    return SHORT.get(name) or without_last(name)
+
+
 def coded(name):
     """The name of the function that gives the code of a kind."""
-    return f"{SHORT.get(name, snake(name))}_code"
+    return f"{short(name)}_code"
 
 
 def bare(name):
     """What gives a plain tree of a kind without its spans."""
-    return WITHOUT_SPANS.get(name, f"bare_{SHORT.get(name, snake(name))}")
+    if name in LEADING:
+        return f"changed_{short(name)} without_spans"
+    return WITHOUT_SPANS.get(name, f"bare_{short(name)}")
+
+
+def maker(held):
+    """What makes a list or an optional part that has a type of its own."""
+    type_ = OWN[held][0]
+    return MAKERS.get(type_) or f"{short(type_)}_of"
+
+
+def made(kind):
+    """The constructor of a struct, with its parts in order."""
+    names = [RENAMED.get(name, name) for name, _ in kind.parts[is_apart(kind):]]
+    front = CONSTRUCTORS.get(kind.name) or without_last(kind.name)
+    return f"{front} {PARTS.get(kind.name) or ' '.join(names)}"
+
+
+NODES = Table()
+# the structs whose plain tree is made by a constructor; an argument of a template is its expression
+CONSTRUCTED = {kind.name: made(kind) for kind in NODES.of_form("struct")
+               if cycle(NODES, kind.name) and kind.name != "TemplateArg"}
+# those that a variant of a statement holds whole
+LEADING = [held for name, held in NODES.by_name["Statement"].parts
+           if held in CONSTRUCTED and name != "Compound"]
