@@ -19,7 +19,7 @@ def comment(text):
                          break_long_words=False, break_on_hyphens=False)
 
 
-def data(doc, name, values):
+def names_only(doc, name, values):
     """A type of values that hold nothing."""
     values = textwrap.wrap(f"{' '.join(values)} : {name}", 100, initial_indent="  ",
                            subsequent_indent="      ", break_on_hyphens=False)

@@ -1,63 +1,41 @@
 #!/usr/bin/env python3
-"""Writes the plain trees of attributes, from the fields and variants of nodes.
+"""Writes the plain trees of attributes and statements, from the fields and variants of nodes.
 
 Run it at the top of the repository:
 
     tools/plain_nodes.py
 
-It reads crates/wgsl_model/nodes; how plain trees differ from that is in plain_trees.py.
+It reads crates/wgsl_model/nodes; how plain trees differ from that is in plain_trees.py. What makes
+a statement of its parts it leaves out where Statements.antt has that.
 """
 import re
 from pathlib import Path
 
 from node_specs import cycle
-from node_table import TABLE, Table, separated, snake
-from plain_files import data, pass_on, public_names, texts
-from plain_trees import OWN, constructor, is_apart
+from node_table import TABLE, Table, snake
+from plain_files import names_only, pass_on, public_names, texts
+from plain_statements import changes, makers, mutual, of_several
+from plain_trees import OWN, constructor
+from plain_types import enum, in_order, parts_of, record, several, spanned, struct, type_of
 from tree_codes import plain_doc
 
 TREES = Path("crates/wgsl_model/specs/Trees")
-PRELUDE = ["ℕ", "ℤ", "Bool", "List", "[]", "◌∷◌", "Option", "Some", "None", "codes"]
-SIMPLE = {"String": "List ℕ", "Ident": "List ℕ", "bool": "Bool", "u32": "ℕ", "i32": "ℤ",
-          "i64": "ℤ"}
-# the files beside this tool's, with the types in them that are not nodes by their names
-OTHERS = {"NamedValues": [], "Spanned": ["Spanned"],
-          "Expressions": ["ExpressionNode", "TypeExpression", "FunctionCall"]}
+PRELUDE = ["Bool", "ℕ", "ℤ", "List", "[]", "◌∷◌", "Option", "Some", "None", "codes",
+           "if◌then◌else◌"]
+# where the other names are
+USES = {
+    "grammar.specs.Tokens": ["Span"],
+    "wgsl_model.specs.Trees.Operators": ["AssignmentOperator"],
+    "wgsl_model.specs.Trees.NamedValues": [
+        "DiagnosticSeverity", "AddressSpace", "AccessMode", "BuiltinValue", "InterpolationType",
+        "InterpolationSampling"],
+    "wgsl_model.specs.Trees.Expressions": ["ExpressionNode", "TypeExpression", "FunctionCall"],
+    "wgsl_model.specs.Trees.Attributes": ["Attributes"],
+    "wgsl_model.specs.Trees.Attributed": ["Attributed"],
+}
 # the attributes that are a name, and what they have
 NAMED = {"Expression": ("OneArgument", "with_argument", "with one argument"),
          "": ("NoArgument", "without_argument", "without arguments")}
-
-
-def enclosed(text):
-    return f"({text})" if " " in text else text
-
-
-def type_of(table, held, own=False):
-    """The plain type of what a field holds; in a tree made by constructors some are its own."""
-    kind = table.by_name.get(held)
-    if own and held in OWN:
-        return OWN[held][0]
-    if held == "Attribute*":
-        return "Attributes"
-    if held[-1] in "?*":
-        return f"{'Option' if held[-1] == '?' else 'List'} {enclosed(type_of(table, held[:-1]))}"
-    if held.startswith("("):
-        return " × ".join(type_of(table, part) for part in separated(held[1:-1]))
-    if kind and kind.is_spanned:
-        return f"{held}Node" if cycle(table, held) else f"Spanned {held}"
-    return SIMPLE.get(held) or (f"Attributed {held}" if is_apart(kind) else held)
-
-
-def record(table, kind):
-    """A struct in no cycle of types."""
-    lines = [f"-- {plain_doc(kind.doc)}", f"pub record {kind.name} : Type 0 where"]
-    for name, held in kind.parts[is_apart(kind):]:
-        if f"{kind.name}.{name}" in table.docs:
-            lines.append(f"  -- {plain_doc(table.doc(kind, name))}")
-        lines.append(f"  pub {name} : {type_of(table, held)}")
-    return [*lines, ""]
-
-
 def named(kind, held):
     """The names of the attributes that hold the same, with their texts and their list."""
     type_, _, what = NAMED[held]
@@ -65,7 +43,7 @@ def named(kind, held):
     values = [constructor(kind, name) for name in names]
     stem = snake(type_)
     return [
-        *data(f"an attribute {what}", type_, values),
+        *names_only(f"an attribute {what}", type_, values),
         *texts(f"the name of an attribute {what}", f"{stem}_text", type_,
                zip(values, map(snake, names))),
         f"-- the attributes {what}", f"abbrev pub {stem}_attributes : List {type_}",
@@ -82,28 +60,60 @@ def attribute(table, kind):
             f"-- {plain_doc(kind.doc)}", f"pub data {kind.name} : Type 0 where", *made, ""]
 
 
-def uses(table, text):
+def attributes(table):
+    """The trees of attributes."""
+    kinds = [it for it in table.kinds if table.sections[it.name] == "Attributes"]
+    structs = [it for it in kinds if it.form == "struct"]
+    return [*(line for kind in structs for line in record(table, kind)),
+            *attribute(table, table.by_name["Attribute"])]
+
+
+def statements(table, by_hand):
+    """The trees of statements, what makes them, and what changes them."""
+    kinds = [it for it in table.kinds if table.sections[it.name] in (
+        "Variable and Value Declarations", "Statements") and it.form != "words"]
+    around = cycle(table, "Statement")
+    lines = []
+    for kind in in_order(table, [it for it in kinds if it.name not in around]):
+        if kind.form == "enum":
+            lines += enum(table, kind)
+        elif parts_of(kind):
+            lines += record(table, kind)
+    statement = table.by_name["Statement"]
+    structs = [it for it in kinds if it.name in around and it.form == "struct"]
+    lists = [held for held in OWN if held.rstrip("*?") in around]
+    lines += ["mutual", *mutual([
+        *spanned(statement), *enum(table, statement, "a statement without its attributes"),
+        *(line for kind in structs for line in struct(table, kind)),
+        *(line for held in lists for line in several(table, held))])]
+    lines += [line for held in lists for line in of_several(table, held)]
+    return [*lines, *makers(table, by_hand), *changes(table, structs, lists)]
+
+
+def uses(text):
     """The lines that import the names in a text."""
-    words = set(re.findall(r"[^\s(){},:→]+", text))
-    names = [it for it in PRELUDE if it.strip("◌") in words]
+    words = set(re.findall(r"[^\s(){},:→]+", re.sub(r"^ *--.*", "", text, flags=re.M)))
+    names = [it for it in PRELUDE if it.strip("◌").split("◌")[0] in words]
     yield f"use Rattle.std.specs.Prelude.{{{', '.join(names)}}}"
-    for file, types in OTHERS.items():
-        types = types or [kind.name for kind in table.of_form("words")]
-        names = [it for it in types if it in words]
+    for module, those in USES.items():
+        names = [it for it in those if it in words]
         if names:
-            yield f"use Rattle.wgsl_model.specs.Trees.{file}.{{{', '.join(names)}}}"
+            yield f"use Rattle.{module}.{{{', '.join(names)}}}"
+
+
+def write(name, what, lines):
+    """Writes a file, and that another passes its names on."""
+    text = "\n".join(lines)
+    (TREES / f"{name}Nodes.antt").write_text("\n".join([
+        f"-- Written by tools/plain_nodes.py from {TABLE}: {what}.", *uses(text), "", text]))
+    pass_on(TREES / f"{name}s.antt", f"Trees.{name}Nodes", public_names(text))
 
 
 def main():
     table = Table()
-    kinds = [it for it in table.kinds if table.sections[it.name] == "Attributes"]
-    lines = [line for kind in kinds if kind.form == "struct" for line in record(table, kind)]
-    lines += attribute(table, table.by_name["Attribute"])
-    text = "\n".join(lines)
-    (TREES / "AttributeNodes.antt").write_text("\n".join([
-        f"-- Written by tools/plain_nodes.py from {TABLE}: the trees of attributes.",
-        *uses(table, text), "", text]))
-    pass_on(TREES / "Attributes.antt", "Trees.AttributeNodes", public_names(text))
+    write("Attribute", "the trees of attributes", attributes(table))
+    by_hand = set(re.findall(r"^abbrev pub (\w+) :", (TREES / "Statements.antt").read_text(), re.M))
+    write("Statement", "the trees of statements", statements(table, by_hand))
 
 
 if __name__ == "__main__":

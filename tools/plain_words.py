@@ -10,7 +10,7 @@ It reads crates/wgsl_model/nodes.
 from pathlib import Path
 
 from node_table import TABLE, Table, snake
-from plain_files import comment, data, pass_on, public_names, spoken, texts
+from plain_files import comment, names_only, pass_on, public_names, spoken, texts
 from tree_codes import plain_doc
 from tree_words import is_operator, stem
 
@@ -34,7 +34,7 @@ def enum(kind):
     words = ", ".join(f"`{word}`" for _, word in kind.parts)
     doc = f"{plain_doc(kind.doc)}: {words}" if is_operator(kind) else plain_doc(kind.doc)
     section = f' (WGSL, "{SECTIONS[kind.name]}")' if kind.name in SECTIONS else ""
-    return data(doc + section, kind.name, [snake(name) for name, _ in kind.parts])
+    return names_only(doc + section, kind.name, [snake(name) for name, _ in kind.parts])
 
 
 def enum_texts(kind):

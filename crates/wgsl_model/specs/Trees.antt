@@ -8,6 +8,7 @@ pub mod Expressions
 pub mod AttributeNodes
 pub mod Attributes
 pub mod Attributed
+pub mod StatementNodes
 pub mod Statements
 pub mod Units
 pub mod EmptyItems
