@@ -1,12 +1,11 @@
 -- Printed texts that are not empty.
-use Rattle.std.proofs.Common.{◌≡◌, ℕ, false, List, [], ◌∷◌, ◌++◌}
+use Rattle.std.proofs.Common.{◌≡◌, ℕ, false, List, [], ◌∷◌, ◌++◌, arith}
 use Rattle.std.specs.Prelude.{codes}
-use Rattle.std.proofs.lemmas.Bool.{true≢false}
-use Rattle.wgsl_model.specs.Trees.Statements.{Statement, statement, void, compound, if_statement, switch_statement, loop_statement, for_statement, while_statement, if_else, if_clause, SwitchClause, switch, switch_clause, repeat, ContinuingStatement, continuing, repeat_for, repeat_while}
+use Rattle.wgsl_model.specs.Trees.Statements.{Statement, SwitchClause, switch_clause, ContinuingStatement, continuing}
 use Rattle.wgsl_model.specs.Trees.Units.{StructMember}
 use Rattle.wgsl_model.specs.Printed.Expressions.{print_type}
 use Rattle.wgsl_model.specs.Printed.Attributes.{print_attribute_line}
-use Rattle.wgsl_model.specs.Printed.Statements.{is_void, unended, print_statement, print_switch_clause, print_continuing}
+use Rattle.wgsl_model.specs.Printed.Statements.{is_void, print_statement, print_switch_clause, print_continuing}
 use Rattle.wgsl_model.specs.Printed.Units.{print_member}
 
 -- a text is not empty
@@ -24,19 +23,7 @@ right_filled (x ∷ xs) ys h = tt
 
 -- a statement that is not empty has a text
 pub statement_filled : (s : Statement) → is_void s ≡ false → IsFilled (print_statement s)
-statement_filled (statement a void) h = absurd (true≢false h)
-statement_filled (statement a (compound ss)) h = left_filled _ [] (right_filled (print_attribute_line a) _ tt)
-statement_filled (statement a (if_statement (if_else (if_clause e block) others last))) h =
-    left_filled _ [] (right_filled (print_attribute_line a) _ tt)
-statement_filled (statement a (switch_statement (switch e b cs))) h = left_filled _ []
-    (right_filled (print_attribute_line a) _ tt)
-statement_filled (statement a (loop_statement (repeat b c))) h = left_filled _ []
-    (right_filled (print_attribute_line a) _ tt)
-statement_filled (statement a (for_statement (repeat_for i c u b))) h = left_filled _ []
-    (right_filled (print_attribute_line a) _ tt)
-statement_filled (statement a (while_statement (repeat_while e b))) h = left_filled _ []
-    (right_filled (print_attribute_line a) _ tt)
-statement_filled s h = right_filled (unended s) (codes ";") tt
+statement_filled s h = grind (arith, left_filled, right_filled)
 
 pub continuing_filled : (c : ContinuingStatement) → IsFilled (print_continuing c)
 continuing_filled (continuing a body condition) = left_filled _ _
