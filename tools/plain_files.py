@@ -7,10 +7,17 @@ from node_table import snake
 from nodes import fill
 
 
-def spoken(name):
-    """A name in words, with its article."""
-    words = snake(name).replace("_", " ").replace("builtin", "built-in")
-    return f"{'an' if words[0] in 'aeio' else 'a'} {words}"
+def spaced(name):
+    """A name in words."""
+    words = {"ty": "type", "ident": "name", "builtin": "built-in", "arg": "argument",
+             "args": "arguments"}
+    return " ".join(words.get(word, word) for word in snake(name).split("_"))
+
+
+def spoken(held):
+    """A type of the table in words: one by its article, or a list."""
+    words = spaced(held.rstrip("*"))
+    return f"{words}s" if held.endswith("*") else f"{'an' if words[0] in 'aeio' else 'a'} {words}"
 
 
 def comment(text):

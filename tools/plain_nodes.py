@@ -1,5 +1,5 @@
 #!/usr/bin/env python3
-"""Writes the plain trees of attributes and statements, from the fields and variants of nodes.
+"""Writes the plain trees, from the fields and variants of nodes.
 
 Run it at the top of the repository:
 
@@ -13,25 +13,36 @@ from pathlib import Path
 
 from node_specs import cycle
 from node_table import TABLE, Table, snake
-from plain_files import names_only, pass_on, public_names, texts
+from plain_files import names_only, pass_on, public_names, spoken, texts
 from plain_statements import changes, makers, mutual, of_several
-from plain_trees import OWN, constructor
-from plain_types import enum, in_order, parts_of, record, several, spanned, struct, type_of
+from plain_trees import CONSTRUCTED, INLINE, UNATTRIBUTED, constructor
+from plain_types import (
+    enum, in_order, own_types, parts_of, record, several, spanned, struct, type_of)
 from tree_codes import plain_doc
 
-TREES = Path("crates/wgsl_model/specs/Trees")
+FOLDER = Path("crates/wgsl_model/specs/Trees")
 PRELUDE = ["Bool", "ℕ", "ℤ", "List", "[]", "◌∷◌", "Option", "Some", "None", "codes",
            "if◌then◌else◌"]
 # where the other names are
+TREES = "wgsl_model.specs.Trees"
 USES = {
     "grammar.specs.Tokens": ["Span"],
-    "wgsl_model.specs.Trees.Operators": ["AssignmentOperator"],
-    "wgsl_model.specs.Trees.NamedValues": [
+    f"{TREES}.Spanned": ["Spanned"],
+    f"{TREES}.Operators": ["UnaryOperator", "BinaryOperator", "AssignmentOperator"],
+    f"{TREES}.NamedValues": [
         "DiagnosticSeverity", "AddressSpace", "AccessMode", "BuiltinValue", "InterpolationType",
         "InterpolationSampling"],
-    "wgsl_model.specs.Trees.Expressions": ["ExpressionNode", "TypeExpression", "FunctionCall"],
-    "wgsl_model.specs.Trees.Attributes": ["Attributes"],
-    "wgsl_model.specs.Trees.Attributed": ["Attributed"],
+    f"{TREES}.Expressions": ["ExpressionNode", "TypeExpression", "FunctionCall"],
+    f"{TREES}.Attributes": ["Attributes"],
+    f"{TREES}.Attributed": ["Attributed"],
+    f"{TREES}.Statements": ["Declaration", "CompoundStatement", "ConstAssert"],
+}
+# the files, and the sections of the table whose kinds are in each
+FILES = {
+    "Expression": ["Expressions"],
+    "Attribute": ["Attributes"],
+    "Statement": ["Variable and Value Declarations", "Statements"],
+    "Unit": ["WGSL Module", "Directives", "Types", "Functions"],
 }
 # the attributes that are a name, and what they have
 NAMED = {"Expression": ("OneArgument", "with_argument", "with one argument"),
@@ -60,39 +71,46 @@ def attribute(table, kind):
             f"-- {plain_doc(kind.doc)}", f"pub data {kind.name} : Type 0 where", *made, ""]
 
 
-def attributes(table):
-    """The trees of attributes."""
-    kinds = [it for it in table.kinds if table.sections[it.name] == "Attributes"]
-    structs = [it for it in kinds if it.form == "struct"]
-    return [*(line for kind in structs for line in record(table, kind)),
-            *attribute(table, table.by_name["Attribute"])]
+def alone(table, kind):
+    """A kind in no cycle of types."""
+    if kind.name == "Attribute":
+        return attribute(table, kind)
+    if kind.form == "struct":
+        return record(table, kind) if parts_of(kind) else []
+    if kind.name not in UNATTRIBUTED:
+        return enum(table, kind)
+    part, doc = UNATTRIBUTED[kind.name], plain_doc(kind.doc)
+    return [*enum(table, kind, f"{doc}, without its attributes"),
+            f"-- {doc}: its attributes, and what is after them",
+            f"abbrev pub {kind.name} : Type 0", f"{kind.name} = Attributed {part}", ""]
 
 
-def statements(table, by_hand):
-    """The trees of statements, what makes them, and what changes them."""
-    kinds = [it for it in table.kinds if table.sections[it.name] in (
-        "Variable and Value Declarations", "Statements") and it.form != "words"]
-    around = cycle(table, "Statement")
-    lines = []
-    for kind in in_order(table, [it for it in kinds if it.name not in around]):
-        if kind.form == "enum":
-            lines += enum(table, kind)
-        elif parts_of(kind):
-            lines += record(table, kind)
-    statement = table.by_name["Statement"]
-    structs = [it for it in kinds if it.name in around and it.form == "struct"]
-    lists = [held for held in OWN if held.rstrip("*?") in around]
+def trees(table, name, by_hand):
+    """The trees of a file, what makes those in a cycle of types, and what changes statements."""
+    kinds = [it for it in table.kinds if table.sections[it.name] in FILES[name]]
+    around = cycle(table, name) if name in table.by_name else []
+    apart = [it for it in kinds if it.name not in around and it.form != "words"]
+    lines = [line for kind in in_order(apart) for line in alone(table, kind)]
+    if not around:
+        return lines
+    whole = table.by_name[name]
+    structs = [it for it in kinds if it.name in CONSTRUCTED and it.name not in INLINE]
+    lists = own_types(around)
+    doc = f"{spoken(name)} without its attributes" if name in UNATTRIBUTED else None
     lines += ["mutual", *mutual([
-        *spanned(statement), *enum(table, statement, "a statement without its attributes"),
+        *spanned(whole), *enum(table, whole, doc),
         *(line for kind in structs for line in struct(table, kind)),
         *(line for held in lists for line in several(table, held))])]
     lines += [line for held in lists for line in of_several(table, held)]
-    return [*lines, *makers(table, by_hand), *changes(table, structs, lists)]
+    if name == "Statement":
+        lines += [*makers(table, by_hand), *changes(table, structs, lists)]
+    return lines
 
 
 def uses(text):
     """The lines that import the names in a text."""
     words = set(re.findall(r"[^\s(){},:→]+", re.sub(r"^ *--.*", "", text, flags=re.M)))
+    words -= set(public_names(text))
     names = [it for it in PRELUDE if it.strip("◌").split("◌")[0] in words]
     yield f"use Rattle.std.specs.Prelude.{{{', '.join(names)}}}"
     for module, those in USES.items():
@@ -101,19 +119,16 @@ def uses(text):
             yield f"use Rattle.{module}.{{{', '.join(names)}}}"
 
 
-def write(name, what, lines):
-    """Writes a file, and that another passes its names on."""
-    text = "\n".join(lines)
-    (TREES / f"{name}Nodes.antt").write_text("\n".join([
-        f"-- Written by tools/plain_nodes.py from {TABLE}: {what}.", *uses(text), "", text]))
-    pass_on(TREES / f"{name}s.antt", f"Trees.{name}Nodes", public_names(text))
-
-
 def main():
     table = Table()
-    write("Attribute", "the trees of attributes", attributes(table))
-    by_hand = set(re.findall(r"^abbrev pub (\w+) :", (TREES / "Statements.antt").read_text(), re.M))
-    write("Statement", "the trees of statements", statements(table, by_hand))
+    for name in FILES:
+        hand = FOLDER / f"{name}s.antt"
+        by_hand = set(re.findall(r"^abbrev pub (\w+) :", hand.read_text(), re.M))
+        text = "\n".join(trees(table, name, by_hand))
+        title = f"Written by tools/plain_nodes.py from {TABLE}: the trees of {name.lower()}s."
+        (FOLDER / f"{name}Nodes.antt").write_text("\n".join([
+            f"-- {title}", *uses(text), "", text]))
+        pass_on(hand, f"Trees.{name}Nodes", public_names(text))
 
 
 if __name__ == "__main__":

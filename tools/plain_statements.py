@@ -36,11 +36,11 @@ changed_node c (statement_node s span) = statement_node (changed_statement c s) 
 
 def of_several(table, held):
     """What makes a list or an optional part that has a type of its own."""
-    type_, none, one = OWN[held]
-    name, item = maker(held), spoken(held[:-1])
-    doc, clauses = f"{item}, or none", [("None", none), ("(Some x)", f"{one} x")]
+    (type_, none, one), name, inner = OWN[held], maker(held), held[:-1]
+    doc = f"{spoken(inner)}, or none"
+    clauses = [("None", none), ("(Some x)", f"{one} {f'({maker(inner)} x)' if inner in OWN else 'x'}")]
     if held.endswith("*"):
-        doc = f"the {item.partition(' ')[2]}s of a list"
+        doc = f"the {spoken(held)} of a list"
         clauses = [("[]", none), ("(x ∷ xs)", f"{one} x ({name} xs)")]
     return [f"-- {doc}", f"abbrev pub {name} : {type_of(table, held)} → {type_}",
             *(f"{name} {pattern} = {made}" for pattern, made in clauses), ""]

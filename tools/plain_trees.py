@@ -34,7 +34,8 @@ OWN = {
     "ContinuingStatement?": ("MaybeContinuing", "no_continuing", "one_continuing"),
 }
 # what makes those types of lists and optional parts, where it has another name than its functions
-MAKERS = {"MaybeContinuing": "continuing_of", "MaybeStatement": "maybe_statement"}
+MAKERS = {"ExpressionNodes": "expressions_of", "MaybeContinuing": "continuing_of",
+          "MaybeStatement": "maybe_statement"}
 # the structs that have their attributes among their fields there; those of others are apart
 WITH_ATTRIBUTES = ["CompoundStatement", "ElseIfClause", "ElseClause", "SwitchClause",
                    "ContinuingStatement", "StructMember", "FormalParameter"]

@@ -3,12 +3,12 @@ import re
 
 from node_specs import cycle
 from node_table import separated, snake
-from plain_files import comment, spoken
-from plain_trees import CONSTRUCTED, OWN, RENAMED, UNATTRIBUTED, constructor, is_apart
+from plain_files import comment, spaced, spoken
+from plain_trees import CONSTRUCTED, INLINE, OWN, RENAMED, UNATTRIBUTED, constructor, is_apart
 from tree_codes import plain_doc
 
 SIMPLE = {"String": "List ℕ", "Ident": "List ℕ", "bool": "Bool", "u32": "ℕ", "i32": "ℤ",
-          "i64": "ℤ"}
+          "i64": "ℤ", "TemplateArg": "ExpressionNode"}
 
 
 def enclosed(text):
@@ -41,6 +41,8 @@ def parts_of(kind):
 def held_types(table, held):
     """The plain types of what a variant holds: the parts of a block are apart, as its attributes."""
     kind = table.by_name.get(held)
+    if held in INLINE:
+        return [type_of(table, of, True) for of in parts_of(kind).values()]
     if kind and kind.form == "struct" and kind.parts[0][0] == "attributes":
         parts = {name: of for name, of in parts_of(kind).items() if name != "attributes"}
         if not is_apart(kind):
@@ -77,9 +79,10 @@ def record(table, kind):
 
 def doc_of(kind):
     """What a struct is, with its parts in order if it is made of those."""
-    *others, last = [name.replace("_", " ") for name in parts_of(kind)]
+    *others, last = [spaced(name) for name in parts_of(kind)]
     parts = f"{', '.join(others)} and {last}" if others else last
-    return plain_doc(kind.doc) + f": its {parts}" * (kind.name in CONSTRUCTED)
+    doc = plain_doc(kind.doc)
+    return f"{doc}{';' if ':' in doc else ':'} its {parts}" if kind.name in CONSTRUCTED else doc
 
 
 def struct(table, kind):
@@ -88,13 +91,19 @@ def struct(table, kind):
     return data(doc_of(kind), kind.name, [(CONSTRUCTED[kind.name].split()[0], held)])
 
 
+def own_types(around):
+    """The lists and optional parts of a cycle, one for each type."""
+    helds = {OWN[held][0]: held for held in reversed(OWN) if held.rstrip("*?") in around}
+    return [held for held in OWN if held in helds.values()]
+
+
 def several(table, held):
     """A list or an optional part that has a type of its own."""
     type_, none, one = OWN[held]
-    item, name = type_of(table, held[:-1]), spoken(held[:-1])
+    item = type_of(table, held[:-1], True)
     if held.endswith("?"):
-        return data(f"{name}, or none", type_, [(none, []), (one, [item])])
-    return data(f"{name.partition(' ')[2]}s", type_, [(none, []), (one, [item, type_])])
+        return data(f"{spoken(held[:-1])}, or none", type_, [(none, []), (one, [item])])
+    return data(spoken(held), type_, [(none, []), (one, [item, type_])])
 
 
 def spanned(kind):
@@ -108,17 +117,18 @@ def spanned(kind):
     return lines
 
 
-def below(table, kind):
-    """The kinds that the fields or variants of a kind name."""
-    text = " ".join(held for _, held in kind.parts)
-    return [it for it in table.kinds if it.name in re.findall(r"\w+", text)]
-
-
-def in_order(table, kinds):
-    """Kinds in the order of the table, each after those that it names."""
+def in_order(kinds):
+    """Kinds in the order of the table, each after those that its parts name."""
     done = []
+
+    def add(kind):
+        named = re.findall(r"\w+", " ".join(held for _, held in kind.parts))
+        for it in kinds:
+            if it.name in named:
+                add(it)
+        if kind not in done:
+            done.append(kind)
+
     for kind in kinds:
-        for it in [*in_order(table, [it for it in below(table, kind) if it in kinds]), kind]:
-            if it not in done:
-                done.append(it)
+        add(kind)
     return done

@@ -10,7 +10,7 @@ It reads crates/wgsl_model/nodes.
 from pathlib import Path
 
 from node_table import TABLE, Table, snake
-from plain_files import comment, names_only, pass_on, public_names, spoken, texts
+from plain_files import comment, names_only, pass_on, public_names, spaced, spoken, texts
 from tree_codes import plain_doc
 from tree_words import is_operator, stem
 
@@ -47,7 +47,7 @@ def enum_texts(kind):
 def table(kind):
     """The table of the words of an enum."""
     name, values = plural(stem(kind)), [f"{snake(name)} ∷" for name, _ in kind.parts]
-    return [f"-- the words of {plural(spoken(stem(kind)).partition(' ')[2])}",
+    return [f"-- the words of {plural(spaced(stem(kind)))}",
             f"abbrev pub {name} : WordTable {kind.name}",
             f"{name} = with_words {stem(kind)}_text ({' '.join(values)} [])", ""]
 

@@ -3,8 +3,9 @@
 ghost use Rattle.std.specs.Cmp.{IsEquivalence};
 ghost use Rattle.std.specs.Prelude.{IsTrue, ◌↔◌, ◌≡◌};
 ghost use Rattle.wgsl_model.specs.Trees.Attributed.{Attributed};
-ghost use Rattle.wgsl_model.specs.Trees.Expressions.{Expression, ExpressionNode, FunctionCall};
-ghost use Rattle.wgsl_model.specs.Trees.Expressions.{LiteralExpression, TypeExpression};
+ghost use Rattle.wgsl_model.specs.Trees.ExpressionNodes.{Expression, ExpressionNode};
+ghost use Rattle.wgsl_model.specs.Trees.ExpressionNodes.{FunctionCall, LiteralExpression};
+ghost use Rattle.wgsl_model.specs.Trees.ExpressionNodes.{TypeExpression};
 ghost use Rattle.wgsl_model.specs.Trees.StatementNodes.{AssignmentStatement, BreakIfStatement};
 ghost use Rattle.wgsl_model.specs.Trees.StatementNodes.{CaseSelector, CompoundStatement};
 ghost use Rattle.wgsl_model.specs.Trees.StatementNodes.{ConstAssert, ContinuingStatement};
@@ -36,10 +37,10 @@ ghost use Rattle.wgsl_model.specs.Trees.StatementsWithoutSpans.{bare_statement_n
 ghost use Rattle.wgsl_model.specs.Trees.StatementsWithoutSpans.{bare_struct, bare_switch_clause};
 ghost use Rattle.wgsl_model.specs.Trees.StatementsWithoutSpans.{bare_type_alias, bare_unit};
 ghost use Rattle.wgsl_model.specs.Trees.StatementsWithoutSpans.{without_spans};
-ghost use Rattle.wgsl_model.specs.Trees.Units.{DiagnosticDirective, EnableDirective};
-ghost use Rattle.wgsl_model.specs.Trees.Units.{FormalParameter, Function, GlobalDeclaration};
-ghost use Rattle.wgsl_model.specs.Trees.Units.{GlobalDirective, RequiresDirective, Struct};
-ghost use Rattle.wgsl_model.specs.Trees.Units.{StructMember, TranslationUnit, TypeAlias};
+ghost use Rattle.wgsl_model.specs.Trees.UnitNodes.{DiagnosticDirective, EnableDirective};
+ghost use Rattle.wgsl_model.specs.Trees.UnitNodes.{FormalParameter, Function, GlobalDeclaration};
+ghost use Rattle.wgsl_model.specs.Trees.UnitNodes.{GlobalDirective, RequiresDirective, Struct};
+ghost use Rattle.wgsl_model.specs.Trees.UnitNodes.{StructMember, TranslationUnit, TypeAlias};
 ghost use Rattle.wgsl_model.specs.Trees.WithoutSpans.{bare_call, bare_expression};
 ghost use Rattle.wgsl_model.specs.Trees.WithoutSpans.{bare_expression_node, bare_type};
 ghost use Rattle.wgsl_tree_code.specs.Code.{attributed_code};

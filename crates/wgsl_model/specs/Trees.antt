@@ -4,12 +4,14 @@ pub mod WordNodes
 pub mod Operators
 pub mod NamedValues
 pub mod Spanned
+pub mod ExpressionNodes
 pub mod Expressions
 pub mod AttributeNodes
 pub mod Attributes
 pub mod Attributed
 pub mod StatementNodes
 pub mod Statements
+pub mod UnitNodes
 pub mod Units
 pub mod EmptyItems
 pub mod WithoutSpans
