@@ -12,41 +12,24 @@ import re
 from pathlib import Path
 
 from node_specs import cycle
-from node_table import TABLE, Table, snake
+from node_table import TABLE, snake
 from plain_files import names_only, pass_on, public_names, spoken, texts
 from plain_statements import changes, makers, mutual, of_several
-from plain_trees import CONSTRUCTED, INLINE, UNATTRIBUTED, constructor
+from plain_trees import CONSTRUCTED, FILES, NODES, UNATTRIBUTED, constructor, kinds_of
 from plain_types import (
     enum, in_order, own_types, parts_of, record, several, spanned, struct, type_of)
 from tree_codes import plain_doc
+from tree_words import is_operator
 
 FOLDER = Path("crates/wgsl_model/specs/Trees")
 PRELUDE = ["Bool", "ℕ", "ℤ", "List", "[]", "◌∷◌", "Option", "Some", "None", "codes",
            "if◌then◌else◌"]
-# where the other names are
 TREES = "wgsl_model.specs.Trees"
-USES = {
-    "grammar.specs.Tokens": ["Span"],
-    f"{TREES}.Spanned": ["Spanned"],
-    f"{TREES}.Operators": ["UnaryOperator", "BinaryOperator", "AssignmentOperator"],
-    f"{TREES}.NamedValues": [
-        "DiagnosticSeverity", "AddressSpace", "AccessMode", "BuiltinValue", "InterpolationType",
-        "InterpolationSampling"],
-    f"{TREES}.Expressions": ["ExpressionNode", "TypeExpression", "FunctionCall"],
-    f"{TREES}.Attributes": ["Attributes"],
-    f"{TREES}.Attributed": ["Attributed"],
-    f"{TREES}.Statements": ["Declaration", "CompoundStatement", "ConstAssert"],
-}
-# the files, and the sections of the table whose kinds are in each
-FILES = {
-    "Expression": ["Expressions"],
-    "Attribute": ["Attributes"],
-    "Statement": ["Variable and Value Declarations", "Statements"],
-    "Unit": ["WGSL Module", "Directives", "Types", "Functions"],
-}
 # the attributes that are a name, and what they have
 NAMED = {"Expression": ("OneArgument", "with_argument", "with one argument"),
          "": ("NoArgument", "without_argument", "without arguments")}
+
+
 def named(kind, held):
     """The names of the attributes that hold the same, with their texts and their list."""
     type_, _, what = NAMED[held]
@@ -85,16 +68,16 @@ def alone(table, kind):
             f"abbrev pub {kind.name} : Type 0", f"{kind.name} = Attributed {part}", ""]
 
 
-def trees(table, name, by_hand):
+def trees(table, file, by_hand):
     """The trees of a file, what makes those in a cycle of types, and what changes statements."""
-    kinds = [it for it in table.kinds if table.sections[it.name] in FILES[name]]
+    name = file.removesuffix("s")
     around = cycle(table, name) if name in table.by_name else []
-    apart = [it for it in kinds if it.name not in around and it.form != "words"]
+    apart = [it for it in kinds_of(file) if it.name not in around]
     lines = [line for kind in in_order(apart) for line in alone(table, kind)]
     if not around:
         return lines
     whole = table.by_name[name]
-    structs = [it for it in kinds if it.name in CONSTRUCTED and it.name not in INLINE]
+    structs = [it for it in kinds_of(file) if it.name in CONSTRUCTED]
     lists = own_types(around)
     doc = f"{spoken(name)} without its attributes" if name in UNATTRIBUTED else None
     lines += ["mutual", *mutual([
@@ -107,28 +90,39 @@ def trees(table, name, by_hand):
     return lines
 
 
+def homes():
+    """Where the types are that a file may name."""
+    found = {"Span": "grammar.specs.Tokens"}
+    found |= {name: f"{TREES}.{name}" for name in ("Spanned", "Attributed", "Attributes")}
+    for kind in NODES.of_form("words"):
+        found[kind.name] = f"{TREES}.{'Operators' if is_operator(kind) else 'NamedValues'}"
+    for file in FILES:
+        for kind in kinds_of(file):
+            found |= dict.fromkeys([kind.name, f"{kind.name}Node"], f"{TREES}.{file}")
+    return found
+
+
 def uses(text):
     """The lines that import the names in a text."""
     words = set(re.findall(r"[^\s(){},:→]+", re.sub(r"^ *--.*", "", text, flags=re.M)))
     words -= set(public_names(text))
     names = [it for it in PRELUDE if it.strip("◌").split("◌")[0] in words]
     yield f"use Rattle.std.specs.Prelude.{{{', '.join(names)}}}"
-    for module, those in USES.items():
-        names = [it for it in those if it in words]
+    found = homes()
+    for module in dict.fromkeys(found.values()):
+        names = [name for name, home in found.items() if home == module and name in words]
         if names:
             yield f"use Rattle.{module}.{{{', '.join(names)}}}"
 
 
 def main():
-    table = Table()
-    for name in FILES:
-        hand = FOLDER / f"{name}s.antt"
+    for file in FILES:
+        hand, name = FOLDER / f"{file}.antt", f"{file.removesuffix('s')}Nodes"
         by_hand = set(re.findall(r"^abbrev pub (\w+) :", hand.read_text(), re.M))
-        text = "\n".join(trees(table, name, by_hand))
-        title = f"Written by tools/plain_nodes.py from {TABLE}: the trees of {name.lower()}s."
-        (FOLDER / f"{name}Nodes.antt").write_text("\n".join([
-            f"-- {title}", *uses(text), "", text]))
-        pass_on(hand, f"Trees.{name}Nodes", public_names(text))
+        text = "\n".join(trees(NODES, file, by_hand))
+        title = f"Written by tools/plain_nodes.py from {TABLE}: the trees of {file.lower()}."
+        (FOLDER / f"{name}.antt").write_text("\n".join([f"-- {title}", *uses(text), "", text]))
+        pass_on(hand, f"Trees.{name}", public_names(text))
 
 
 if __name__ == "__main__":

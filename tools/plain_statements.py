@@ -38,7 +38,8 @@ def of_several(table, held):
     """What makes a list or an optional part that has a type of its own."""
     (type_, none, one), name, inner = OWN[held], maker(held), held[:-1]
     doc = f"{spoken(inner)}, or none"
-    clauses = [("None", none), ("(Some x)", f"{one} {f'({maker(inner)} x)' if inner in OWN else 'x'}")]
+    part = f"({maker(inner)} x)" if inner in OWN else "x"
+    clauses = [("None", none), ("(Some x)", f"{one} {part}")]
     if held.endswith("*"):
         doc = f"the {spoken(held)} of a list"
         clauses = [("[]", none), ("(x ∷ xs)", f"{one} x ({name} xs)")]
@@ -56,7 +57,7 @@ def variables(table, kind):
 def of_parts(table, name, kind):
     """What makes a statement of its parts."""
     parts = variables(table, kind)
-    types = " → ".join([*(type_of(table, held) for held in parts.values()), "UnattributedStatement"])
+    types = " → ".join(type_of(table, held) for held in parts.values())
     fields = "; ".join(map(" = ".join, zip(parts_of(kind), parts)))
     made = f"record {{ {fields} }}"
     if kind.name in CONSTRUCTED:
@@ -64,7 +65,7 @@ def of_parts(table, name, kind):
             f"({maker(held)} {part})" if held in OWN else part for part, held in parts.items())])
     function = f"{short(kind.name)}_of"
     made = f"{constructor(table.by_name['Statement'], name)} ({made})"
-    return [*comment(doc_of(kind)), f"abbrev pub {function} : {types}",
+    return [*comment(doc_of(kind)), f"abbrev pub {function} : {types} → UnattributedStatement",
             f"{function} {' '.join(parts)} = {made}", ""]
 
 

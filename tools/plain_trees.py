@@ -8,6 +8,13 @@ import re
 from node_specs import cycle
 from node_table import Table, snake
 
+# the files of the plain trees, and the sections of the table whose kinds each has
+FILES = {
+    "Expressions": ["Expressions"],
+    "Attributes": ["Attributes"],
+    "Statements": ["Variable and Value Declarations", "Statements"],
+    "Units": ["WGSL Module", "Directives", "Types", "Functions"],
+}
 # the constructors of structs with other names than theirs
 CONSTRUCTORS = {
     "FunctionCall": "call", "TypeExpression": "type_expression",
@@ -131,6 +138,14 @@ def made(kind):
 
 
 NODES = Table()
+
+
+def kinds_of(file):
+    """The kinds whose plain trees are in a file; words are in files of their own."""
+    return [kind for kind in NODES.kinds if NODES.sections[kind.name] in FILES[file]
+            and kind.form != "words" and kind.name not in INLINE]
+
+
 # the structs whose plain tree is made by a constructor; an argument of a template is its expression
 CONSTRUCTED = {kind.name: made(kind) for kind in NODES.of_form("struct")
                if cycle(NODES, kind.name) and kind.name != "TemplateArg"}

@@ -39,7 +39,7 @@ def parts_of(kind):
 
 
 def held_types(table, held):
-    """The plain types of what a variant holds: the parts of a block are apart, as its attributes."""
+    """The plain types of what a variant holds: of a block its parts but for its attributes."""
     kind = table.by_name.get(held)
     if held in INLINE:
         return [type_of(table, of, True) for of in parts_of(kind).values()]

@@ -1,11 +1,11 @@
 -- Written by tools/plain_nodes.py from crates/wgsl_model/nodes: the trees of statements.
 use Rattle.std.specs.Prelude.{Bool, ℕ, List, [], ◌∷◌, Option, Some, None, if◌then◌else◌}
 use Rattle.grammar.specs.Tokens.{Span}
-use Rattle.wgsl_model.specs.Trees.Operators.{AssignmentOperator}
-use Rattle.wgsl_model.specs.Trees.NamedValues.{AddressSpace, AccessMode}
-use Rattle.wgsl_model.specs.Trees.Expressions.{ExpressionNode, TypeExpression, FunctionCall}
-use Rattle.wgsl_model.specs.Trees.Attributes.{Attributes}
 use Rattle.wgsl_model.specs.Trees.Attributed.{Attributed}
+use Rattle.wgsl_model.specs.Trees.Attributes.{Attributes}
+use Rattle.wgsl_model.specs.Trees.NamedValues.{AddressSpace, AccessMode}
+use Rattle.wgsl_model.specs.Trees.Operators.{AssignmentOperator}
+use Rattle.wgsl_model.specs.Trees.Expressions.{ExpressionNode, FunctionCall, TypeExpression}
 
 -- which kind of value is declared; a `var` with its template
 pub data DeclarationKind : Type 0 where

@@ -1,10 +1,10 @@
 -- Written by tools/plain_nodes.py from crates/wgsl_model/nodes: the trees of units.
 use Rattle.std.specs.Prelude.{ℕ, List, Option}
 use Rattle.wgsl_model.specs.Trees.Spanned.{Spanned}
+use Rattle.wgsl_model.specs.Trees.Attributed.{Attributed}
+use Rattle.wgsl_model.specs.Trees.Attributes.{Attributes}
 use Rattle.wgsl_model.specs.Trees.NamedValues.{DiagnosticSeverity}
 use Rattle.wgsl_model.specs.Trees.Expressions.{TypeExpression}
-use Rattle.wgsl_model.specs.Trees.Attributes.{Attributes}
-use Rattle.wgsl_model.specs.Trees.Attributed.{Attributed}
 use Rattle.wgsl_model.specs.Trees.Statements.{Declaration, CompoundStatement, ConstAssert}
 
 -- `diagnostic(severity, rule_name);`: a severity and the name of a rule
