@@ -179,12 +179,13 @@ def signature(text):
 
 
 class Module:
-    """A file of definitions: its name, where its names come from, and its clauses."""
+    """A file of definitions, maybe with what it passes on: its name, where its names come from, and
+    its clauses."""
 
-    def __init__(self, path):
+    def __init__(self, path, whole=False):
         self.name = "Rattle." + ".".join(path.with_suffix("").parts[1:])
         self.uses, self.aliases, self.clauses, self.signatures = {}, {}, {}, []
-        for item in items(source(path)):
+        for item in items(source(path) if whole else path.read_text()):
             self.read(item)
 
     def read(self, item):

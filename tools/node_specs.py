@@ -57,16 +57,29 @@ def files(crate, folder):
         yield ".".join(["Rattle", crate, folder, *parts]), file.read_text()
 
 
+def passed_on(crate):
+    """The modules that pass on what tools write beside them, by its module and its name."""
+    return {(f"Rattle.{inner}", name): module
+            for module, text in files(crate, "specs")
+            for inner, names in re.findall(r"^pub use Rattle\.(\S+)\.\{\n((?:  .*\n)+)", text, re.M)
+            for name in re.findall(r"[\w.]+", names)}
+
+
 def stated(crates, folder):
     """What a folder of some crates states: its name, its type without qualifiers, its module."""
-    for module, text in (it for crate in crates for it in files(crate, folder)):
-        for _, name, held in STATED.findall(text):
-            yield name, re.sub(r"\b\w+\.(?=\w)", "", " ".join(held.split())), module
+    for crate in crates:
+        passed = passed_on(crate)
+        for module, text in files(crate, folder):
+            for _, name, held in STATED.findall(text):
+                held = re.sub(r"\b\w+\.(?=\w)", "", " ".join(held.split()))
+                yield name, held, passed.get((module, name), module)
 
 
 def types(crate):
     """The module of each type that the definitions of a crate declare."""
-    return {name: module for module, text in files(crate, "specs") for name in TYPES.findall(text)}
+    passed = passed_on(crate)
+    return {name: passed.get((module, name), module)
+            for module, text in files(crate, "specs") for name in TYPES.findall(text)}
 
 
 def only(those, what):

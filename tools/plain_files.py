@@ -51,5 +51,6 @@ def public_names(text):
 
 
 def pass_on(path, file, names):
-    """Writes the line by which a file passes on names of another one."""
-    fill(path, f"\npub use Rattle.wgsl_model.specs.{file}.{{", ", ".join(names), "}\n")
+    """Writes the lines by which a file passes on names of another one."""
+    lines = "".join(f"  {name},\n" for name in names)
+    fill(path, f"\npub use Rattle.wgsl_model.specs.{file}.{{\n", lines, "}\n")

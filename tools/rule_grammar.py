@@ -18,7 +18,8 @@ class Grammar:
     def __init__(self):
         names = ["Grammar/Written", *(f"Grammar/{part}" for part in PARTS), "Grammar/TokenValues"]
         paths = [MODEL / f"{name}.antt" for name in names]
-        files = [antt.Module(path) for path in [*paths, *sorted((MODEL / "Trees").glob("*.antt"))]]
+        paths += sorted((MODEL / "Trees").glob("*.antt"))
+        files = [antt.Module(path, whole=True) for path in paths]
         self.modules = {file.name: file for file in files}
         self.functions = {name for file in files[1:] for name in file.clauses}
         self.module, *parts = files[:len(PARTS) + 1]

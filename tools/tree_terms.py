@@ -3,6 +3,7 @@ import re
 from dataclasses import dataclass
 from pathlib import Path
 
+from antt import source
 from node_table import separated, snake
 from plain_trees import CONSTRUCTED, OWN, RENAMED, coded, is_apart
 from tree_codes import groups
@@ -114,7 +115,7 @@ def bodies(items, front):
 
 def exports(module):
     """The names of a module that others may use."""
-    text = Path(f"crates/{module}.antt").read_text()
+    text = source(Path(f"crates/{module}.antt"))
     # the fields of a record are no names of the module
     text = re.sub(r"^(pub record .*\n)(?:  .*\n)+", r"\1", text, flags=re.M)
     return set(STATED.findall(text)) | set(CONSTRUCTORS.findall(text))

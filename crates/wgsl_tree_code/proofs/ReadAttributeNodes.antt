@@ -3,7 +3,7 @@ use Rattle.std.specs.Prelude.{[], ◌∷◌, Option, None, Some, codes, ◌≡�
 use Rattle.std.proofs.Common.{refl}
 use Rattle.wgsl_model.specs.Trees.Attributes as plain
 use Rattle.wgsl_model.specs.Trees.Spanned.{Spanned, spanned}
-use Rattle.wgsl_model.specs.Trees.Attributes.{Attributes}
+use Rattle.wgsl_model.specs.Trees.Attributes.{Attributes, TypeConstraint}
 use Rattle.wgsl_tree_code.specs.Code.{Code, field, list_of, no_fields, node, text}
 use Rattle.wgsl_tree_code.proofs.Reading.{chosen, expression_node_there, items_read, list_read_of, named, optional_of, optional_read, span_of, text_of, text_read, then_of}
 use Rattle.wgsl_tree_code.specs.WordNodes.{interpolation_sampling_code}

@@ -3,7 +3,7 @@ use Rattle.std.specs.Prelude.{[], ◌∷◌, map, codes, true, ◌≡◌, ◌↔
 use Rattle.std.proofs.Common.{refl}
 use Rattle.wgsl_model.specs.Trees.Attributes as plain
 use Rattle.wgsl_model.specs.Trees.Spanned.{Spanned}
-use Rattle.wgsl_model.specs.Trees.Attributes.{Attributes}
+use Rattle.wgsl_model.specs.Trees.Attributes.{Attributes, TypeConstraint}
 use Rattle.wgsl_model.specs.Trees.WithoutSpans.{bare_attribute, bare_attributes, bare_custom, bare_expression_node, bare_spanned, bare_type, bare_type_constraint, bare_workgroup_size, no_span}
 use Rattle.wgsl_tree_code.specs.Code.{list_of, node_of, placed, text, variant}
 use Rattle.wgsl_tree_code.specs.Same.{same, spanless}

@@ -1,7 +1,31 @@
 -- The trees of modules, their directives and their declarations (WGSL, "Directives", "Structure
 -- Types", "Functions").
 use Rattle.wgsl_model.specs.Trees.Attributed.{Attributed, with_attributes}
-pub use Rattle.wgsl_model.specs.Trees.UnitNodes.{DiagnosticDirective, EnableDirective, RequiresDirective, UnattributedDirective, UnattributedDirective.diagnostic, UnattributedDirective.enable, UnattributedDirective.requires, GlobalDirective, StructMember, Struct, TypeAlias, FormalParameter, Function, UnattributedDeclaration, UnattributedDeclaration.void, UnattributedDeclaration.declaration, UnattributedDeclaration.type_alias, UnattributedDeclaration.structure, UnattributedDeclaration.function, UnattributedDeclaration.const_assert, GlobalDeclaration, TranslationUnit}
+-- names of UnitNodes, written by tools/plain_nodes.py
+pub use Rattle.wgsl_model.specs.Trees.UnitNodes.{
+  DiagnosticDirective,
+  EnableDirective,
+  RequiresDirective,
+  UnattributedDirective,
+  UnattributedDirective.diagnostic,
+  UnattributedDirective.enable,
+  UnattributedDirective.requires,
+  GlobalDirective,
+  StructMember,
+  Struct,
+  TypeAlias,
+  FormalParameter,
+  Function,
+  UnattributedDeclaration,
+  UnattributedDeclaration.void,
+  UnattributedDeclaration.declaration,
+  UnattributedDeclaration.type_alias,
+  UnattributedDeclaration.structure,
+  UnattributedDeclaration.function,
+  UnattributedDeclaration.const_assert,
+  GlobalDeclaration,
+  TranslationUnit,
+}
 
 -- a node behind its attributes, as a declaration of its kind
 abbrev pub as_declaration : {Node : Type 0} → (Node → UnattributedDeclaration) → Attributed Node → GlobalDeclaration
