@@ -118,10 +118,11 @@ def changed_several(held):
     made = f"{one} ({change(held[:-1])} x)"
     if held.endswith("?"):
         return changed(type_, type_, [(none, none), (f"({one} x)", made)])
-    rest = f"{change(held)} xs"
-    made = f"{made} ({rest})"
     if held == "Statement*":
-        made = f"if c.leaves_out x then {rest}\n    else {made}"
+        rest = f"{change(held)} ss"
+        made = f"if c.leaves_out s then {rest}\n    else {one} ({change('Statement')} s) ({rest})"
+        return changed(type_, type_, [(none, none), (f"({one} s ss)", made)])
+    made = f"{made} ({change(held)} xs)"
     return changed(type_, type_, [(none, none), (f"({one} x xs)", made)])
 
 

@@ -291,8 +291,8 @@ abbrev mutual
 
   pub changed_statements : Change → StatementNodes → StatementNodes
   changed_statements c no_statements = no_statements
-  changed_statements c (statement_before x xs) = if c.leaves_out x then changed_statements c xs
-      else statement_before (changed_node c x) (changed_statements c xs)
+  changed_statements c (statement_before s ss) = if c.leaves_out s then changed_statements c ss
+      else statement_before (changed_node c s) (changed_statements c ss)
 
   pub changed_part : Change → MaybeStatement → MaybeStatement
   changed_part c no_statement = no_statement
