@@ -7,6 +7,9 @@ pub mod Shifts
 pub mod LevelLinks
 pub mod AttributeLinks
 pub mod LeftSides
+pub mod StatementPlaces
+pub mod StatementSteps
+pub mod StatementCases
 pub mod StatementLinks
 pub mod BlockLinks
 pub mod UnitLinks

@@ -5,7 +5,9 @@ pub mod Unchecked
 pub mod Tables
 pub mod Apart
 pub mod FewerAttributes
+pub mod MeaningCases
 pub mod Meaning
+pub mod MeaningRules
 pub mod Answers
 pub mod Reader
 pub mod ExpressionRules

@@ -7,4 +7,5 @@ pub mod FittingExpressions
 pub mod WrittenWords
 pub mod FittingAttributes
 pub mod FittingStatements
+pub mod FittingNodes
 pub mod FittingUnits

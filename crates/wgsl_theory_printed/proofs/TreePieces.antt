@@ -3,5 +3,6 @@ pub mod Printing
 pub mod PiecesOfExpressions
 pub mod PiecesOfAttributes
 pub mod PiecesOfStatements
+pub mod PiecesNodes
 pub mod PiecesOfUnits
 pub mod PrintedAlong

@@ -15,13 +15,15 @@ use Rattle.wgsl_model.specs.Grammar.StatementParts.{placed_statement, else_if, e
 use Rattle.wgsl_model.specs.Grammar.Symbols.{Dialect, Symbol.statement, Symbol.switch_clause, Symbol.continuing_statement, Rule, Symbol.expression}
 use Rattle.wgsl_model.specs.Grammar.Written.{rules}
 use Rattle.wgsl_theory_grammar.specs.Factored.{Further.attribute_list, Further.loop_rest, Further.continuing_rest, Further.clause_rest, Further.else_rest, Further.switch_part, FactoredSymbol.of, FactoredSymbol.further, with_break, factored, Further.braced_part, Further.ended_part, Further.plain_statement, Further.continuing_part, FactoredRule, attributes_before, leading_list, leading_before, begun_by, statement_behind, statement_first, break_part, with_condition, with_continuing}
-use Rattle.wgsl_theory_grammar.specs.Meaning.{elses, braced_kinds, ended_kinds}
+use Rattle.wgsl_theory_grammar.specs.Meaning.{elses}
+use Rattle.wgsl_theory_grammar.specs.MeaningRules.{braced_rule, ended_rule}
 use Rattle.wgsl_theory_grammar.proofs.Forms.ListLinks.{IsToken, many_back, many_front, many_none, several_in, several_out}
 use Rattle.wgsl_theory_grammar.proofs.Forms.Taking.{part_takes}
 use Rattle.wgsl_theory_grammar.proofs.Forms.AttributeLinks.{read_list, meant_list, leading_to, leading_from, either_first, either_second, either_of, ItemsOf, first_item, second_item, no_item, items_in, items_out, read_begun, list_begun, written_begun, attributes_begun}
 use Rattle.wgsl_theory_grammar.proofs.Forms.Shifts.{Meant}
 use Rattle.wgsl_theory_grammar.proofs.Forms.LevelLinks.{WrittenPart, ReadPart, taking, written_takes, never_empty, body_takes}
-use Rattle.wgsl_theory_grammar.proofs.Forms.StatementLinks.{statement_out, ended_or_break}
+use Rattle.wgsl_theory_grammar.proofs.Forms.StatementLinks.{statement_out}
+use Rattle.wgsl_theory_grammar.proofs.Forms.StatementSteps.{ended_or_break}
 
 -- ---- the clauses of a `switch`
 abbrev clauses_in_braces : Rule (List SwitchClause)
@@ -122,14 +124,14 @@ statement_of L M x xs ms d = go (unroll M (factored L) (of statement) x xs ms d)
 
 -- and back
 abbrev ended_or_break_kinds : Rule UnattributedStatement
-ended_or_break_kinds = ended_kinds ◃ SymSemicolon
+ended_or_break_kinds = ended_rule
     or (KwBreak means UnattributedStatement.break_statement) ◃ SymSemicolon
 
 braced_written : (L : Dialect) (M : Mode) (a : Attributes) (u : UnattributedStatement) (xs ks ms : List Token)
-    → Means M (WrittenPart L M) attributes a xs ks → Means M (WrittenPart L M) braced_kinds u ks ms
+    → Means M (WrittenPart L M) attributes a xs ks → Means M (WrittenPart L M) braced_rule u ks ms
     → WrittenPart L M statement (statement_behind a (u, span_between ks ms)) xs ms
 braced_written L M a u xs ks ms l s =
-    let w = part_takes M (rules L) taking (written_takes L) braced_kinds refl u ks ms s in
+    let w = part_takes M (rules L) taking (written_takes L) braced_rule refl u ks ms s in
     let i : Attributes × UnattributedStatement = (a, u) in
     statement_out L M (statement_behind a (u, span_between ks ms)) xs ms
     (inr (

@@ -11,7 +11,7 @@ use Rattle.wgsl_model.specs.Grammar.Symbols.{Dialect, Dialect.parsed, Dialect.re
 use Rattle.wgsl_model.specs.Grammar.Written.{rules}
 use Rattle.wgsl_theory_grammar.specs.Factored.{Further.components, Further.factors, Further.summands, Further.sum_rest, Further.relation_rest, Further.and_rest, Further.or_rest, Further.bitwise_and_rest, Further.bitwise_or_rest, Further.bitwise_xor_rest, Further.expression_rest, Further.attribute_list, Further.else_rest, Further.declaration_list, Further.front, FactoredSymbol, FactoredSymbol.of, FactoredSymbol.further, Growth, unchanged, some_more, factored}
 use Rattle.wgsl_theory_grammar.specs.Tables.{empties}
-use Rattle.wgsl_theory_grammar.specs.Meaning.{meaning}
+use Rattle.wgsl_theory_grammar.specs.MeaningRules.{meaning}
 use Rattle.wgsl_theory_grammar.proofs.Forms.Taking.{surely_takes, takes_one}
 use Rattle.wgsl_theory_grammar.proofs.Forms.Levels.{Placed, placed_at, AllPlaced, ComponentOf, AllTake, Components, to_components, from_components}
 use Rattle.wgsl_theory_grammar.proofs.Forms.Lifted.{WrittenRelation, lifted_in, lifted_out}

@@ -10,14 +10,16 @@ use Rattle.wgsl_model.specs.Grammar.StatementParts.{led}
 use Rattle.wgsl_model.specs.Grammar.Symbols.{Dialect, Symbol, Symbol.ident, Symbol.expressions, Symbol.primary_expression, Symbol.singular_expression, Symbol.additive_expression, Symbol.shift_expression, Symbol.relational_expression, Symbol.expression, Symbol.lhs_expression, Symbol.attribute, Symbol.statement, Symbol.switch_clause, Symbol.case_selector, Symbol.for_init, Symbol.for_update, Symbol.var_template, Symbol.struct_member, Symbol.formal_parameter, Symbol.global_declaration, Symbol.diagnostic_severity, Symbol.call, Symbol.assignment, Symbol.increment, Symbol.decrement, Symbol.global_directive, Symbol.return_statement, Symbol.call_statement, Symbol.var_statement, Symbol.value_statement, Symbol.break_statement, Symbol.continue_statement, Symbol.discard_statement, Symbol.phony_assignment, Symbol.const_assert, Symbol.continuing_statement, Symbol.const_declaration, Symbol.alias_declaration, Symbol.struct_declaration, Symbol.enable_directive, Symbol.requires_directive, Symbol.diagnostic_directive, Rule}
 use Rattle.wgsl_model.specs.Grammar.Written.{rules}
 use Rattle.wgsl_theory_grammar.specs.Factored.{Further.template_items, Further.template_rest, Further.template_more, Further.argument_rest, Further.argument_more, Further.member_items, Further.member_rest, Further.member_more, Further.parameter_rest, Further.parameter_more, Further.name_items, Further.name_rest, Further.name_more, Further.selectors, Further.components, Further.factors, Further.summands, Further.sum_rest, Further.relation_rest, Further.and_rest, Further.or_rest, Further.bitwise_and_rest, Further.bitwise_or_rest, Further.bitwise_xor_rest, Further.expression_rest, Further.attribute_list, Further.statement_rest, Further.loop_rest, Further.continuing_rest, Further.clause_rest, Further.else_rest, Further.init_part, Further.condition_part, Further.update_part, Further.switch_part, Further.braced_part, Further.returning_part, Further.local_part, Further.value_part, Further.phony_part, Further.simple_part, Further.ended_part, Further.assert_part, Further.clause_part, Further.continuing_part, Further.left_side_rest, Further.left_side_in_parentheses, Further.prefixed_left_side, Further.parenthesized_statement, Further.plain_statement, Further.const_part, Further.alias_part, Further.struct_part, Further.enable_part, Further.requires_part, Further.diagnostic_part, Further.attributed_part, Further.led_part, Further.directive_part, Further.declaration_list, Further.front, FactoredSymbol, FactoredSymbol.of, FactoredSymbol.further, factored, FactoredRule, leading_before}
-use Rattle.wgsl_theory_grammar.specs.Meaning.{meaning, return_kind, local_kind, value_kind, phony_kind, assert_kind, clause_kinds, continuing_kind, global_const_kind, alias_kind, struct_kind, enable_kind, requires_kind, diagnostic_kind}
+use Rattle.wgsl_theory_grammar.specs.Meaning.{phony_kind}
+use Rattle.wgsl_theory_grammar.specs.MeaningRules.{meaning, returning_rule, local_rule, value_rule, assert_rule, clause_rule, continuing_rule, const_rule, alias_rule, struct_rule, enable_rule, requires_rule, diagnostic_rule}
 use Rattle.wgsl_theory_grammar.proofs.Forms.ListLinks.{Closing, items_in, rest_in, more_in, items_out, rest_out, more_out, listed_in, listed_out, optional_in, optional_out, until_in, until_out}
 use Rattle.wgsl_theory_grammar.proofs.Forms.Lifted.{FactoredRelation, lifted_in, lifted_out}
 use Rattle.wgsl_theory_grammar.proofs.Forms.Shifts.{Meant}
 use Rattle.wgsl_theory_grammar.proofs.Forms.LevelLinks.{WrittenPart, ReadPart, summands_read, sum_read, expression_read, singular_derived, shift_derived, relation_derived, expression_derived, singular_back, shift_back, relation_back, expression_back}
 use Rattle.wgsl_theory_grammar.proofs.Forms.AttributeLinks.{read_list, meant_list, led_to, led_from}
 use Rattle.wgsl_theory_grammar.proofs.Forms.LeftSides.{primary_in, primary_out, left_in, left_out, parenthesized_in, parenthesized_out, simple_part_out}
-use Rattle.wgsl_theory_grammar.proofs.Forms.StatementLinks.{statement_in, statement_out, init_in, init_out, update_in, update_out}
+use Rattle.wgsl_theory_grammar.proofs.Forms.StatementCases.{statement_in}
+use Rattle.wgsl_theory_grammar.proofs.Forms.StatementLinks.{statement_out, init_in, init_out, update_in, update_out}
 use Rattle.wgsl_theory_grammar.proofs.Forms.UnitLinks.{declaration_in, declaration_out, directive_in, directive_out, front_in, front_out}
 use Rattle.wgsl_theory_grammar.proofs.Forms.BlockLinks.{switch_part_in, switch_part_out, loop_rest_in, loop_rest_out, continuing_rest_in, continuing_rest_out, else_rest_in, else_rest_out}
 
@@ -297,15 +299,15 @@ rule_in L M for_update v xs ys d = update_in L M v xs ys d
 rule_in L M global_declaration v xs ys d = declaration_in L M v xs ys d
 rule_in L M global_directive v xs ys d = directive_in L M v xs ys d
 rule_in L M return_statement v xs ys d = roll M (factored L) (of return_statement) v xs ys
-    (behind_in L M statement return_kind (symbol (further returning_part))
+    (behind_in L M statement returning_rule (symbol (further returning_part))
     (met_in L M (further returning_part)) v xs ys d)
 rule_in L M call_statement v xs ys d = roll M (factored L) (of call_statement) v xs ys
     (behind_in L M statement (symbol call gives call_statement_of)
     (symbol (of call) gives call_statement_of) (λ u us vs s. s) v xs ys d)
 rule_in L M var_statement v xs ys d = roll M (factored L) (of var_statement) v xs ys (behind_in L M
-    statement local_kind (symbol (further local_part)) (met_in L M (further local_part)) v xs ys d)
+    statement local_rule (symbol (further local_part)) (met_in L M (further local_part)) v xs ys d)
 rule_in L M value_statement v xs ys d = roll M (factored L) (of value_statement) v xs ys
-    (behind_in L M statement value_kind (symbol (further value_part)) (met_in L M (further value_part)) v xs ys d)
+    (behind_in L M statement value_rule (symbol (further value_part)) (met_in L M (further value_part)) v xs ys d)
 rule_in L M break_statement v xs ys d = roll M (factored L) (of break_statement) v xs ys
     (behind_in L M statement (KwBreak means UnattributedStatement.break_statement)
     (KwBreak means UnattributedStatement.break_statement) (λ u us vs s. s) v xs ys d)
@@ -318,29 +320,29 @@ rule_in L M discard_statement v xs ys d = roll M (factored L) (of discard_statem
 rule_in L M phony_assignment v xs ys d = roll M (factored L) (of phony_assignment) v xs ys
     (behind_in L M statement phony_kind (symbol (further phony_part)) (met_in L M (further phony_part)) v xs ys d)
 rule_in L M const_assert v xs ys d = roll M (factored L) (of const_assert) v xs ys
-    (behind_in L M with_attributes assert_kind (symbol (further assert_part))
+    (behind_in L M with_attributes assert_rule (symbol (further assert_part))
     (met_in L M (further assert_part)) v xs ys d)
 rule_in L M switch_clause v xs ys d = roll M (factored L) (of switch_clause) v xs ys (behind_in L M
-    clause_of clause_kinds (symbol (further clause_part)) (met_in L M (further clause_part)) v xs ys d)
+    clause_of clause_rule (symbol (further clause_part)) (met_in L M (further clause_part)) v xs ys d)
 rule_in L M continuing_statement v xs ys d = roll M (factored L) (of continuing_statement) v xs ys
-    (behind_in L M continuing_statement_of (continuing_kind L) (symbol (further continuing_part))
+    (behind_in L M continuing_statement_of (continuing_rule L) (symbol (further continuing_part))
     (met_in L M (further continuing_part)) v xs ys d)
 rule_in L M const_declaration v xs ys d = roll M (factored L) (of const_declaration) v xs ys
-    (behind_in L M with_attributes global_const_kind (symbol (further const_part))
+    (behind_in L M with_attributes const_rule (symbol (further const_part))
     (met_in L M (further const_part)) v xs ys d)
 rule_in L M alias_declaration v xs ys d = roll M (factored L) (of alias_declaration) v xs ys
-    (behind_in L M with_attributes alias_kind (symbol (further alias_part)) (met_in L M (further alias_part)) v xs ys d)
+    (behind_in L M with_attributes alias_rule (symbol (further alias_part)) (met_in L M (further alias_part)) v xs ys d)
 rule_in L M struct_declaration v xs ys d = roll M (factored L) (of struct_declaration) v xs ys
-    (behind_in L M with_attributes struct_kind (symbol (further struct_part))
+    (behind_in L M with_attributes struct_rule (symbol (further struct_part))
     (met_in L M (further struct_part)) v xs ys d)
 rule_in L M enable_directive v xs ys d = roll M (factored L) (of enable_directive) v xs ys
-    (behind_in L M with_attributes enable_kind (symbol (further enable_part))
+    (behind_in L M with_attributes enable_rule (symbol (further enable_part))
     (met_in L M (further enable_part)) v xs ys d)
 rule_in L M requires_directive v xs ys d = roll M (factored L) (of requires_directive) v xs ys
-    (behind_in L M with_attributes requires_kind (symbol (further requires_part))
+    (behind_in L M with_attributes requires_rule (symbol (further requires_part))
     (met_in L M (further requires_part)) v xs ys d)
 rule_in L M diagnostic_directive v xs ys d = roll M (factored L) (of diagnostic_directive) v xs ys
-    (behind_in L M with_attributes diagnostic_kind (symbol (further diagnostic_part))
+    (behind_in L M with_attributes diagnostic_rule (symbol (further diagnostic_part))
     (met_in L M (further diagnostic_part)) v xs ys d)
 rule_in L M n v xs ys d = alike_in L M n v xs ys d
 
@@ -418,14 +420,14 @@ rule_out L M (of increment) v xs ys d = roll M (rules L) increment v xs ys
 rule_out L M (of decrement) v xs ys d = roll M (rules L) decrement v xs ys
     (lifted_out M (Meant L M (WrittenPart L M)) (rules L decrement) v xs ys d)
 rule_out L M (of return_statement) v xs ys d = roll M (rules L) return_statement v xs ys
-    (behind_out L M statement return_kind (symbol (further returning_part)) (λ u us vs s. s) v xs ys d)
+    (behind_out L M statement returning_rule (symbol (further returning_part)) (λ u us vs s. s) v xs ys d)
 rule_out L M (of call_statement) v xs ys d = roll M (rules L) call_statement v xs ys
     (behind_out L M statement (symbol call gives call_statement_of)
     (symbol (of call) gives call_statement_of) (λ u us vs s. s) v xs ys d)
 rule_out L M (of var_statement) v xs ys d = roll M (rules L) var_statement v xs ys
-    (behind_out L M statement local_kind (symbol (further local_part)) (λ u us vs s. s) v xs ys d)
+    (behind_out L M statement local_rule (symbol (further local_part)) (λ u us vs s. s) v xs ys d)
 rule_out L M (of value_statement) v xs ys d = roll M (rules L) value_statement v xs ys
-    (behind_out L M statement value_kind (symbol (further value_part)) (λ u us vs s. s) v xs ys d)
+    (behind_out L M statement value_rule (symbol (further value_part)) (λ u us vs s. s) v xs ys d)
 rule_out L M (of break_statement) v xs ys d = roll M (rules L) break_statement v xs ys
     (behind_out L M statement (KwBreak means UnattributedStatement.break_statement)
     (KwBreak means UnattributedStatement.break_statement) (λ u us vs s. s) v xs ys d)
@@ -438,24 +440,24 @@ rule_out L M (of discard_statement) v xs ys d = roll M (rules L) discard_stateme
 rule_out L M (of phony_assignment) v xs ys d = roll M (rules L) phony_assignment v xs ys
     (behind_out L M statement phony_kind (symbol (further phony_part)) (λ u us vs s. s) v xs ys d)
 rule_out L M (of const_assert) v xs ys d = roll M (rules L) const_assert v xs ys
-    (behind_out L M with_attributes assert_kind (symbol (further assert_part)) (λ u us vs s. s) v xs ys d)
+    (behind_out L M with_attributes assert_rule (symbol (further assert_part)) (λ u us vs s. s) v xs ys d)
 rule_out L M (of switch_clause) v xs ys d = roll M (rules L) switch_clause v xs ys
-    (behind_out L M clause_of clause_kinds (symbol (further clause_part)) (λ u us vs s. s) v xs ys d)
+    (behind_out L M clause_of clause_rule (symbol (further clause_part)) (λ u us vs s. s) v xs ys d)
 rule_out L M (of continuing_statement) v xs ys d = roll M (rules L) continuing_statement v xs ys
-    (behind_out L M continuing_statement_of (continuing_kind L) (symbol (further continuing_part))
+    (behind_out L M continuing_statement_of (continuing_rule L) (symbol (further continuing_part))
     (λ u us vs s. s) v xs ys d)
 rule_out L M (of const_declaration) v xs ys d = roll M (rules L) const_declaration v xs ys
-    (behind_out L M with_attributes global_const_kind (symbol (further const_part)) (λ u us vs s. s) v xs ys d)
+    (behind_out L M with_attributes const_rule (symbol (further const_part)) (λ u us vs s. s) v xs ys d)
 rule_out L M (of alias_declaration) v xs ys d = roll M (rules L) alias_declaration v xs ys
-    (behind_out L M with_attributes alias_kind (symbol (further alias_part)) (λ u us vs s. s) v xs ys d)
+    (behind_out L M with_attributes alias_rule (symbol (further alias_part)) (λ u us vs s. s) v xs ys d)
 rule_out L M (of struct_declaration) v xs ys d = roll M (rules L) struct_declaration v xs ys
-    (behind_out L M with_attributes struct_kind (symbol (further struct_part)) (λ u us vs s. s) v xs ys d)
+    (behind_out L M with_attributes struct_rule (symbol (further struct_part)) (λ u us vs s. s) v xs ys d)
 rule_out L M (of enable_directive) v xs ys d = roll M (rules L) enable_directive v xs ys
-    (behind_out L M with_attributes enable_kind (symbol (further enable_part)) (λ u us vs s. s) v xs ys d)
+    (behind_out L M with_attributes enable_rule (symbol (further enable_part)) (λ u us vs s. s) v xs ys d)
 rule_out L M (of requires_directive) v xs ys d = roll M (rules L) requires_directive v xs ys
-    (behind_out L M with_attributes requires_kind (symbol (further requires_part)) (λ u us vs s. s) v xs ys d)
+    (behind_out L M with_attributes requires_rule (symbol (further requires_part)) (λ u us vs s. s) v xs ys d)
 rule_out L M (of diagnostic_directive) v xs ys d = roll M (rules L) diagnostic_directive v xs ys
-    (behind_out L M with_attributes diagnostic_kind (symbol (further diagnostic_part)) (λ u us vs s. s) v xs ys d)
+    (behind_out L M with_attributes diagnostic_rule (symbol (further diagnostic_part)) (λ u us vs s. s) v xs ys d)
 rule_out L M (of additive_expression) v xs ys d = roll M (rules L) additive_expression v xs ys
     (lifted_out M (Meant L M (WrittenPart L M)) (rules L additive_expression) v xs ys d)
 rule_out L M (of expressions) v xs ys d = roll M (rules L) expressions v xs ys

@@ -11,7 +11,8 @@ use Rattle.wgsl_model.specs.Grammar.ExpressionParts.{binary_of, multiplicative_o
 use Rattle.wgsl_model.specs.Grammar.Symbols.{Dialect, Dialect.parsed, Dialect.recognized, Symbol.unary_expression, Symbol.multiplicative_expression, Symbol.negated_expression, Symbol.additive_expression, Symbol.shift_expression, Symbol.relational_expression, Symbol.expression, Rule}
 use Rattle.wgsl_model.specs.Grammar.Written.{rules}
 use Rattle.wgsl_theory_grammar.specs.Factored.{FactoredSymbol.of, FactoredSymbol.further, Growth, grown, factored}
-use Rattle.wgsl_theory_grammar.specs.Meaning.{sum_growth, relation_growth, expression_growth, meaning}
+use Rattle.wgsl_theory_grammar.specs.Meaning.{sum_growth, relation_growth, expression_growth}
+use Rattle.wgsl_theory_grammar.specs.MeaningRules.{meaning}
 use Rattle.wgsl_theory_grammar.proofs.Forms.Lifted.{WrittenRelation, FactoredRelation}
 use Rattle.wgsl_theory_grammar.proofs.Forms.Levels.{Runs, runs_token, runs_join, span_runs, Placed, Ended, ExpressionRelation, Item, ItemRelation, GrowthRelation, AllPlaced, AllEnded, chain_placed, Grown, Grows, Shrinks, to_grow, from_grow, Same, same_grows, same_shrinks, Two, One, two_grows, two_shrinks, two_placed}
 

@@ -14,7 +14,7 @@ use Rattle.wgsl_model.specs.Grammar.UnitParts.{assert_declaration}
 use Rattle.wgsl_model.specs.Grammar.Symbols.{Dialect, Symbol.const_assert, Symbol.global_declaration, Symbol.var_declaration, Symbol.const_declaration, Symbol.override_declaration, Symbol.alias_declaration, Symbol.struct_declaration, Symbol.function_declaration, Symbol.global_directive, Symbol.enable_directive, Symbol.requires_directive, Symbol.diagnostic_directive}
 use Rattle.wgsl_model.specs.Grammar.Written.{rules}
 use Rattle.wgsl_theory_grammar.specs.Factored.{Further.var_part, Further.override_part, Further.function_part, Further.const_part, Further.alias_part, Further.struct_part, Further.enable_part, Further.requires_part, Further.diagnostic_part, Further.attributed_part, Further.led_part, Further.directive_part, Further.declaration_list, Further.front, FactoredSymbol.of, FactoredSymbol.further, FactoredRule, attributes_before, leading_before, begun_by, declaration_behind, declaration_first, directive_first, factored}
-use Rattle.wgsl_theory_grammar.specs.Meaning.{attributed_kinds, led_kinds}
+use Rattle.wgsl_theory_grammar.specs.MeaningRules.{attributed_rule, led_rule}
 use Rattle.wgsl_theory_grammar.proofs.Forms.ListLinks.{many_back, many_front, many_none}
 use Rattle.wgsl_theory_grammar.proofs.Forms.Taking.{part_takes}
 use Rattle.wgsl_theory_grammar.proofs.Forms.AttributeLinks.{meant_list, leading_from, leading_kept, attributes_kept, either_first, either_second, either_of, ItemsOf, first_item, second_item, no_item, items_in, items_out, read_begun, list_begun, written_begun, attributes_begun}
@@ -107,7 +107,7 @@ led_out L M v n xs ys e (p, q, (ks, l, s)) = go s
     leads : Means M (WrittenPart L M) (leading L) p.0 xs ks
     leads = leading_from L M (WrittenPart L M) (Meant L M (WrittenPart L M)) (meant_list L M) p.0 xs ks l
 
-    go : Means M (WrittenPart L M) led_kinds p.1 ks ys → Part M (rules L) global_declaration v xs ys
+    go : Means M (WrittenPart L M) led_rule p.1 ks ys → Part M (rules L) global_declaration v xs ys
     go (inl d) = roll M (rules L) global_declaration v xs ys
         (n, e, inr (inr (inl (roll M (rules L) const_declaration n xs ys (p, q, (ks, leads, d))))))
     go (inr (inl d)) = roll M (rules L) global_declaration v xs ys
@@ -330,14 +330,14 @@ front_out L M v xs ys (inr (inl d)) = go v xs ys
         (symbol (further led_part)) (symbol (further declaration_list)) front_other v xs ys
         → Meant L M (WrittenPart L M) (further front) v xs ys
     go _ _ _ (first_item a u r xs ks ms ys l s h) =
-        let w = part_takes M (rules L) taking (written_takes L) attributed_kinds refl u ks ms s in
+        let w = part_takes M (rules L) taking (written_takes L) attributed_rule refl u ks ms s in
         let i : Attributes × UnattributedDeclaration = (a, u) in
         declaration_front L M (declaration_behind a (u, span_between ks ms)) xs ms ys
         (attributed_out L M (declaration_behind a (u, span_between ks ms))
         (with_attributes a u) xs ms (ap (λ (z : Span). spanned (with_attributes a u) z)
         (sym (attributes_begun L M a xs ks ms l w))) (i, refl, (ks, l, s))) r h
     go _ _ _ (second_item a u r xs ks ms ys l s h) =
-        let w = part_takes M (rules L) taking (written_takes L) led_kinds refl u ks ms s in
+        let w = part_takes M (rules L) taking (written_takes L) led_rule refl u ks ms s in
         let i : Attributes × UnattributedDeclaration = (a, u) in
         declaration_front L M (declaration_behind a (u, span_between ks ms)) xs ms ys
         (led_out L M (declaration_behind a (u, span_between ks ms)) (with_attributes a u) xs ms

@@ -21,10 +21,11 @@ use Rattle.wgsl_theory_printed.proofs.Fits.FittingSigns.{as_text, left_paren_fit
 use Rattle.wgsl_theory_printed.proofs.Fits.FittingExpressions.{closed_by_paren, closed_by_comma, ends_at_paren}
 use Rattle.wgsl_theory_printed.proofs.Fits.WrittenWords.{severity_name, keyword_fits}
 use Rattle.wgsl_theory_printed.proofs.Fits.FittingAttributes.{IfSome, Every, IsSoundRule, AreSoundAttributes, list_fits, closed_type_fits, plain_name_fits, rule_fits, attributes_fit}
-use Rattle.wgsl_theory_printed.proofs.Fits.FittingStatements.{IsSoundDeclaration, IsSoundCompound, line_fits, closed_line, attribute_lines_fit, left_brace_fits, right_brace_fits, semicolon_fits, colon_fits, equal_fits, closed_by_semicolon, declaration_fits, assert_fits, compound_fits, one_fits}
+use Rattle.wgsl_theory_printed.proofs.Fits.FittingStatements.{IsSoundDeclaration, line_fits, closed_line, attribute_lines_fit, left_brace_fits, right_brace_fits, semicolon_fits, colon_fits, equal_fits, closed_by_semicolon, declaration_fits, assert_fits, one_fits}
+use Rattle.wgsl_theory_printed.proofs.Fits.FittingNodes.{IsSoundCompound, compound_fits}
 use Rattle.wgsl_theory_printed.proofs.TreePieces.PiecesOfExpressions.{sign, name, comma, type_pieces}
 use Rattle.wgsl_theory_printed.proofs.TreePieces.PiecesOfAttributes.{list_pieces, rule_pieces}
-use Rattle.wgsl_theory_printed.proofs.TreePieces.PiecesOfStatements.{compound_pieces}
+use Rattle.wgsl_theory_printed.proofs.TreePieces.PiecesNodes.{compound_pieces}
 use Rattle.wgsl_theory_printed.proofs.TreePieces.PiecesOfUnits.{unattributed_directive_pieces, directive_pieces, member_pieces, further_members_pieces, members_pieces, one_space, parameter_pieces, result_pieces, function_pieces, unattributed_declaration_pieces, global_declaration_pieces, two_lines, declarations_pieces, further_directives_pieces, directives_pieces, nothing_before, unit_pieces}
 use Rattle.wgsl_theory_printed.proofs.TreePieces.PrintedAlong.{printed_utf8, printed_along}
 

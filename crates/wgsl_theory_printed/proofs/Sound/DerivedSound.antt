@@ -28,7 +28,8 @@ use Rattle.wgsl_theory_printed.proofs.Spelling.Ends.{IsNameText}
 use Rattle.wgsl_theory_printed.proofs.Fits.FittingWords.{plain_ascii}
 use Rattle.wgsl_theory_printed.proofs.Fits.SoundExpressions.{IsSoundLiteral, IsPrimary, IsPrimaryNode, IsOperand, IsOperandNode, IsSoundExpression, IsSoundNode, AreSoundNodes, IsSoundTemplate}
 use Rattle.wgsl_theory_printed.proofs.Fits.FittingAttributes.{IfSome, Every, IsSoundRule, IsSoundAttribute, AreSoundAttributes}
-use Rattle.wgsl_theory_printed.proofs.Fits.FittingStatements.{EndsWithNameNode, IsSoundStatement, IsSoundUnattributed, AreSoundStatements, IsSoundCompound, AreSoundElseIfs, IsSoundElseIf, IsSoundElse, IsSoundElseClause, AreSoundClauses, IsSoundClause, IsSoundMaybeContinuing, IsSoundContinuing, IsSoundPart}
+use Rattle.wgsl_theory_printed.proofs.Fits.FittingStatements.{EndsWithNameNode}
+use Rattle.wgsl_theory_printed.proofs.Fits.FittingNodes.{IsSoundStatement, IsSoundUnattributed, AreSoundStatements, IsSoundCompound, AreSoundElseIfs, IsSoundElseIf, IsSoundElse, IsSoundElseClause, AreSoundClauses, IsSoundClause, IsSoundMaybeContinuing, IsSoundContinuing, IsSoundPart}
 use Rattle.wgsl_theory_printed.proofs.Sound.Scanned.{word_classes}
 use Rattle.wgsl_theory_printed.proofs.Sound.SoundAttributes.{one_name_rule, two_names_rule, attribute_sound}
 use Rattle.wgsl_theory_reread.proofs.Gives.{anything, token_sound, symbol_sound, then_sound, or_sound, gives_sound, makes_sound, check_sound, weaker_sound, chain_sound, sign_before, sign_behind}

@@ -12,7 +12,7 @@ use Rattle.wgsl_model.specs.Trees.Attributed.{with_attributes, without_attribute
 use Rattle.wgsl_model.specs.Trees.Operators.{AssignmentOperator.equal}
 use Rattle.wgsl_model.specs.Trees.Statements.{CaseSelector, DeclarationKind, UnattributedStatement, assignment_of, call_statement_of, compound_of, decrement_of, for_of, if_of, increment_of, local_of, loop_of, return_of, switch_of, unattributed, while_of}
 use Rattle.wgsl_model.specs.Trees.Units.{UnattributedDeclaration}
-use Rattle.wgsl_theory_printed.proofs.Fits.FittingStatements.{IsSoundStatement, IsSoundUnattributed}
+use Rattle.wgsl_theory_printed.proofs.Fits.FittingNodes.{IsSoundStatement, IsSoundUnattributed}
 use Rattle.wgsl_theory_printed.proofs.Fits.FittingUnits.{IsSoundGlobal, IsSoundUnattributedDeclaration, IsSoundUnattributedDirective}
 use Rattle.wgsl_theory_printed.proofs.Sound.DerivedSound.{additive_expression_gives, assertion_gives, assignment_operator_gives, attribute_gives, attributed_gives, attributes_give, block_gives, clauses_sound, component_gives, continuing_sound, else_block_gives, else_if_gives, else_ifs_sound, else_sound, expression_gives, ident_gives, initializer_gives, item_gives, left_side_gives, lhs_expression_gives, list_gives, literal_gives, multiplicative_expression_gives, negated_expression_gives, nodes_sound, part_sound, primary_expression_gives, relational_expression_gives, rule_of_sound, shift_expression_gives, singular_expression_gives, statements_give, statements_sound, template_sound, texts_sound, unary_expression_gives, underscore_gives, value_kind_gives, var_kind_gives}
 use Rattle.wgsl_theory_printed.proofs.Sound.SoundRules.{Gives, Sound, list_or_none_sound, list_sound, many_sound, optional_sound, several_sound}

@@ -12,7 +12,8 @@ use Rattle.wgsl_theory_reread.proofs.Gives.{GivesBy, none_sound, or_sound, gives
 use Rattle.wgsl_theory_printed.proofs.Spelling.Ends.{IsNameText}
 use Rattle.wgsl_theory_printed.proofs.Fits.SoundExpressions.{IsSoundLiteral, IsPrimary, IsPrimaryNode, IsOperandNode, IsSoundExpression, IsSoundNode, IsSoundCall, IsSoundType}
 use Rattle.wgsl_theory_printed.proofs.Fits.FittingAttributes.{IfSome, Every, IsSoundAttribute, Every-behind, AreSoundAttributes}
-use Rattle.wgsl_theory_printed.proofs.Fits.FittingStatements.{EndsWithName, EndsWithNameNode, IsSoundSelector, IsSoundStatement, IsSoundCompound, IsSoundClause, IsSoundContinuing}
+use Rattle.wgsl_theory_printed.proofs.Fits.FittingStatements.{EndsWithName, EndsWithNameNode, IsSoundSelector}
+use Rattle.wgsl_theory_printed.proofs.Fits.FittingNodes.{IsSoundStatement, IsSoundCompound, IsSoundClause, IsSoundContinuing}
 use Rattle.wgsl_theory_printed.proofs.Fits.FittingUnits.{IsSoundDirective, IsSoundMember, IsSoundParameter, IsSoundGlobal, IsSoundUnit}
 use Rattle.wgsl_theory_printed.proofs.Sound.Scanned.{IsScanned}
 

@@ -19,7 +19,8 @@ use Rattle.wgsl_model.specs.Grammar.Written.{written}
 use Rattle.wgsl_theory_printed.proofs.Spelling.Ends.{IsNameText}
 use Rattle.wgsl_theory_printed.proofs.Fits.SoundExpressions.{IsSoundNode, IsSoundType}
 use Rattle.wgsl_theory_printed.proofs.Fits.FittingAttributes.{IfSome, Every, AreSoundAttributes}
-use Rattle.wgsl_theory_printed.proofs.Fits.FittingStatements.{IsSoundSelector, IsSoundClause, IsSoundContinuing, IsSoundBreakIf, IsSoundCompound}
+use Rattle.wgsl_theory_printed.proofs.Fits.FittingStatements.{IsSoundSelector, IsSoundBreakIf}
+use Rattle.wgsl_theory_printed.proofs.Fits.FittingNodes.{IsSoundClause, IsSoundContinuing, IsSoundCompound}
 use Rattle.wgsl_theory_printed.proofs.Fits.FittingUnits.{IsSoundDirective, IsSoundParameter, IsSoundUnattributedDeclaration, IsSoundGlobal, IsSoundUnattributedDirective}
 use Rattle.wgsl_theory_reread.proofs.Gives.{symbol_sound, then_sound, gives_sound, makes_sound, check_sound, weaker_sound, anything, sign_before, sign_behind}
 use Rattle.wgsl_theory_printed.proofs.Sound.SoundRules.{Sound, Gives, optional_sound}

@@ -20,7 +20,8 @@ use Rattle.wgsl_theory_printed.proofs.Spelling.Pieces.{Piece, space, bytes_of, k
 use Rattle.wgsl_theory_printed.proofs.TreePieces.Printing.{Puts, Prints, none_prints, ◌before◌, word_prints, space_prints, four, line, line_prints, indented_prints}
 use Rattle.wgsl_theory_printed.proofs.TreePieces.PiecesOfExpressions.{sign, name, comma, type_pieces, name_prints, comma_prints, type_prints}
 use Rattle.wgsl_theory_printed.proofs.TreePieces.PiecesOfAttributes.{further_pieces, list_pieces, list_prints, rule_pieces, rule_prints, attributes_pieces, attributes_print}
-use Rattle.wgsl_theory_printed.proofs.TreePieces.PiecesOfStatements.{declaration_pieces, declaration_prints, assert_pieces, assert_prints, compound_pieces, compound_prints}
+use Rattle.wgsl_theory_printed.proofs.TreePieces.PiecesOfStatements.{declaration_pieces, declaration_prints, assert_pieces, assert_prints}
+use Rattle.wgsl_theory_printed.proofs.TreePieces.PiecesNodes.{compound_pieces, compound_prints}
 
 -- ---- the pieces
 

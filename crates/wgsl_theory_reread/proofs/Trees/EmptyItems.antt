@@ -10,6 +10,7 @@ use Rattle.wgsl_model.specs.Printed.Statements.{print_statement, print_compound}
 use Rattle.wgsl_model.specs.Printed.Units as printed
 use Rattle.wgsl_model.specs.Trees.EmptyItems as items
 use Rattle.wgsl_theory_reread.proofs.Trees.Changed as changed
+use Rattle.wgsl_theory_reread.proofs.Trees.ChangedNodes as nodes
 
 print_is_kept : changed.KeepsPrint items.without_empty
 print_is_kept = record {
@@ -24,15 +25,15 @@ print_is_kept = record {
 }
 
 pub statement_printed : (s : Statement) → print_statement (items.full_statement s) ≡ print_statement s
-statement_printed = changed.statement_kept items.without_empty print_is_kept
+statement_printed = nodes.statement_kept items.without_empty print_is_kept
 
 pub compound_printed : (b : CompoundStatement) → print_compound (items.full_compound b) ≡ print_compound b
-compound_printed = changed.compound_kept items.without_empty print_is_kept
+compound_printed = nodes.compound_kept items.without_empty print_is_kept
 
 -- a statement that is not empty does not become so
 node_kept : (s : StatementNode) → items.is_void_node (changed_node items.without_empty s) ≡ items.is_void_node s
 node_kept (statement_node s span) = ap (λ (e : List ℕ × Bool). e.1)
-    (changed.end_kept items.without_empty print_is_kept s)
+    (nodes.end_kept items.without_empty print_is_kept s)
 
 parts_twice : changed.PartsTwice items.without_empty
 parts_twice = record {
@@ -47,10 +48,10 @@ parts_twice = record {
 }
 
 pub statement_twice : (s : Statement) → items.full_statement (items.full_statement s) ≡ items.full_statement s
-statement_twice = changed.statement_twice items.without_empty parts_twice
+statement_twice = nodes.statement_twice items.without_empty parts_twice
 
 pub compound_twice : (b : CompoundStatement) → items.full_compound (items.full_compound b) ≡ items.full_compound b
-compound_twice = changed.compound_twice items.without_empty parts_twice
+compound_twice = nodes.compound_twice items.without_empty parts_twice
 
 -- ---- declarations and modules
 void_kept : (d : tree.UnattributedDeclaration)

@@ -13,7 +13,8 @@ use Rattle.wgsl_model.specs.Printed.Statements as printed
 use Rattle.wgsl_model.specs.Trees.WithoutSpans.{bare_expression_node, bare_type, bare_attributes}
 use Rattle.wgsl_model.specs.Trees.StatementsWithoutSpans as bare
 use Rattle.wgsl_theory_reread.proofs.Trees.Spans.{node_bare, call_bare, type_bare, attribute_line_bare}
-use Rattle.wgsl_theory_reread.proofs.Trees.Changed.{ending, KeepsPrint, statement_kept, compound_kept}
+use Rattle.wgsl_theory_reread.proofs.Trees.Changed.{ending, KeepsPrint}
+use Rattle.wgsl_theory_reread.proofs.Trees.ChangedNodes.{statement_kept, compound_kept}
 
 -- ---- parts that may be left out
 typed_bare : (t : Option TypeExpression) → print_typed (option_map bare_type t) ≡ print_typed t
