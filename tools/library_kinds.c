@@ -8,13 +8,14 @@
 
 static const char path[] = "bindings/rust/tests/every_kind.wgsl";
 
-/* An enum and its variants, written by tools/nodes.py from crates/wgsl_model/nodes. A name that two
-   enums share has what follows it too, where that differs. */
+/* An enum and its variants. A name that two enums share has what follows it too, where that
+   differs. */
 struct kinds {
     const char *name;
     const char *variants[32];
 };
 
+/* Written by tools/nodes.py from crates/wgsl_model/nodes. */
 static const struct kinds enums[] = {
     {"GlobalDirective",
      {"Diagnostic\":{\"attributes", "Enable", "Requires"}},

@@ -52,6 +52,11 @@ class Table:
         """What is said of a part of a kind, if anything."""
         return self.docs.get(f"{kind.name}.{part}") or self.docs.get(part)
 
+    def attribute_words(self):
+        """The name of each attribute, which begins the example of its variant."""
+        return {name: re.match(r"@(\w+)", example)[1]
+                for name, example in self.examples["Attribute"].items()}
+
     def rust(self, text):
         """A type of the table as one of Rust."""
         if text.endswith("?"):

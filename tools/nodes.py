@@ -1,6 +1,8 @@
 #!/usr/bin/env python3
 """Writes what follows from the fields of the nodes alone: the tables of docs/TREE.md, the types and
-the lists of nodes of the Rust crate, and the variants that tools/library_kinds.c looks for.
+the lists of nodes of the Rust crate, for its tests a text with the example of each variant and what
+prints are read as, the variants that tools/library_kinds.c looks for, and the copies of what
+variants hold that wgsl_test_memory makes.
 
 Run it at the top of the repository:
 
@@ -16,6 +18,8 @@ from node_table import TABLE, Table, check, snake
 DOCUMENT = Path("docs/TREE.md")
 RUST = Path("bindings/rust/src")
 KINDS = Path("tools/library_kinds.c")
+TEXT = Path("bindings/rust/tests/every_kind.wgsl")
+COPIES = Path("crates/wgsl_test_memory/src/variants_nodes.rt")
 WRITTEN = f"written by tools/nodes.py from {TABLE}."
 # the enums that have no name, although what a variant holds has one
 UNNAMED = ["Statement"]
@@ -184,6 +188,14 @@ def printed_variants(table):
     return "\n".join(f"    {held} = {variant}," for held, variant in found.items())
 
 
+def read_as(table):
+    """What the prints of nodes are read as: of those that are one variant of one enum, the enum."""
+    held = [(it, enum) for enum in PLAIN for _, it in table.by_name[enum].parts if it]
+    kinds = [it for it, _ in held]
+    return "\n".join(f"    visit_{snake(it)} {it}: {enum}," for it, enum in held
+                     if kinds.count(it) == 1)
+
+
 def write_list(path, what, *macros):
     """A file of the Rust crate in which macros are given lists."""
     calls = "".join(f"\n{macro}! {{\n{text}\n}}\n" for macro, text in macros)
@@ -205,9 +217,22 @@ def write_rust(table):
                ("unvisited", unvisited(table)), ("visitors", visited(table)))
     write_list("syntax/voids/node_blocks", "Where blocks are",
                *((f"{form}_blocks", blocks(table, form)) for form in ("struct", "enum")))
+    write_list("../tests/node_prints/mod", "What prints are read as", ("prints", read_as(table)))
     words = declared(table, "words", lambda table, kind, name, word: f"`{word}`.",
                      lambda name, word: f'{name} = "{word}"')
     fill(RUST / "words.rs", "\nwords! {\n", f"    // {WRITTEN.capitalize()}\n{words}", "\n}\n")
+
+
+def write_text(table):
+    """The examples of all variants, in a module."""
+    def of(*enums):
+        return [example for enum in enums for example in table.examples[enum].values()]
+
+    values = [f"const a = {it};" for it in of("Expression", "LiteralExpression")]
+    lines = [*of("GlobalDirective", "GlobalDeclaration"), *values,
+             filled(0, "fn f() ->", [*of("Attribute"), "a {}"])[:-1],
+             "fn f() {", *(f"    {it}" for it in of("Statement")), "}"]
+    fill(TEXT, f"// Examples of the variants, {WRITTEN}\n", "\n".join(lines), "\n// What they lack")
 
 
 def write_variants(table):
@@ -231,13 +256,37 @@ def write_variants(table):
     fill(KINDS, "\nstatic const struct kinds enums[] = {\n", text, "};\n")
 
 
+def copied(table, kind):
+    """The function that copies what variants of an enum hold, where that is no node with a span."""
+    nodes_held = [it.name for it in nodes(table) if not it.is_spanned]
+    held = [name for name, held in kind.parts if held in nodes_held]
+    arms = [f"        {kind.name}::{name}(inner) => line.copy(inner)," for name in held]
+    others = ["        _ => {}"] * (len(held) < len(kind.parts))
+    return "\n".join([
+        f"/// What a node of `{kind.name}` holds, if that is a node without a span.",
+        f"pub fn copy_in_{snake(kind.name)}<R: Print + AllocGlobal>(",
+        f"    line: &mut Line<'_, R>,", f"    node: &{kind.name},", ") {", "    match node {",
+        *arms, *others, "    }", "}", ""]) if held else None
+
+
+def write_copies(table):
+    """The functions that copy what variants hold."""
+    found = {kind.name: copied(table, kind) for kind in table.of_form("enum")}
+    found = {name: text for name, text in found.items() if text}
+    names = ", ".join(sorted(found))
+    COPIES.write_text(f"//! Copies of what variants hold, {WRITTEN}\n\nuse crate::line::Line;\n"
+                      f"use wgsl_parse::syntax::{{{names}}};\n\n" + "\n".join(found.values()))
+
+
 def main():
     table = Table()
     check(table)
     fill(DOCUMENT, f"<!-- The tables are {WRITTEN} -->", document(table),
          "<!-- The end of the tables. -->")
     write_rust(table)
+    write_text(table)
     write_variants(table)
+    write_copies(table)
 
 
 if __name__ == "__main__":

@@ -3,6 +3,9 @@ in any order, and plain bytes. Each is made by a source of chance, so the same o
 import re
 from pathlib import Path
 
+import node_table
+import token_table
+
 SHADERS = sorted((Path(__file__).resolve().parent.parent / "examples").glob("*.wgsl"))
 
 
@@ -11,11 +14,12 @@ class Bracket(str):
 
 
 OPEN, CLOSE = Bracket("<"), Bracket(">")
-KEYWORDS = """alias break case const const_assert continue continuing default diagnostic discard else
-    enable false fn for if let loop override requires return struct switch true var while""".split()
+TOKENS, NODES = token_table.Table(), node_table.Table()
+KEYWORDS = [token.text for token in TOKENS.keywords]
+RESERVED = TOKENS.reserved
 SYMBOLS = """& && -> @ / ! [ ] { } : , = == != > >= >> < <= << % - -- . + ++ | || ( ) ; * ~ _ ^ += -=
     *= /= %= &= |= ^= >>= <<=""".split()
-RESERVED = "self target NULL get ref binding_array wgsl yield".split()
+ATTRIBUTES = NODES.attribute_words()
 STRAYS = """# $ ' " ` ? \\ € 0x 1__ 08 0x1.p 4294967296u 99999999999999999999 \0 \ufeff""".split(" ")
 BLANKS = [" "] * 6 + """\n|\n\n    |\t|\r\n|\u3000|\u200e|\u2028|/**/|/* a */|/*/* b */*/|// c\n""".split("|")
 
@@ -27,14 +31,14 @@ WORDS = {name: words.split() for name, words in {
     "Literal": """true false 0 1 42 7u 0i 9223372036854775807 2147483647i 4294967295u 0x7fffFFFF 0X1fu 0x0i
         0. 1.5 01.5e+1 .5 .025E-07f 5f 00h 1e4 0.5h 0x1.8 0x.c 0x1f.p+02 0x.8p1f 0XAP-3h""",
     "Product": "* / %", "Sum": "+ - --", "Shifted": "<< >>", "Compared": "< < > <= >= == !=", "Prefix": "- ! ~ * &",
-    "Assigned": "= += -= *= /= %= &= |= ^= >>= <<=", "Severity": "error warning info off",
-    "Space": "function private workgroup uniform storage", "Mode": "read write read_write",
-    "OneArgument": "align binding blend_src group id location size if if elif",
-    "NoArgument": "const invariant must_use vertex fragment compute else",
-    "Builtin": "vertex_index position frag_depth sample_mask num_workgroups subgroup_size",
-    "Interpolation": "perspective linear flat", "Sampling": "center centroid sample first either",
-    "Custom": " ".join(sorted({*KEYWORDS, *RESERVED, "a", "x7"} - {"const", "else", "if", "diagnostic"})),
+    "Assigned": "= += -= *= /= %= &= |= ^= >>= <<=",
 }.items()}
+WORDS |= {name: [word for _, word in NODES.by_name[kind].parts] for name, kind in {
+    "Severity": "DiagnosticSeverity", "Space": "AddressSpace", "Mode": "AccessMode", "Builtin": "BuiltinValue",
+    "Interpolation": "InterpolationType", "Sampling": "InterpolationSampling"}.items()}
+WORDS |= {name: [ATTRIBUTES[it] for it, held in NODES.by_name["Attribute"].parts if held == wanted]
+          for name, wanted in {"OneArgument": "Expression", "NoArgument": ""}.items()}
+WORDS["Custom"] = sorted({*KEYWORDS, *RESERVED, "a", "x7"} - {*ATTRIBUTES.values()})
 RULES = {line.split()[0]: [way.split() for way in line.split(" = ", 1)[1].split(" / ")] for line in """
 Module = Directive* Declaration* Declaration*
 Directive = A* enable Name, ; / A* requires Name, ; / A* diagnostic ( Severity , Rule Comma? ) ;

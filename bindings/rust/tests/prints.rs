@@ -61,7 +61,7 @@ impl Prints {
 }
 
 /// Reads the print of each kind of node again, in a text around it.
-macro_rules! prints {
+macro_rules! prints_in {
     ($($visit:ident $name:ident: $whole:ident $before:literal $after:literal,)*) => {
         impl<'t> Visit<'t> for Prints {
             $(
@@ -104,54 +104,36 @@ macro_rules! prints {
     };
 }
 
-prints! {
-    visit_translation_unit TranslationUnit: TranslationUnit "" "",
-    visit_global_directive GlobalDirective: GlobalDirective "" "",
-    visit_diagnostic_directive DiagnosticDirective: GlobalDirective "" "",
-    visit_enable_directive EnableDirective: GlobalDirective "" "",
-    visit_requires_directive RequiresDirective: GlobalDirective "" "",
-    visit_global_declaration GlobalDeclaration: GlobalDeclaration "" "",
-    visit_type_alias TypeAlias: GlobalDeclaration "" "",
-    visit_struct Struct: GlobalDeclaration "" "",
-    visit_struct_member StructMember: GlobalDeclaration "struct S { " " }",
-    visit_function Function: GlobalDeclaration "" "",
-    visit_formal_parameter FormalParameter: GlobalDeclaration "fn f(" ") {}",
-    visit_const_assert ConstAssert: GlobalDeclaration "" "",
-    visit_attribute Attribute: GlobalDeclaration "fn f() -> " " a {}",
-    visit_type_constraint TypeConstraint: GlobalDeclaration "@type(" ") fn f() {}",
-    visit_expression Expression: Expression "" "",
-    visit_literal_expression LiteralExpression: Expression "" "",
-    visit_parenthesized_expression ParenthesizedExpression: Expression "" "",
-    visit_named_component_expression NamedComponentExpression: Expression "" "",
-    visit_indexing_expression IndexingExpression: Expression "" "",
-    visit_unary_expression UnaryExpression: Expression "" "",
-    visit_binary_expression BinaryExpression: Expression "" "",
-    visit_function_call FunctionCall: Expression "" "",
-    visit_type_expression TypeExpression: Expression "" "",
-    visit_template_arg TemplateArg: Expression "a<" ">",
-    visit_statement Statement: Statement "" "",
-    visit_compound_statement CompoundStatement: Statement "" "",
-    visit_assignment_statement AssignmentStatement: Statement "" "",
-    visit_increment_statement IncrementStatement: Statement "" "",
-    visit_decrement_statement DecrementStatement: Statement "" "",
-    visit_if_statement IfStatement: Statement "" "",
-    visit_if_clause IfClause: Statement "" "",
-    visit_else_if_clause ElseIfClause: Statement "if a {} " "",
-    visit_else_clause ElseClause: Statement "if a {} " "",
-    visit_switch_statement SwitchStatement: Statement "" "",
-    visit_switch_clause SwitchClause: Statement "switch a { " " }",
-    visit_case_selector CaseSelector: Statement "switch a { case " ": {} }",
-    visit_loop_statement LoopStatement: Statement "" "",
-    visit_continuing_statement ContinuingStatement: Statement "loop { " " }",
-    visit_break_if_statement BreakIfStatement: Statement "loop { continuing { " " } }",
-    visit_for_statement ForStatement: Statement "" "",
-    visit_while_statement WhileStatement: Statement "" "",
-    visit_break_statement BreakStatement: Statement "" "",
-    visit_continue_statement ContinueStatement: Statement "" "",
-    visit_return_statement ReturnStatement: Statement "" "",
-    visit_discard_statement DiscardStatement: Statement "" "",
-    visit_function_call_statement FunctionCallStatement: Statement "" "",
+/// Reads the prints of nodes again: of those of a list, and of those that are read in a text around
+/// them, or as one of several kinds.
+macro_rules! prints {
+    ($($visit:ident $name:ident: $whole:ident,)*) => {
+        prints_in! {
+            $($visit $name: $whole "" "",)*
+            visit_translation_unit TranslationUnit: TranslationUnit "" "",
+            visit_global_directive GlobalDirective: GlobalDirective "" "",
+            visit_global_declaration GlobalDeclaration: GlobalDeclaration "" "",
+            visit_struct_member StructMember: GlobalDeclaration "struct S { " " }",
+            visit_formal_parameter FormalParameter: GlobalDeclaration "fn f(" ") {}",
+            visit_const_assert ConstAssert: GlobalDeclaration "" "",
+            visit_attribute Attribute: GlobalDeclaration "fn f() -> " " a {}",
+            visit_type_constraint TypeConstraint: GlobalDeclaration "@type(" ") fn f() {}",
+            visit_expression Expression: Expression "" "",
+            visit_template_arg TemplateArg: Expression "a<" ">",
+            visit_statement Statement: Statement "" "",
+            visit_if_clause IfClause: Statement "" "",
+            visit_else_if_clause ElseIfClause: Statement "if a {} " "",
+            visit_else_clause ElseClause: Statement "if a {} " "",
+            visit_switch_clause SwitchClause: Statement "switch a { " " }",
+            visit_case_selector CaseSelector: Statement "switch a { case " ": {} }",
+            visit_continuing_statement ContinuingStatement: Statement "loop { " " }",
+            visit_break_if_statement BreakIfStatement: Statement "loop { continuing { " " } }",
+        }
+    };
 }
+
+// after the macros that it uses
+mod node_prints;
 
 /// The list of what is printed, in which a line is a kind of node and how it is.
 const LIST: &str = include_str!("../src/syntax/prints/node_prints.rs");

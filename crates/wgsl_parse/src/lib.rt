@@ -2,6 +2,9 @@
 //! the Rust crate `wgsl-parse`.
 #![tactic(auto)]
 
+/// The syntax trees, each with its text, its copy, its equality and what it is made of.
+pub mod syntax;
+
 pub use wgsl_error::Error;
 pub use wgsl_parser::{FromSource, parse_str};
 pub use wgsl_read_dialect::recognize_str;
@@ -25,38 +28,6 @@ pub mod lexer {
     pub use wgsl_lex_token::token::Token;
     pub use wgsl_lexer::{
         FiniteTokens, Lexer, Templates, TokenItem, TokenIterator, discover, recognize_template_list,
-    };
-}
-
-/// The syntax trees, each with its text, its copy, its equality and what it is made of.
-pub mod syntax {
-    pub use wgsl_span::{Span, Spanned};
-    pub use wgsl_tree_attribute::{
-        Attribute, AttributeNode, Attributes, CustomAttribute, DiagnosticAttribute,
-        InterpolateAttribute, TypeConstraint, WorkgroupSizeAttribute,
-    };
-    pub use wgsl_tree_expression::{
-        BinaryExpression, Expression, ExpressionNode, FunctionCall, FunctionCallExpression, Ident,
-        IndexingExpression, LiteralExpression, NamedComponentExpression, ParenthesizedExpression,
-        TemplateArg, TemplateArgs, TypeExpression, UnaryExpression,
-    };
-    pub use wgsl_tree_path::{ModulePath, ModulePathParseError, PathOrigin};
-    pub use wgsl_tree_statement::{
-        AssignmentStatement, BreakIfStatement, BreakStatement, CaseSelector, CompoundStatement,
-        ConstAssert, ConstAssertStatement, ContinueStatement, ContinuingStatement, Declaration,
-        DeclarationKind, DeclarationStatement, DecrementStatement, DiscardStatement, ElseClause,
-        ElseIfClause, ForStatement, FunctionCallStatement, IfClause, IfStatement,
-        IncrementStatement, LoopStatement, ReturnStatement, Statement, StatementNode, SwitchClause,
-        SwitchStatement, WhileStatement,
-    };
-    pub use wgsl_tree_unit::{
-        DiagnosticDirective, EnableDirective, FormalParameter, Function, GlobalDeclaration,
-        GlobalDeclarationNode, GlobalDirective, RequiresDirective, Struct, StructMember,
-        StructMemberNode, TranslationUnit, TypeAlias,
-    };
-    pub use wgsl_tree_words::{
-        AccessMode, AddressSpace, AssignmentOperator, BinaryOperator, BuiltinValue,
-        DiagnosticSeverity, InterpolationSampling, InterpolationType, UnaryOperator,
     };
 }
 

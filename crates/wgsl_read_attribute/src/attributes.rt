@@ -16,7 +16,7 @@ ghost use Rattle.wgsl_read_attribute.specs.Settles.{Settles};
 ghost use Rattle.wgsl_read_attribute.specs.Rules.{attribute_node_at, attribute_parts_at, optional_arguments_at};
 
 use crate::arguments::Refusal;
-use crate::checks::make_attribute;
+use crate::attribute_nodes::make_attribute;
 use std::alloc::Global;
 use wgsl_error::{Error, ErrorKind};
 use wgsl_lex_token::kind::TokenKind;

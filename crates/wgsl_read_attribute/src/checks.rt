@@ -5,66 +5,26 @@ ghost use Rattle.std.specs.Prelude.{◌≡◌, ◌<◌, [], ◌∷◌, ◌++◌,
 ghost use Rattle.wgsl_model.specs.Grammar.Checks.{builtin_attribute, diagnostic_attribute, interpolate_attribute, workgroup_size_attribute, type_attribute, variants, variants_in};
 ghost use Rattle.wgsl_tree_expression.specs.View.{expression_view, type_expression_view};
 ghost use Rattle.wgsl_tree_attribute.specs.View.{attribute_view, expressions_view, interpolate_view};
-ghost use Rattle.wgsl_read_cursor.specs.Words.{word_text};
-ghost use Rattle.wgsl_read_attribute.specs.Known.{checked_attribute};
 ghost use Rattle.wgsl_read_attribute.specs.Counted.{interpolation};
 ghost use Rattle.wgsl_read_attribute.specs.Makes.{Makes};
 ghost use Rattle.wgsl_read_attribute.specs.Variants.{variants_before, operands_before};
 
-use crate::arguments::{Refusal, no_arguments, only_argument, two_arguments, up_to_three};
+use crate::arguments::{Refusal, only_argument, two_arguments, up_to_three};
 use crate::words::{
     name_alone, rule_name, word_builtin_value, word_interpolation_sampling,
     word_interpolation_type, word_severity,
 };
 use std::alloc::{AllocError, Global};
-use wgsl_read_cursor::Word;
 use wgsl_tree_attribute::{
-    Attribute, CustomAttribute, DiagnosticAttribute, InterpolateAttribute, TypeConstraint,
-    WorkgroupSizeAttribute,
+    Attribute, DiagnosticAttribute, InterpolateAttribute, TypeConstraint, WorkgroupSizeAttribute,
 };
 use wgsl_tree_expression::{Expression, ExpressionNode, TypeExpression};
 use wgsl_tree_words::BinaryOperator;
 
-/// The attribute that a name makes of its arguments. One that is not known keeps them as they are.
-#[tactic(auto, unfolding(crate::proofs::Hints::making), using(crate::proofs::Hints::lemmas))]
-pub(crate) fn make_attribute(
-    alloc: Global,
-    name: Word,
+pub(crate) fn builtin(
+    name: &'static str,
     arguments: Option<Vec<ExpressionNode>>,
 ) -> Result<Attribute, Refusal>
-    ensures { Makes (word_text name) attribute_view result
-        (checked_attribute (word_text name) (option_map expressions_view arguments)) }
-{
-    match name.as_str() {
-        "align" => Ok(Attribute::Align(only_argument("align", arguments)?)),
-        "binding" => Ok(Attribute::Binding(only_argument("binding", arguments)?)),
-        "blend_src" => Ok(Attribute::BlendSrc(only_argument("blend_src", arguments)?)),
-        "group" => Ok(Attribute::Group(only_argument("group", arguments)?)),
-        "id" => Ok(Attribute::Id(only_argument("id", arguments)?)),
-        "location" => Ok(Attribute::Location(only_argument("location", arguments)?)),
-        "size" => Ok(Attribute::Size(only_argument("size", arguments)?)),
-        "if" => Ok(Attribute::If(only_argument("if", arguments)?)),
-        "elif" => Ok(Attribute::Elif(only_argument("elif", arguments)?)),
-        "const" => no_arguments("const", arguments, Attribute::Const),
-        "invariant" => no_arguments("invariant", arguments, Attribute::Invariant),
-        "must_use" => no_arguments("must_use", arguments, Attribute::MustUse),
-        "vertex" => no_arguments("vertex", arguments, Attribute::Vertex),
-        "fragment" => no_arguments("fragment", arguments, Attribute::Fragment),
-        "compute" => no_arguments("compute", arguments, Attribute::Compute),
-        "else" => no_arguments("else", arguments, Attribute::Else),
-        "builtin" => builtin("builtin", arguments),
-        "diagnostic" => diagnostic(alloc, "diagnostic", arguments),
-        "interpolate" => interpolate("interpolate", arguments),
-        "workgroup_size" => workgroup_size("workgroup_size", arguments),
-        "type" => type_constraint(alloc, "type", arguments),
-        _ => Ok(Attribute::Custom(CustomAttribute {
-            name: name.into_string(alloc)?,
-            arguments,
-        })),
-    }
-}
-
-fn builtin(name: &'static str, arguments: Option<Vec<ExpressionNode>>) -> Result<Attribute, Refusal>
     ensures { Makes name.now attribute_view result
         (builtin_attribute (option_map expressions_view arguments)) }
 {
@@ -74,7 +34,7 @@ fn builtin(name: &'static str, arguments: Option<Vec<ExpressionNode>>) -> Result
     }
 }
 
-fn diagnostic(
+pub(crate) fn diagnostic(
     alloc: Global,
     name: &'static str,
     arguments: Option<Vec<ExpressionNode>>,
@@ -92,7 +52,7 @@ fn diagnostic(
     }
 }
 
-fn interpolate(
+pub(crate) fn interpolate(
     name: &'static str,
     arguments: Option<Vec<ExpressionNode>>,
 ) -> Result<Attribute, Refusal>
@@ -121,7 +81,7 @@ fn interpolation(arguments: Option<Vec<ExpressionNode>>) -> Option<InterpolateAt
     Some(InterpolateAttribute { ty, sampling })
 }
 
-fn workgroup_size(
+pub(crate) fn workgroup_size(
     name: &'static str,
     arguments: Option<Vec<ExpressionNode>>,
 ) -> Result<Attribute, Refusal>
@@ -134,7 +94,7 @@ fn workgroup_size(
     }
 }
 
-fn type_constraint(
+pub(crate) fn type_constraint(
     alloc: Global,
     name: &'static str,
     arguments: Option<Vec<ExpressionNode>>,

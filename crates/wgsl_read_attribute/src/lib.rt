@@ -2,6 +2,7 @@
 #![tactic(auto)]
 
 mod arguments;
+mod attribute_nodes;
 mod attributes;
 mod checks;
 mod words;

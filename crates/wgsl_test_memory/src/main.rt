@@ -11,6 +11,7 @@ mod refusal;
 mod statements;
 mod tokens;
 mod values;
+mod variants_nodes;
 
 use line::Line;
 use std::io;

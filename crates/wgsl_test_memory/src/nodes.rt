@@ -2,9 +2,12 @@
 //! statements of their bodies too, but nothing that stands deeper.
 
 use crate::line::Line;
-use crate::statements::{copy_block, copy_declaration_of_value};
+use crate::statements::{copy_block, copy_parts_of_declaration};
+use crate::variants_nodes::{
+    copy_in_attribute, copy_in_expression, copy_in_global_declaration, copy_in_global_directive,
+};
 use wgsl_parse::syntax::{
-    Attribute, AttributeNode, Expression, Function, GlobalDeclaration, GlobalDirective, Struct,
+    AttributeNode, Expression, Function, GlobalDeclaration, GlobalDirective, Struct,
     TranslationUnit, TypeExpression,
 };
 
@@ -23,40 +26,33 @@ pub fn copy_unit<R: Print + AllocGlobal>(line: &mut Line<'_, R>, unit: &Translat
 /// A directive.
 pub fn copy_directive<R: Print + AllocGlobal>(line: &mut Line<'_, R>, node: &GlobalDirective) {
     line.copy(node);
-    match node {
-        GlobalDirective::Diagnostic(inner) => line.copy(inner),
-        GlobalDirective::Enable(inner) => line.copy(inner),
-        GlobalDirective::Requires(inner) => line.copy(inner),
-    }
+    copy_in_global_directive(line, node);
 }
 
 /// A declaration of a module, with its members or the statements of its body.
 pub fn copy_declaration<R: Print + AllocGlobal>(line: &mut Line<'_, R>, node: &GlobalDeclaration) {
     line.copy(node);
+    copy_in_global_declaration(line, node);
     match node {
-        GlobalDeclaration::Void => {}
-        GlobalDeclaration::Declaration(inner) => copy_declaration_of_value(line, inner),
+        GlobalDeclaration::Declaration(inner) => copy_parts_of_declaration(line, inner),
         GlobalDeclaration::TypeAlias(inner) => {
-            line.copy(inner);
             copy_attributes(line, &inner.attributes);
             copy_type(line, &inner.ty);
         }
-        GlobalDeclaration::Struct(inner) => copy_struct(line, inner),
-        GlobalDeclaration::Function(inner) => copy_function(line, inner),
-        GlobalDeclaration::ConstAssert(inner) => line.copy(inner),
+        GlobalDeclaration::Struct(inner) => copy_members(line, inner),
+        GlobalDeclaration::Function(inner) => copy_parts_of_function(line, inner),
+        _ => {}
     }
 }
 
-fn copy_struct<R: Print + AllocGlobal>(line: &mut Line<'_, R>, node: &Struct) {
-    line.copy(node);
+fn copy_members<R: Print + AllocGlobal>(line: &mut Line<'_, R>, node: &Struct) {
     for member in &node.members {
         line.copy(member.node());
         copy_attributes(line, &member.node().attributes);
     }
 }
 
-fn copy_function<R: Print + AllocGlobal>(line: &mut Line<'_, R>, node: &Function) {
-    line.copy(node);
+fn copy_parts_of_function<R: Print + AllocGlobal>(line: &mut Line<'_, R>, node: &Function) {
     copy_attributes(line, &node.attributes);
     for parameter in &node.parameters {
         line.copy(parameter);
@@ -69,35 +65,27 @@ fn copy_function<R: Print + AllocGlobal>(line: &mut Line<'_, R>, node: &Function
 pub fn copy_attributes<R: Print + AllocGlobal>(line: &mut Line<'_, R>, nodes: &[AttributeNode]) {
     for node in nodes {
         line.copy(node.node());
-        match node.node() {
-            Attribute::Diagnostic(inner) => line.copy(inner),
-            Attribute::Interpolate(inner) => line.copy(inner),
-            Attribute::WorkgroupSize(inner) => line.copy(inner),
-            Attribute::TypeConstraint(inner) => line.copy(inner),
-            Attribute::Custom(inner) => line.copy(inner),
-            _ => {}
-        }
+        copy_in_attribute(line, node.node());
     }
 }
 
 /// An expression.
 pub fn copy_expression<R: Print + AllocGlobal>(line: &mut Line<'_, R>, node: &Expression) {
     line.copy(node);
-    match node {
-        Expression::Literal(inner) => line.copy(inner),
-        Expression::Parenthesized(inner) => line.copy(inner),
-        Expression::NamedComponent(inner) => line.copy(inner),
-        Expression::Indexing(inner) => line.copy(inner),
-        Expression::Unary(inner) => line.copy(inner),
-        Expression::Binary(inner) => line.copy(inner),
-        Expression::FunctionCall(inner) => line.copy(inner),
-        Expression::TypeOrIdentifier(inner) => copy_type(line, inner),
+    copy_in_expression(line, node);
+    if let Expression::TypeOrIdentifier(inner) = node {
+        copy_parts_of_type(line, inner);
     }
 }
 
-/// A type, its name and the arguments of its template.
+/// A type with its parts.
 pub fn copy_type<R: Print + AllocGlobal>(line: &mut Line<'_, R>, node: &TypeExpression) {
     line.copy(node);
+    copy_parts_of_type(line, node);
+}
+
+/// The name of a type, and the arguments of its template.
+fn copy_parts_of_type<R: Print + AllocGlobal>(line: &mut Line<'_, R>, node: &TypeExpression) {
     line.copy(&node.ident);
     if let Some(arguments) = &node.template_args {
         for argument in arguments {

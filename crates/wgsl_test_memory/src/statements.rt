@@ -2,6 +2,7 @@
 
 use crate::line::Line;
 use crate::nodes::{copy_attributes, copy_expression, copy_type};
+use crate::variants_nodes::copy_in_statement;
 use wgsl_parse::syntax::{
     CompoundStatement, Declaration, IfStatement, LoopStatement, Statement, SwitchStatement,
 };
@@ -14,12 +15,11 @@ pub fn copy_block<R: Print + AllocGlobal>(line: &mut Line<'_, R>, node: &Compoun
     }
 }
 
-/// The declaration of a value.
-pub fn copy_declaration_of_value<R: Print + AllocGlobal>(
+/// The parts of the declaration of a value.
+pub fn copy_parts_of_declaration<R: Print + AllocGlobal>(
     line: &mut Line<'_, R>,
     node: &Declaration,
 ) {
-    line.copy(node);
     copy_attributes(line, &node.attributes);
     if let Some(ty) = &node.ty {
         copy_type(line, ty);
@@ -29,39 +29,20 @@ pub fn copy_declaration_of_value<R: Print + AllocGlobal>(
     }
 }
 
-/// A statement.
+/// A statement, with its parts that no other has.
 pub fn copy_statement<R: Print + AllocGlobal>(line: &mut Line<'_, R>, node: &Statement) {
     line.copy(node);
+    copy_in_statement(line, node);
     match node {
-        Statement::Compound(inner) => line.copy(inner),
-        Statement::If(inner) => copy_if(line, inner),
-        Statement::Switch(inner) => copy_switch(line, inner),
-        Statement::Loop(inner) => copy_loop(line, inner),
-        Statement::For(inner) => line.copy(inner),
-        Statement::While(inner) => line.copy(inner),
-        Statement::Declaration(inner) => copy_declaration_of_value(line, inner),
-        _ => copy_simple_statement(line, node),
-    }
-}
-
-/// A statement that holds no other.
-fn copy_simple_statement<R: Print + AllocGlobal>(line: &mut Line<'_, R>, node: &Statement) {
-    match node {
-        Statement::Assignment(inner) => line.copy(inner),
-        Statement::Increment(inner) => line.copy(inner),
-        Statement::Decrement(inner) => line.copy(inner),
-        Statement::Break(inner) => line.copy(inner),
-        Statement::Continue(inner) => line.copy(inner),
-        Statement::Return(inner) => line.copy(inner),
-        Statement::Discard(inner) => line.copy(inner),
-        Statement::FunctionCall(inner) => line.copy(inner),
-        Statement::ConstAssert(inner) => line.copy(inner),
+        Statement::If(inner) => copy_clauses(line, inner),
+        Statement::Switch(inner) => copy_cases(line, inner),
+        Statement::Loop(inner) => copy_continuing(line, inner),
+        Statement::Declaration(inner) => copy_parts_of_declaration(line, inner),
         _ => {}
     }
 }
 
-fn copy_if<R: Print + AllocGlobal>(line: &mut Line<'_, R>, node: &IfStatement) {
-    line.copy(node);
+fn copy_clauses<R: Print + AllocGlobal>(line: &mut Line<'_, R>, node: &IfStatement) {
     line.copy(&node.if_clause);
     for clause in &node.else_if_clauses {
         line.copy(clause);
@@ -71,8 +52,7 @@ fn copy_if<R: Print + AllocGlobal>(line: &mut Line<'_, R>, node: &IfStatement) {
     }
 }
 
-fn copy_switch<R: Print + AllocGlobal>(line: &mut Line<'_, R>, node: &SwitchStatement) {
-    line.copy(node);
+fn copy_cases<R: Print + AllocGlobal>(line: &mut Line<'_, R>, node: &SwitchStatement) {
     for clause in &node.clauses {
         line.copy(clause);
         for selector in &clause.case_selectors {
@@ -81,8 +61,7 @@ fn copy_switch<R: Print + AllocGlobal>(line: &mut Line<'_, R>, node: &SwitchStat
     }
 }
 
-fn copy_loop<R: Print + AllocGlobal>(line: &mut Line<'_, R>, node: &LoopStatement) {
-    line.copy(node);
+fn copy_continuing<R: Print + AllocGlobal>(line: &mut Line<'_, R>, node: &LoopStatement) {
     let Some(continuing) = &node.continuing else {
         return;
     };

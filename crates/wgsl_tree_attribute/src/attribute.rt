@@ -1,4 +1,4 @@
-//! Attributes.
+//! Written by tools/attribute_code.py from crates/wgsl_model/nodes: attributes.
 
 ghost use Rattle.std.specs.Prelude.{Some};
 ghost use Rattle.wgsl_tree_attribute.specs.View.{attribute_view};
@@ -71,7 +71,7 @@ impl fmt::Display for Attribute {
             Attribute::Diagnostic(inner) => write_diagnostic(inner, f),
             Attribute::Interpolate(inner) => write_interpolate(inner, f),
             Attribute::WorkgroupSize(inner) => write_workgroup_size(inner, f),
-            Attribute::TypeConstraint(inner) => write!(f, "@type({inner})"),
+            Attribute::TypeConstraint(argument) => write!(f, "@type({argument})"),
             Attribute::Custom(inner) => write_custom(inner, f),
         }
     }

@@ -5,7 +5,7 @@ use Rattle.std.proofs.lemmas.Bool.{true≢false}
 use Rattle.grammar.specs.Tokens.{Token, Span}
 use Rattle.grammar.specs.Grammar.{Grammar, Grammar.empty, Grammar.token, Grammar.sequence, Grammar.choice, Grammar.mapped, Grammar.node, Grammar.checked, Grammar.symbol, Grammar.left_chain, Mode.unchecked, Chain, Chain.base, Chain.more, Means, Within, IsSentence, is_among}
 use Rattle.wgsl_model.specs.Tokens.ClassTable.{SymParenLeft, SymParenRight, SymBracketLeft, SymBracketRight, SymBraceLeft, SymBraceRight, TemplateArgsStart, TemplateArgsEnd}
-use Rattle.wgsl_model.specs.Grammar.Symbols.{Symbol, Symbol.ident, Symbol.type_specifier, Symbol.template_list, Symbol.expressions, Symbol.call, Symbol.arguments, Symbol.literal, Symbol.primary_expression, Symbol.singular_expression, Symbol.component, Symbol.unary_expression, Symbol.multiplicative_expression, Symbol.negated_expression, Symbol.additive_expression, Symbol.shift_expression, Symbol.relational_expression, Symbol.expression, Symbol.lhs_expression, Symbol.attribute, Symbol.compound_statement, Symbol.statement, Symbol.return_statement, Symbol.if_statement, Symbol.switch_statement, Symbol.loop_statement, Symbol.for_statement, Symbol.while_statement, Symbol.call_statement, Symbol.var_statement, Symbol.value_statement, Symbol.break_statement, Symbol.continue_statement, Symbol.discard_statement, Symbol.assignment, Symbol.phony_assignment, Symbol.increment, Symbol.decrement, Symbol.const_assert, Symbol.switch_clause, Symbol.case_selector, Symbol.continuing_statement, Symbol.for_init, Symbol.for_update, Symbol.var_template, Symbol.typed_ident, Symbol.struct_member, Symbol.formal_parameter, Symbol.global_declaration, Symbol.var_declaration, Symbol.const_declaration, Symbol.override_declaration, Symbol.alias_declaration, Symbol.struct_declaration, Symbol.function_declaration, Symbol.diagnostic_severity, Symbol.global_directive, Symbol.enable_directive, Symbol.requires_directive, Symbol.diagnostic_directive, Symbol.unit, Value}
+use Rattle.wgsl_model.specs.Grammar.Symbols.{Symbol, Symbol.unit, Symbol.diagnostic_severity, Value}
 use Rattle.wgsl_model.specs.Grammar.Written.{written}
 use Rattle.wgsl_theory_grammar.proofs.Tokens.Classes.{all_pass, passes_on}
 

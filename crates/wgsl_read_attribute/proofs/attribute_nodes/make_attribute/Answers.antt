@@ -5,7 +5,7 @@ use Rattle.wgsl_model.specs.Grammar.Checks.{right}
 use Rattle.wgsl_tree_attribute.specs.View.{expressions_view}
 use Rattle.wgsl_read_attribute.specs.Known.{checked_attribute}
 use Rattle.wgsl_read_attribute.proofs.UntemplatedNames.{custom_is}
-use Rattle.wgsl_read_attribute.proofs.checks.make_attribute.Goals as goal
+use Rattle.wgsl_read_attribute.proofs.attribute_nodes.make_attribute.Goals as goal
 
 pub returns-in_ok-into_string-in_default : goal.returns-in_ok-into_string-in_default
 returns-in_ok-into_string-in_default c =
