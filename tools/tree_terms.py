@@ -47,7 +47,7 @@ class Item:
 
 def bracketed(text):
     """A term as an argument."""
-    return text if re.fullmatch(r"[\w.]+", text) else f"({text})"
+    return text if re.fullmatch(r"[\w.-]+", text) else f"({text})"
 
 
 def applied(function, *arguments):

@@ -3,4 +3,5 @@ pub mod BlockStatements
 mod Copies
 mod EmptyStatements
 mod Lines
-pub mod Equalities
+mod Equalities
+mod EqualityNodes

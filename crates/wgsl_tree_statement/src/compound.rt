@@ -1,14 +1,10 @@
 //! Statements in braces.
 
 ghost use Rattle.std.specs.Prelude.{◌≡◌, IfOk, [], Some};
-ghost use Rattle.wgsl_tree_statement.specs.View.{compound_statement_view, statement_nodes_view};
+ghost use Rattle.wgsl_tree_statement.specs.View.{compound_statement_view};
 ghost use Rattle.wgsl_model.specs.Trees.Statements.{compound_statement, no_statements};
 ghost use Rattle.wgsl_model.specs.Printed.Statements.{print_compound, print_opened};
-ghost use Rattle.std.specs.Cmp.{on_per};
 ghost use Rattle.wgsl_tree_code.specs.Code.{list};
-ghost use Rattle.wgsl_tree_code.specs.Same.{same};
-ghost use Rattle.wgsl_tree_code.specs.Laws.{same_partial};
-ghost use Rattle.wgsl_tree_code.specs.StatementNodes.{statements_code, compound_code};
 ghost use Rattle.wgsl_model.specs.Trees.EmptyItems.{full_compound};
 ghost use Rattle.wgsl_writer.specs.Writing.{WritesInto};
 
@@ -78,17 +74,6 @@ impl CloneWith for CompoundStatement {
     }
 }
 
-impl PartialEq for CompoundStatement {
-    ghost eq = { λ a b. same (compound_code (compound_statement_view a)) (compound_code (compound_statement_view b)) };
-
-    ghost laws = { on_per (λ e. compound_code (compound_statement_view e)) same_partial };
-
-    #[cycle(equal)]
-    fn eq(&self, other: &CompoundStatement) -> bool {
-        self.attributes == other.attributes && nodes_equal(&self.statements, &other.statements)
-    }
-}
-
 impl fmt::Display for CompoundStatement {
     ghost output = { λ block. Some (print_compound (compound_statement_view block)) };
 
@@ -98,22 +83,6 @@ impl fmt::Display for CompoundStatement {
         out.into_inner();
         outcome
     }
-}
-
-#[cycle(equal)]
-fn nodes_equal(a: &[StatementNode], b: &[StatementNode]) -> bool
-    ensures { result ≡ same (list (statements_code (statement_nodes_view a.now)))
-        (list (statements_code (statement_nodes_view b.now))) }
-{
-    if a.len() != b.len() {
-        return false;
-    }
-    'nodes: for i in 0..a.len() {
-        if !(*a[i].node() == *b[i].node()) {
-            return false;
-        }
-    }
-    true
 }
 
 #[cycle(printing)]

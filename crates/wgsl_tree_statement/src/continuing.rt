@@ -4,11 +4,6 @@ ghost use Rattle.std.specs.Prelude.{◌≡◌, IfOk, Some};
 ghost use Rattle.std.specs.Option.{option_map};
 ghost use Rattle.wgsl_tree_statement.specs.View.{continuing_statement_view};
 ghost use Rattle.wgsl_model.specs.Printed.Statements.{print_continuing};
-ghost use Rattle.std.specs.Cmp.{on_per};
-ghost use Rattle.wgsl_model.specs.Trees.Statements.{continuing_of};
-ghost use Rattle.wgsl_tree_code.specs.Same.{same};
-ghost use Rattle.wgsl_tree_code.specs.Laws.{same_partial};
-ghost use Rattle.wgsl_tree_code.specs.StatementNodes.{maybe_continuing_code, continuing_code};
 ghost use Rattle.wgsl_writer.specs.Writing.{WritesInto};
 
 use crate::compound::{CompoundStatement, write_opened};
@@ -50,19 +45,6 @@ impl CloneWith for ContinuingStatement {
     }
 }
 
-impl PartialEq for ContinuingStatement {
-    ghost eq = { λ a b. same (continuing_code (continuing_statement_view a)) (continuing_code (continuing_statement_view b)) };
-
-    ghost laws = { on_per (λ e. continuing_code (continuing_statement_view e)) same_partial };
-
-    #[cycle(equal)]
-    fn eq(&self, other: &ContinuingStatement) -> bool {
-        self.attributes == other.attributes
-            && self.body == other.body
-            && self.break_if == other.break_if
-    }
-}
-
 impl fmt::Display for ContinuingStatement {
     ghost output = { λ statement. Some (print_continuing (continuing_statement_view statement)) };
 
@@ -85,24 +67,6 @@ pub(crate) fn clone_continuing(
     match continuing {
         None => Ok(None),
         Some(continuing) => Ok(Some(continuing.clone_with(alloc)?)),
-    }
-}
-
-#[cycle(equal)]
-pub(crate) fn continuing_equal(
-    a: &Option<ContinuingStatement>,
-    b: &Option<ContinuingStatement>,
-) -> bool
-    ensures { result
-        ≡ same (maybe_continuing_code (continuing_of (option_map continuing_statement_view a.now)))
-        (maybe_continuing_code (continuing_of (option_map continuing_statement_view b.now))) }
-{
-    match a {
-        None => b.is_none(),
-        Some(a) => match b {
-            None => false,
-            Some(b) => *a == *b,
-        },
     }
 }
 

@@ -4,12 +4,7 @@ ghost use Rattle.std.specs.Prelude.{◌≡◌, IfOk, Some, map};
 ghost use Rattle.std.specs.Option.{option_map};
 ghost use Rattle.wgsl_tree_statement.specs.View.{else_if_clause_view, else_clause_view};
 ghost use Rattle.wgsl_model.specs.Printed.Statements.{print_else_if_clause, print_else_clause};
-ghost use Rattle.std.specs.Cmp.{on_per};
-ghost use Rattle.wgsl_model.specs.Trees.Statements.{else_ifs_of, else_of};
-ghost use Rattle.wgsl_tree_code.specs.Code.{list};
-ghost use Rattle.wgsl_tree_code.specs.Same.{same};
-ghost use Rattle.wgsl_tree_code.specs.Laws.{same_partial};
-ghost use Rattle.wgsl_tree_code.specs.StatementNodes.{else_if_clause_code, else_ifs_code, else_clause_code, else_code};
+ghost use Rattle.wgsl_model.specs.Trees.Statements.{else_ifs_of};
 ghost use Rattle.wgsl_model.specs.Trees.EmptyItems.{full_else_ifs};
 ghost use Rattle.wgsl_writer.specs.Writing.{WritesInto};
 
@@ -46,17 +41,6 @@ impl CloneWith for ElseClause {
             attributes: self.attributes.clone_with(alloc)?,
             body: self.body.clone_with(alloc)?,
         })
-    }
-}
-
-impl PartialEq for ElseClause {
-    ghost eq = { λ a b. same (else_clause_code (else_clause_view a)) (else_clause_code (else_clause_view b)) };
-
-    ghost laws = { on_per (λ e. else_clause_code (else_clause_view e)) same_partial };
-
-    #[cycle(equal)]
-    fn eq(&self, other: &ElseClause) -> bool {
-        self.attributes == other.attributes && self.body == other.body
     }
 }
 
@@ -100,19 +84,6 @@ impl CloneWith for ElseIfClause {
     }
 }
 
-impl PartialEq for ElseIfClause {
-    ghost eq = { λ a b. same (else_if_clause_code (else_if_clause_view a)) (else_if_clause_code (else_if_clause_view b)) };
-
-    ghost laws = { on_per (λ e. else_if_clause_code (else_if_clause_view e)) same_partial };
-
-    #[cycle(equal)]
-    fn eq(&self, other: &ElseIfClause) -> bool {
-        self.attributes == other.attributes
-            && self.expression == other.expression
-            && self.body == other.body
-    }
-}
-
 impl fmt::Display for ElseIfClause {
     ghost output = { λ clause. Some (print_else_if_clause (else_if_clause_view clause)) };
 
@@ -136,36 +107,6 @@ pub(crate) fn clone_else(
         None => Ok(None),
         Some(clause) => Ok(Some(clause.clone_with(alloc)?)),
     }
-}
-
-#[cycle(equal)]
-pub(crate) fn else_equal(a: &Option<ElseClause>, b: &Option<ElseClause>) -> bool
-    ensures { result ≡ same (else_code (else_of (option_map else_clause_view a.now)))
-        (else_code (else_of (option_map else_clause_view b.now))) }
-{
-    match a {
-        None => b.is_none(),
-        Some(a) => match b {
-            None => false,
-            Some(b) => *a == *b,
-        },
-    }
-}
-
-#[cycle(equal)]
-pub(crate) fn else_ifs_equal(a: &[ElseIfClause], b: &[ElseIfClause]) -> bool
-    ensures { result ≡ same (list (else_ifs_code (else_ifs_of (map else_if_clause_view a.now))))
-        (list (else_ifs_code (else_ifs_of (map else_if_clause_view b.now)))) }
-{
-    if a.len() != b.len() {
-        return false;
-    }
-    'clauses: for i in 0..a.len() {
-        if !(a[i] == b[i]) {
-            return false;
-        }
-    }
-    true
 }
 
 #[cycle(remove)]

@@ -5,12 +5,7 @@ ghost use Rattle.std.specs.Option.{option_map};
 ghost use Rattle.wgsl_tree_statement.specs.View.{statement_node_view, for_statement_view};
 ghost use Rattle.wgsl_model.specs.Printed.Declarations.{print_attributed};
 ghost use Rattle.wgsl_model.specs.Printed.Statements.{print_for, unended_part};
-ghost use Rattle.std.specs.Cmp.{on_per};
 ghost use Rattle.wgsl_model.specs.Trees.Statements.{maybe_statement};
-ghost use Rattle.wgsl_tree_code.specs.Same.{same};
-ghost use Rattle.wgsl_tree_code.specs.Laws.{same_partial};
-ghost use Rattle.wgsl_tree_code.specs.Code.{attributed_code};
-ghost use Rattle.wgsl_tree_code.specs.StatementNodes.{for_code, part_code};
 ghost use Rattle.wgsl_model.specs.Trees.EmptyItems.{full_part};
 ghost use Rattle.wgsl_writer.specs.Writing.{WritesInto};
 
@@ -57,21 +52,6 @@ impl CloneWith for ForStatement {
     }
 }
 
-impl PartialEq for ForStatement {
-    ghost eq = { λ a b. same (attributed_code for_code (for_statement_view a)) (attributed_code for_code (for_statement_view b)) };
-
-    ghost laws = { on_per (λ e. attributed_code for_code (for_statement_view e)) same_partial };
-
-    #[cycle(equal)]
-    fn eq(&self, other: &ForStatement) -> bool {
-        self.attributes == other.attributes
-            && part_equal(&self.initializer, &other.initializer)
-            && self.condition == other.condition
-            && part_equal(&self.update, &other.update)
-            && self.body == other.body
-    }
-}
-
 impl fmt::Display for ForStatement {
     ghost output = { λ statement. Some (print_attributed print_for (for_statement_view statement)) };
 
@@ -97,20 +77,6 @@ fn clone_part(
             let copy = node.node().clone_with(alloc)?;
             Ok(Some(Spanned::new(alloc, copy, node.span())?))
         }
-    }
-}
-
-#[cycle(equal)]
-fn part_equal(a: &Option<StatementNode>, b: &Option<StatementNode>) -> bool
-    ensures { result ≡ same (part_code (maybe_statement (option_map statement_node_view a.now)))
-        (part_code (maybe_statement (option_map statement_node_view b.now))) }
-{
-    match a {
-        None => b.is_none(),
-        Some(a) => match b {
-            None => false,
-            Some(b) => *a.node() == *b.node(),
-        },
     }
 }
 

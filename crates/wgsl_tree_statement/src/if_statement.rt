@@ -4,18 +4,13 @@ ghost use Rattle.std.specs.Prelude.{◌≡◌, IfOk, Some};
 ghost use Rattle.wgsl_tree_statement.specs.View.{if_statement_view, if_clause_view};
 ghost use Rattle.wgsl_model.specs.Printed.Declarations.{print_attributed};
 ghost use Rattle.wgsl_model.specs.Printed.Statements.{print_if, print_if_clause};
-ghost use Rattle.std.specs.Cmp.{on_per};
-ghost use Rattle.wgsl_tree_code.specs.Same.{same};
-ghost use Rattle.wgsl_tree_code.specs.Laws.{same_partial};
-ghost use Rattle.wgsl_tree_code.specs.Code.{attributed_code};
-ghost use Rattle.wgsl_tree_code.specs.StatementNodes.{if_code, if_clause_code};
 ghost use Rattle.wgsl_model.specs.Trees.EmptyItems.{full_attributed, full_if};
 ghost use Rattle.wgsl_writer.specs.Writing.{WritesInto};
 
 use crate::compound::{CompoundStatement, write_compound};
 use crate::else_clause::{
-    ElseClause, ElseIfClause, clone_else, else_equal, else_ifs_equal, remove_from_else_ifs,
-    write_else_clause, write_else_if_clause,
+    ElseClause, ElseIfClause, clone_else, remove_from_else_ifs, write_else_clause,
+    write_else_if_clause,
 };
 use std::alloc::{AllocError, Global};
 use std::fmt;
@@ -74,20 +69,6 @@ impl CloneWith for IfStatement {
     }
 }
 
-impl PartialEq for IfStatement {
-    ghost eq = { λ a b. same (attributed_code if_code (if_statement_view a)) (attributed_code if_code (if_statement_view b)) };
-
-    ghost laws = { on_per (λ e. attributed_code if_code (if_statement_view e)) same_partial };
-
-    #[cycle(equal)]
-    fn eq(&self, other: &IfStatement) -> bool {
-        self.attributes == other.attributes
-            && self.if_clause == other.if_clause
-            && else_ifs_equal(&self.else_if_clauses, &other.else_if_clauses)
-            && else_equal(&self.else_clause, &other.else_clause)
-    }
-}
-
 impl fmt::Display for IfStatement {
     ghost output = { λ statement. Some (print_attributed print_if (if_statement_view statement)) };
 
@@ -123,17 +104,6 @@ impl CloneWith for IfClause {
             expression: self.expression.clone_with(alloc)?,
             body: self.body.clone_with(alloc)?,
         })
-    }
-}
-
-impl PartialEq for IfClause {
-    ghost eq = { λ a b. same (if_clause_code (if_clause_view a)) (if_clause_code (if_clause_view b)) };
-
-    ghost laws = { on_per (λ e. if_clause_code (if_clause_view e)) same_partial };
-
-    #[cycle(equal)]
-    fn eq(&self, other: &IfClause) -> bool {
-        self.expression == other.expression && self.body == other.body
     }
 }
 

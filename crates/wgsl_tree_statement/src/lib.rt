@@ -4,6 +4,7 @@
 mod compound;
 mod continuing;
 mod else_clause;
+mod equality_nodes;
 mod for_statement;
 mod if_statement;
 mod loop_statement;

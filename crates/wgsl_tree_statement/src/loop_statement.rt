@@ -4,17 +4,10 @@ ghost use Rattle.std.specs.Prelude.{◌≡◌, IfOk, Some};
 ghost use Rattle.wgsl_tree_statement.specs.View.{loop_statement_view};
 ghost use Rattle.wgsl_model.specs.Printed.Declarations.{print_attributed};
 ghost use Rattle.wgsl_model.specs.Printed.Statements.{print_loop};
-ghost use Rattle.std.specs.Cmp.{on_per};
-ghost use Rattle.wgsl_tree_code.specs.Same.{same};
-ghost use Rattle.wgsl_tree_code.specs.Laws.{same_partial};
-ghost use Rattle.wgsl_tree_code.specs.Code.{attributed_code};
-ghost use Rattle.wgsl_tree_code.specs.StatementNodes.{loop_code};
 ghost use Rattle.wgsl_writer.specs.Writing.{WritesInto};
 
 use crate::compound::{CompoundStatement, write_opened};
-use crate::continuing::{
-    ContinuingStatement, clone_continuing, continuing_equal, write_continuing,
-};
+use crate::continuing::{ContinuingStatement, clone_continuing, write_continuing};
 use std::alloc::{AllocError, Global};
 use std::fmt;
 use wgsl_span::CloneWith;
@@ -48,19 +41,6 @@ impl CloneWith for LoopStatement {
             body: self.body.clone_with(alloc)?,
             continuing: clone_continuing(&self.continuing, alloc)?,
         })
-    }
-}
-
-impl PartialEq for LoopStatement {
-    ghost eq = { λ a b. same (attributed_code loop_code (loop_statement_view a)) (attributed_code loop_code (loop_statement_view b)) };
-
-    ghost laws = { on_per (λ e. attributed_code loop_code (loop_statement_view e)) same_partial };
-
-    #[cycle(equal)]
-    fn eq(&self, other: &LoopStatement) -> bool {
-        self.attributes == other.attributes
-            && self.body == other.body
-            && continuing_equal(&self.continuing, &other.continuing)
     }
 }
 

@@ -4,10 +4,6 @@
 ghost use Rattle.std.specs.Prelude.{◌≡◌, IfOk, Some};
 ghost use Rattle.wgsl_tree_statement.specs.View.{statement_view};
 ghost use Rattle.wgsl_model.specs.Printed.Statements.{print_statement, terminator_of, unended};
-ghost use Rattle.std.specs.Cmp.{on_per};
-ghost use Rattle.wgsl_tree_code.specs.Same.{same};
-ghost use Rattle.wgsl_tree_code.specs.Laws.{same_partial};
-ghost use Rattle.wgsl_tree_code.specs.StatementNodes.{statement_code};
 ghost use Rattle.wgsl_model.specs.Trees.EmptyItems.{full_statement};
 ghost use Rattle.wgsl_writer.specs.Writing.{WritesInto};
 
@@ -143,35 +139,6 @@ impl CloneWith for Statement {
             Statement::FunctionCall(inner) => Ok(Statement::FunctionCall(inner.clone_with(alloc)?)),
             Statement::ConstAssert(inner) => Ok(Statement::ConstAssert(inner.clone_with(alloc)?)),
             Statement::Declaration(inner) => Ok(Statement::Declaration(inner.clone_with(alloc)?)),
-        }
-    }
-}
-
-impl PartialEq for Statement {
-    ghost eq = { λ a b. same (statement_code (statement_view a)) (statement_code (statement_view b)) };
-
-    ghost laws = { on_per (λ e. statement_code (statement_view e)) same_partial };
-
-    #[cycle(equal)]
-    fn eq(&self, other: &Statement) -> bool {
-        match self {
-            Statement::Void => matches!(other, Statement::Void),
-            Statement::Compound(a) => matches!(other, Statement::Compound(b) if *a == *b),
-            Statement::Assignment(a) => matches!(other, Statement::Assignment(b) if *a == *b),
-            Statement::Increment(a) => matches!(other, Statement::Increment(b) if *a == *b),
-            Statement::Decrement(a) => matches!(other, Statement::Decrement(b) if *a == *b),
-            Statement::If(a) => matches!(other, Statement::If(b) if *a == *b),
-            Statement::Switch(a) => matches!(other, Statement::Switch(b) if *a == *b),
-            Statement::Loop(a) => matches!(other, Statement::Loop(b) if *a == *b),
-            Statement::For(a) => matches!(other, Statement::For(b) if *a == *b),
-            Statement::While(a) => matches!(other, Statement::While(b) if *a == *b),
-            Statement::Break(a) => matches!(other, Statement::Break(b) if *a == *b),
-            Statement::Continue(a) => matches!(other, Statement::Continue(b) if *a == *b),
-            Statement::Return(a) => matches!(other, Statement::Return(b) if *a == *b),
-            Statement::Discard(a) => matches!(other, Statement::Discard(b) if *a == *b),
-            Statement::FunctionCall(a) => matches!(other, Statement::FunctionCall(b) if *a == *b),
-            Statement::ConstAssert(a) => matches!(other, Statement::ConstAssert(b) if *a == *b),
-            Statement::Declaration(a) => matches!(other, Statement::Declaration(b) if *a == *b),
         }
     }
 }

@@ -1,15 +1,9 @@
 //! `switch` statements and their clauses.
 
-ghost use Rattle.std.specs.Prelude.{◌≡◌, IfOk, Some, map};
+ghost use Rattle.std.specs.Prelude.{◌≡◌, IfOk, Some};
 ghost use Rattle.wgsl_tree_statement.specs.View.{switch_statement_view, switch_clause_view};
 ghost use Rattle.wgsl_model.specs.Printed.Declarations.{print_attributed};
 ghost use Rattle.wgsl_model.specs.Printed.Statements.{print_switch, print_switch_clause};
-ghost use Rattle.std.specs.Cmp.{on_per};
-ghost use Rattle.wgsl_model.specs.Trees.Statements.{clauses_of};
-ghost use Rattle.wgsl_tree_code.specs.Same.{same};
-ghost use Rattle.wgsl_tree_code.specs.Laws.{same_partial};
-ghost use Rattle.wgsl_tree_code.specs.Code.{attributed_code, list};
-ghost use Rattle.wgsl_tree_code.specs.StatementNodes.{switch_code, clauses_code, switch_clause_code};
 ghost use Rattle.wgsl_model.specs.Trees.EmptyItems.{full_attributed, full_switch};
 ghost use Rattle.wgsl_writer.specs.Writing.{WritesInto};
 
@@ -74,20 +68,6 @@ impl CloneWith for SwitchStatement {
     }
 }
 
-impl PartialEq for SwitchStatement {
-    ghost eq = { λ a b. same (attributed_code switch_code (switch_statement_view a)) (attributed_code switch_code (switch_statement_view b)) };
-
-    ghost laws = { on_per (λ e. attributed_code switch_code (switch_statement_view e)) same_partial };
-
-    #[cycle(equal)]
-    fn eq(&self, other: &SwitchStatement) -> bool {
-        self.attributes == other.attributes
-            && self.expression == other.expression
-            && self.body_attributes == other.body_attributes
-            && clauses_equal(&self.clauses, &other.clauses)
-    }
-}
-
 impl fmt::Display for SwitchStatement {
     ghost output = { λ statement. Some (print_attributed print_switch (switch_statement_view statement)) };
 
@@ -128,19 +108,6 @@ impl CloneWith for SwitchClause {
     }
 }
 
-impl PartialEq for SwitchClause {
-    ghost eq = { λ a b. same (switch_clause_code (switch_clause_view a)) (switch_clause_code (switch_clause_view b)) };
-
-    ghost laws = { on_per (λ e. switch_clause_code (switch_clause_view e)) same_partial };
-
-    #[cycle(equal)]
-    fn eq(&self, other: &SwitchClause) -> bool {
-        self.attributes == other.attributes
-            && self.case_selectors == other.case_selectors
-            && self.body == other.body
-    }
-}
-
 impl fmt::Display for SwitchClause {
     ghost output = { λ clause. Some (print_switch_clause (switch_clause_view clause)) };
 
@@ -150,22 +117,6 @@ impl fmt::Display for SwitchClause {
         out.into_inner();
         outcome
     }
-}
-
-#[cycle(equal)]
-fn clauses_equal(a: &[SwitchClause], b: &[SwitchClause]) -> bool
-    ensures { result ≡ same (list (clauses_code (clauses_of (map switch_clause_view a.now))))
-        (list (clauses_code (clauses_of (map switch_clause_view b.now)))) }
-{
-    if a.len() != b.len() {
-        return false;
-    }
-    'clauses: for i in 0..a.len() {
-        if !(a[i] == b[i]) {
-            return false;
-        }
-    }
-    true
 }
 
 #[cycle(printing)]

@@ -5,11 +5,6 @@ ghost use Rattle.std.specs.Prelude.{◌≡◌, IfOk, Some};
 ghost use Rattle.wgsl_tree_statement.specs.View.{while_statement_view};
 ghost use Rattle.wgsl_model.specs.Printed.Declarations.{print_attributed};
 ghost use Rattle.wgsl_model.specs.Printed.Statements.{print_while};
-ghost use Rattle.std.specs.Cmp.{on_per};
-ghost use Rattle.wgsl_tree_code.specs.Same.{same};
-ghost use Rattle.wgsl_tree_code.specs.Laws.{same_partial};
-ghost use Rattle.wgsl_tree_code.specs.Code.{attributed_code};
-ghost use Rattle.wgsl_tree_code.specs.StatementNodes.{while_code};
 ghost use Rattle.wgsl_writer.specs.Writing.{WritesInto};
 
 use crate::compound::{CompoundStatement, write_compound};
@@ -47,19 +42,6 @@ impl CloneWith for WhileStatement {
             condition: self.condition.clone_with(alloc)?,
             body: self.body.clone_with(alloc)?,
         })
-    }
-}
-
-impl PartialEq for WhileStatement {
-    ghost eq = { λ a b. same (attributed_code while_code (while_statement_view a)) (attributed_code while_code (while_statement_view b)) };
-
-    ghost laws = { on_per (λ e. attributed_code while_code (while_statement_view e)) same_partial };
-
-    #[cycle(equal)]
-    fn eq(&self, other: &WhileStatement) -> bool {
-        self.attributes == other.attributes
-            && self.condition == other.condition
-            && self.body == other.body
     }
 }
 

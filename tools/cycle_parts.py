@@ -1,0 +1,156 @@
+"""The kinds that contain each other, and the parts of their structs: what each is as plain data and
+as a code. For the tools that write what follows from the fields of such kinds."""
+import re
+from dataclasses import dataclass
+
+from node_specs import cycle
+from node_table import TREES, snake
+from plain_trees import CONSTRUCTED, OWN, RENAMED, coded, is_apart
+from tree_codes import value
+from tree_nodes import PLAIN, views
+from tree_terms import bracketed, exports
+
+
+@dataclass(frozen=True)
+class Part:
+    """A field of a struct, or what a variant holds: its name, and its type in the table."""
+
+    name: str
+    held: str
+
+    @property
+    def item(self):
+        """The kind of the value, of each value of a list, or of a value that may be left out."""
+        return self.held.rstrip("*?")
+
+    @property
+    def is_list(self):
+        return self.held.endswith("*")
+
+    @property
+    def is_optional(self):
+        return self.held.endswith("?")
+
+
+class Cycle:
+    """A kind and those that contain it and that it contains, in the order of the table."""
+
+    def __init__(self, table, at, root):
+        names = cycle(table, root)
+        self.table, self.at, self.root = table, at, table.by_name[root]
+        self.kinds = [kind for kind in table.kinds if kind.name in names]
+        self.structs = [kind for kind in self.kinds if kind.form == "struct"]
+        self.crate = at[root].crate
+        self.views = {name: view for it in TREES for name, view in views(it).items()}
+        trees = PLAIN / f"{self.views[root].file.replace('.', '/')}.antt"
+        self.trees = trees.read_text()
+
+    def parts(self, kind):
+        """The fields of a struct, or the variants of an enum."""
+        return [Part(*part) for part in kind.parts]
+
+    def has(self, part):
+        """Whether a part is of the cycle."""
+        return part.item in {kind.name for kind in self.kinds}
+
+    def is_own(self, part):
+        """Whether a part is a list or an optional part of the cycle, with functions of its own."""
+        return self.has(part) and part.held in OWN
+
+    def own_parts(self):
+        """The lists and optional parts of the cycle, each once."""
+        parts = [part for kind in self.structs for part in self.parts(kind) if self.is_own(part)]
+        return list({part.held: part for part in parts}.values())
+
+    def stem(self, held):
+        """What the functions and lemmas of a type are named by."""
+        if held in OWN:
+            return coded(OWN[held][0]).removesuffix("_code")
+        if held == "Attribute*":
+            return "attributes"
+        if held[-1] in "*?":
+            stem = self.stem(held[:-1])
+            return f"{stem}s" if held.endswith("*") else f"maybe_{stem}"
+        return coded(held).removesuffix("_code")
+
+    def view(self, name):
+        """The view of a kind, with its span if it has one."""
+        if name in self.views and not self.table.by_name[name].is_spanned:
+            return self.views[name].name
+        return f"{snake(name)}{'_node' * self.table.by_name[name].is_spanned}_view"
+
+    def whole_code(self, name):
+        """The code of what the view of a kind gives, without its span."""
+        code = coded(name)
+        return f"attributed_code {code}" if is_apart(self.table.by_name[name]) else code
+
+    def code(self, held, place):
+        """The code of a value of a type as plain data."""
+        return value(self.table, held, f"({self.shown(held, place)})", True)
+
+    def made_of(self, held):
+        """The function of plain trees that makes a list or optional part that has its own type."""
+        front = "List" if held.endswith("*") else "Option"
+        item = held[:-1] + "Node" * self.table.by_name[held[:-1]].is_spanned
+        type_ = rf"{front} {item} → {OWN[held][0]}"
+        return re.search(rf"pub (\w+) : {type_}$", self.trees, re.M)[1]
+
+    def seen(self, held, place):
+        """A value of a type as plain data, with a list and an optional part of the cycle as lists
+        and options are; such a list is no vector."""
+        part = Part("", held)
+        if held == "Attribute*":
+            return f"attributes_view {place}.items"
+        if part.is_list and self.is_own(part) and self.table.by_name[part.item].is_spanned:
+            return f"{snake(part.item)}_nodes_view {place}"
+        if part.is_list:
+            return f"map {self.view(part.item)} {place}{'' if self.is_own(part) else '.items'}"
+        if part.is_optional:
+            return f"option_map {self.view(part.item)} {place}"
+        return f"{self.view(held)} {place}"
+
+    def as_own(self, held, seen):
+        """What is seen of a value, as it is in a plain tree."""
+        part = Part("", held)
+        if not self.is_own(part) or part.is_list and self.table.by_name[part.item].is_spanned:
+            return seen
+        return f"{self.made_of(held)} ({seen})"
+
+    def shown(self, held, place):
+        """A value of a type as plain data."""
+        return self.as_own(held, self.seen(held, place))
+
+    def made(self, kind, values):
+        """The plain tree of a struct of the cycle, whose parts are given by their names."""
+        maker, *names = CONSTRUCTED[kind.name].split()
+        given = {RENAMED.get(name, name): bracketed(value) for name, value in values.items()}
+        tree = " ".join([f"plain.{maker}", *(given[name] for name in names)])
+        return f"with_attributes {given['attributes']} ({tree})" if is_apart(kind) else tree
+
+    def type(self, held):
+        """A type as the definitions write it; a list of the cycle is no vector."""
+        part = Part("", held)
+        item = f"Spanned {part.item}" if self.table.by_name[part.item].is_spanned else part.item
+        bracketed = f"({item})" if " " in item else item
+        if part.is_list:
+            return f"List {bracketed}" if self.is_own(part) else f"Vec {bracketed} Global"
+        return f"Option {bracketed}" if part.is_optional else item
+
+
+def imports(text, at, modules, others):
+    """The lines that import the names of a text: types of the library, what modules export, and
+    the names of others, which are given by their modules."""
+    words = set(re.findall(r"(?<![.\w◌])(?:◌[^\s\w]+◌|[\w:-]+)", text))
+    words |= {f"◌{it}◌" for it in re.findall(r"(?<=\s)([^\s\w()\[\]{};,._]+)(?=\s)", text)}
+    words |= {"[]"} if "[]" in text else set()
+    for module, names in others.items():
+        found = [it for it in names if it in words]
+        if found:
+            yield f"use {module}.{{{', '.join(found)}}}"
+    for module in modules:
+        names = exports(module.removeprefix("Rattle.").replace(".", "/"))
+        found = sorted(names & words - set(at))
+        if found:
+            yield f"use {module}.{{{', '.join(found)}}}"
+    for name in sorted(words & set(at)):
+        yield f"use {at[name].declared}.{name}.{{{name}}}"
