@@ -5,9 +5,9 @@ from dataclasses import dataclass
 
 from node_specs import cycle
 from node_table import TREES, snake
-from plain_trees import CONSTRUCTED, OWN, RENAMED, coded, is_apart
+from plain_trees import CONSTRUCTED, OWN, RENAMED, coded, is_apart, maker
 from tree_codes import value
-from tree_nodes import PLAIN, views
+from tree_nodes import views
 from tree_terms import bracketed, exports
 
 
@@ -42,8 +42,6 @@ class Cycle:
         self.structs = [kind for kind in self.kinds if kind.form == "struct"]
         self.crate = at[root].crate
         self.views = {name: view for it in TREES for name, view in views(it).items()}
-        trees = PLAIN / f"{self.views[root].file.replace('.', '/')}.antt"
-        self.trees = trees.read_text()
 
     def parts(self, kind):
         """The fields of a struct, or the variants of an enum."""
@@ -88,13 +86,6 @@ class Cycle:
         """The code of a value of a type as plain data."""
         return value(self.table, held, f"({self.shown(held, place)})", True)
 
-    def made_of(self, held):
-        """The function of plain trees that makes a list or optional part that has its own type."""
-        front = "List" if held.endswith("*") else "Option"
-        item = held[:-1] + "Node" * self.table.by_name[held[:-1]].is_spanned
-        type_ = rf"{front} {item} → {OWN[held][0]}"
-        return re.search(rf"pub (\w+) : {type_}$", self.trees, re.M)[1]
-
     def seen(self, held, place):
         """A value of a type as plain data, with a list and an optional part of the cycle as lists
         and options are; such a list is no vector."""
@@ -114,7 +105,7 @@ class Cycle:
         part = Part("", held)
         if not self.is_own(part) or part.is_list and self.table.by_name[part.item].is_spanned:
             return seen
-        return f"{self.made_of(held)} ({seen})"
+        return f"{maker(held)} ({seen})"
 
     def shown(self, held, place):
         """A value of a type as plain data."""

@@ -11,6 +11,7 @@ import re
 from dataclasses import dataclass
 from pathlib import Path
 
+from node_groups import MODULES, by_module
 from node_table import TABLE, Table, separated, snake
 from plain_trees import (
     CONSTRUCTED, INLINE, OWN, RENAMED, UNATTRIBUTED, coded, constructor, is_apart, word_text)
@@ -22,26 +23,12 @@ CODE = ["Code", "text", "natural", "boolean", "number", "absent", "list", "Codes
         "code_before", "node_of", "variant", "list_of", "optional", "pair_of", "placed",
         "attributed_code"]
 BLOCK = "block_code attributes (statements_code statements)"
-# the files, what each has, the module of its plain trees, and the kinds whose trees are there
-FILES = [
-    ("WordNodes", "Words", "NamedValues", ["DiagnosticSeverity", "AddressSpace", "AccessMode",
-     "BuiltinValue", "InterpolationType", "InterpolationSampling"]),
-    ("OperatorNodes", "Operators", "Operators", ["UnaryOperator", "BinaryOperator",
-     "AssignmentOperator"]),
-    ("ExpressionNodes", "Expressions and types", "Expressions", ["LiteralExpression", "Expression",
-     "FunctionCall", "TypeExpression", "TemplateArg"]),
-    ("AttributeNodes", "Attributes", "Attributes", ["DiagnosticAttribute", "InterpolateAttribute",
-     "WorkgroupSizeAttribute", "TypeConstraint", "CustomAttribute", "Attribute"]),
-    ("StatementNodes", "Statements", "Statements", ["DeclarationKind", "Declaration",
-     "AssignmentStatement", "IncrementStatement", "DecrementStatement", "BreakStatement",
-     "ContinueStatement", "ReturnStatement", "DiscardStatement", "FunctionCallStatement",
-     "ConstAssert", "BreakIfStatement", "CaseSelector", "CompoundStatement", "IfClause",
-     "ElseIfClause", "ElseClause", "IfStatement", "SwitchClause", "SwitchStatement",
-     "ContinuingStatement", "LoopStatement", "ForStatement", "WhileStatement", "Statement"]),
-    ("UnitNodes", "Modules", "Units", ["DiagnosticDirective", "EnableDirective",
-     "RequiresDirective", "GlobalDirective", "TypeAlias", "StructMember", "Struct",
-     "FormalParameter", "Function", "GlobalDeclaration", "TranslationUnit"]),
-]
+
+
+def files(table):
+    """The files, what each has, the module of its plain trees, and the kinds whose trees are there."""
+    names = by_module(table)
+    return [(codes, what, plain, names[codes]) for codes, what, plain in MODULES]
 
 
 def own_name(held):
@@ -308,7 +295,7 @@ def file_text(table, name, what, module, made, homes):
 
 def main():
     table, homes = Table(), {}
-    for name, what, module, kinds in FILES:
+    for name, what, module, kinds in files(table):
         made = list(functions(table, kinds))
         homes |= {it.name: name for it in made}
         (SPECS / f"{name}.antt").write_text(file_text(table, name, what, module, made, homes))

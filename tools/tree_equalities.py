@@ -16,7 +16,7 @@ from pathlib import Path
 
 from cycle_parts import Cycle, imports
 from node_table import TABLE, Table, snake
-from plain_trees import coded, is_apart
+from plain_trees import coded, is_apart, maker
 from tree_nodes import ghost_uses, places, use_lines
 from tree_terms import bracketed
 
@@ -107,7 +107,7 @@ class Code:
         words = set(re.findall(r"\w+", body))
         codes = sorted(it for it in words if it.endswith("_code") and it != "attributed_code")
         seen = sorted(it for it in words if it.endswith("_view"))
-        made = sorted(cycle.made_of(it.held) for it in own if cycle.made_of(it.held) in words)
+        made = sorted(maker(it.held) for it in own if maker(it.held) in words)
         whole = [it for it in ("attributed_code", "list") if it in words]
         uses = {}
         for name in sorted(words & set(cycle.at)):

@@ -11,7 +11,7 @@ It reads crates/wgsl_model/nodes; what the plain trees have otherwise is in plai
 import tree_codes
 from node_table import TABLE, Table, separated, snake
 from plain_trees import CONSTRUCTED, INLINE, OWN, RENAMED, UNATTRIBUTED, coded, constructor, is_apart
-from tree_codes import FILES
+from tree_codes import files
 from tree_terms import (CODES, PROOFS, SIMPLE, Codes, Item, applied, bracketed, file_text, own_name,
                         own_types, pattern_of, place_of)
 
@@ -359,7 +359,7 @@ def items(readers, names):
 def homes(table):
     """The modules of codes, readers and lemmas."""
     found = {}
-    for name, _, _, names in FILES:
+    for name, _, _, names in files(table):
         found |= {it.name: f"{CODES}.specs.{name}" for it in tree_codes.functions(table, names)}
         found |= {it.name: f"{CODES}.proofs.Read{name}" for it in items(Readers(table), names)}
     return found
@@ -367,7 +367,7 @@ def homes(table):
 
 def main():
     table = Table()
-    for name, what, module, names in FILES:
+    for name, what, module, names in files(table):
         head = f"Written by tools/tree_readers.py from {TABLE}: {what.lower()} read from their codes."
         text = file_text(head, module, list(items(Readers(table), names)), homes(table))
         (PROOFS / f"Read{name}.antt").write_text(text)

@@ -11,7 +11,7 @@ It reads crates/wgsl_model/nodes; what the plain trees have otherwise is in plai
 from node_table import TABLE, Table, separated, snake
 from plain_trees import (CONSTRUCTED, INLINE, OWN, SPANLESS, UNATTRIBUTED, bare, coded, constructor,
                          is_apart)
-from tree_codes import FILES
+from tree_codes import files
 from tree_readers import homes, lemma, reader
 from tree_terms import (CODES, PROOFS, SIMPLE, Codes, Item, applied, bracketed, file_text, own_name,
                         own_types, pattern_of, place_of)
@@ -226,7 +226,7 @@ def items(spans, names):
 def main():
     table = Table()
     places = homes(table)
-    for name, what, module, names in FILES:
+    for name, what, module, names in files(table):
         made = list(items(Spans(table), names))
         places |= {it.name: f"{CODES}.proofs.Spanless{name}" for it in made}
         if made:

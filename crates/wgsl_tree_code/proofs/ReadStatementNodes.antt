@@ -44,6 +44,18 @@ decrement_statement_of (node (field n0 c0 (field n1 c1 no_fields))) = named (n0 
     (λ x0. then_of (expression_node_of c1) (λ x1. Some (with_attributes x0 (record { expression = x1 })))))
 decrement_statement_of c = None
 
+abbrev pub case_selector_of : Code → Option plain.CaseSelector
+case_selector_of (text name) = chosen name ((codes "Default", λ _. Some plain.default_selector) ∷ [])
+case_selector_of (node (field name value no_fields)) = chosen name
+    ((codes "Expression", λ _. then_of (expression_node_of value) (λ x0. Some (plain.expression_selector x0))) ∷ [])
+case_selector_of c = None
+
+abbrev pub break_if_statement_of : Code → Option (Attributed plain.BreakIfStatement)
+break_if_statement_of (node (field n0 c0 (field n1 c1 no_fields))) = named (n0 ∷ n1 ∷ [])
+    (codes "attributes" ∷ codes "expression" ∷ []) (then_of (attributes_of c0)
+    (λ x0. then_of (expression_node_of c1) (λ x1. Some (with_attributes x0 (record { expression = x1 })))))
+break_if_statement_of c = None
+
 abbrev pub break_statement_of : Code → Option Attributes
 break_statement_of (node (field n0 c0 no_fields)) = named (n0 ∷ []) (codes "attributes" ∷ [])
     (then_of (attributes_of c0) (λ x0. Some x0))
@@ -77,18 +89,6 @@ const_assert_of (node (field n0 c0 (field n1 c1 no_fields))) = named (n0 ∷ n1 
     (codes "attributes" ∷ codes "expression" ∷ []) (then_of (attributes_of c0)
     (λ x0. then_of (expression_node_of c1) (λ x1. Some (with_attributes x0 (record { expression = x1 })))))
 const_assert_of c = None
-
-abbrev pub break_if_statement_of : Code → Option (Attributed plain.BreakIfStatement)
-break_if_statement_of (node (field n0 c0 (field n1 c1 no_fields))) = named (n0 ∷ n1 ∷ [])
-    (codes "attributes" ∷ codes "expression" ∷ []) (then_of (attributes_of c0)
-    (λ x0. then_of (expression_node_of c1) (λ x1. Some (with_attributes x0 (record { expression = x1 })))))
-break_if_statement_of c = None
-
-abbrev pub case_selector_of : Code → Option plain.CaseSelector
-case_selector_of (text name) = chosen name ((codes "Default", λ _. Some plain.default_selector) ∷ [])
-case_selector_of (node (field name value no_fields)) = chosen name
-    ((codes "Expression", λ _. then_of (expression_node_of value) (λ x0. Some (plain.expression_selector x0))) ∷ [])
-case_selector_of c = None
 
 abbrev pub declaration_of : Code → Option (Attributed plain.Declaration)
 declaration_of (node (field n0 c0 (field n1 c1 (field n2 c2 (field n3 c3 (field n4 c4 no_fields)))))) =
@@ -301,6 +301,17 @@ decrement_statement_read attributes n =
     λ i. then_of (attributes_read attributes i) (λ x0. then_of (expression_node_read n.expression i)
     (λ x1. Some (with_attributes x0 (record { expression = x1 }))))
 
+pub case_selector_read : (x : plain.CaseSelector) → case_selector_of (selector_code x) ≡ Some x
+case_selector_read plain.default_selector = refl
+case_selector_read (plain.expression_selector x) =
+    λ i. then_of (expression_node_read x i) (λ x0. Some (plain.expression_selector x0))
+
+pub break_if_statement_read : (attributes : Attributes) (x : plain.BreakIfStatement)
+    → break_if_statement_of (break_if_code attributes x) ≡ Some (with_attributes attributes x)
+break_if_statement_read attributes n =
+    λ i. then_of (attributes_read attributes i) (λ x0. then_of (expression_node_read n.expression i)
+    (λ x1. Some (with_attributes x0 (record { expression = x1 }))))
+
 pub break_statement_read : (attributes : Attributes) → break_statement_of (break_code attributes) ≡ Some attributes
 break_statement_read attributes = λ i. then_of (attributes_read attributes i) (λ x0. Some x0)
 
@@ -328,17 +339,6 @@ pub const_assert_read : (attributes : Attributes) (x : plain.ConstAssert)
 const_assert_read attributes n =
     λ i. then_of (attributes_read attributes i) (λ x0. then_of (expression_node_read n.expression i)
     (λ x1. Some (with_attributes x0 (record { expression = x1 }))))
-
-pub break_if_statement_read : (attributes : Attributes) (x : plain.BreakIfStatement)
-    → break_if_statement_of (break_if_code attributes x) ≡ Some (with_attributes attributes x)
-break_if_statement_read attributes n =
-    λ i. then_of (attributes_read attributes i) (λ x0. then_of (expression_node_read n.expression i)
-    (λ x1. Some (with_attributes x0 (record { expression = x1 }))))
-
-pub case_selector_read : (x : plain.CaseSelector) → case_selector_of (selector_code x) ≡ Some x
-case_selector_read plain.default_selector = refl
-case_selector_read (plain.expression_selector x) =
-    λ i. then_of (expression_node_read x i) (λ x0. Some (plain.expression_selector x0))
 
 pub declaration_read : (attributes : Attributes) (x : plain.Declaration)
     → declaration_of (declaration_code attributes x) ≡ Some (with_attributes attributes x)

@@ -33,19 +33,19 @@ requires_directive_of (node (field n0 c0 (field n1 c1 no_fields))) = named (n0 �
     (λ x0. then_of (list_read_of text_of c1) (λ x1. Some (with_attributes x0 (record { extensions = x1 })))))
 requires_directive_of c = None
 
-abbrev pub type_alias_of : Code → Option (Attributed plain.TypeAlias)
-type_alias_of (node (field n0 c0 (field n1 c1 (field n2 c2 no_fields)))) = named (n0 ∷ n1 ∷ n2 ∷ [])
-    (codes "attributes" ∷ codes "ident" ∷ codes "ty" ∷ [])
-    (then_of (attributes_of c0) (λ x0. then_of (text_of c1) (λ x1. then_of (type_expression_of c2)
-    (λ x2. Some (with_attributes x0 (record { ident = x1; ty = x2 }))))))
-type_alias_of c = None
-
 abbrev pub struct_member_of : Code → Option plain.StructMember
 struct_member_of (node (field n0 c0 (field n1 c1 (field n2 c2 no_fields)))) =
     named (n0 ∷ n1 ∷ n2 ∷ []) (codes "attributes" ∷ codes "ident" ∷ codes "ty" ∷ [])
     (then_of (attributes_of c0) (λ x0. then_of (text_of c1) (λ x1. then_of (type_expression_of c2)
     (λ x2. Some (record { attributes = x0; ident = x1; ty = x2 })))))
 struct_member_of c = None
+
+abbrev pub type_alias_of : Code → Option (Attributed plain.TypeAlias)
+type_alias_of (node (field n0 c0 (field n1 c1 (field n2 c2 no_fields)))) = named (n0 ∷ n1 ∷ n2 ∷ [])
+    (codes "attributes" ∷ codes "ident" ∷ codes "ty" ∷ [])
+    (then_of (attributes_of c0) (λ x0. then_of (text_of c1) (λ x1. then_of (type_expression_of c2)
+    (λ x2. Some (with_attributes x0 (record { ident = x1; ty = x2 }))))))
+type_alias_of c = None
 
 abbrev pub formal_parameter_of : Code → Option plain.FormalParameter
 formal_parameter_of (node (field n0 c0 (field n1 c1 (field n2 c2 no_fields)))) =
@@ -126,15 +126,15 @@ requires_directive_read attributes n =
     λ i. then_of (attributes_read attributes i) (λ x0. then_of (items_read text text_of text_read
     n.extensions i) (λ x1. Some (with_attributes x0 (record { extensions = x1 }))))
 
+pub struct_member_read : (x : plain.StructMember) → struct_member_of (member_code x) ≡ Some x
+struct_member_read n = λ i. then_of (attributes_read n.attributes i) (λ x0. then_of (text_read n.ident i)
+    (λ x1. then_of (type_expression_read n.ty i) (λ x2. Some (record { attributes = x0; ident = x1; ty = x2 }))))
+
 pub type_alias_read : (attributes : Attributes) (x : plain.TypeAlias)
     → type_alias_of (type_alias_code attributes x) ≡ Some (with_attributes attributes x)
 type_alias_read attributes n =
     λ i. then_of (attributes_read attributes i) (λ x0. then_of (text_read n.ident i) (λ x1. then_of
     (type_expression_read n.ty i) (λ x2. Some (with_attributes x0 (record { ident = x1; ty = x2 })))))
-
-pub struct_member_read : (x : plain.StructMember) → struct_member_of (member_code x) ≡ Some x
-struct_member_read n = λ i. then_of (attributes_read n.attributes i) (λ x0. then_of (text_read n.ident i)
-    (λ x1. then_of (type_expression_read n.ty i) (λ x2. Some (record { attributes = x0; ident = x1; ty = x2 }))))
 
 pub formal_parameter_read : (x : plain.FormalParameter) → formal_parameter_of (parameter_code x) ≡ Some x
 formal_parameter_read n =

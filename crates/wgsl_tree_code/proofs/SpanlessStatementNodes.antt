@@ -47,6 +47,16 @@ decrement_statement_spanless attributes n =
     λ i. node_of ((codes "attributes", attributes_spanless attributes i)
     ∷ (codes "expression", expression_node_spanless n.expression i) ∷ [])
 
+pub case_selector_spanless : (x : plain.CaseSelector) → spanless (selector_code x) ≡ selector_code (bare_selector x)
+case_selector_spanless plain.default_selector = refl
+case_selector_spanless (plain.expression_selector x) = λ i. variant (codes "Expression") (expression_node_spanless x i)
+
+pub break_if_statement_spanless : (attributes : Attributes) (x : plain.BreakIfStatement)
+    → spanless (break_if_code attributes x) ≡ break_if_code (bare_attributes attributes) (bare_break_if x)
+break_if_statement_spanless attributes n =
+    λ i. node_of ((codes "attributes", attributes_spanless attributes i)
+    ∷ (codes "expression", expression_node_spanless n.expression i) ∷ [])
+
 pub break_statement_spanless : (attributes : Attributes)
     → spanless (break_code attributes) ≡ break_code (bare_attributes attributes)
 break_statement_spanless attributes = λ i. node_of ((codes "attributes", attributes_spanless attributes i) ∷ [])
@@ -78,16 +88,6 @@ pub const_assert_spanless : (attributes : Attributes) (x : plain.ConstAssert)
     → spanless (assert_code attributes x) ≡ assert_code (bare_attributes attributes) (bare_assert x)
 const_assert_spanless attributes n = λ i. node_of ((codes "attributes", attributes_spanless attributes i)
     ∷ (codes "expression", expression_node_spanless n.expression i) ∷ [])
-
-pub break_if_statement_spanless : (attributes : Attributes) (x : plain.BreakIfStatement)
-    → spanless (break_if_code attributes x) ≡ break_if_code (bare_attributes attributes) (bare_break_if x)
-break_if_statement_spanless attributes n =
-    λ i. node_of ((codes "attributes", attributes_spanless attributes i)
-    ∷ (codes "expression", expression_node_spanless n.expression i) ∷ [])
-
-pub case_selector_spanless : (x : plain.CaseSelector) → spanless (selector_code x) ≡ selector_code (bare_selector x)
-case_selector_spanless plain.default_selector = refl
-case_selector_spanless (plain.expression_selector x) = λ i. variant (codes "Expression") (expression_node_spanless x i)
 
 pub declaration_spanless : (attributes : Attributes) (x : plain.Declaration)
     → spanless (declaration_code attributes x) ≡ declaration_code (bare_attributes attributes) (bare_declaration x)
@@ -124,6 +124,17 @@ decrement_statement_equal = same_is (attributed_code decrement_code) decrement_s
     (bare_attributed bare_decrement) (λ a. decrement_statement_read a.attributes a.node)
     (λ a. decrement_statement_spanless a.attributes a.node)
 
+pub case_selector_equal : (a b : plain.CaseSelector)
+    → (same (selector_code a) (selector_code b) ≡ true) ↔ (bare_selector a ≡ bare_selector b)
+case_selector_equal = same_is selector_code case_selector_of bare_selector case_selector_read case_selector_spanless
+
+pub break_if_statement_equal : (a b : Attributed plain.BreakIfStatement)
+    → (same (attributed_code break_if_code a) (attributed_code break_if_code b) ≡ true)
+    ↔ (bare_attributed bare_break_if a ≡ bare_attributed bare_break_if b)
+break_if_statement_equal = same_is (attributed_code break_if_code) break_if_statement_of
+    (bare_attributed bare_break_if) (λ a. break_if_statement_read a.attributes a.node)
+    (λ a. break_if_statement_spanless a.attributes a.node)
+
 pub return_statement_equal : (a b : Attributed plain.ReturnStatement)
     → (same (attributed_code return_code a) (attributed_code return_code b) ≡ true)
     ↔ (bare_attributed bare_return a ≡ bare_attributed bare_return b)
@@ -143,17 +154,6 @@ pub const_assert_equal : (a b : Attributed plain.ConstAssert)
     ↔ (bare_attributed bare_assert a ≡ bare_attributed bare_assert b)
 const_assert_equal = same_is (attributed_code assert_code) const_assert_of (bare_attributed bare_assert)
     (λ a. const_assert_read a.attributes a.node) (λ a. const_assert_spanless a.attributes a.node)
-
-pub break_if_statement_equal : (a b : Attributed plain.BreakIfStatement)
-    → (same (attributed_code break_if_code a) (attributed_code break_if_code b) ≡ true)
-    ↔ (bare_attributed bare_break_if a ≡ bare_attributed bare_break_if b)
-break_if_statement_equal = same_is (attributed_code break_if_code) break_if_statement_of
-    (bare_attributed bare_break_if) (λ a. break_if_statement_read a.attributes a.node)
-    (λ a. break_if_statement_spanless a.attributes a.node)
-
-pub case_selector_equal : (a b : plain.CaseSelector)
-    → (same (selector_code a) (selector_code b) ≡ true) ↔ (bare_selector a ≡ bare_selector b)
-case_selector_equal = same_is selector_code case_selector_of bare_selector case_selector_read case_selector_spanless
 
 pub declaration_equal : (a b : Attributed plain.Declaration)
     → (same (attributed_code declaration_code a) (attributed_code declaration_code b) ≡ true)

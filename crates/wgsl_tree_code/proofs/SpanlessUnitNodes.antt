@@ -37,13 +37,13 @@ requires_directive_spanless attributes n =
     λ i. node_of ((codes "attributes", attributes_spanless attributes i)
     ∷ (codes "extensions", list_alike text (λ x. refl) n.extensions i) ∷ [])
 
+pub struct_member_spanless : (x : plain.StructMember) → spanless (member_code x) ≡ member_code (bare_member x)
+struct_member_spanless n = λ i. node_of ((codes "attributes", attributes_spanless n.attributes i)
+    ∷ (codes "ident", text n.ident) ∷ (codes "ty", type_expression_spanless n.ty i) ∷ [])
+
 pub type_alias_spanless : (attributes : Attributes) (x : plain.TypeAlias)
     → spanless (type_alias_code attributes x) ≡ type_alias_code (bare_attributes attributes) (bare_type_alias x)
 type_alias_spanless attributes n = λ i. node_of ((codes "attributes", attributes_spanless attributes i)
-    ∷ (codes "ident", text n.ident) ∷ (codes "ty", type_expression_spanless n.ty i) ∷ [])
-
-pub struct_member_spanless : (x : plain.StructMember) → spanless (member_code x) ≡ member_code (bare_member x)
-struct_member_spanless n = λ i. node_of ((codes "attributes", attributes_spanless n.attributes i)
     ∷ (codes "ident", text n.ident) ∷ (codes "ty", type_expression_spanless n.ty i) ∷ [])
 
 pub formal_parameter_spanless : (x : plain.FormalParameter)
@@ -87,15 +87,15 @@ requires_directive_equal = same_is (attributed_code requires_directive_code) req
     (bare_attributed (λ t. t)) (λ a. requires_directive_read a.attributes a.node)
     (λ a. requires_directive_spanless a.attributes a.node)
 
+pub struct_member_equal : (a b : plain.StructMember)
+    → (same (member_code a) (member_code b) ≡ true) ↔ (bare_member a ≡ bare_member b)
+struct_member_equal = same_is member_code struct_member_of bare_member struct_member_read struct_member_spanless
+
 pub type_alias_equal : (a b : Attributed plain.TypeAlias)
     → (same (attributed_code type_alias_code a) (attributed_code type_alias_code b) ≡ true)
     ↔ (bare_attributed bare_type_alias a ≡ bare_attributed bare_type_alias b)
 type_alias_equal = same_is (attributed_code type_alias_code) type_alias_of (bare_attributed bare_type_alias)
     (λ a. type_alias_read a.attributes a.node) (λ a. type_alias_spanless a.attributes a.node)
-
-pub struct_member_equal : (a b : plain.StructMember)
-    → (same (member_code a) (member_code b) ≡ true) ↔ (bare_member a ≡ bare_member b)
-struct_member_equal = same_is member_code struct_member_of bare_member struct_member_read struct_member_spanless
 
 pub formal_parameter_equal : (a b : plain.FormalParameter)
     → (same (parameter_code a) (parameter_code b) ≡ true) ↔ (bare_parameter a ≡ bare_parameter b)

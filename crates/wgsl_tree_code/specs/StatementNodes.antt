@@ -39,6 +39,19 @@ decrement_code attributes n = node_of (
     (codes "expression", expression_node_code n.expression) ∷
     [])
 
+-- what a clause of a `switch` selects
+abbrev pub selector_code : plain.CaseSelector → Code
+selector_code plain.default_selector = text (codes "Default")
+selector_code (plain.expression_selector inner) =
+    variant (codes "Expression") (expression_node_code inner)
+
+-- `break if expression;`, the last of a `continuing` block
+abbrev pub break_if_code : Attributes → plain.BreakIfStatement → Code
+break_if_code attributes n = node_of (
+    (codes "attributes", attributes_code attributes) ∷
+    (codes "expression", expression_node_code n.expression) ∷
+    [])
+
 -- `break;`
 abbrev pub break_code : Attributes → Code
 break_code attributes = node_of ((codes "attributes", attributes_code attributes) ∷ [])
@@ -71,19 +84,6 @@ assert_code attributes n = node_of (
     (codes "attributes", attributes_code attributes) ∷
     (codes "expression", expression_node_code n.expression) ∷
     [])
-
--- `break if expression;`, the last of a `continuing` block
-abbrev pub break_if_code : Attributes → plain.BreakIfStatement → Code
-break_if_code attributes n = node_of (
-    (codes "attributes", attributes_code attributes) ∷
-    (codes "expression", expression_node_code n.expression) ∷
-    [])
-
--- what a clause of a `switch` selects
-abbrev pub selector_code : plain.CaseSelector → Code
-selector_code plain.default_selector = text (codes "Default")
-selector_code (plain.expression_selector inner) =
-    variant (codes "Expression") (expression_node_code inner)
 
 abbrev pub block_code : Attributes → Codes → Code
 block_code attributes statements = node_of (

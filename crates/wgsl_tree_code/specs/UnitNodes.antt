@@ -31,18 +31,18 @@ requires_directive_code attributes n = node_of (
     (codes "extensions", list_of text n.extensions) ∷
     [])
 
--- a further name for a type, `alias ident = ty;`
-abbrev pub type_alias_code : Attributes → plain.TypeAlias → Code
-type_alias_code attributes n = node_of (
-    (codes "attributes", attributes_code attributes) ∷
-    (codes "ident", text n.ident) ∷
-    (codes "ty", type_code n.ty) ∷
-    [])
-
 -- a member of a structure
 abbrev pub member_code : plain.StructMember → Code
 member_code n = node_of (
     (codes "attributes", attributes_code n.attributes) ∷
+    (codes "ident", text n.ident) ∷
+    (codes "ty", type_code n.ty) ∷
+    [])
+
+-- a further name for a type, `alias ident = ty;`
+abbrev pub type_alias_code : Attributes → plain.TypeAlias → Code
+type_alias_code attributes n = node_of (
+    (codes "attributes", attributes_code attributes) ∷
     (codes "ident", text n.ident) ∷
     (codes "ty", type_code n.ty) ∷
     [])

@@ -4,17 +4,18 @@ use Rattle.std.proofs.Common.{refl, ◌++◌, ◌∷◌, ◌≡◌}
 use Rattle.std.specs.Prelude.{codes}
 use Rattle.wgsl_model.specs.Printed.Joining.{joined}
 use Rattle.wgsl_model.specs.Printed.Statements.{braced, clause_texts, continuing_line, indented_line, print_compound, print_continuing, print_else, print_else_clause, print_else_if_clause, print_else_ifs, print_for, print_if, print_if_clause, print_loop, print_opened, print_statement, print_switch, print_switch_clause, print_while, statement_texts, unended, unended_part, unended_unattributed}
-use Rattle.wgsl_model.specs.Trees.Statements.{Change, CompoundStatement, ContinuingStatement, ElseClause, ElseIfClause, ElseIfClauses, ForStatement, IfClause, IfStatement, LoopStatement, MaybeContinuing, MaybeElseClause, MaybeStatement, Statement, StatementNode, StatementNodes, SwitchClause, SwitchClauses, SwitchStatement, UnattributedStatement, WhileStatement, changed_clauses, changed_compound, changed_continuing, changed_else, changed_else_clause, changed_else_if_clause, changed_else_ifs, changed_for, changed_if, changed_if_clause, changed_loop, changed_maybe_continuing, changed_node, changed_part, changed_statement, changed_statements, changed_switch, changed_switch_clause, changed_unattributed, changed_while, clause_before, compound, compound_statement, continuing, else_clause, else_if_before, else_if_clause, for_statement, if_clause, if_else, if_statement, loop_statement, no_clauses, no_continuing, no_else, no_else_ifs, no_statement, no_statements, one_continuing, one_else, one_statement, repeat, repeat_for, repeat_while, statement, statement_before, statement_node, switch, switch_clause, switch_statement, while_statement}
+use Rattle.wgsl_model.specs.Trees.StatementNodes.{changed_clauses, changed_compound, changed_continuing, changed_else, changed_else_clause, changed_else_if_clause, changed_else_ifs, changed_for, changed_if, changed_if_clause, changed_loop, changed_maybe_continuing, changed_node, changed_part, changed_statement, changed_statements, changed_switch, changed_switch_clause, changed_unattributed, changed_while}
+use Rattle.wgsl_model.specs.Trees.Statements.{Change, CompoundStatement, ContinuingStatement, ElseClause, ElseIfClause, ElseIfClauses, ForStatement, IfClause, IfStatement, LoopStatement, MaybeContinuing, MaybeElseClause, MaybeStatement, Statement, StatementNode, StatementNodes, SwitchClause, SwitchClauses, SwitchStatement, UnattributedStatement, WhileStatement, clause_before, compound, compound_statement, continuing, else_clause, else_if_before, else_if_clause, for_statement, if_clause, if_else, if_statement, loop_statement, no_clauses, no_continuing, no_else, no_else_ifs, no_statement, no_statements, one_continuing, one_else, one_statement, repeat, repeat_for, repeat_while, statement, statement_before, statement_node, switch, switch_clause, switch_statement, while_statement}
 use Rattle.wgsl_theory_reread.proofs.Trees.Changed.{KeepsPrint, PartsTwice, ending, one_text, one_twice}
 
 module _ (c : Change) (keeps : KeepsPrint c) where
   pub end_kept : (s : Statement) → ending (changed_statement c s) ≡ ending s
-  end_kept (statement attributes (compound ss)) = refl
-  end_kept (statement attributes (if_statement s)) = refl
-  end_kept (statement attributes (switch_statement s)) = refl
-  end_kept (statement attributes (loop_statement s)) = refl
-  end_kept (statement attributes (for_statement s)) = refl
-  end_kept (statement attributes (while_statement s)) = refl
+  end_kept (statement attributes (compound x)) = refl
+  end_kept (statement attributes (if_statement x)) = refl
+  end_kept (statement attributes (switch_statement x)) = refl
+  end_kept (statement attributes (loop_statement x)) = refl
+  end_kept (statement attributes (for_statement x)) = refl
+  end_kept (statement attributes (while_statement x)) = refl
   end_kept (statement attributes s) = keeps.simple_end attributes s
 
   mutual
@@ -114,85 +115,86 @@ module _ (c : Change) (twice : PartsTwice c) where
     pub statement_twice : (s : Statement) → changed_statement c (changed_statement c s) ≡ changed_statement c s
     statement_twice (statement attributes s) = λ i. statement (twice.attributes attributes i) (unattributed_twice s i)
 
-    unattributed_twice : (s : UnattributedStatement)
-        → changed_unattributed c (changed_unattributed c s) ≡ changed_unattributed c s
-    unattributed_twice (compound ss) = λ i. compound (statements_twice ss i)
-    unattributed_twice (if_statement s) = λ i. if_statement (if_twice s i)
-    unattributed_twice (switch_statement s) = λ i. switch_statement (switch_twice s i)
-    unattributed_twice (loop_statement s) = λ i. loop_statement (loop_twice s i)
-    unattributed_twice (for_statement s) = λ i. for_statement (for_twice s i)
-    unattributed_twice (while_statement s) = λ i. while_statement (while_twice s i)
-    unattributed_twice s = twice.simple s refl
-
     node_twice : (s : StatementNode) → changed_node c (changed_node c s) ≡ changed_node c s
     node_twice (statement_node s span) = λ i. statement_node (statement_twice s i) (twice.span span i)
+
+    unattributed_twice : (s : UnattributedStatement)
+        → changed_unattributed c (changed_unattributed c s) ≡ changed_unattributed c s
+    unattributed_twice (compound x) = λ i. compound (statements_twice x i)
+    unattributed_twice (if_statement x) = λ i. if_statement (if_twice x i)
+    unattributed_twice (switch_statement x) = λ i. switch_statement (switch_twice x i)
+    unattributed_twice (loop_statement x) = λ i. loop_statement (loop_twice x i)
+    unattributed_twice (for_statement x) = λ i. for_statement (for_twice x i)
+    unattributed_twice (while_statement x) = λ i. while_statement (while_twice x i)
+    unattributed_twice s = twice.simple s refl
+
+    pub compound_twice : (s : CompoundStatement) → changed_compound c (changed_compound c s) ≡ changed_compound c s
+    compound_twice (compound_statement attributes statements) =
+        λ i. compound_statement (twice.attributes attributes i) (statements_twice statements i)
+
+    if_twice : (s : IfStatement) → changed_if c (changed_if c s) ≡ changed_if c s
+    if_twice (if_else first_clause else_if_clauses its_else_clause) =
+        λ i. if_else (if_clause_twice first_clause i) (else_ifs_twice else_if_clauses i) (else_twice its_else_clause i)
+
+    if_clause_twice : (s : IfClause) → changed_if_clause c (changed_if_clause c s) ≡ changed_if_clause c s
+    if_clause_twice (if_clause expression body) = λ i. if_clause (twice.expression expression i) (compound_twice body i)
+
+    else_if_clause_twice : (s : ElseIfClause)
+        → changed_else_if_clause c (changed_else_if_clause c s) ≡ changed_else_if_clause c s
+    else_if_clause_twice (else_if_clause attributes expression body) =
+        λ i. else_if_clause (twice.attributes attributes i) (twice.expression expression i) (compound_twice body i)
+
+    else_clause_twice : (s : ElseClause) → changed_else_clause c (changed_else_clause c s) ≡ changed_else_clause c s
+    else_clause_twice (else_clause attributes body) =
+        λ i. else_clause (twice.attributes attributes i) (compound_twice body i)
+
+    switch_twice : (s : SwitchStatement) → changed_switch c (changed_switch c s) ≡ changed_switch c s
+    switch_twice (switch expression body_attributes clauses) =
+        λ i. switch (twice.expression expression i) (twice.attributes body_attributes i) (clauses_twice clauses i)
+
+    switch_clause_twice : (s : SwitchClause)
+        → changed_switch_clause c (changed_switch_clause c s) ≡ changed_switch_clause c s
+    switch_clause_twice (switch_clause attributes case_selectors body) =
+        λ i. switch_clause (twice.attributes attributes i) (twice.selectors case_selectors i) (compound_twice body i)
+
+    loop_twice : (s : LoopStatement) → changed_loop c (changed_loop c s) ≡ changed_loop c s
+    loop_twice (repeat body its_continuing) =
+        λ i. repeat (compound_twice body i) (maybe_continuing_twice its_continuing i)
+
+    for_twice : (s : ForStatement) → changed_for c (changed_for c s) ≡ changed_for c s
+    for_twice (repeat_for initializer condition update body) = λ i. repeat_for (part_twice initializer i)
+        (twice.condition condition i) (part_twice update i) (compound_twice body i)
+
+    while_twice : (s : WhileStatement) → changed_while c (changed_while c s) ≡ changed_while c s
+    while_twice (repeat_while condition body) = λ i. repeat_while (twice.expression condition i) (compound_twice body i)
+
+    continuing_twice : (s : ContinuingStatement)
+        → changed_continuing c (changed_continuing c s) ≡ changed_continuing c s
+    continuing_twice (continuing attributes body break_if) =
+        λ i. continuing (twice.attributes attributes i) (compound_twice body i) (twice.break_if break_if i)
 
     statements_twice : (s : StatementNodes) → changed_statements c (changed_statements c s) ≡ changed_statements c s
     statements_twice no_statements = refl
     statements_twice (statement_before s ss) = one_twice c (changed_node c s) (changed_statements c ss)
         (c.leaves_out s) (twice.left_out s) (node_twice s) (statements_twice ss)
 
-    pub compound_twice : (s : CompoundStatement) → changed_compound c (changed_compound c s) ≡ changed_compound c s
-    compound_twice (compound_statement attributes ss) =
-        λ i. compound_statement (twice.attributes attributes i) (statements_twice ss i)
-
-    if_twice : (s : IfStatement) → changed_if c (changed_if c s) ≡ changed_if c s
-    if_twice (if_else first others last) =
-        λ i. if_else (if_clause_twice first i) (else_ifs_twice others i) (else_twice last i)
-
-    if_clause_twice : (s : IfClause) → changed_if_clause c (changed_if_clause c s) ≡ changed_if_clause c s
-    if_clause_twice (if_clause e block) = λ i. if_clause (twice.expression e i) (compound_twice block i)
-
-    else_if_clause_twice : (s : ElseIfClause)
-        → changed_else_if_clause c (changed_else_if_clause c s) ≡ changed_else_if_clause c s
-    else_if_clause_twice (else_if_clause attributes e block) =
-        λ i. else_if_clause (twice.attributes attributes i) (twice.expression e i) (compound_twice block i)
+    part_twice : (s : MaybeStatement) → changed_part c (changed_part c s) ≡ changed_part c s
+    part_twice no_statement = refl
+    part_twice (one_statement x) = λ i. one_statement (node_twice x i)
 
     else_ifs_twice : (s : ElseIfClauses) → changed_else_ifs c (changed_else_ifs c s) ≡ changed_else_ifs c s
     else_ifs_twice no_else_ifs = refl
-    else_ifs_twice (else_if_before e es) = λ i. else_if_before (else_if_clause_twice e i) (else_ifs_twice es i)
-
-    else_clause_twice : (s : ElseClause) → changed_else_clause c (changed_else_clause c s) ≡ changed_else_clause c s
-    else_clause_twice (else_clause attributes block) =
-        λ i. else_clause (twice.attributes attributes i) (compound_twice block i)
+    else_ifs_twice (else_if_before x xs) = λ i. else_if_before (else_if_clause_twice x i) (else_ifs_twice xs i)
 
     else_twice : (s : MaybeElseClause) → changed_else c (changed_else c s) ≡ changed_else c s
     else_twice no_else = refl
-    else_twice (one_else e) = λ i. one_else (else_clause_twice e i)
-
-    switch_twice : (s : SwitchStatement) → changed_switch c (changed_switch c s) ≡ changed_switch c s
-    switch_twice (switch e body_attributes clauses) =
-        λ i. switch (twice.expression e i) (twice.attributes body_attributes i) (clauses_twice clauses i)
+    else_twice (one_else x) = λ i. one_else (else_clause_twice x i)
 
     clauses_twice : (s : SwitchClauses) → changed_clauses c (changed_clauses c s) ≡ changed_clauses c s
     clauses_twice no_clauses = refl
-    clauses_twice (clause_before s ss) = λ i. clause_before (switch_clause_twice s i) (clauses_twice ss i)
-
-    switch_clause_twice : (s : SwitchClause)
-        → changed_switch_clause c (changed_switch_clause c s) ≡ changed_switch_clause c s
-    switch_clause_twice (switch_clause attributes selectors block) =
-        λ i. switch_clause (twice.attributes attributes i) (twice.selectors selectors i) (compound_twice block i)
-
-    loop_twice : (s : LoopStatement) → changed_loop c (changed_loop c s) ≡ changed_loop c s
-    loop_twice (repeat body last) = λ i. repeat (compound_twice body i) (maybe_continuing_twice last i)
+    clauses_twice (clause_before x xs) = λ i. clause_before (switch_clause_twice x i) (clauses_twice xs i)
 
     maybe_continuing_twice : (s : MaybeContinuing)
         → changed_maybe_continuing c (changed_maybe_continuing c s) ≡ changed_maybe_continuing c s
     maybe_continuing_twice no_continuing = refl
-    maybe_continuing_twice (one_continuing last) = λ i. one_continuing (continuing_twice last i)
-
-    continuing_twice : (s : ContinuingStatement)
-        → changed_continuing c (changed_continuing c s) ≡ changed_continuing c s
-    continuing_twice (continuing attributes body condition) =
-        λ i. continuing (twice.attributes attributes i) (compound_twice body i) (twice.break_if condition i)
-
-    for_twice : (s : ForStatement) → changed_for c (changed_for c s) ≡ changed_for c s
-    for_twice (repeat_for init condition update block) = λ i. repeat_for (part_twice init i)
-        (twice.condition condition i) (part_twice update i) (compound_twice block i)
-
-    part_twice : (s : MaybeStatement) → changed_part c (changed_part c s) ≡ changed_part c s
-    part_twice no_statement = refl
-    part_twice (one_statement s) = λ i. one_statement (node_twice s i)
-
-    while_twice : (s : WhileStatement) → changed_while c (changed_while c s) ≡ changed_while c s
-    while_twice (repeat_while e block) = λ i. repeat_while (twice.expression e i) (compound_twice block i)
+    maybe_continuing_twice (one_continuing x) = λ i. one_continuing (continuing_twice x i)
