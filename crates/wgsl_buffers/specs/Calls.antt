@@ -22,7 +22,7 @@ use Rattle.wgsl_buffers.specs.declared.tokens.PlacedKind.{PlacedKind}
 use Rattle.wgsl_buffers.specs.Answers.{counted, Refuses, Holds, Lacks, RefusesForm, IsNoText}
 use Rattle.wgsl_buffers.specs.Items.{count_of, counted_to, HoldItems, kind_and_place, token_items, start_and_end, ArePlaces}
 use Rattle.wgsl_buffers.specs.Kinds.{IsPrint, kind_of}
-use Rattle.wgsl_buffers.specs.Trees.{symbol_of, IsTree}
+use Rattle.wgsl_buffers.specs.Trees.{tree_of, IsFormOf}
 
 -- what each call promises: 2 only for bytes that are no text, and 3 with nothing in the answer
 pub record Reads (text : List ℕ) (answer : Answer) (result : ℕ) : Type 0 where
@@ -62,11 +62,11 @@ pub record Recognizes (text before room : List ℕ) (answer : Answer) (result : 
   pub status : result ≤ 3
   pub reads : Reads text answer result
 
--- the text form of the tree with a number that a text is, or the fault that is named
+-- the text form of the tree with a number that a text derives, or the fault that is named
 pub record WritesTree (what : ℕ) (text before room : List ℕ) (answer : Answer) (result : ℕ) : Type 0 where
-  pub accepted : result ≡ 0 → (form : List ℕ) × IsTree (symbol_of what) (chars text) × Holds form room answer
-  pub refused : result ≡ 1 → Refuses (IsFaultIn (symbol_of what)) text before room answer
-  pub small : result ≡ 4 → (form : List ℕ) × IsTree (symbol_of what) (chars text) × Lacks form before room answer
+  pub accepted : result ≡ 0 → (form : List ℕ) × IsFormOf (tree_of what) (chars text) form × Holds form room answer
+  pub refused : result ≡ 1 → Refuses (IsFaultIn (tree_of what).symbol) text before room answer
+  pub small : result ≡ 4 → (form : List ℕ) × IsFormOf (tree_of what) (chars text) form × Lacks form before room answer
   pub unknown : result ≡ 5 → (4 < what) × (answer ≡ counted 0)
   pub known : 4 < what → (result ≡ 2) ⊎ (result ≡ 5)
   pub status : result ≤ 5

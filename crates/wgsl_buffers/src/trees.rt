@@ -1,8 +1,7 @@
 //! Trees by their text form.
 
 ghost use Rattle.std.specs.Prelude.{◌≤◌, ◌<◌, MatchOption};
-ghost use Rattle.wgsl_model.specs.Grammar.Symbols.{Symbol.unit, Symbol.global_directive, Symbol.global_declaration, Symbol.statement, Symbol.expression};
-ghost use Rattle.wgsl_buffers.specs.Trees.{symbol_of, IsReadTree};
+ghost use Rattle.wgsl_buffers.specs.Trees.{declaration_tree, directive_tree, expression_tree, module_tree, statement_tree, tree_of, IsReadTree};
 ghost use Rattle.wgsl_buffers.specs.Calls.{WritesTree};
 
 use crate::answer::{Answer, NOT_UTF8, UNKNOWN, tell_text, text_of};
@@ -32,31 +31,31 @@ macro_rules! tree_text {
 
 /// The text form of the module that a text is.
 fn unit_text(alloc: Global, source: &str) -> Result<String, Error>
-    ensures { IsReadTree unit source.now result }
+    ensures { IsReadTree module_tree source.now result }
 {
     tree_text!(TranslationUnit, write_translation_unit, alloc, source)
 }
 
 fn directive_text(alloc: Global, source: &str) -> Result<String, Error>
-    ensures { IsReadTree global_directive source.now result }
+    ensures { IsReadTree directive_tree source.now result }
 {
     tree_text!(GlobalDirective, write_global_directive, alloc, source)
 }
 
 fn declaration_text(alloc: Global, source: &str) -> Result<String, Error>
-    ensures { IsReadTree global_declaration source.now result }
+    ensures { IsReadTree declaration_tree source.now result }
 {
     tree_text!(GlobalDeclaration, write_global_declaration, alloc, source)
 }
 
 fn statement_text(alloc: Global, source: &str) -> Result<String, Error>
-    ensures { IsReadTree statement source.now result }
+    ensures { IsReadTree statement_tree source.now result }
 {
     tree_text!(Statement, write_statement, alloc, source)
 }
 
 fn expression_text(alloc: Global, source: &str) -> Result<String, Error>
-    ensures { IsReadTree expression source.now result }
+    ensures { IsReadTree expression_tree source.now result }
 {
     tree_text!(Expression, write_expression, alloc, source)
 }
@@ -64,7 +63,7 @@ fn expression_text(alloc: Global, source: &str) -> Result<String, Error>
 /// The text form of the tree that has a number, if one has.
 fn form_of(alloc: Global, what: u32, source: &str) -> Option<Result<String, Error>>
     ensures { MatchOption result (4 < what) (λ read.
-        (what ≤ 4) × IsReadTree (symbol_of what) source.now read) }
+        (what ≤ 4) × IsReadTree (tree_of what) source.now read) }
 {
     match what {
         0 => Some(unit_text(alloc, source)),
