@@ -11,7 +11,7 @@ from pathlib import Path
 
 import antt
 from antt import enclosed
-from printed_trees import Law, Printed, Written, fields, follows, module, mutual
+from printed_trees import Law, Printed, Written, fields, follows, module, mutual, variables
 
 FOLDER = Path("crates/wgsl_theory_reread/proofs/Trees")
 HEAD = """\
@@ -23,15 +23,16 @@ CHANGED = "Rattle.wgsl_theory_reread.proofs.Trees.Changed"
 ENDING = ["terminator_of", "is_void"]
 # the lemmas that others use
 PUBLIC = ["statement_kept", "compound_kept", "statement_twice", "compound_twice"]
-# the clauses that decide whether a statement is left out, with their parts and proofs
+# the proofs of the clauses that decide whether a statement is left out, at their variables
 CHOICES = {
-    "statement_texts": "one_text c s (c.span span) (changed_statements c ss) (statement_texts ss)"
-                       " (c.leaves_out (statement_node s span))"
-                       " (keeps.left_out (statement_node s span)) (end_kept s)"
-                       " (λ i. unended_kept s i ++ (end_kept s i).0) (statement_texts_kept ss)",
-    "changed_statements": "one_twice c (changed_node c s) (changed_statements c ss)"
-                          " (c.leaves_out s) (twice.left_out s) (node_twice s)"
-                          " (statements_twice ss)",
+    "statement_texts": "one_text c {0} (c.span {1}) (changed_statements c {2})"
+                       " (statement_texts {2}) (c.leaves_out (statement_node {0} {1}))"
+                       " (keeps.left_out (statement_node {0} {1})) (end_kept {0})"
+                       " (λ i. unended_kept {0} i ++ (end_kept {0} i).0)"
+                       " (statement_texts_kept {2})",
+    "changed_statements": "one_twice c (changed_node c {0}) (changed_statements c {1})"
+                          " (c.leaves_out {0}) (twice.left_out {0}) (node_twice {0})"
+                          " (statements_twice {1})",
 }
 
 
@@ -71,10 +72,10 @@ class Lemmas:
                           *(f"{name} {enclosed(self.names.term(pattern))} = {proof}"
                             for pattern, proof in clauses)])
 
-    def proof(self, function, body, laws):
+    def proof(self, function, pattern, body, laws):
         """The proof of a clause, from what laws say of its parts."""
         if "if" in body:
-            return CHOICES[function]
+            return CHOICES[function].format(*variables(pattern, self.printed.constructors))
         term = antt.term(body)
         proved = follows(term, laws)
         if proved[0] == "text":
@@ -98,7 +99,7 @@ class Lemmas:
             else:
                 pattern, body = self.printed.printed(function, pattern)
                 laws = self.kept_laws
-            clauses.append((pattern, self.proof(function, body, laws)))
+            clauses.append((pattern, self.proof(function, pattern, body, laws)))
         name = self.names.name(function)
         says = f"{name} ({self.names.name(self.printed.changes[kind])} c s) ≡ {name} s"
         return self.text(kept_name(function), kind, says, clauses)
@@ -106,7 +107,7 @@ class Lemmas:
     def twice(self, kind):
         """The lemma that trees of a type changed twice are changed once."""
         name = self.names.name(self.printed.changes[kind])
-        clauses = [(pattern, self.proof(name, body, self.twice_laws))
+        clauses = [(pattern, self.proof(name, pattern, body, self.twice_laws))
                    for pattern, body in self.printed.changed(kind)]
         return self.text(twice_name(name), kind, f"{name} c ({name} c s) ≡ {name} c s", clauses)
 

@@ -1,5 +1,4 @@
 """How statements are made of their parts and changed, as plain_nodes.py writes it."""
-from node_specs import cycle
 from plain_files import comment, spoken
 from plain_trees import CONSTRUCTED, OWN, constructor, maker, short
 from plain_types import doc_of, parts_of, type_of
@@ -47,16 +46,15 @@ def of_several(table, held):
             *(f"{name} {pattern} = {made}" for pattern, made in clauses), ""]
 
 
-def variables(table, kind):
+def variables(kind):
     """The parts of a struct by names that are no constructors, with the types of their fields."""
-    taken = {CONSTRUCTED[name].split()[0] for name in cycle(table, "Statement")
-             if name in CONSTRUCTED}
+    taken = {made.split()[0] for made in CONSTRUCTED.values()}
     return {f"its_{name}" if name in taken else name: held for name, held in parts_of(kind).items()}
 
 
 def of_parts(table, name, kind):
     """What makes a statement of its parts."""
-    parts = variables(table, kind)
+    parts = variables(kind)
     types = " → ".join(type_of(table, held) for held in parts.values())
     fields = "; ".join(map(" = ".join, zip(parts_of(kind), parts)))
     made = f"record {{ {fields} }}"
@@ -106,7 +104,7 @@ def changed_variants(table):
 
 def changed_struct(table, kind):
     """The change of a struct."""
-    made, parts = CONSTRUCTED[kind.name].split()[0], variables(table, kind)
+    made, parts = CONSTRUCTED[kind.name].split()[0], variables(kind)
     values = [f"({change(held)} {name})" for name, held in parts.items()]
     return changed(kind.name, kind.name,
                    [(f"({' '.join([made, *parts])})", " ".join([made, *values]))])

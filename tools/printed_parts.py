@@ -8,7 +8,7 @@ import sys
 from dataclasses import dataclass
 
 import antt
-from antt import applied, enclosed, match, renamed, substituted
+from antt import applied, enclosed, match, substituted
 
 TEXT = re.compile(r"\\n| |(?:(?!\\n)\S)+")
 

@@ -4,7 +4,7 @@ from pathlib import Path
 from types import SimpleNamespace
 
 import antt
-from antt import enclosed, match, names_in
+from antt import enclosed, match
 from rule_names import COMMON, Names
 
 MODEL = Path("crates/wgsl_model/specs")
@@ -34,7 +34,7 @@ class Written(Names):
         for file in files:
             for name, _, _ in file.signatures:
                 file.clauses.setdefault(name, [])
-        for name in "refl", "◌≡◌", "◌∷◌", "◌++◌":
+        for name in "refl", "[]", "◌≡◌", "◌∷◌", "◌++◌":
             self.cite(COMMON, name)
 
     def term(self, term, of_values=False):
@@ -68,7 +68,7 @@ class Printed:
         self.changes = {}
         for file in self.trees:
             for name, _, says in file.signatures:
-                first, *types = says.split(" → ")
+                first, *types = " ".join(says.split()).split(" → ")
                 if first == "Change" and len(types) == 2 and types[0] == types[1]:
                     self.changes[types[0]] = name
         # the type that each function prints, and its clauses by what they print
@@ -100,6 +100,13 @@ class Printed:
 def constructor(pattern):
     """The constructor of a pattern."""
     return (pattern[1] if pattern[0] == "app" else pattern)[1]
+
+
+def variables(pattern, constructors):
+    """The variables of a pattern, in their order."""
+    if pattern[0] == "app":
+        return [name for part in pattern[2] for name in variables(part, constructors)]
+    return [] if pattern[1] in constructors else [pattern[1]]
 
 
 def follows(term, laws):

@@ -8,7 +8,6 @@ files of wgsl_theory_printed what holds of parts and that their pieces fit. Of a
 holds of its parts, in their order.
 """
 import re
-from pathlib import Path
 
 import antt
 from antt import enclosed, last
@@ -83,7 +82,8 @@ class Fits(Pieces):
     def types(self, constructor):
         """The types that a constructor takes."""
         for text in self.tree_texts:
-            found = re.search(rf"^    (?:\w+ )*{constructor}(?: \w+)* : (.*)$", text, re.M)
+            found = re.search(rf"^ +(?:\w+ )*{constructor}(?: \w+)* : (.*(?:\n {{6,}}.*)*)$", text,
+                              re.M)
             if found:
                 return [" ".join(it) for it in antt.split(antt.tokens(found[1]), "→")[:-1]]
         return []

@@ -36,7 +36,7 @@ pub fn laid_out(alloc: Global, source: &str) -> Result<String, Error>
     tidy(alloc, source)
 }
 
-/// The same with lines of up to so many columns, a tab of eight columns for each level, and CR LF.
+/// The same with lines of at most `width` columns, a tab of eight columns for each level, and CR LF.
 pub fn laid_out_with_tabs(alloc: Global, source: &str, width: usize) -> Result<String, Error>
     ensures kept { IfOk result (λ text.
         Keeps (record { width = width; tabs = true; indent = 8; newlines = crlf })

@@ -214,7 +214,7 @@ return_of expression = return_statement (record { expression = expression })
 
 -- a call alone
 abbrev pub call_statement_of : FunctionCall → UnattributedStatement
-call_statement_of call = function_call_statement (record { call = call })
+call_statement_of its_call = function_call_statement (record { call = its_call })
 
 -- a change: what is done to the parts without statements, and which statements lists leave out
 pub record Change : Type 0 where
