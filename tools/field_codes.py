@@ -1,15 +1,21 @@
 """The codes of the fields of a struct that is read from its form, for tools/form_readers.py."""
-from plain_trees import coded, is_apart
-from tree_forms import CODES, FILES, view
+from functools import cache
 
-# the kinds that no file of FILES has, by the crate of their type and the module of their codes
-APART = {"wgsl_tree_expression": ("ExpressionNodes", ["Expression", "TypeExpression", "FunctionCall"]),
-         "wgsl_tree_statement": ("StatementNodes", ["CompoundStatement"])}
-HOMES = {name: (crate, codes) for _, _, crate, modules in FILES for _, codes, names in modules
-         for name in names}
-HOMES |= {name: (crate, codes) for crate, (codes, names) in APART.items() for name in names}
+from node_groups import MODULES, plain_modules
+from plain_trees import coded, is_apart
+from tree_forms import CODES, view
+from tree_nodes import places
+
 TEXTS = {"Ident": ("ident_name", "Rattle.wgsl_tree_expression.specs.View"),
          "String": ("string_bytes", "Rattle.std.specs.Prelude")}
+
+
+@cache
+def sources(table):
+    """The crate of each kind, and the module of its code."""
+    at, codes = places(), {plain: codes for codes, _, plain in MODULES}
+    return {name: (f"wgsl_tree_{at[name].crate}", codes[plain])
+            for name, plain in plain_modules(table).items()}
 
 
 def seen(table, held):
@@ -19,7 +25,7 @@ def seen(table, held):
         name, module = TEXTS[held]
         return "text", name, [(module, name), (f"{CODES}.Code", "text")]
     kind = table.by_name[held]
-    crate, codes = HOMES[held]
+    crate, codes = sources(table)[held]
     code, shown = coded(f"{held}Node" if kind.is_spanned else held), view(held)
     if held == "Expression":
         shown = "expression_node_view"
@@ -32,9 +38,8 @@ def seen(table, held):
     return code, shown, named
 
 
-def coded_field(table, name, held):
-    """The code of a field that was read, and the modules of what it names."""
-    value = f"c.in_ok-{name}.{name}"
+def coded_value(table, value, held):
+    """The code of a value that was read, and the modules of what it names."""
     code, shown, named = seen(table, held.rstrip("*?"))
     if held.endswith("*"):
         named += [(f"{CODES}.Code", "list_of"), ("Rattle.std.specs.Prelude", "map")]
@@ -50,7 +55,7 @@ def coded_fields(table, kind):
     modules."""
     named, lets, fields = [(f"{CODES}.Code", "fields_of")], [], []
     for index, (name, held) in enumerate(kind.parts):
-        code, more = coded_field(table, name, held)
+        code, more = coded_value(table, f"c.in_ok-{name}.{name}", held)
         named += more
         lets.append(f"\n    let c{index} = {code} in")
         fields.append(f'    (codes "{name}", c{index}) ∷\n')

@@ -10,15 +10,14 @@ what is on their left sides, and so are texts, numbers, lists, pairs and what ma
 """
 from pathlib import Path
 
-from field_codes import coded_fields
+from field_codes import coded_fields, coded_value
 from form_answers import answer, answers_text, struct_fields
 from node_table import TABLE, Table
-from tree_forms import FILES, implementation, parts, shown, shown_node
+from tree_forms import CODES, files, implementation, parts, shown, shown_node
 
 CRATE = Path("crates/wgsl_form_trees")
 QUOTE = '\\"'
 SPAN, NODE = f"{{{QUOTE}span{QUOTE}:", f",{QUOTE}node{QUOTE}:"
-READ = "FromForm::read_form(alloc, reader)?"
 
 
 def expect(text):
@@ -43,23 +42,26 @@ def struct_body(kind):
     names = [name for name, _ in kind.parts]
     reads, before = "", "{"
     for name in names:
-        text = f"{before}{QUOTE}{name}{QUOTE}:"
-        reads += f"{expect(text)} let {name} = {READ};"
+        reads += f'let {name} = read_field(alloc, reader, "{before}{QUOTE}{name}{QUOTE}:")?;'
         before = ","
     return f'{reads} {expect("}")} Ok({kind.name} {{ {", ".join(names)} }})'
 
 
+def held_arm(kind, name):
+    """What reads a variant that holds a part."""
+    return (f'"{name}" => {{ let inner = read_held(alloc, reader, "{{{QUOTE}{name}{QUOTE}:")?; '
+            f"Ok({kind.name}::{name}(inner)) }}")
+
+
+def word_arm(kind, name):
+    """What reads a variant that is a word."""
+    return f'"{name}" => {{ {expect(QUOTE + name + QUOTE)} Ok({kind.name}::{name}) }}'
+
+
 def enum_body(kind):
-    """What reads an enum: the name of the variant, and what it holds if it does."""
-    tried = ""
-    for name, held in kind.parts:
-        variant = f"{kind.name}::{name}"
-        if held:
-            tried += (f'if reader.eat("{{\\"{name}\\":") {{ let inner = {READ}; {expect("}")} '
-                      f"return Ok({variant}(inner)); }}")
-        else:
-            tried += f'if reader.eat("\\"{name}\\"") {{ return Ok({variant}); }}'
-    return tried + unread(kind)
+    """What reads an enum: a variant by the name that is next."""
+    arms = [(held_arm if held else word_arm)(kind, name) for name, held in kind.parts]
+    return f"match reader.next_name() {{ {' '.join(arms)} _ => {unread(kind)}, }}"
 
 
 BODIES = {"words": word_body, "struct": struct_body, "enum": enum_body}
@@ -88,39 +90,63 @@ def file_text(table, what, crate, modules):
     """The text of a file."""
     text, ghosts, types = parts(table, crate, modules, readers)
     kinds = ["FormError", *["FormErrorKind"] * ("FormErrorKind" in text), "Reader"]
-    uses = ["crate::traits::FromForm", "std::alloc::Global",
-            f"wgsl_form_reader::{{{', '.join(kinds)}}}",
+    helpers = ", ".join(it for it in ("read_field", "read_held") if f"{it}(" in text)
+    uses = [*[f"crate::part::{{{helpers}}}"] * bool(helpers), "crate::traits::FromForm",
+            "std::alloc::Global", f"wgsl_form_reader::{{{', '.join(kinds)}}}",
             *["wgsl_span::Spanned"] * ("Spanned::" in text), types]
     head = f"//! Written by tools/form_readers.py from {TABLE}: {what}."
     return "\n".join([head, "", *(f"ghost use {it};" for it in ghosts), "",
                       *(f"use {it};" for it in uses), "", text])
 
 
-# what the proofs for structs name
-NAMED = [("Rattle.std.proofs.Common", it) for it in ("[]", "◌∷◌", "codes", "refl")]
-NAMED += [("Rattle.wgsl_form_trees.proofs.Rows", it) for it in ("first", "last", "node_read")]
+# what the proofs name
+ROWS = "HERE.Rows"
+COMMON = [("Rattle.std.proofs.Common", it) for it in ("[]", "◌∷◌", "codes", "refl")]
+COMMON.append((ROWS, "node_read"))
+
+
+def struct_proof(table, kind):
+    """The answer for a struct, and what it names by its modules."""
+    lets, fields, named = coded_fields(table, kind)
+    proof = f"{lets}\n    node_read {{fs = {fields}}} refl\n    {struct_fields(kind)}"
+    named += [*COMMON, *((ROWS, it) for it in ("first", "last"))]
+    return answer("returns", "c", proof), [*named, *[(ROWS, "next")] * (len(kind.parts) > 1)]
+
+
+def enum_proof(table, kind):
+    """The answers for the variants that hold a node, and what they name by their modules."""
+    answers, used = [], []
+    for name, held in kind.parts:
+        if held in table.by_name:
+            step = f"c.in_ok-inner-in-{name}"
+            code, named = coded_value(table, f"{step}.inner", held)
+            fields = f'field (codes "{name}") ({code}) no_fields'
+            proof = f"node_read {{fs = {fields}}} refl (held {step}.ensures)"
+            answers.append(answer(f"returns-in_ok-inner-in-{name}", "c", proof))
+            used += [*named, *COMMON, (ROWS, "held"),
+                     *((f"{CODES}.Code", it) for it in ("field", "no_fields"))]
+    return "\n".join(answers), used
 
 
 def write_answers(table, module, modules):
-    """Writes the proofs for the structs of a module, but those that the prover finds by itself
-    since they have a list that may be left out."""
+    """Writes the proofs for the structs and enums of a module, but those that the prover finds by
+    itself since they have a list that may be left out."""
     for kind in (table.by_name[name] for _, _, names in modules for name in names):
-        if kind.form == "struct" and not any(held.endswith("*?") for _, held in kind.parts):
+        if kind.form == "words" or any(held.endswith("*?") for _, held in kind.parts):
+            continue
+        body, named = (struct_proof if kind.form == "struct" else enum_proof)(table, kind)
+        if body:
             place = f"{module}/{kind.name}FromForm/read_form"
             folder = CRATE / "proofs" / place
             folder.mkdir(parents=True, exist_ok=True)
-            lets, fields, named = coded_fields(table, kind)
-            proof = f"{lets}\n    node_read {{fs = {fields}}} refl\n    {struct_fields(kind)}"
-            named += [("Rattle.wgsl_form_trees.proofs.Rows", "next")] * (len(kind.parts) > 1)
-            text = answers_text(place.replace("/", "."), answer("returns", "c", proof),
-                                [*NAMED, *named])
             head = f"-- Written by tools/form_readers.py from {TABLE}: a proof.\n"
-            (folder / "Answers.antt").write_text(head + text)
+            (folder / "Answers.antt").write_text(
+                head + answers_text(CRATE.name, place, body, named))
 
 
 def main():
     table = Table()
-    for name, what, crate, modules in FILES:
+    for name, what, crate, modules in files(table):
         (CRATE / "src" / f"{name}.rt").write_text(file_text(table, what, crate, modules))
         write_answers(table, name, modules)
 

@@ -14,8 +14,6 @@ MODULES = [("WordNodes", "Words", "NamedValues"), ("OperatorNodes", "Operators",
            ("ExpressionNodes", "Expressions and types", "Expressions"),
            ("AttributeNodes", "Attributes", "Attributes"),
            ("StatementNodes", "Statements", "Statements"), ("UnitNodes", "Modules", "Units")]
-# the enums that contain themselves
-ROOTS = ["Expression", "Statement"]
 
 
 def held_by(kind):
@@ -36,7 +34,7 @@ def plain_modules(table):
     found = {kind.name: declared[kind.name].split(".")[-1] for kind in table.kinds
              if kind.name in declared}
     of_crate = {at[name].crate: module for name, module in found.items() if at[name].crate != WORDS}
-    return {kind.name: found.get(kind.name) or of_crate[at[kind.name].crate] for kind in table.kinds}
+    return {name: found.get(name) or of_crate[at[name].crate] for name in table.by_name}
 
 
 def ranks(table):
@@ -84,6 +82,7 @@ def shown_by():
 
 def alone(table, crate):
     """The kinds that a crate declares outside of cycles, in the order of the table."""
-    at, inside = places(), [it for root in ROOTS for it in in_cycle(table, root)]
+    at = places()
+    inside = {name for kind in table.of_form("enum") for name in cycle(table, kind.name)}
     return [kind.name for kind in table.kinds
             if at[kind.name].crate == crate and kind.name not in inside]

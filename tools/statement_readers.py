@@ -8,49 +8,30 @@ Run it at the top of the repository, and `rt fmt` in crates/wgsl_form_trees afte
 
 It reads crates/wgsl_model/nodes. What a statement holds that is no statement has a `read_form`.
 """
-from pathlib import Path
-
-from form_answers import (HERE, VIEW, answer, answers_text, argument, counted, fields, found_in,
+from form_answers import (HERE, answer, answers_text, argument, found_in, list_codes,
                           read, struct_fields)
-from form_readers import read_function
+from form_readers import CRATE, expect, held_arm, read_function, word_arm
 from node_table import TABLE, Table, snake
 from plain_trees import OWN, coded, is_apart
-from statement_forms import CYCLE, MAYBE, listed, node_name
+from statement_cycle import ROOT, VIEW, Cycle, listed
 import tree_forms
 from tree_forms import CODES, TREES
 
-CRATE = Path("crates/wgsl_form_trees")
+MINE = HERE.format(CRATE.name)
 PROOFS = "proofs/statement_nodes"
-# the kinds that are read by themselves
-ALONE = ["Statement", "CompoundStatement", "IfClause", "ElseIfClause", "ElseClause", "SwitchClause",
-         "ContinuingStatement"]
-# the lists of the cycle, as plain trees
-LISTS = {"Statement*": "statement_nodes_view nodes.items",
-         "ElseIfClause*": "else_ifs_of (map else_if_clause_view nodes.items)",
-         "SwitchClause*": "clauses_of (map switch_clause_view nodes.items)"}
 
 
-def reader(table, held):
-    """The function that reads what a field or a variant holds."""
-    inner = held.rstrip("*?")
-    if inner in CYCLE:
-        optional = "optional_" * held.endswith("?")
-        return f"read_{optional}{snake(node_name(table, inner))}{'s' * held.endswith('*')}"
-    if held == "Attribute*":
-        return "Attributes::read_form"
-    generic = {"*": "Vec", "?": "Option"}.get(held[-1])
-    return f"{generic or node_name(table, held)}::read_form"
+def reader(cycle, held):
+    """The function that reads what a field or a variant of the cycle holds."""
+    optional = "optional_" * held.endswith("?")
+    return f"read_{optional}{snake(cycle.node(held.rstrip('*?')))}{'s' * held.endswith('*')}"
 
 
-def parted(table):
+def parted(cycle):
     """The variants of a statement that lead back to statements, and the others."""
-    parts = table.by_name["Statement"].parts
-    return [it for it in parts if it[1] in CYCLE], [it for it in parts if it[1] not in CYCLE]
-
-
-def whole(kind):
-    """The function that gives the code of a struct."""
-    return f"attributed_code {coded(kind.name)}" if is_apart(kind) else coded(kind.name)
+    parts = cycle.by_name[ROOT].parts
+    return ([it for it in parts if it[1] in cycle.names],
+            [it for it in parts if it[1] not in cycle.names])
 
 
 def function(head, type_, value, code, body):
@@ -66,33 +47,30 @@ def in_cycle(name, type_, value, code, body):
     return function(head, type_, value, code, body)
 
 
-def expect(text):
-    """The call that passes over a text."""
-    return f'reader.expect("{text}")?;'
-
-
-def struct_body(table, kind):
+def struct_body(cycle, kind):
     """What reads a struct: each field after its name."""
     body, before = "", "{"
     for name, held in kind.parts:
-        body += expect(f'{before}\\"{name}\\":')
-        body += f"let {name} = {reader(table, held)}(alloc, reader)?;"
+        text = f'{before}\\"{name}\\":'
+        if held.rstrip("*?") in cycle.names:
+            body += f"{expect(text)} let {name} = {reader(cycle, held)}(alloc, reader)?;"
+        else:
+            body += f'let {name} = read_field(alloc, reader, "{text}")?;'
         before = ","
     names = ", ".join(name for name, _ in kind.parts)
     return f'{body} {expect("}")} Ok({kind.name} {{ {names} }})'
 
 
-def variants(table, parts):
-    """What reads variants of a statement: the name of each, and what it holds if it does."""
-    body = ""
-    for name, held in parts:
-        if held:
-            body += (f'if reader.eat("{{\\"{name}\\":") {{'
-                     f"let inner = {reader(table, held)}(alloc, reader)?; {expect('}')}"
-                     f"return Ok(Statement::{name}(inner)); }}")
-        else:
-            body += f'if reader.eat("\\"{name}\\"") {{ return Ok(Statement::{name}); }}'
-    return body
+def nested_arm(cycle, name, held):
+    """What reads a variant that leads back to statements."""
+    start = f'{{\\"{name}\\":'
+    return (f'"{name}" => {{ {expect(start)} let inner = {reader(cycle, held)}(alloc, reader)?;'
+            f"{expect('}')} Ok({ROOT}::{name}(inner)) }}")
+
+
+def chosen(arms, otherwise):
+    """What reads a variant by the name that is next."""
+    return f"match reader.next_name() {{ {' '.join(arms)} _ => {otherwise}, }}"
 
 
 def node_body():
@@ -115,75 +93,78 @@ def optional_body(read):
     return f'if reader.eat("null") {{ return Ok(None); }} Ok(Some({read}(alloc, reader)?))'
 
 
-def functions(table):
+def alone(cycle):
+    """The kinds that are read by themselves: those with all of their attributes."""
+    return [kind for kind in cycle.kinds if not is_apart(kind)]
+
+
+def functions(cycle):
     """The functions."""
-    for name in ALONE:
-        yield read_function(name, tree_forms.shown(table.by_name[name], "plain"),
-                            f"{reader(table, name).replace('_node', '')}(alloc, reader)")
-    nested, simple = parted(table)
-    code = "statement_code (statement_view node)"
-    yield function("fn read_simple_statement", "Statement", "node", code, variants(table, simple)
-                   + 'Err(reader.error(FormErrorKind::Expected("a statement")))')
-    yield in_cycle("read_statement", "Statement", "node", code, variants(table, nested)
-                   + "read_simple_statement(alloc, reader)")
+    for kind in alone(cycle):
+        yield read_function(kind.name, tree_forms.shown(kind, "plain"),
+                            f"read_{snake(kind.name)}(alloc, reader)")
+    nested, simple = parted(cycle)
+    root, code = cycle.by_name[ROOT], "statement_code (statement_view node)"
+    arms = [(held_arm if held else word_arm)(root, name) for name, held in simple]
+    error = 'Err(reader.error(FormErrorKind::Expected("a statement")))'
+    yield function("fn read_simple_statement", ROOT, "node", code, chosen(arms, error))
+    arms = [nested_arm(cycle, name, held) for name, held in nested]
+    yield in_cycle("read_statement", ROOT, "node", code,
+                   chosen(arms, "read_simple_statement(alloc, reader)"))
     yield in_cycle("read_statement_node", "StatementNode", "node",
                    "statement_node_code (statement_node_view node)", node_body())
-    for name in CYCLE[1:]:
-        kind = table.by_name[name]
-        yield in_cycle(f"read_{snake(name)}", name, "node",
-                       f"{whole(kind)} ({snake(name)}_view node)", struct_body(table, kind))
-    for held, shown in LISTS.items():
-        yield in_cycle(reader(table, held), f"Vec<{node_name(table, held[:-1])}>", "nodes",
-                       f"list ({coded(OWN[held][0])} ({shown}))",
-                       list_body(reader(table, held[:-1])))
-    for held, shown in MAYBE.items():
-        name = node_name(table, held[:-1])
-        yield in_cycle(reader(table, held), f"Option<{name}>", "part",
-                       f"{coded(OWN[held][0])} ({shown} (option_map {snake(name)}_view part))",
-                       optional_body(reader(table, held[:-1])))
+    for kind in cycle.kinds[1:]:
+        yield in_cycle(f"read_{snake(kind.name)}", kind.name, "node",
+                       f"{cycle.whole(kind.name)} ({snake(kind.name)}_view node)",
+                       struct_body(cycle, kind))
+    for held in cycle.lists:
+        yield in_cycle(reader(cycle, held), f"Vec<{cycle.node(held[:-1])}>", "nodes",
+                       f"list ({coded(OWN[held][0])} ({cycle.shown(held, 'nodes.items')}))",
+                       list_body(reader(cycle, held[:-1])))
+    for held in cycle.optional:
+        yield in_cycle(reader(cycle, held), f"Option<{cycle.node(held[:-1])}>", "part",
+                       f"{coded(OWN[held][0])} ({cycle.shown(held, 'part')})",
+                       optional_body(reader(cycle, held[:-1])))
 
 
-def head(table):
+def head(cycle, text):
     """What is before the functions: what they and their clauses name."""
-    types = [*CYCLE, "StatementNode"]
-    codes = [*types, *(OWN[held][0] for held in [*MAYBE, *LISTS])]
+    types = cycle.nodes()
+    codes = [*types, *(OWN[held][0] for held in [*cycle.optional, *cycle.lists])]
     views = [*(f"{snake(it)}_view" for it in types), "statement_nodes_view"]
-    shown = [*MAYBE.values(), "else_ifs_of", "clauses_of"]
-    ghosts = [f"{TREES}.Statements as plain", "Rattle.std.specs.Prelude.{IfOk, map}", "Rattle.std.specs.Option.{option_map}",
-              f"{TREES}.Statements.{{{listed(shown)}}}",
+    makers = [it for it in map(cycle.maker, [*cycle.optional, *cycle.lists]) if f"({it} " in text]
+    ghosts = [f"{TREES}.Statements as plain", "Rattle.std.specs.Prelude.{IfOk, map}",
+              "Rattle.std.specs.Option.{option_map}", f"{TREES}.Statements.{{{listed(makers)}}}",
               f"{CODES}.Code.{{attributed_code, list}}",
               f"{CODES}.StatementNodes.{{{listed(map(coded, codes))}}}",
               f"{VIEW}.{{{listed(views)}}}",
               "Rattle.wgsl_form_reader.specs.Reading.{IsRead}"]
-    simple = [held for _, held in parted(table)[1] if held]
-    uses = ["crate::traits::FromForm", "std::alloc::Global",
-            "wgsl_form_reader::{FormError, FormErrorKind, Reader}", "wgsl_span::Spanned",
-            "wgsl_tree_attribute::Attributes", "wgsl_tree_expression::ExpressionNode",
-            f"wgsl_tree_simple::{{{listed(simple)}}}",
-            f"wgsl_tree_statement::{{{listed(types)}}}"]
+    uses = ["crate::part::{read_field, read_held}", "crate::traits::FromForm",
+            "std::alloc::Global", "wgsl_form_reader::{FormError, FormErrorKind, Reader}",
+            "wgsl_span::Spanned", f"wgsl_tree_statement::{{{listed(types)}}}"]
     return [f"//! Written by tools/statement_readers.py from {TABLE}: statements.", "",
             *(f"ghost use {it};" for it in ghosts), "", *(f"use {it};" for it in uses), ""]
 
 
 def wrote(what):
     """The first line of a file in antt."""
-    return f"-- Written by tools/statement_readers.py from {TABLE}: {what}."
+    return f"-- Written by tools/statement_readers.py from {TABLE}: {what}.\n"
 
 
-def invariants(table):
+def invariants(cycle):
     """The invariants of the loops, and the measures: how much is left, and whether a call may be
     the first thing that a function does."""
-    names = ["read_statement", "read_statement_node", *(f"read_{snake(it)}" for it in CYCLE[1:]),
-             *(reader(table, it) for it in LISTS)]
-    for name in [*names, *(reader(table, it) for it in MAYBE)]:
+    names = ["read_statement", *(f"read_{snake(it)}" for it in cycle.nodes()[1:]),
+             *(reader(cycle, it) for it in cycle.lists)]
+    for name in [*names, *(reader(cycle, it) for it in cycle.optional)]:
         more = "" if name in names else " + 1"
         yield (f"abbrev pub decreases-{name} : goal.decreases-{name}\n"
                f"decreases-{name} l = 2 * length (rest l.reader.now){more}\n")
-    for held in LISTS:
-        name, node = reader(table, held), node_name(table, held[:-1])
+    for held in cycle.lists:
+        name = reader(cycle, held)
         yield (f"abbrev pub invariant-{name}-nodes : goal.invariant-{name}-nodes\n"
                f"invariant-{name}-nodes l = record {{\n"
-               f"  opened : IsOpened (λ node. {coded(node)} ({snake(node)}_view node))\n"
+               f"  opened : IsOpened {cycle.item(held)}\n"
                f"      l.nodes.items (rest l.fn.reader) (rest l.reader);\n"
                f"  shorter : length (rest l.reader) < length (rest l.fn.reader);\n"
                f"}}\n")
@@ -191,48 +172,29 @@ def invariants(table):
                f"decreases-{name}-nodes l = length (rest l.reader)\n")
 
 
-def invariants_text(table):
+def invariants_text(cycle):
     """The text of Invariants.antt."""
-    items = [node_name(table, held[:-1]) for held in LISTS]
-    views = listed(f"{snake(it)}_view" for it in items)
+    items = [cycle.node(held[:-1]) for held in cycle.lists]
     uses = ["Rattle.std.proofs.Common.{◌≡◌, ◌<◌, ◌+◌, ◌*◌, length}",
             f"{CODES}.StatementNodes.{{{listed(map(coded, items))}}}",
-            f"{VIEW}.{{{views}}}",
+            f"{VIEW}.{{{listed(f'{snake(it)}_view' for it in items)}}}",
             "Rattle.wgsl_form_reader.specs.Reading.{rest}",
-            f"{HERE}.Lists.{{IsOpened}}", f"{HERE}.statement_nodes.+statements.Given as goal"]
-    return "\n".join([wrote("measures"), *(f"use {it}" for it in uses), "",
-                      *invariants(table)])
+            f"{MINE}.Lists.{{IsOpened}}", f"{MINE}.statement_nodes.+statements.Given as goal"]
+    return "\n".join([*(f"use {it}" for it in uses), "", *invariants(cycle)])
 
 
-def struct_answer(kind):
+def struct_answer(cycle, kind):
     """The answer for a struct: what it is as plain data, and that its fields are read."""
-    apart = len(kind.parts) if any(held in MAYBE for _, held in kind.parts) else 1
+    apart = len(kind.parts) if any(held in cycle.optional for _, held in kind.parts) else 1
+    rolled = f"({snake(kind.name)}_roll{' _' * apart})"
     return answer(f"read_{snake(kind.name)}-returns", "t c",
-                  f"node_read (ap {argument(whole(kind))} ({snake(kind.name)}_roll{' _' * apart}))"
-                  "\n    " + struct_fields(kind))
+                  f"node_read (ap {argument(cycle.whole(kind.name))} {rolled})\n    "
+                  + struct_fields(kind, cycle.names))
 
 
-def variant_answers(parts, prefix, arguments):
-    """The answers for variants: that the names of those before are not next, and what is read."""
-    inner = 0
-    for at, (name, held) in enumerate(parts, 1):
-        start = "".join(f"sym (c.{counted('if-eat', it)}.ensures.kept refl)\n    ∙ "
-                        for it in range(1, at))
-        start += f"c.{counted('if-eat', at)}.ensures.eaten refl"
-        if held:
-            inner += 1
-            made = "is_block _" if name == "Compound" else f"ap statement_code (is_{snake(name)} _)"
-            proof = (f"node_read ({made})\n    "
-                     + fields([start], [counted("inner", inner)], counted("expect", inner)))
-        else:
-            proof = f"read_as _ (ap statement_code is_empty) ({start})"
-        yield answer(f"{prefix}{counted('returns-then-eat', at)}", arguments, proof)
-
-
-def list_answers(table, held):
+def list_answers(cycle, held):
     """The answers for a list: that a further item was read, and all were."""
-    node, name, item = node_name(table, held[:-1]), reader(table, held), reader(table, held[:-1])
-    code = f"(λ node. {coded(node)} ({snake(node)}_view node))"
+    name, item, code = reader(cycle, held), reader(cycle, held[:-1]), cycle.item(held)
     step = f"(c.nodes-test.ensures.eaten refl) {read(f'{item}-2')}"
     yield answer(f"{name}-nodes-preserved", "t c",
                  f"record {{\n  opened = one_more {code}\n      c.nodes.nodes.items _ _ _ _ _ _"
@@ -246,19 +208,41 @@ def list_answers(table, held):
                  f"    (sym (c.nodes-test.ensures.kept refl) ∙ {read('expect-2')}))")
 
 
+def made(name):
+    """What a variant is as plain data."""
+    return "(is_block _)" if name == "Compound" else f"(ap statement_code (is_{snake(name)} _))"
+
+
+def nested_answers(cycle):
+    """The answers for the variants that lead back to statements."""
+    for name, _ in parted(cycle)[0]:
+        facts = f"{read(f'expect-in-{name}')} {read(f'inner-in-{name}')}"
+        yield answer(f"read_statement-returns-in_ok-expect-in-{name}-2", "t c",
+                     f"node_read {made(name)}\n    (first_apart {facts}\n"
+                     f"    (last {read(f'expect-in-{name}-2')}))")
+
+
+def simple_answers(cycle):
+    """The answers for the other variants."""
+    for name, held in parted(cycle)[1]:
+        if held:
+            yield answer(f"returns-in_ok-inner-in-{name}", "c",
+                         f"node_read {made(name)} (held {read(f'inner-in-{name}')})")
+
+
 def main():
-    table = Table()
-    nested, simple = parted(table)
-    answers = [*variant_answers(nested, "read_statement-", "t c"),
-               *(struct_answer(table.by_name[it]) for it in CYCLE[1:]),
-               *(it for held in LISTS for it in list_answers(table, held))]
-    texts = {"src/statement_nodes.rt": "\n".join([*head(table), *functions(table)]),
-             f"{PROOFS}/+statements/Invariants.antt": invariants_text(table)}
+    cycle = Cycle(Table())
+    answers = [*nested_answers(cycle), *(struct_answer(cycle, it) for it in cycle.kinds[1:]),
+               *(it for held in cycle.lists for it in list_answers(cycle, held))]
+    text = "\n".join(functions(cycle))
+    texts = {"src/statement_nodes.rt": "\n".join([*head(cycle, text), text]),
+             "proofs/StatementLists.antt": wrote("the codes of lists") + list_codes(cycle),
+             f"{PROOFS}/+statements/Invariants.antt": wrote("measures") + invariants_text(cycle)}
     for place, proof in {"+statements": answers,
-                         "read_simple_statement": variant_answers(simple, "", "c")}.items():
+                         "read_simple_statement": simple_answers(cycle)}.items():
         body = "\n".join(proof)
-        text = answers_text(f"statement_nodes.{place}", body, found_in(body))
-        texts[f"{PROOFS}/{place}/Answers.antt"] = f"{wrote('a proof')}\n{text}"
+        text = answers_text(CRATE.name, f"statement_nodes/{place}", body, found_in(body))
+        texts[f"{PROOFS}/{place}/Answers.antt"] = wrote("a proof") + text
     for file, text in texts.items():
         (CRATE / file).write_text(text)
 

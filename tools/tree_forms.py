@@ -10,48 +10,37 @@ their left sides, and so are texts, numbers, lists, pairs and what may be left o
 """
 from pathlib import Path
 
-from node_table import TABLE, Table, snake
+from node_groups import MODULES, alone, plain_modules, shown_by
+from node_table import TABLE, WORDS, Table, snake
 from plain_trees import coded, is_apart
 
-SOURCE = Path("crates/wgsl_tree_form/src")
+CRATE = Path("crates/wgsl_tree_form")
 CODES = "Rattle.wgsl_tree_code.specs"
 TREES = "Rattle.wgsl_model.specs.Trees"
-# the files: what each has, and the kinds, by the modules of their plain trees and of their codes
-FILES = [
-    ("word_nodes", "the words", "wgsl_tree_words", [
-        ("NamedValues", "WordNodes", ["DiagnosticSeverity", "AddressSpace", "AccessMode",
-         "BuiltinValue", "InterpolationType", "InterpolationSampling"]),
-        ("Operators", "OperatorNodes", ["UnaryOperator", "BinaryOperator", "AssignmentOperator"])]),
-    ("literal_nodes", "the literals", "wgsl_tree_expression", [
-        ("Expressions", "ExpressionNodes", ["LiteralExpression"])]),
-    ("attribute_nodes", "the attributes", "wgsl_tree_attribute", [
-        ("Attributes", "AttributeNodes", ["Attribute", "DiagnosticAttribute",
-         "InterpolateAttribute", "WorkgroupSizeAttribute", "TypeConstraint", "CustomAttribute"])]),
-    ("simple_nodes", "values, simple statements", "wgsl_tree_simple", [
-        ("Statements", "StatementNodes", ["DeclarationKind", "Declaration", "AssignmentStatement",
-         "IncrementStatement", "DecrementStatement", "BreakStatement", "BreakIfStatement",
-         "ContinueStatement", "ReturnStatement", "DiscardStatement", "FunctionCallStatement",
-         "ConstAssert", "CaseSelector"])]),
-    ("unit_nodes", "directives, declarations, modules", "wgsl_tree_unit", [
-        ("Units", "UnitNodes", ["TranslationUnit", "GlobalDirective", "GlobalDeclaration",
-         "DiagnosticDirective", "EnableDirective", "RequiresDirective", "Struct", "StructMember",
-         "TypeAlias", "Function", "FormalParameter"])]),
-]
-# the views with other names than their kinds
-VIEWS = {"DiagnosticSeverity": "severity_view", "LiteralExpression": "literal_view",
-         "DiagnosticAttribute": "diagnostic_view", "InterpolateAttribute": "interpolate_view",
-         "WorkgroupSizeAttribute": "workgroup_size_view", "CustomAttribute": "custom_view",
-         "AssignmentStatement": "assignment_view", "IncrementStatement": "increment_view",
-         "DecrementStatement": "decrement_view", "BreakIfStatement": "break_if_view",
-         "ReturnStatement": "return_view", "FunctionCallStatement": "call_statement_view",
-         "ConstAssert": "assert_view", "CaseSelector": "selector_view",
-         "TranslationUnit": "unit_view", "StructMember": "member_view",
-         "FormalParameter": "parameter_view"}
+VIEWS = shown_by()
+# how many fields are written in one step
+MANY = 5
+# the files: what each has, and the crate that declares its kinds
+FILES = [("word_nodes", "the words", WORDS), ("literal_nodes", "the literals", "expression"),
+         ("attribute_nodes", "the attributes", "attribute"),
+         ("simple_nodes", "values, simple statements", "simple"),
+         ("unit_nodes", "directives, declarations, modules", "unit")]
+
+
+def files(table):
+    """The files: what each has, and the kinds, by the modules of their plain trees and of their
+    codes."""
+    module = plain_modules(table)
+    for name, what, crate in FILES:
+        kinds = alone(table, crate)
+        parts = [(plain, codes, [it for it in kinds if module[it] == plain])
+                 for codes, _, plain in MODULES]
+        yield name, what, f"wgsl_tree_{crate}", [it for it in parts if it[2]]
 
 
 def view(name):
     """The function that shows a value as plain data."""
-    return VIEWS.get(name, f"{snake(name)}_view")
+    return VIEWS[name]
 
 
 def word_body(kind):
@@ -64,7 +53,7 @@ def struct_body(kind):
     """What writes a struct: each field after its name; where there are many, each by itself."""
     lets = "".join(f"let {name} = Formed(&self.{name});" for name, _ in kind.parts)
     fields = [f'\\"{name}\\":{{{name}}}' for name, _ in kind.parts]
-    if len(fields) > 5:
+    if len(fields) > MANY:
         end = '")?; write!(f, ",'
     else:
         # a long text is continued in further lines, since `rt fmt` breaks none
@@ -172,8 +161,8 @@ def file_text(table, what, crate, modules):
 
 def main():
     table = Table()
-    for name, what, crate, modules in FILES:
-        (SOURCE / f"{name}.rt").write_text(file_text(table, what, crate, modules))
+    for name, what, crate, modules in files(table):
+        (CRATE / "src" / f"{name}.rt").write_text(file_text(table, what, crate, modules))
 
 
 if __name__ == "__main__":

@@ -37,6 +37,15 @@ impl<'t> Reader<'t> {
         }
     }
 
+    /// The name that is next, of a word as `"Void"` or of a variant as `{"If":`, else no text.
+    pub fn next_name(&self) -> &'t str {
+        let rest = self.rest.strip_prefix('{').unwrap_or(self.rest);
+        match rest.strip_prefix('"') {
+            Some(rest) => rest.split_once('"').map_or("", |(name, _)| name),
+            None => "",
+        }
+    }
+
     /// Passes over a part that is next, and tells whether it is.
     pub fn eat(&mut self, part: &'static str) -> bool
         ensures eaten { result ≡ true → rest self.old ≡ part.now ++ rest self.new }

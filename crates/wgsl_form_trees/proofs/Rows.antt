@@ -1,5 +1,5 @@
 -- Nodes that are read field by field.
-use Rattle.std.proofs.Common.{ℕ, ◌≡◌, sym, ap, ◌∙◌, List, ◌++◌, append_assoc, codes}
+use Rattle.std.proofs.Common.{ℕ, ◌≡◌, refl, sym, ap, ◌∙◌, List, ◌++◌, append_assoc, codes}
 use Rattle.wgsl_tree_code.specs.Code.{Code, node, Fields, no_fields, field}
 use Rattle.wgsl_tree_code.specs.Form.{form, quoted, fields_form, further_fields}
 
@@ -15,35 +15,53 @@ regroup : (start label value more after : List ℕ) →
     (start ++ label) ++ (value ++ (more ++ after)) ≡ start ++ (((label ++ value) ++ more) ++ after)
 regroup start label value more after = simp append_assoc
 
-field_read : (start label value more : List ℕ) {before inside between : List ℕ} (after : List ℕ) →
-    before ≡ (start ++ label) ++ inside → inside ≡ value ++ between → between ≡ more ++ after →
+field_read : (start label value more : List ℕ) {before between : List ℕ} (after : List ℕ) →
+    before ≡ (start ++ label) ++ (value ++ between) → between ≡ more ++ after →
     before ≡ start ++ (((label ++ value) ++ more) ++ after)
-field_read start label value more after e f g =
-    e ∙ ap (λ u. (start ++ label) ++ u) (f ∙ ap (λ u. value ++ u) g)
-    ∙ regroup start label value more after
+field_read start label value more after e f =
+    e ∙ ap (λ u. (start ++ label) ++ (value ++ u)) f ∙ regroup start label value more after
 
-pub first : {name : List ℕ} {value : Code} {fs : Fields} {before inside between after : List ℕ} →
+pub first : {name : List ℕ} {value : Code} {fs : Fields} {before between after : List ℕ} →
+    before ≡ (codes "{" ++ (quoted name ++ codes ":")) ++ (form value ++ between) →
+    MoreRead fs between after → AreRead (field name value fs) before after
+first {name = name} {value = value} {fs = fs} e more =
+    record {
+      read = field_read (codes "{") (quoted name ++ codes ":") (form value)
+          (further_fields fs) _ e more.read;
+    }
+
+pub next : {name : List ℕ} {value : Code} {fs : Fields} {before between after : List ℕ} →
+    before ≡ (codes "," ++ (quoted name ++ codes ":")) ++ (form value ++ between) →
+    MoreRead fs between after → MoreRead (field name value fs) before after
+next {name = name} {value = value} {fs = fs} e more =
+    record {
+      read = field_read (codes ",") (quoted name ++ codes ":") (form value)
+          (further_fields fs) _ e more.read;
+    }
+
+-- the same of a field whose name and value are read apart
+pub first_apart : {name : List ℕ} {value : Code} {fs : Fields} {before inside between after : List ℕ} →
     before ≡ (codes "{" ++ (quoted name ++ codes ":")) ++ inside →
     inside ≡ form value ++ between → MoreRead fs between after →
     AreRead (field name value fs) before after
-first {name = name} {value = value} {fs = fs} e f more =
-    record {
-      read = field_read (codes "{") (quoted name ++ codes ":") (form value)
-          (further_fields fs) _ e f more.read;
-    }
+first_apart {name = name} e f more =
+    first (e ∙ ap (λ u. (codes "{" ++ (quoted name ++ codes ":")) ++ u) f) more
 
-pub next : {name : List ℕ} {value : Code} {fs : Fields} {before inside between after : List ℕ} →
+pub next_apart : {name : List ℕ} {value : Code} {fs : Fields} {before inside between after : List ℕ} →
     before ≡ (codes "," ++ (quoted name ++ codes ":")) ++ inside →
     inside ≡ form value ++ between → MoreRead fs between after →
     MoreRead (field name value fs) before after
-next {name = name} {value = value} {fs = fs} e f more =
-    record {
-      read = field_read (codes ",") (quoted name ++ codes ":") (form value)
-          (further_fields fs) _ e f more.read;
-    }
+next_apart {name = name} e f more =
+    next (e ∙ ap (λ u. (codes "," ++ (quoted name ++ codes ":")) ++ u) f) more
 
 pub last : {before after : List ℕ} → before ≡ codes "}" ++ after → MoreRead no_fields before after
 last e = record { read = e }
+
+-- the one field of a variant
+pub held : {name : List ℕ} {value : Code} {before after : List ℕ} →
+    before ≡ (codes "{" ++ (quoted name ++ codes ":")) ++ (form value ++ (codes "}" ++ after)) →
+    AreRead (field name value no_fields) before after
+held e = first e (last refl)
 
 -- a node by its fields
 pub node_read : {c : Code} {fs : Fields} {before after : List ℕ} → c ≡ node fs →

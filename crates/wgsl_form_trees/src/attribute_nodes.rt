@@ -6,6 +6,7 @@ ghost use Rattle.wgsl_model.specs.Trees.Spanned.{Spanned};
 ghost use Rattle.wgsl_span.specs.View.{spanned_view};
 ghost use Rattle.wgsl_tree_attribute.specs.View.{attribute_view, custom_view, diagnostic_view, interpolate_view, type_constraint_view, workgroup_size_view};
 
+use crate::part::{read_field, read_held};
 use crate::traits::FromForm;
 use std::alloc::Global;
 use wgsl_form_reader::{FormError, FormErrorKind, Reader};
@@ -23,103 +24,97 @@ impl FromForm for Attribute {
     ghost code = { attribute_code };
 
     fn read_form(alloc: Global, reader: &mut Reader) -> Result<Self, FormError> {
-        if reader.eat("{\"Align\":") {
-            let inner = FromForm::read_form(alloc, reader)?;
-            reader.expect("}")?;
-            return Ok(Attribute::Align(inner));
+        match reader.next_name() {
+            "Align" => {
+                let inner = read_held(alloc, reader, "{\"Align\":")?;
+                Ok(Attribute::Align(inner))
+            }
+            "Binding" => {
+                let inner = read_held(alloc, reader, "{\"Binding\":")?;
+                Ok(Attribute::Binding(inner))
+            }
+            "BlendSrc" => {
+                let inner = read_held(alloc, reader, "{\"BlendSrc\":")?;
+                Ok(Attribute::BlendSrc(inner))
+            }
+            "Group" => {
+                let inner = read_held(alloc, reader, "{\"Group\":")?;
+                Ok(Attribute::Group(inner))
+            }
+            "Id" => {
+                let inner = read_held(alloc, reader, "{\"Id\":")?;
+                Ok(Attribute::Id(inner))
+            }
+            "Location" => {
+                let inner = read_held(alloc, reader, "{\"Location\":")?;
+                Ok(Attribute::Location(inner))
+            }
+            "Size" => {
+                let inner = read_held(alloc, reader, "{\"Size\":")?;
+                Ok(Attribute::Size(inner))
+            }
+            "If" => {
+                let inner = read_held(alloc, reader, "{\"If\":")?;
+                Ok(Attribute::If(inner))
+            }
+            "Elif" => {
+                let inner = read_held(alloc, reader, "{\"Elif\":")?;
+                Ok(Attribute::Elif(inner))
+            }
+            "Builtin" => {
+                let inner = read_held(alloc, reader, "{\"Builtin\":")?;
+                Ok(Attribute::Builtin(inner))
+            }
+            "Const" => {
+                reader.expect("\"Const\"")?;
+                Ok(Attribute::Const)
+            }
+            "Invariant" => {
+                reader.expect("\"Invariant\"")?;
+                Ok(Attribute::Invariant)
+            }
+            "MustUse" => {
+                reader.expect("\"MustUse\"")?;
+                Ok(Attribute::MustUse)
+            }
+            "Vertex" => {
+                reader.expect("\"Vertex\"")?;
+                Ok(Attribute::Vertex)
+            }
+            "Fragment" => {
+                reader.expect("\"Fragment\"")?;
+                Ok(Attribute::Fragment)
+            }
+            "Compute" => {
+                reader.expect("\"Compute\"")?;
+                Ok(Attribute::Compute)
+            }
+            "Else" => {
+                reader.expect("\"Else\"")?;
+                Ok(Attribute::Else)
+            }
+            "Diagnostic" => {
+                let inner = read_held(alloc, reader, "{\"Diagnostic\":")?;
+                Ok(Attribute::Diagnostic(inner))
+            }
+            "Interpolate" => {
+                let inner = read_held(alloc, reader, "{\"Interpolate\":")?;
+                Ok(Attribute::Interpolate(inner))
+            }
+            "WorkgroupSize" => {
+                let inner = read_held(alloc, reader, "{\"WorkgroupSize\":")?;
+                Ok(Attribute::WorkgroupSize(inner))
+            }
+            "TypeConstraint" => {
+                let inner = read_held(alloc, reader, "{\"TypeConstraint\":")?;
+                Ok(Attribute::TypeConstraint(inner))
+            }
+            "Custom" => {
+                let inner = read_held(alloc, reader, "{\"Custom\":")?;
+                Ok(Attribute::Custom(inner))
+            }
+            _ => Err(reader.error(FormErrorKind::Expected("a `Attribute`"))),
         }
-        if reader.eat("{\"Binding\":") {
-            let inner = FromForm::read_form(alloc, reader)?;
-            reader.expect("}")?;
-            return Ok(Attribute::Binding(inner));
-        }
-        if reader.eat("{\"BlendSrc\":") {
-            let inner = FromForm::read_form(alloc, reader)?;
-            reader.expect("}")?;
-            return Ok(Attribute::BlendSrc(inner));
-        }
-        if reader.eat("{\"Group\":") {
-            let inner = FromForm::read_form(alloc, reader)?;
-            reader.expect("}")?;
-            return Ok(Attribute::Group(inner));
-        }
-        if reader.eat("{\"Id\":") {
-            let inner = FromForm::read_form(alloc, reader)?;
-            reader.expect("}")?;
-            return Ok(Attribute::Id(inner));
-        }
-        if reader.eat("{\"Location\":") {
-            let inner = FromForm::read_form(alloc, reader)?;
-            reader.expect("}")?;
-            return Ok(Attribute::Location(inner));
-        }
-        if reader.eat("{\"Size\":") {
-            let inner = FromForm::read_form(alloc, reader)?;
-            reader.expect("}")?;
-            return Ok(Attribute::Size(inner));
-        }
-        if reader.eat("{\"If\":") {
-            let inner = FromForm::read_form(alloc, reader)?;
-            reader.expect("}")?;
-            return Ok(Attribute::If(inner));
-        }
-        if reader.eat("{\"Elif\":") {
-            let inner = FromForm::read_form(alloc, reader)?;
-            reader.expect("}")?;
-            return Ok(Attribute::Elif(inner));
-        }
-        if reader.eat("{\"Builtin\":") {
-            let inner = FromForm::read_form(alloc, reader)?;
-            reader.expect("}")?;
-            return Ok(Attribute::Builtin(inner));
-        }
-        if reader.eat("\"Const\"") {
-            return Ok(Attribute::Const);
-        }
-        if reader.eat("\"Invariant\"") {
-            return Ok(Attribute::Invariant);
-        }
-        if reader.eat("\"MustUse\"") {
-            return Ok(Attribute::MustUse);
-        }
-        if reader.eat("\"Vertex\"") {
-            return Ok(Attribute::Vertex);
-        }
-        if reader.eat("\"Fragment\"") {
-            return Ok(Attribute::Fragment);
-        }
-        if reader.eat("\"Compute\"") {
-            return Ok(Attribute::Compute);
-        }
-        if reader.eat("\"Else\"") {
-            return Ok(Attribute::Else);
-        }
-        if reader.eat("{\"Diagnostic\":") {
-            let inner = FromForm::read_form(alloc, reader)?;
-            reader.expect("}")?;
-            return Ok(Attribute::Diagnostic(inner));
-        }
-        if reader.eat("{\"Interpolate\":") {
-            let inner = FromForm::read_form(alloc, reader)?;
-            reader.expect("}")?;
-            return Ok(Attribute::Interpolate(inner));
-        }
-        if reader.eat("{\"WorkgroupSize\":") {
-            let inner = FromForm::read_form(alloc, reader)?;
-            reader.expect("}")?;
-            return Ok(Attribute::WorkgroupSize(inner));
-        }
-        if reader.eat("{\"TypeConstraint\":") {
-            let inner = FromForm::read_form(alloc, reader)?;
-            reader.expect("}")?;
-            return Ok(Attribute::TypeConstraint(inner));
-        }
-        if reader.eat("{\"Custom\":") {
-            let inner = FromForm::read_form(alloc, reader)?;
-            reader.expect("}")?;
-            return Ok(Attribute::Custom(inner));
-        }
-        Err(reader.error(FormErrorKind::Expected("a `Attribute`")))
     }
 }
 
@@ -148,10 +143,8 @@ impl FromForm for DiagnosticAttribute {
     ghost code = { diagnostic_code };
 
     fn read_form(alloc: Global, reader: &mut Reader) -> Result<Self, FormError> {
-        reader.expect("{\"severity\":")?;
-        let severity = FromForm::read_form(alloc, reader)?;
-        reader.expect(",\"rule\":")?;
-        let rule = FromForm::read_form(alloc, reader)?;
+        let severity = read_field(alloc, reader, "{\"severity\":")?;
+        let rule = read_field(alloc, reader, ",\"rule\":")?;
         reader.expect("}")?;
         Ok(DiagnosticAttribute { severity, rule })
     }
@@ -165,10 +158,8 @@ impl FromForm for InterpolateAttribute {
     ghost code = { interpolate_code };
 
     fn read_form(alloc: Global, reader: &mut Reader) -> Result<Self, FormError> {
-        reader.expect("{\"ty\":")?;
-        let ty = FromForm::read_form(alloc, reader)?;
-        reader.expect(",\"sampling\":")?;
-        let sampling = FromForm::read_form(alloc, reader)?;
+        let ty = read_field(alloc, reader, "{\"ty\":")?;
+        let sampling = read_field(alloc, reader, ",\"sampling\":")?;
         reader.expect("}")?;
         Ok(InterpolateAttribute { ty, sampling })
     }
@@ -182,12 +173,9 @@ impl FromForm for WorkgroupSizeAttribute {
     ghost code = { workgroup_size_code };
 
     fn read_form(alloc: Global, reader: &mut Reader) -> Result<Self, FormError> {
-        reader.expect("{\"x\":")?;
-        let x = FromForm::read_form(alloc, reader)?;
-        reader.expect(",\"y\":")?;
-        let y = FromForm::read_form(alloc, reader)?;
-        reader.expect(",\"z\":")?;
-        let z = FromForm::read_form(alloc, reader)?;
+        let x = read_field(alloc, reader, "{\"x\":")?;
+        let y = read_field(alloc, reader, ",\"y\":")?;
+        let z = read_field(alloc, reader, ",\"z\":")?;
         reader.expect("}")?;
         Ok(WorkgroupSizeAttribute { x, y, z })
     }
@@ -201,10 +189,8 @@ impl FromForm for TypeConstraint {
     ghost code = { type_constraint_code };
 
     fn read_form(alloc: Global, reader: &mut Reader) -> Result<Self, FormError> {
-        reader.expect("{\"ident\":")?;
-        let ident = FromForm::read_form(alloc, reader)?;
-        reader.expect(",\"variants\":")?;
-        let variants = FromForm::read_form(alloc, reader)?;
+        let ident = read_field(alloc, reader, "{\"ident\":")?;
+        let variants = read_field(alloc, reader, ",\"variants\":")?;
         reader.expect("}")?;
         Ok(TypeConstraint { ident, variants })
     }
@@ -218,10 +204,8 @@ impl FromForm for CustomAttribute {
     ghost code = { custom_code };
 
     fn read_form(alloc: Global, reader: &mut Reader) -> Result<Self, FormError> {
-        reader.expect("{\"name\":")?;
-        let name = FromForm::read_form(alloc, reader)?;
-        reader.expect(",\"arguments\":")?;
-        let arguments = FromForm::read_form(alloc, reader)?;
+        let name = read_field(alloc, reader, "{\"name\":")?;
+        let arguments = read_field(alloc, reader, ",\"arguments\":")?;
         reader.expect("}")?;
         Ok(CustomAttribute { name, arguments })
     }

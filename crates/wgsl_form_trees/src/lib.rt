@@ -7,6 +7,7 @@ mod expression;
 mod literal_nodes;
 mod number;
 mod opening;
+mod part;
 mod simple_nodes;
 mod statement_nodes;
 mod text;

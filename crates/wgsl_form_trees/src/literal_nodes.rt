@@ -4,6 +4,7 @@ ghost use Rattle.wgsl_model.specs.Trees.Expressions as plain_expressions;
 ghost use Rattle.wgsl_tree_code.specs.ExpressionNodes.{literal_code};
 ghost use Rattle.wgsl_tree_expression.specs.View.{literal_view};
 
+use crate::part::read_held;
 use crate::traits::FromForm;
 use std::alloc::Global;
 use wgsl_form_reader::{FormError, FormErrorKind, Reader};
@@ -17,41 +18,36 @@ impl FromForm for LiteralExpression {
     ghost code = { literal_code };
 
     fn read_form(alloc: Global, reader: &mut Reader) -> Result<Self, FormError> {
-        if reader.eat("{\"Bool\":") {
-            let inner = FromForm::read_form(alloc, reader)?;
-            reader.expect("}")?;
-            return Ok(LiteralExpression::Bool(inner));
+        match reader.next_name() {
+            "Bool" => {
+                let inner = read_held(alloc, reader, "{\"Bool\":")?;
+                Ok(LiteralExpression::Bool(inner))
+            }
+            "AbstractInt" => {
+                let inner = read_held(alloc, reader, "{\"AbstractInt\":")?;
+                Ok(LiteralExpression::AbstractInt(inner))
+            }
+            "I32" => {
+                let inner = read_held(alloc, reader, "{\"I32\":")?;
+                Ok(LiteralExpression::I32(inner))
+            }
+            "U32" => {
+                let inner = read_held(alloc, reader, "{\"U32\":")?;
+                Ok(LiteralExpression::U32(inner))
+            }
+            "AbstractFloat" => {
+                let inner = read_held(alloc, reader, "{\"AbstractFloat\":")?;
+                Ok(LiteralExpression::AbstractFloat(inner))
+            }
+            "F32" => {
+                let inner = read_held(alloc, reader, "{\"F32\":")?;
+                Ok(LiteralExpression::F32(inner))
+            }
+            "F16" => {
+                let inner = read_held(alloc, reader, "{\"F16\":")?;
+                Ok(LiteralExpression::F16(inner))
+            }
+            _ => Err(reader.error(FormErrorKind::Expected("a `LiteralExpression`"))),
         }
-        if reader.eat("{\"AbstractInt\":") {
-            let inner = FromForm::read_form(alloc, reader)?;
-            reader.expect("}")?;
-            return Ok(LiteralExpression::AbstractInt(inner));
-        }
-        if reader.eat("{\"I32\":") {
-            let inner = FromForm::read_form(alloc, reader)?;
-            reader.expect("}")?;
-            return Ok(LiteralExpression::I32(inner));
-        }
-        if reader.eat("{\"U32\":") {
-            let inner = FromForm::read_form(alloc, reader)?;
-            reader.expect("}")?;
-            return Ok(LiteralExpression::U32(inner));
-        }
-        if reader.eat("{\"AbstractFloat\":") {
-            let inner = FromForm::read_form(alloc, reader)?;
-            reader.expect("}")?;
-            return Ok(LiteralExpression::AbstractFloat(inner));
-        }
-        if reader.eat("{\"F32\":") {
-            let inner = FromForm::read_form(alloc, reader)?;
-            reader.expect("}")?;
-            return Ok(LiteralExpression::F32(inner));
-        }
-        if reader.eat("{\"F16\":") {
-            let inner = FromForm::read_form(alloc, reader)?;
-            reader.expect("}")?;
-            return Ok(LiteralExpression::F16(inner));
-        }
-        Err(reader.error(FormErrorKind::Expected("a `LiteralExpression`")))
     }
 }

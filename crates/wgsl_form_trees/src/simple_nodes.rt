@@ -8,6 +8,7 @@ ghost use Rattle.wgsl_tree_code.specs.Code.{attributed_code};
 ghost use Rattle.wgsl_tree_attribute.specs.View.{attributes_view};
 ghost use Rattle.wgsl_tree_simple.specs.View.{assert_view, assignment_view, break_if_view, call_statement_view, declaration_kind_view, declaration_view, decrement_view, increment_view, return_view, selector_view};
 
+use crate::part::{read_field, read_held};
 use crate::traits::FromForm;
 use std::alloc::Global;
 use wgsl_form_reader::{FormError, FormErrorKind, Reader};
@@ -17,32 +18,6 @@ use wgsl_tree_simple::{
     FunctionCallStatement, IncrementStatement, ReturnStatement,
 };
 
-impl FromForm for DeclarationKind {
-    ghost Plain = { plain_statements.DeclarationKind };
-
-    ghost view = { declaration_kind_view };
-
-    ghost code = { declaration_kind_code };
-
-    fn read_form(alloc: Global, reader: &mut Reader) -> Result<Self, FormError> {
-        if reader.eat("\"Const\"") {
-            return Ok(DeclarationKind::Const);
-        }
-        if reader.eat("\"Override\"") {
-            return Ok(DeclarationKind::Override);
-        }
-        if reader.eat("\"Let\"") {
-            return Ok(DeclarationKind::Let);
-        }
-        if reader.eat("{\"Var\":") {
-            let inner = FromForm::read_form(alloc, reader)?;
-            reader.expect("}")?;
-            return Ok(DeclarationKind::Var(inner));
-        }
-        Err(reader.error(FormErrorKind::Expected("a `DeclarationKind`")))
-    }
-}
-
 impl FromForm for Declaration {
     ghost Plain = { Attributed plain_statements.Declaration };
 
@@ -51,16 +26,11 @@ impl FromForm for Declaration {
     ghost code = { attributed_code declaration_code };
 
     fn read_form(alloc: Global, reader: &mut Reader) -> Result<Self, FormError> {
-        reader.expect("{\"attributes\":")?;
-        let attributes = FromForm::read_form(alloc, reader)?;
-        reader.expect(",\"kind\":")?;
-        let kind = FromForm::read_form(alloc, reader)?;
-        reader.expect(",\"ident\":")?;
-        let ident = FromForm::read_form(alloc, reader)?;
-        reader.expect(",\"ty\":")?;
-        let ty = FromForm::read_form(alloc, reader)?;
-        reader.expect(",\"initializer\":")?;
-        let initializer = FromForm::read_form(alloc, reader)?;
+        let attributes = read_field(alloc, reader, "{\"attributes\":")?;
+        let kind = read_field(alloc, reader, ",\"kind\":")?;
+        let ident = read_field(alloc, reader, ",\"ident\":")?;
+        let ty = read_field(alloc, reader, ",\"ty\":")?;
+        let initializer = read_field(alloc, reader, ",\"initializer\":")?;
         reader.expect("}")?;
         Ok(Declaration {
             attributes,
@@ -72,6 +42,36 @@ impl FromForm for Declaration {
     }
 }
 
+impl FromForm for DeclarationKind {
+    ghost Plain = { plain_statements.DeclarationKind };
+
+    ghost view = { declaration_kind_view };
+
+    ghost code = { declaration_kind_code };
+
+    fn read_form(alloc: Global, reader: &mut Reader) -> Result<Self, FormError> {
+        match reader.next_name() {
+            "Const" => {
+                reader.expect("\"Const\"")?;
+                Ok(DeclarationKind::Const)
+            }
+            "Override" => {
+                reader.expect("\"Override\"")?;
+                Ok(DeclarationKind::Override)
+            }
+            "Let" => {
+                reader.expect("\"Let\"")?;
+                Ok(DeclarationKind::Let)
+            }
+            "Var" => {
+                let inner = read_held(alloc, reader, "{\"Var\":")?;
+                Ok(DeclarationKind::Var(inner))
+            }
+            _ => Err(reader.error(FormErrorKind::Expected("a `DeclarationKind`"))),
+        }
+    }
+}
+
 impl FromForm for AssignmentStatement {
     ghost Plain = { Attributed plain_statements.AssignmentStatement };
 
@@ -80,14 +80,10 @@ impl FromForm for AssignmentStatement {
     ghost code = { attributed_code assignment_code };
 
     fn read_form(alloc: Global, reader: &mut Reader) -> Result<Self, FormError> {
-        reader.expect("{\"attributes\":")?;
-        let attributes = FromForm::read_form(alloc, reader)?;
-        reader.expect(",\"operator\":")?;
-        let operator = FromForm::read_form(alloc, reader)?;
-        reader.expect(",\"lhs\":")?;
-        let lhs = FromForm::read_form(alloc, reader)?;
-        reader.expect(",\"rhs\":")?;
-        let rhs = FromForm::read_form(alloc, reader)?;
+        let attributes = read_field(alloc, reader, "{\"attributes\":")?;
+        let operator = read_field(alloc, reader, ",\"operator\":")?;
+        let lhs = read_field(alloc, reader, ",\"lhs\":")?;
+        let rhs = read_field(alloc, reader, ",\"rhs\":")?;
         reader.expect("}")?;
         Ok(AssignmentStatement {
             attributes,
@@ -106,10 +102,8 @@ impl FromForm for IncrementStatement {
     ghost code = { attributed_code increment_code };
 
     fn read_form(alloc: Global, reader: &mut Reader) -> Result<Self, FormError> {
-        reader.expect("{\"attributes\":")?;
-        let attributes = FromForm::read_form(alloc, reader)?;
-        reader.expect(",\"expression\":")?;
-        let expression = FromForm::read_form(alloc, reader)?;
+        let attributes = read_field(alloc, reader, "{\"attributes\":")?;
+        let expression = read_field(alloc, reader, ",\"expression\":")?;
         reader.expect("}")?;
         Ok(IncrementStatement {
             attributes,
@@ -126,15 +120,35 @@ impl FromForm for DecrementStatement {
     ghost code = { attributed_code decrement_code };
 
     fn read_form(alloc: Global, reader: &mut Reader) -> Result<Self, FormError> {
-        reader.expect("{\"attributes\":")?;
-        let attributes = FromForm::read_form(alloc, reader)?;
-        reader.expect(",\"expression\":")?;
-        let expression = FromForm::read_form(alloc, reader)?;
+        let attributes = read_field(alloc, reader, "{\"attributes\":")?;
+        let expression = read_field(alloc, reader, ",\"expression\":")?;
         reader.expect("}")?;
         Ok(DecrementStatement {
             attributes,
             expression,
         })
+    }
+}
+
+impl FromForm for CaseSelector {
+    ghost Plain = { plain_statements.CaseSelector };
+
+    ghost view = { selector_view };
+
+    ghost code = { selector_code };
+
+    fn read_form(alloc: Global, reader: &mut Reader) -> Result<Self, FormError> {
+        match reader.next_name() {
+            "Default" => {
+                reader.expect("\"Default\"")?;
+                Ok(CaseSelector::Default)
+            }
+            "Expression" => {
+                let inner = read_held(alloc, reader, "{\"Expression\":")?;
+                Ok(CaseSelector::Expression(inner))
+            }
+            _ => Err(reader.error(FormErrorKind::Expected("a `CaseSelector`"))),
+        }
     }
 }
 
@@ -146,8 +160,7 @@ impl FromForm for BreakStatement {
     ghost code = { break_code };
 
     fn read_form(alloc: Global, reader: &mut Reader) -> Result<Self, FormError> {
-        reader.expect("{\"attributes\":")?;
-        let attributes = FromForm::read_form(alloc, reader)?;
+        let attributes = read_field(alloc, reader, "{\"attributes\":")?;
         reader.expect("}")?;
         Ok(BreakStatement { attributes })
     }
@@ -161,10 +174,8 @@ impl FromForm for BreakIfStatement {
     ghost code = { attributed_code break_if_code };
 
     fn read_form(alloc: Global, reader: &mut Reader) -> Result<Self, FormError> {
-        reader.expect("{\"attributes\":")?;
-        let attributes = FromForm::read_form(alloc, reader)?;
-        reader.expect(",\"expression\":")?;
-        let expression = FromForm::read_form(alloc, reader)?;
+        let attributes = read_field(alloc, reader, "{\"attributes\":")?;
+        let expression = read_field(alloc, reader, ",\"expression\":")?;
         reader.expect("}")?;
         Ok(BreakIfStatement {
             attributes,
@@ -181,8 +192,7 @@ impl FromForm for ContinueStatement {
     ghost code = { continue_code };
 
     fn read_form(alloc: Global, reader: &mut Reader) -> Result<Self, FormError> {
-        reader.expect("{\"attributes\":")?;
-        let attributes = FromForm::read_form(alloc, reader)?;
+        let attributes = read_field(alloc, reader, "{\"attributes\":")?;
         reader.expect("}")?;
         Ok(ContinueStatement { attributes })
     }
@@ -196,10 +206,8 @@ impl FromForm for ReturnStatement {
     ghost code = { attributed_code return_code };
 
     fn read_form(alloc: Global, reader: &mut Reader) -> Result<Self, FormError> {
-        reader.expect("{\"attributes\":")?;
-        let attributes = FromForm::read_form(alloc, reader)?;
-        reader.expect(",\"expression\":")?;
-        let expression = FromForm::read_form(alloc, reader)?;
+        let attributes = read_field(alloc, reader, "{\"attributes\":")?;
+        let expression = read_field(alloc, reader, ",\"expression\":")?;
         reader.expect("}")?;
         Ok(ReturnStatement {
             attributes,
@@ -216,8 +224,7 @@ impl FromForm for DiscardStatement {
     ghost code = { discard_code };
 
     fn read_form(alloc: Global, reader: &mut Reader) -> Result<Self, FormError> {
-        reader.expect("{\"attributes\":")?;
-        let attributes = FromForm::read_form(alloc, reader)?;
+        let attributes = read_field(alloc, reader, "{\"attributes\":")?;
         reader.expect("}")?;
         Ok(DiscardStatement { attributes })
     }
@@ -231,10 +238,8 @@ impl FromForm for FunctionCallStatement {
     ghost code = { attributed_code call_statement_code };
 
     fn read_form(alloc: Global, reader: &mut Reader) -> Result<Self, FormError> {
-        reader.expect("{\"attributes\":")?;
-        let attributes = FromForm::read_form(alloc, reader)?;
-        reader.expect(",\"call\":")?;
-        let call = FromForm::read_form(alloc, reader)?;
+        let attributes = read_field(alloc, reader, "{\"attributes\":")?;
+        let call = read_field(alloc, reader, ",\"call\":")?;
         reader.expect("}")?;
         Ok(FunctionCallStatement { attributes, call })
     }
@@ -248,34 +253,12 @@ impl FromForm for ConstAssert {
     ghost code = { attributed_code assert_code };
 
     fn read_form(alloc: Global, reader: &mut Reader) -> Result<Self, FormError> {
-        reader.expect("{\"attributes\":")?;
-        let attributes = FromForm::read_form(alloc, reader)?;
-        reader.expect(",\"expression\":")?;
-        let expression = FromForm::read_form(alloc, reader)?;
+        let attributes = read_field(alloc, reader, "{\"attributes\":")?;
+        let expression = read_field(alloc, reader, ",\"expression\":")?;
         reader.expect("}")?;
         Ok(ConstAssert {
             attributes,
             expression,
         })
-    }
-}
-
-impl FromForm for CaseSelector {
-    ghost Plain = { plain_statements.CaseSelector };
-
-    ghost view = { selector_view };
-
-    ghost code = { selector_code };
-
-    fn read_form(alloc: Global, reader: &mut Reader) -> Result<Self, FormError> {
-        if reader.eat("\"Default\"") {
-            return Ok(CaseSelector::Default);
-        }
-        if reader.eat("{\"Expression\":") {
-            let inner = FromForm::read_form(alloc, reader)?;
-            reader.expect("}")?;
-            return Ok(CaseSelector::Expression(inner));
-        }
-        Err(reader.error(FormErrorKind::Expected("a `CaseSelector`")))
     }
 }

@@ -9,17 +9,11 @@ ghost use Rattle.wgsl_tree_code.specs.StatementNodes.{clauses_code, compound_cod
 ghost use Rattle.wgsl_tree_statement.specs.View.{compound_statement_view, continuing_statement_view, else_clause_view, else_if_clause_view, for_statement_view, if_clause_view, if_statement_view, loop_statement_view, statement_node_view, statement_nodes_view, statement_view, switch_clause_view, switch_statement_view, while_statement_view};
 ghost use Rattle.wgsl_form_reader.specs.Reading.{IsRead};
 
+use crate::part::{read_field, read_held};
 use crate::traits::FromForm;
 use std::alloc::Global;
 use wgsl_form_reader::{FormError, FormErrorKind, Reader};
 use wgsl_span::Spanned;
-use wgsl_tree_attribute::Attributes;
-use wgsl_tree_expression::ExpressionNode;
-use wgsl_tree_simple::{
-    AssignmentStatement, BreakStatement, ConstAssert, ContinueStatement, Declaration,
-    DecrementStatement, DiscardStatement, FunctionCallStatement, IncrementStatement,
-    ReturnStatement,
-};
 use wgsl_tree_statement::{
     CompoundStatement, ContinuingStatement, ElseClause, ElseIfClause, ForStatement, IfClause,
     IfStatement, LoopStatement, Statement, StatementNode, SwitchClause, SwitchStatement,
@@ -115,60 +109,53 @@ fn read_simple_statement(alloc: Global, reader: &mut Reader) -> Result<Statement
         (statement_code (statement_view node))
         reader.old reader.new) }
 {
-    if reader.eat("\"Void\"") {
-        return Ok(Statement::Void);
+    match reader.next_name() {
+        "Void" => {
+            reader.expect("\"Void\"")?;
+            Ok(Statement::Void)
+        }
+        "Assignment" => {
+            let inner = read_held(alloc, reader, "{\"Assignment\":")?;
+            Ok(Statement::Assignment(inner))
+        }
+        "Increment" => {
+            let inner = read_held(alloc, reader, "{\"Increment\":")?;
+            Ok(Statement::Increment(inner))
+        }
+        "Decrement" => {
+            let inner = read_held(alloc, reader, "{\"Decrement\":")?;
+            Ok(Statement::Decrement(inner))
+        }
+        "Break" => {
+            let inner = read_held(alloc, reader, "{\"Break\":")?;
+            Ok(Statement::Break(inner))
+        }
+        "Continue" => {
+            let inner = read_held(alloc, reader, "{\"Continue\":")?;
+            Ok(Statement::Continue(inner))
+        }
+        "Return" => {
+            let inner = read_held(alloc, reader, "{\"Return\":")?;
+            Ok(Statement::Return(inner))
+        }
+        "Discard" => {
+            let inner = read_held(alloc, reader, "{\"Discard\":")?;
+            Ok(Statement::Discard(inner))
+        }
+        "FunctionCall" => {
+            let inner = read_held(alloc, reader, "{\"FunctionCall\":")?;
+            Ok(Statement::FunctionCall(inner))
+        }
+        "ConstAssert" => {
+            let inner = read_held(alloc, reader, "{\"ConstAssert\":")?;
+            Ok(Statement::ConstAssert(inner))
+        }
+        "Declaration" => {
+            let inner = read_held(alloc, reader, "{\"Declaration\":")?;
+            Ok(Statement::Declaration(inner))
+        }
+        _ => Err(reader.error(FormErrorKind::Expected("a statement"))),
     }
-    if reader.eat("{\"Assignment\":") {
-        let inner = AssignmentStatement::read_form(alloc, reader)?;
-        reader.expect("}")?;
-        return Ok(Statement::Assignment(inner));
-    }
-    if reader.eat("{\"Increment\":") {
-        let inner = IncrementStatement::read_form(alloc, reader)?;
-        reader.expect("}")?;
-        return Ok(Statement::Increment(inner));
-    }
-    if reader.eat("{\"Decrement\":") {
-        let inner = DecrementStatement::read_form(alloc, reader)?;
-        reader.expect("}")?;
-        return Ok(Statement::Decrement(inner));
-    }
-    if reader.eat("{\"Break\":") {
-        let inner = BreakStatement::read_form(alloc, reader)?;
-        reader.expect("}")?;
-        return Ok(Statement::Break(inner));
-    }
-    if reader.eat("{\"Continue\":") {
-        let inner = ContinueStatement::read_form(alloc, reader)?;
-        reader.expect("}")?;
-        return Ok(Statement::Continue(inner));
-    }
-    if reader.eat("{\"Return\":") {
-        let inner = ReturnStatement::read_form(alloc, reader)?;
-        reader.expect("}")?;
-        return Ok(Statement::Return(inner));
-    }
-    if reader.eat("{\"Discard\":") {
-        let inner = DiscardStatement::read_form(alloc, reader)?;
-        reader.expect("}")?;
-        return Ok(Statement::Discard(inner));
-    }
-    if reader.eat("{\"FunctionCall\":") {
-        let inner = FunctionCallStatement::read_form(alloc, reader)?;
-        reader.expect("}")?;
-        return Ok(Statement::FunctionCall(inner));
-    }
-    if reader.eat("{\"ConstAssert\":") {
-        let inner = ConstAssert::read_form(alloc, reader)?;
-        reader.expect("}")?;
-        return Ok(Statement::ConstAssert(inner));
-    }
-    if reader.eat("{\"Declaration\":") {
-        let inner = Declaration::read_form(alloc, reader)?;
-        reader.expect("}")?;
-        return Ok(Statement::Declaration(inner));
-    }
-    Err(reader.error(FormErrorKind::Expected("a statement")))
 }
 
 #[cycle(statements)]
@@ -177,37 +164,45 @@ fn read_statement(alloc: Global, reader: &mut Reader) -> Result<Statement, FormE
         (statement_code (statement_view node))
         reader.old reader.new) }
 {
-    if reader.eat("{\"Compound\":") {
-        let inner = read_compound_statement(alloc, reader)?;
-        reader.expect("}")?;
-        return Ok(Statement::Compound(inner));
+    match reader.next_name() {
+        "Compound" => {
+            reader.expect("{\"Compound\":")?;
+            let inner = read_compound_statement(alloc, reader)?;
+            reader.expect("}")?;
+            Ok(Statement::Compound(inner))
+        }
+        "If" => {
+            reader.expect("{\"If\":")?;
+            let inner = read_if_statement(alloc, reader)?;
+            reader.expect("}")?;
+            Ok(Statement::If(inner))
+        }
+        "Switch" => {
+            reader.expect("{\"Switch\":")?;
+            let inner = read_switch_statement(alloc, reader)?;
+            reader.expect("}")?;
+            Ok(Statement::Switch(inner))
+        }
+        "Loop" => {
+            reader.expect("{\"Loop\":")?;
+            let inner = read_loop_statement(alloc, reader)?;
+            reader.expect("}")?;
+            Ok(Statement::Loop(inner))
+        }
+        "For" => {
+            reader.expect("{\"For\":")?;
+            let inner = read_for_statement(alloc, reader)?;
+            reader.expect("}")?;
+            Ok(Statement::For(inner))
+        }
+        "While" => {
+            reader.expect("{\"While\":")?;
+            let inner = read_while_statement(alloc, reader)?;
+            reader.expect("}")?;
+            Ok(Statement::While(inner))
+        }
+        _ => read_simple_statement(alloc, reader),
     }
-    if reader.eat("{\"If\":") {
-        let inner = read_if_statement(alloc, reader)?;
-        reader.expect("}")?;
-        return Ok(Statement::If(inner));
-    }
-    if reader.eat("{\"Switch\":") {
-        let inner = read_switch_statement(alloc, reader)?;
-        reader.expect("}")?;
-        return Ok(Statement::Switch(inner));
-    }
-    if reader.eat("{\"Loop\":") {
-        let inner = read_loop_statement(alloc, reader)?;
-        reader.expect("}")?;
-        return Ok(Statement::Loop(inner));
-    }
-    if reader.eat("{\"For\":") {
-        let inner = read_for_statement(alloc, reader)?;
-        reader.expect("}")?;
-        return Ok(Statement::For(inner));
-    }
-    if reader.eat("{\"While\":") {
-        let inner = read_while_statement(alloc, reader)?;
-        reader.expect("}")?;
-        return Ok(Statement::While(inner));
-    }
-    read_simple_statement(alloc, reader)
 }
 
 #[cycle(statements)]
@@ -233,8 +228,7 @@ fn read_compound_statement(
         (compound_code (compound_statement_view node))
         reader.old reader.new) }
 {
-    reader.expect("{\"attributes\":")?;
-    let attributes = Attributes::read_form(alloc, reader)?;
+    let attributes = read_field(alloc, reader, "{\"attributes\":")?;
     reader.expect(",\"statements\":")?;
     let statements = read_statement_nodes(alloc, reader)?;
     reader.expect("}")?;
@@ -250,8 +244,7 @@ fn read_if_statement(alloc: Global, reader: &mut Reader) -> Result<IfStatement, 
         (attributed_code if_code (if_statement_view node))
         reader.old reader.new) }
 {
-    reader.expect("{\"attributes\":")?;
-    let attributes = Attributes::read_form(alloc, reader)?;
+    let attributes = read_field(alloc, reader, "{\"attributes\":")?;
     reader.expect(",\"if_clause\":")?;
     let if_clause = read_if_clause(alloc, reader)?;
     reader.expect(",\"else_if_clauses\":")?;
@@ -273,8 +266,7 @@ fn read_if_clause(alloc: Global, reader: &mut Reader) -> Result<IfClause, FormEr
         (if_clause_code (if_clause_view node))
         reader.old reader.new) }
 {
-    reader.expect("{\"expression\":")?;
-    let expression = ExpressionNode::read_form(alloc, reader)?;
+    let expression = read_field(alloc, reader, "{\"expression\":")?;
     reader.expect(",\"body\":")?;
     let body = read_compound_statement(alloc, reader)?;
     reader.expect("}")?;
@@ -287,10 +279,8 @@ fn read_else_if_clause(alloc: Global, reader: &mut Reader) -> Result<ElseIfClaus
         (else_if_clause_code (else_if_clause_view node))
         reader.old reader.new) }
 {
-    reader.expect("{\"attributes\":")?;
-    let attributes = Attributes::read_form(alloc, reader)?;
-    reader.expect(",\"expression\":")?;
-    let expression = ExpressionNode::read_form(alloc, reader)?;
+    let attributes = read_field(alloc, reader, "{\"attributes\":")?;
+    let expression = read_field(alloc, reader, ",\"expression\":")?;
     reader.expect(",\"body\":")?;
     let body = read_compound_statement(alloc, reader)?;
     reader.expect("}")?;
@@ -307,8 +297,7 @@ fn read_else_clause(alloc: Global, reader: &mut Reader) -> Result<ElseClause, Fo
         (else_clause_code (else_clause_view node))
         reader.old reader.new) }
 {
-    reader.expect("{\"attributes\":")?;
-    let attributes = Attributes::read_form(alloc, reader)?;
+    let attributes = read_field(alloc, reader, "{\"attributes\":")?;
     reader.expect(",\"body\":")?;
     let body = read_compound_statement(alloc, reader)?;
     reader.expect("}")?;
@@ -321,12 +310,9 @@ fn read_switch_statement(alloc: Global, reader: &mut Reader) -> Result<SwitchSta
         (attributed_code switch_code (switch_statement_view node))
         reader.old reader.new) }
 {
-    reader.expect("{\"attributes\":")?;
-    let attributes = Attributes::read_form(alloc, reader)?;
-    reader.expect(",\"expression\":")?;
-    let expression = ExpressionNode::read_form(alloc, reader)?;
-    reader.expect(",\"body_attributes\":")?;
-    let body_attributes = Attributes::read_form(alloc, reader)?;
+    let attributes = read_field(alloc, reader, "{\"attributes\":")?;
+    let expression = read_field(alloc, reader, ",\"expression\":")?;
+    let body_attributes = read_field(alloc, reader, ",\"body_attributes\":")?;
     reader.expect(",\"clauses\":")?;
     let clauses = read_switch_clauses(alloc, reader)?;
     reader.expect("}")?;
@@ -344,10 +330,8 @@ fn read_switch_clause(alloc: Global, reader: &mut Reader) -> Result<SwitchClause
         (switch_clause_code (switch_clause_view node))
         reader.old reader.new) }
 {
-    reader.expect("{\"attributes\":")?;
-    let attributes = Attributes::read_form(alloc, reader)?;
-    reader.expect(",\"case_selectors\":")?;
-    let case_selectors = Vec::read_form(alloc, reader)?;
+    let attributes = read_field(alloc, reader, "{\"attributes\":")?;
+    let case_selectors = read_field(alloc, reader, ",\"case_selectors\":")?;
     reader.expect(",\"body\":")?;
     let body = read_compound_statement(alloc, reader)?;
     reader.expect("}")?;
@@ -364,8 +348,7 @@ fn read_loop_statement(alloc: Global, reader: &mut Reader) -> Result<LoopStateme
         (attributed_code loop_code (loop_statement_view node))
         reader.old reader.new) }
 {
-    reader.expect("{\"attributes\":")?;
-    let attributes = Attributes::read_form(alloc, reader)?;
+    let attributes = read_field(alloc, reader, "{\"attributes\":")?;
     reader.expect(",\"body\":")?;
     let body = read_compound_statement(alloc, reader)?;
     reader.expect(",\"continuing\":")?;
@@ -384,12 +367,10 @@ fn read_for_statement(alloc: Global, reader: &mut Reader) -> Result<ForStatement
         (attributed_code for_code (for_statement_view node))
         reader.old reader.new) }
 {
-    reader.expect("{\"attributes\":")?;
-    let attributes = Attributes::read_form(alloc, reader)?;
+    let attributes = read_field(alloc, reader, "{\"attributes\":")?;
     reader.expect(",\"initializer\":")?;
     let initializer = read_optional_statement_node(alloc, reader)?;
-    reader.expect(",\"condition\":")?;
-    let condition = Option::read_form(alloc, reader)?;
+    let condition = read_field(alloc, reader, ",\"condition\":")?;
     reader.expect(",\"update\":")?;
     let update = read_optional_statement_node(alloc, reader)?;
     reader.expect(",\"body\":")?;
@@ -410,10 +391,8 @@ fn read_while_statement(alloc: Global, reader: &mut Reader) -> Result<WhileState
         (attributed_code while_code (while_statement_view node))
         reader.old reader.new) }
 {
-    reader.expect("{\"attributes\":")?;
-    let attributes = Attributes::read_form(alloc, reader)?;
-    reader.expect(",\"condition\":")?;
-    let condition = ExpressionNode::read_form(alloc, reader)?;
+    let attributes = read_field(alloc, reader, "{\"attributes\":")?;
+    let condition = read_field(alloc, reader, ",\"condition\":")?;
     reader.expect(",\"body\":")?;
     let body = read_compound_statement(alloc, reader)?;
     reader.expect("}")?;
@@ -433,12 +412,10 @@ fn read_continuing_statement(
         (continuing_code (continuing_statement_view node))
         reader.old reader.new) }
 {
-    reader.expect("{\"attributes\":")?;
-    let attributes = Attributes::read_form(alloc, reader)?;
+    let attributes = read_field(alloc, reader, "{\"attributes\":")?;
     reader.expect(",\"body\":")?;
     let body = read_compound_statement(alloc, reader)?;
-    reader.expect(",\"break_if\":")?;
-    let break_if = Option::read_form(alloc, reader)?;
+    let break_if = read_field(alloc, reader, ",\"break_if\":")?;
     reader.expect("}")?;
     Ok(ContinuingStatement {
         attributes,

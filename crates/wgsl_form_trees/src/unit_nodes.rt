@@ -8,6 +8,7 @@ ghost use Rattle.wgsl_span.specs.View.{spanned_view};
 ghost use Rattle.wgsl_tree_code.specs.Code.{attributed_code};
 ghost use Rattle.wgsl_tree_unit.specs.View.{diagnostic_directive_view, enable_directive_view, function_view, global_declaration_view, global_directive_view, member_view, parameter_view, requires_directive_view, struct_view, type_alias_view, unit_view};
 
+use crate::part::{read_field, read_held};
 use crate::traits::FromForm;
 use std::alloc::Global;
 use wgsl_form_reader::{FormError, FormErrorKind, Reader};
@@ -26,10 +27,8 @@ impl FromForm for TranslationUnit {
     ghost code = { unit_code };
 
     fn read_form(alloc: Global, reader: &mut Reader) -> Result<Self, FormError> {
-        reader.expect("{\"global_directives\":")?;
-        let global_directives = FromForm::read_form(alloc, reader)?;
-        reader.expect(",\"global_declarations\":")?;
-        let global_declarations = FromForm::read_form(alloc, reader)?;
+        let global_directives = read_field(alloc, reader, "{\"global_directives\":")?;
+        let global_declarations = read_field(alloc, reader, ",\"global_declarations\":")?;
         reader.expect("}")?;
         Ok(TranslationUnit {
             global_directives,
@@ -46,22 +45,21 @@ impl FromForm for GlobalDirective {
     ghost code = { global_directive_code };
 
     fn read_form(alloc: Global, reader: &mut Reader) -> Result<Self, FormError> {
-        if reader.eat("{\"Diagnostic\":") {
-            let inner = FromForm::read_form(alloc, reader)?;
-            reader.expect("}")?;
-            return Ok(GlobalDirective::Diagnostic(inner));
+        match reader.next_name() {
+            "Diagnostic" => {
+                let inner = read_held(alloc, reader, "{\"Diagnostic\":")?;
+                Ok(GlobalDirective::Diagnostic(inner))
+            }
+            "Enable" => {
+                let inner = read_held(alloc, reader, "{\"Enable\":")?;
+                Ok(GlobalDirective::Enable(inner))
+            }
+            "Requires" => {
+                let inner = read_held(alloc, reader, "{\"Requires\":")?;
+                Ok(GlobalDirective::Requires(inner))
+            }
+            _ => Err(reader.error(FormErrorKind::Expected("a `GlobalDirective`"))),
         }
-        if reader.eat("{\"Enable\":") {
-            let inner = FromForm::read_form(alloc, reader)?;
-            reader.expect("}")?;
-            return Ok(GlobalDirective::Enable(inner));
-        }
-        if reader.eat("{\"Requires\":") {
-            let inner = FromForm::read_form(alloc, reader)?;
-            reader.expect("}")?;
-            return Ok(GlobalDirective::Requires(inner));
-        }
-        Err(reader.error(FormErrorKind::Expected("a `GlobalDirective`")))
     }
 }
 
@@ -73,35 +71,33 @@ impl FromForm for GlobalDeclaration {
     ghost code = { global_declaration_code };
 
     fn read_form(alloc: Global, reader: &mut Reader) -> Result<Self, FormError> {
-        if reader.eat("\"Void\"") {
-            return Ok(GlobalDeclaration::Void);
+        match reader.next_name() {
+            "Void" => {
+                reader.expect("\"Void\"")?;
+                Ok(GlobalDeclaration::Void)
+            }
+            "Declaration" => {
+                let inner = read_held(alloc, reader, "{\"Declaration\":")?;
+                Ok(GlobalDeclaration::Declaration(inner))
+            }
+            "TypeAlias" => {
+                let inner = read_held(alloc, reader, "{\"TypeAlias\":")?;
+                Ok(GlobalDeclaration::TypeAlias(inner))
+            }
+            "Struct" => {
+                let inner = read_held(alloc, reader, "{\"Struct\":")?;
+                Ok(GlobalDeclaration::Struct(inner))
+            }
+            "Function" => {
+                let inner = read_held(alloc, reader, "{\"Function\":")?;
+                Ok(GlobalDeclaration::Function(inner))
+            }
+            "ConstAssert" => {
+                let inner = read_held(alloc, reader, "{\"ConstAssert\":")?;
+                Ok(GlobalDeclaration::ConstAssert(inner))
+            }
+            _ => Err(reader.error(FormErrorKind::Expected("a `GlobalDeclaration`"))),
         }
-        if reader.eat("{\"Declaration\":") {
-            let inner = FromForm::read_form(alloc, reader)?;
-            reader.expect("}")?;
-            return Ok(GlobalDeclaration::Declaration(inner));
-        }
-        if reader.eat("{\"TypeAlias\":") {
-            let inner = FromForm::read_form(alloc, reader)?;
-            reader.expect("}")?;
-            return Ok(GlobalDeclaration::TypeAlias(inner));
-        }
-        if reader.eat("{\"Struct\":") {
-            let inner = FromForm::read_form(alloc, reader)?;
-            reader.expect("}")?;
-            return Ok(GlobalDeclaration::Struct(inner));
-        }
-        if reader.eat("{\"Function\":") {
-            let inner = FromForm::read_form(alloc, reader)?;
-            reader.expect("}")?;
-            return Ok(GlobalDeclaration::Function(inner));
-        }
-        if reader.eat("{\"ConstAssert\":") {
-            let inner = FromForm::read_form(alloc, reader)?;
-            reader.expect("}")?;
-            return Ok(GlobalDeclaration::ConstAssert(inner));
-        }
-        Err(reader.error(FormErrorKind::Expected("a `GlobalDeclaration`")))
     }
 }
 
@@ -130,12 +126,9 @@ impl FromForm for DiagnosticDirective {
     ghost code = { attributed_code diagnostic_directive_code };
 
     fn read_form(alloc: Global, reader: &mut Reader) -> Result<Self, FormError> {
-        reader.expect("{\"attributes\":")?;
-        let attributes = FromForm::read_form(alloc, reader)?;
-        reader.expect(",\"severity\":")?;
-        let severity = FromForm::read_form(alloc, reader)?;
-        reader.expect(",\"rule_name\":")?;
-        let rule_name = FromForm::read_form(alloc, reader)?;
+        let attributes = read_field(alloc, reader, "{\"attributes\":")?;
+        let severity = read_field(alloc, reader, ",\"severity\":")?;
+        let rule_name = read_field(alloc, reader, ",\"rule_name\":")?;
         reader.expect("}")?;
         Ok(DiagnosticDirective {
             attributes,
@@ -153,10 +146,8 @@ impl FromForm for EnableDirective {
     ghost code = { attributed_code enable_directive_code };
 
     fn read_form(alloc: Global, reader: &mut Reader) -> Result<Self, FormError> {
-        reader.expect("{\"attributes\":")?;
-        let attributes = FromForm::read_form(alloc, reader)?;
-        reader.expect(",\"extensions\":")?;
-        let extensions = FromForm::read_form(alloc, reader)?;
+        let attributes = read_field(alloc, reader, "{\"attributes\":")?;
+        let extensions = read_field(alloc, reader, ",\"extensions\":")?;
         reader.expect("}")?;
         Ok(EnableDirective {
             attributes,
@@ -173,10 +164,8 @@ impl FromForm for RequiresDirective {
     ghost code = { attributed_code requires_directive_code };
 
     fn read_form(alloc: Global, reader: &mut Reader) -> Result<Self, FormError> {
-        reader.expect("{\"attributes\":")?;
-        let attributes = FromForm::read_form(alloc, reader)?;
-        reader.expect(",\"extensions\":")?;
-        let extensions = FromForm::read_form(alloc, reader)?;
+        let attributes = read_field(alloc, reader, "{\"attributes\":")?;
+        let extensions = read_field(alloc, reader, ",\"extensions\":")?;
         reader.expect("}")?;
         Ok(RequiresDirective {
             attributes,
@@ -193,12 +182,9 @@ impl FromForm for Struct {
     ghost code = { attributed_code struct_code };
 
     fn read_form(alloc: Global, reader: &mut Reader) -> Result<Self, FormError> {
-        reader.expect("{\"attributes\":")?;
-        let attributes = FromForm::read_form(alloc, reader)?;
-        reader.expect(",\"ident\":")?;
-        let ident = FromForm::read_form(alloc, reader)?;
-        reader.expect(",\"members\":")?;
-        let members = FromForm::read_form(alloc, reader)?;
+        let attributes = read_field(alloc, reader, "{\"attributes\":")?;
+        let ident = read_field(alloc, reader, ",\"ident\":")?;
+        let members = read_field(alloc, reader, ",\"members\":")?;
         reader.expect("}")?;
         Ok(Struct {
             attributes,
@@ -216,12 +202,9 @@ impl FromForm for StructMember {
     ghost code = { member_code };
 
     fn read_form(alloc: Global, reader: &mut Reader) -> Result<Self, FormError> {
-        reader.expect("{\"attributes\":")?;
-        let attributes = FromForm::read_form(alloc, reader)?;
-        reader.expect(",\"ident\":")?;
-        let ident = FromForm::read_form(alloc, reader)?;
-        reader.expect(",\"ty\":")?;
-        let ty = FromForm::read_form(alloc, reader)?;
+        let attributes = read_field(alloc, reader, "{\"attributes\":")?;
+        let ident = read_field(alloc, reader, ",\"ident\":")?;
+        let ty = read_field(alloc, reader, ",\"ty\":")?;
         reader.expect("}")?;
         Ok(StructMember {
             attributes,
@@ -256,12 +239,9 @@ impl FromForm for TypeAlias {
     ghost code = { attributed_code type_alias_code };
 
     fn read_form(alloc: Global, reader: &mut Reader) -> Result<Self, FormError> {
-        reader.expect("{\"attributes\":")?;
-        let attributes = FromForm::read_form(alloc, reader)?;
-        reader.expect(",\"ident\":")?;
-        let ident = FromForm::read_form(alloc, reader)?;
-        reader.expect(",\"ty\":")?;
-        let ty = FromForm::read_form(alloc, reader)?;
+        let attributes = read_field(alloc, reader, "{\"attributes\":")?;
+        let ident = read_field(alloc, reader, ",\"ident\":")?;
+        let ty = read_field(alloc, reader, ",\"ty\":")?;
         reader.expect("}")?;
         Ok(TypeAlias {
             attributes,
@@ -279,18 +259,12 @@ impl FromForm for Function {
     ghost code = { attributed_code function_code };
 
     fn read_form(alloc: Global, reader: &mut Reader) -> Result<Self, FormError> {
-        reader.expect("{\"attributes\":")?;
-        let attributes = FromForm::read_form(alloc, reader)?;
-        reader.expect(",\"ident\":")?;
-        let ident = FromForm::read_form(alloc, reader)?;
-        reader.expect(",\"parameters\":")?;
-        let parameters = FromForm::read_form(alloc, reader)?;
-        reader.expect(",\"return_attributes\":")?;
-        let return_attributes = FromForm::read_form(alloc, reader)?;
-        reader.expect(",\"return_type\":")?;
-        let return_type = FromForm::read_form(alloc, reader)?;
-        reader.expect(",\"body\":")?;
-        let body = FromForm::read_form(alloc, reader)?;
+        let attributes = read_field(alloc, reader, "{\"attributes\":")?;
+        let ident = read_field(alloc, reader, ",\"ident\":")?;
+        let parameters = read_field(alloc, reader, ",\"parameters\":")?;
+        let return_attributes = read_field(alloc, reader, ",\"return_attributes\":")?;
+        let return_type = read_field(alloc, reader, ",\"return_type\":")?;
+        let body = read_field(alloc, reader, ",\"body\":")?;
         reader.expect("}")?;
         Ok(Function {
             attributes,
@@ -311,12 +285,9 @@ impl FromForm for FormalParameter {
     ghost code = { parameter_code };
 
     fn read_form(alloc: Global, reader: &mut Reader) -> Result<Self, FormError> {
-        reader.expect("{\"attributes\":")?;
-        let attributes = FromForm::read_form(alloc, reader)?;
-        reader.expect(",\"ident\":")?;
-        let ident = FromForm::read_form(alloc, reader)?;
-        reader.expect(",\"ty\":")?;
-        let ty = FromForm::read_form(alloc, reader)?;
+        let attributes = read_field(alloc, reader, "{\"attributes\":")?;
+        let ident = read_field(alloc, reader, ",\"ident\":")?;
+        let ty = read_field(alloc, reader, ",\"ty\":")?;
         reader.expect("}")?;
         Ok(FormalParameter {
             attributes,

@@ -17,26 +17,6 @@ use wgsl_tree_simple::{
     FunctionCallStatement, IncrementStatement, ReturnStatement,
 };
 
-impl Form for DeclarationKind {
-    ghost Plain = { plain_statements.DeclarationKind };
-
-    ghost view = { declaration_kind_view };
-
-    ghost code = { declaration_kind_code };
-
-    fn write_form<W: fmt::Write>(&self, f: &mut fmt::Formatter<W>) -> fmt::Result {
-        match self {
-            DeclarationKind::Const => f.write_str("\"Const\""),
-            DeclarationKind::Override => f.write_str("\"Override\""),
-            DeclarationKind::Let => f.write_str("\"Let\""),
-            DeclarationKind::Var(inner) => {
-                let inner = Formed(inner);
-                write!(f, "{{\"Var\":{inner}}}")
-            }
-        }
-    }
-}
-
 impl Form for Declaration {
     ghost Plain = { Attributed plain_statements.Declaration };
 
@@ -58,6 +38,26 @@ impl Form for Declaration {
             \"ty\":{ty},\
             \"initializer\":{initializer}}}"
         )
+    }
+}
+
+impl Form for DeclarationKind {
+    ghost Plain = { plain_statements.DeclarationKind };
+
+    ghost view = { declaration_kind_view };
+
+    ghost code = { declaration_kind_code };
+
+    fn write_form<W: fmt::Write>(&self, f: &mut fmt::Formatter<W>) -> fmt::Result {
+        match self {
+            DeclarationKind::Const => f.write_str("\"Const\""),
+            DeclarationKind::Override => f.write_str("\"Override\""),
+            DeclarationKind::Let => f.write_str("\"Let\""),
+            DeclarationKind::Var(inner) => {
+                let inner = Formed(inner);
+                write!(f, "{{\"Var\":{inner}}}")
+            }
+        }
     }
 }
 
@@ -111,6 +111,24 @@ impl Form for DecrementStatement {
             f,
             "{{\"attributes\":{attributes},\"expression\":{expression}}}"
         )
+    }
+}
+
+impl Form for CaseSelector {
+    ghost Plain = { plain_statements.CaseSelector };
+
+    ghost view = { selector_view };
+
+    ghost code = { selector_code };
+
+    fn write_form<W: fmt::Write>(&self, f: &mut fmt::Formatter<W>) -> fmt::Result {
+        match self {
+            CaseSelector::Default => f.write_str("\"Default\""),
+            CaseSelector::Expression(inner) => {
+                let inner = Formed(inner);
+                write!(f, "{{\"Expression\":{inner}}}")
+            }
+        }
     }
 }
 
@@ -215,23 +233,5 @@ impl Form for ConstAssert {
             f,
             "{{\"attributes\":{attributes},\"expression\":{expression}}}"
         )
-    }
-}
-
-impl Form for CaseSelector {
-    ghost Plain = { plain_statements.CaseSelector };
-
-    ghost view = { selector_view };
-
-    ghost code = { selector_code };
-
-    fn write_form<W: fmt::Write>(&self, f: &mut fmt::Formatter<W>) -> fmt::Result {
-        match self {
-            CaseSelector::Default => f.write_str("\"Default\""),
-            CaseSelector::Expression(inner) => {
-                let inner = Formed(inner);
-                write!(f, "{{\"Expression\":{inner}}}")
-            }
-        }
     }
 }

@@ -9,9 +9,6 @@ use Rattle.wgsl_form_trees.proofs.statement_nodes.+statements.Given as goal
 abbrev pub decreases-read_statement : goal.decreases-read_statement
 decreases-read_statement l = 2 * length (rest l.reader.now)
 
-abbrev pub decreases-read_statement_node : goal.decreases-read_statement_node
-decreases-read_statement_node l = 2 * length (rest l.reader.now)
-
 abbrev pub decreases-read_compound_statement : goal.decreases-read_compound_statement
 decreases-read_compound_statement l = 2 * length (rest l.reader.now)
 
@@ -44,6 +41,9 @@ decreases-read_while_statement l = 2 * length (rest l.reader.now)
 
 abbrev pub decreases-read_continuing_statement : goal.decreases-read_continuing_statement
 decreases-read_continuing_statement l = 2 * length (rest l.reader.now)
+
+abbrev pub decreases-read_statement_node : goal.decreases-read_statement_node
+decreases-read_statement_node l = 2 * length (rest l.reader.now)
 
 abbrev pub decreases-read_statement_nodes : goal.decreases-read_statement_nodes
 decreases-read_statement_nodes l = 2 * length (rest l.reader.now)

@@ -1,20 +1,21 @@
+-- Written by tools/statement_forms.py from crates/wgsl_model/nodes: invariants.
 use Rattle.std.proofs.Common.{take, codes, ◌≡◌}
-use Rattle.std.specs.List.{join_by}
 use Rattle.std.specs.Fmt.{HasWritten, IsPlainFormatter}
 use Rattle.wgsl_writer.proofs.Joins.{before}
-use Rattle.wgsl_tree_form.proofs.Statements.{node_text, else_if_text, clause_text}
+use Rattle.wgsl_tree_code.specs.StatementNodes.{else_if_clause_code, statement_node_code, switch_clause_code}
+use Rattle.wgsl_tree_statement.specs.View.{else_if_clause_view, statement_node_view, switch_clause_view}
+use Rattle.wgsl_tree_form.proofs.Statements.{joined}
 use Rattle.wgsl_tree_form.proofs.statement_nodes.+statements.Given as goal
 use denote.Shadow.{shadow}
 use denote.Text.{Utf8}
 
--- what is written of the items so far
 abbrev pub invariant-write_compound_statement-statements :
     goal.invariant-write_compound_statement-statements
 invariant-write_compound_statement-statements g l =
     (l.before ≡ before (codes ",") l.item-index)
     × shadow (Utf8 l.before)
     × (IsPlainFormatter l.initial.f → HasWritten g.W.Write.write_str_gives l.initial.f
-    (join_by node_text (codes ",") (take l.item-index l.item-items)) l.f)
+    (joined (λ node. statement_node_code (statement_node_view node)) (take l.item-index l.item-items)) l.f)
 
 abbrev pub invariant-write_if_statement-else_if_clauses :
     goal.invariant-write_if_statement-else_if_clauses
@@ -22,11 +23,12 @@ invariant-write_if_statement-else_if_clauses g l =
     (l.before ≡ before (codes ",") l.item-index)
     × shadow (Utf8 l.before)
     × (IsPlainFormatter l.initial.f → HasWritten g.W.Write.write_str_gives l.initial.f
-    (join_by else_if_text (codes ",") (take l.item-index l.item-items)) l.f)
+    (joined (λ node. else_if_clause_code (else_if_clause_view node)) (take l.item-index l.item-items)) l.f)
 
-abbrev pub invariant-write_switch_statement-clauses : goal.invariant-write_switch_statement-clauses
+abbrev pub invariant-write_switch_statement-clauses :
+    goal.invariant-write_switch_statement-clauses
 invariant-write_switch_statement-clauses g l =
     (l.before ≡ before (codes ",") l.item-index)
     × shadow (Utf8 l.before)
     × (IsPlainFormatter l.initial.f → HasWritten g.W.Write.write_str_gives l.initial.f
-    (join_by clause_text (codes ",") (take l.item-index l.item-items)) l.f)
+    (joined (λ node. switch_clause_code (switch_clause_view node)) (take l.item-index l.item-items)) l.f)

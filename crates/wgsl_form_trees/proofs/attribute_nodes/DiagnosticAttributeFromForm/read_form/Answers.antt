@@ -1,10 +1,10 @@
 -- Written by tools/form_readers.py from crates/wgsl_model/nodes: a proof.
-use Rattle.std.proofs.Common.{[], codes, refl, ◌∷◌}
-use Rattle.wgsl_form_trees.proofs.Rows.{first, last, next, node_read}
 use Rattle.wgsl_tree_code.specs.Code.{fields_of, text}
 use Rattle.wgsl_tree_code.specs.WordNodes.{diagnostic_severity_code}
 use Rattle.wgsl_tree_words.specs.View.{severity_view}
 use Rattle.std.specs.Prelude.{string_bytes}
+use Rattle.std.proofs.Common.{[], codes, refl, ◌∷◌}
+use Rattle.wgsl_form_trees.proofs.Rows.{first, last, next, node_read}
 use Rattle.wgsl_form_trees.proofs.attribute_nodes.DiagnosticAttributeFromForm.read_form.Goals as goal
 
 pub returns : goal.returns
@@ -15,6 +15,6 @@ returns c =
     (codes "severity", c0) ∷
     (codes "rule", c1) ∷
     [])} refl
-    (first c.in_ok-expect.ensures c.in_ok-severity.ensures
-    (next c.in_ok-expect-2.ensures c.in_ok-rule.ensures
-    (last c.in_ok-expect-3.ensures)))
+    (first c.in_ok-severity.ensures
+    (next c.in_ok-rule.ensures
+    (last c.in_ok-expect.ensures)))

@@ -1,10 +1,10 @@
 -- Written by tools/form_readers.py from crates/wgsl_model/nodes: a proof.
-use Rattle.std.proofs.Common.{[], codes, refl, ◌∷◌}
-use Rattle.wgsl_form_trees.proofs.Rows.{first, last, next, node_read}
 use Rattle.wgsl_tree_code.specs.Code.{fields_of, optional}
 use Rattle.wgsl_tree_code.specs.WordNodes.{interpolation_sampling_code, interpolation_type_code}
 use Rattle.wgsl_tree_words.specs.View.{interpolation_sampling_view, interpolation_type_view}
 use Rattle.std.specs.Option.{option_map}
+use Rattle.std.proofs.Common.{[], codes, refl, ◌∷◌}
+use Rattle.wgsl_form_trees.proofs.Rows.{first, last, next, node_read}
 use Rattle.wgsl_form_trees.proofs.attribute_nodes.InterpolateAttributeFromForm.read_form.Goals as goal
 
 pub returns : goal.returns
@@ -15,6 +15,6 @@ returns c =
     (codes "ty", c0) ∷
     (codes "sampling", c1) ∷
     [])} refl
-    (first c.in_ok-expect.ensures c.in_ok-ty.ensures
-    (next c.in_ok-expect-2.ensures c.in_ok-sampling.ensures
-    (last c.in_ok-expect-3.ensures)))
+    (first c.in_ok-ty.ensures
+    (next c.in_ok-sampling.ensures
+    (last c.in_ok-expect.ensures)))

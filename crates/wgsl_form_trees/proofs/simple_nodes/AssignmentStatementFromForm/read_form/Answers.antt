@@ -1,6 +1,4 @@
 -- Written by tools/form_readers.py from crates/wgsl_model/nodes: a proof.
-use Rattle.std.proofs.Common.{[], codes, refl, ◌∷◌}
-use Rattle.wgsl_form_trees.proofs.Rows.{first, last, next, node_read}
 use Rattle.wgsl_tree_code.specs.Code.{fields_of, list_of}
 use Rattle.wgsl_tree_code.specs.AttributeNodes.{attribute_node_code}
 use Rattle.wgsl_tree_attribute.specs.View.{attribute_view}
@@ -10,6 +8,8 @@ use Rattle.wgsl_tree_code.specs.OperatorNodes.{assignment_operator_code}
 use Rattle.wgsl_tree_words.specs.View.{assignment_operator_view}
 use Rattle.wgsl_tree_code.specs.ExpressionNodes.{expression_node_code}
 use Rattle.wgsl_tree_expression.specs.View.{expression_node_view}
+use Rattle.std.proofs.Common.{[], codes, refl, ◌∷◌}
+use Rattle.wgsl_form_trees.proofs.Rows.{first, last, next, node_read}
 use Rattle.wgsl_form_trees.proofs.simple_nodes.AssignmentStatementFromForm.read_form.Goals as goal
 
 pub returns : goal.returns
@@ -24,8 +24,8 @@ returns c =
     (codes "lhs", c2) ∷
     (codes "rhs", c3) ∷
     [])} refl
-    (first c.in_ok-expect.ensures c.in_ok-attributes.ensures
-    (next c.in_ok-expect-2.ensures c.in_ok-operator.ensures
-    (next c.in_ok-expect-3.ensures c.in_ok-lhs.ensures
-    (next c.in_ok-expect-4.ensures c.in_ok-rhs.ensures
-    (last c.in_ok-expect-5.ensures)))))
+    (first c.in_ok-attributes.ensures
+    (next c.in_ok-operator.ensures
+    (next c.in_ok-lhs.ensures
+    (next c.in_ok-rhs.ensures
+    (last c.in_ok-expect.ensures)))))

@@ -1,6 +1,4 @@
 -- Written by tools/form_readers.py from crates/wgsl_model/nodes: a proof.
-use Rattle.std.proofs.Common.{[], codes, refl, ◌∷◌}
-use Rattle.wgsl_form_trees.proofs.Rows.{first, last, next, node_read}
 use Rattle.wgsl_tree_code.specs.Code.{fields_of, list_of, optional, text}
 use Rattle.wgsl_tree_code.specs.AttributeNodes.{attribute_node_code}
 use Rattle.wgsl_tree_attribute.specs.View.{attribute_view}
@@ -11,6 +9,8 @@ use Rattle.wgsl_tree_simple.specs.View.{declaration_kind_view}
 use Rattle.wgsl_tree_expression.specs.View.{expression_node_view, ident_name, type_expression_view}
 use Rattle.wgsl_tree_code.specs.ExpressionNodes.{expression_node_code, type_code}
 use Rattle.std.specs.Option.{option_map}
+use Rattle.std.proofs.Common.{[], codes, refl, ◌∷◌}
+use Rattle.wgsl_form_trees.proofs.Rows.{first, last, next, node_read}
 use Rattle.wgsl_form_trees.proofs.simple_nodes.DeclarationFromForm.read_form.Goals as goal
 
 pub returns : goal.returns
@@ -27,9 +27,9 @@ returns c =
     (codes "ty", c3) ∷
     (codes "initializer", c4) ∷
     [])} refl
-    (first c.in_ok-expect.ensures c.in_ok-attributes.ensures
-    (next c.in_ok-expect-2.ensures c.in_ok-kind.ensures
-    (next c.in_ok-expect-3.ensures c.in_ok-ident.ensures
-    (next c.in_ok-expect-4.ensures c.in_ok-ty.ensures
-    (next c.in_ok-expect-5.ensures c.in_ok-initializer.ensures
-    (last c.in_ok-expect-6.ensures))))))
+    (first c.in_ok-attributes.ensures
+    (next c.in_ok-kind.ensures
+    (next c.in_ok-ident.ensures
+    (next c.in_ok-ty.ensures
+    (next c.in_ok-initializer.ensures
+    (last c.in_ok-expect.ensures))))))

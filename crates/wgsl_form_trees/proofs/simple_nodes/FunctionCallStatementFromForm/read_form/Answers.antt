@@ -1,6 +1,4 @@
 -- Written by tools/form_readers.py from crates/wgsl_model/nodes: a proof.
-use Rattle.std.proofs.Common.{[], codes, refl, ◌∷◌}
-use Rattle.wgsl_form_trees.proofs.Rows.{first, last, next, node_read}
 use Rattle.wgsl_tree_code.specs.Code.{fields_of, list_of}
 use Rattle.wgsl_tree_code.specs.AttributeNodes.{attribute_node_code}
 use Rattle.wgsl_tree_attribute.specs.View.{attribute_view}
@@ -8,6 +6,8 @@ use Rattle.wgsl_span.specs.View.{spanned_view}
 use Rattle.std.specs.Prelude.{map}
 use Rattle.wgsl_tree_code.specs.ExpressionNodes.{call_code}
 use Rattle.wgsl_tree_expression.specs.View.{function_call_view}
+use Rattle.std.proofs.Common.{[], codes, refl, ◌∷◌}
+use Rattle.wgsl_form_trees.proofs.Rows.{first, last, next, node_read}
 use Rattle.wgsl_form_trees.proofs.simple_nodes.FunctionCallStatementFromForm.read_form.Goals as goal
 
 pub returns : goal.returns
@@ -18,6 +18,6 @@ returns c =
     (codes "attributes", c0) ∷
     (codes "call", c1) ∷
     [])} refl
-    (first c.in_ok-expect.ensures c.in_ok-attributes.ensures
-    (next c.in_ok-expect-2.ensures c.in_ok-call.ensures
-    (last c.in_ok-expect-3.ensures)))
+    (first c.in_ok-attributes.ensures
+    (next c.in_ok-call.ensures
+    (last c.in_ok-expect.ensures)))

@@ -1,6 +1,4 @@
 -- Written by tools/form_readers.py from crates/wgsl_model/nodes: a proof.
-use Rattle.std.proofs.Common.{[], codes, refl, ◌∷◌}
-use Rattle.wgsl_form_trees.proofs.Rows.{first, last, next, node_read}
 use Rattle.wgsl_tree_code.specs.Code.{fields_of, list_of, optional}
 use Rattle.wgsl_tree_code.specs.AttributeNodes.{attribute_node_code}
 use Rattle.wgsl_tree_attribute.specs.View.{attribute_view}
@@ -9,6 +7,8 @@ use Rattle.std.specs.Prelude.{map}
 use Rattle.wgsl_tree_code.specs.ExpressionNodes.{expression_node_code}
 use Rattle.wgsl_tree_expression.specs.View.{expression_node_view}
 use Rattle.std.specs.Option.{option_map}
+use Rattle.std.proofs.Common.{[], codes, refl, ◌∷◌}
+use Rattle.wgsl_form_trees.proofs.Rows.{first, last, next, node_read}
 use Rattle.wgsl_form_trees.proofs.simple_nodes.ReturnStatementFromForm.read_form.Goals as goal
 
 pub returns : goal.returns
@@ -19,6 +19,6 @@ returns c =
     (codes "attributes", c0) ∷
     (codes "expression", c1) ∷
     [])} refl
-    (first c.in_ok-expect.ensures c.in_ok-attributes.ensures
-    (next c.in_ok-expect-2.ensures c.in_ok-expression.ensures
-    (last c.in_ok-expect-3.ensures)))
+    (first c.in_ok-attributes.ensures
+    (next c.in_ok-expression.ensures
+    (last c.in_ok-expect.ensures)))

@@ -1,6 +1,4 @@
 -- Written by tools/form_readers.py from crates/wgsl_model/nodes: a proof.
-use Rattle.std.proofs.Common.{[], codes, refl, ◌∷◌}
-use Rattle.wgsl_form_trees.proofs.Rows.{first, last, next, node_read}
 use Rattle.wgsl_tree_code.specs.Code.{fields_of, list_of, text}
 use Rattle.wgsl_tree_code.specs.AttributeNodes.{attribute_node_code}
 use Rattle.wgsl_tree_attribute.specs.View.{attribute_view}
@@ -8,6 +6,8 @@ use Rattle.wgsl_span.specs.View.{spanned_view}
 use Rattle.std.specs.Prelude.{map}
 use Rattle.wgsl_tree_expression.specs.View.{ident_name, type_expression_view}
 use Rattle.wgsl_tree_code.specs.ExpressionNodes.{type_code}
+use Rattle.std.proofs.Common.{[], codes, refl, ◌∷◌}
+use Rattle.wgsl_form_trees.proofs.Rows.{first, last, next, node_read}
 use Rattle.wgsl_form_trees.proofs.unit_nodes.FormalParameterFromForm.read_form.Goals as goal
 
 pub returns : goal.returns
@@ -20,7 +20,7 @@ returns c =
     (codes "ident", c1) ∷
     (codes "ty", c2) ∷
     [])} refl
-    (first c.in_ok-expect.ensures c.in_ok-attributes.ensures
-    (next c.in_ok-expect-2.ensures c.in_ok-ident.ensures
-    (next c.in_ok-expect-3.ensures c.in_ok-ty.ensures
-    (last c.in_ok-expect-4.ensures))))
+    (first c.in_ok-attributes.ensures
+    (next c.in_ok-ident.ensures
+    (next c.in_ok-ty.ensures
+    (last c.in_ok-expect.ensures))))

@@ -1,6 +1,4 @@
 -- Written by tools/form_readers.py from crates/wgsl_model/nodes: a proof.
-use Rattle.std.proofs.Common.{[], codes, refl, ◌∷◌}
-use Rattle.wgsl_form_trees.proofs.Rows.{first, last, next, node_read}
 use Rattle.wgsl_tree_code.specs.Code.{fields_of, list_of, optional, text}
 use Rattle.wgsl_tree_code.specs.AttributeNodes.{attribute_node_code}
 use Rattle.wgsl_tree_attribute.specs.View.{attribute_view}
@@ -13,6 +11,8 @@ use Rattle.wgsl_tree_code.specs.ExpressionNodes.{type_code}
 use Rattle.std.specs.Option.{option_map}
 use Rattle.wgsl_tree_code.specs.StatementNodes.{compound_code}
 use Rattle.wgsl_tree_statement.specs.View.{compound_statement_view}
+use Rattle.std.proofs.Common.{[], codes, refl, ◌∷◌}
+use Rattle.wgsl_form_trees.proofs.Rows.{first, last, next, node_read}
 use Rattle.wgsl_form_trees.proofs.unit_nodes.FunctionFromForm.read_form.Goals as goal
 
 pub returns : goal.returns
@@ -32,10 +32,10 @@ returns c =
     (codes "return_type", c4) ∷
     (codes "body", c5) ∷
     [])} refl
-    (first c.in_ok-expect.ensures c.in_ok-attributes.ensures
-    (next c.in_ok-expect-2.ensures c.in_ok-ident.ensures
-    (next c.in_ok-expect-3.ensures c.in_ok-parameters.ensures
-    (next c.in_ok-expect-4.ensures c.in_ok-return_attributes.ensures
-    (next c.in_ok-expect-5.ensures c.in_ok-return_type.ensures
-    (next c.in_ok-expect-6.ensures c.in_ok-body.ensures
-    (last c.in_ok-expect-7.ensures)))))))
+    (first c.in_ok-attributes.ensures
+    (next c.in_ok-ident.ensures
+    (next c.in_ok-parameters.ensures
+    (next c.in_ok-return_attributes.ensures
+    (next c.in_ok-return_type.ensures
+    (next c.in_ok-body.ensures
+    (last c.in_ok-expect.ensures)))))))

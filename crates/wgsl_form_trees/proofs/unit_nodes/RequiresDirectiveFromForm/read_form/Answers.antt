@@ -1,11 +1,11 @@
 -- Written by tools/form_readers.py from crates/wgsl_model/nodes: a proof.
-use Rattle.std.proofs.Common.{[], codes, refl, ◌∷◌}
-use Rattle.wgsl_form_trees.proofs.Rows.{first, last, next, node_read}
 use Rattle.wgsl_tree_code.specs.Code.{fields_of, list_of, text}
 use Rattle.wgsl_tree_code.specs.AttributeNodes.{attribute_node_code}
 use Rattle.wgsl_tree_attribute.specs.View.{attribute_view}
 use Rattle.wgsl_span.specs.View.{spanned_view}
 use Rattle.std.specs.Prelude.{map, string_bytes}
+use Rattle.std.proofs.Common.{[], codes, refl, ◌∷◌}
+use Rattle.wgsl_form_trees.proofs.Rows.{first, last, next, node_read}
 use Rattle.wgsl_form_trees.proofs.unit_nodes.RequiresDirectiveFromForm.read_form.Goals as goal
 
 pub returns : goal.returns
@@ -16,6 +16,6 @@ returns c =
     (codes "attributes", c0) ∷
     (codes "extensions", c1) ∷
     [])} refl
-    (first c.in_ok-expect.ensures c.in_ok-attributes.ensures
-    (next c.in_ok-expect-2.ensures c.in_ok-extensions.ensures
-    (last c.in_ok-expect-3.ensures)))
+    (first c.in_ok-attributes.ensures
+    (next c.in_ok-extensions.ensures
+    (last c.in_ok-expect.ensures)))

@@ -1,6 +1,4 @@
 -- Written by tools/form_readers.py from crates/wgsl_model/nodes: a proof.
-use Rattle.std.proofs.Common.{[], codes, refl, ◌∷◌}
-use Rattle.wgsl_form_trees.proofs.Rows.{first, last, next, node_read}
 use Rattle.wgsl_tree_code.specs.Code.{fields_of, list_of, text}
 use Rattle.wgsl_tree_code.specs.AttributeNodes.{attribute_node_code}
 use Rattle.wgsl_tree_attribute.specs.View.{attribute_view}
@@ -9,6 +7,8 @@ use Rattle.std.specs.Prelude.{map}
 use Rattle.wgsl_tree_expression.specs.View.{ident_name}
 use Rattle.wgsl_tree_code.specs.UnitNodes.{struct_member_node_code}
 use Rattle.wgsl_tree_unit.specs.View.{member_view}
+use Rattle.std.proofs.Common.{[], codes, refl, ◌∷◌}
+use Rattle.wgsl_form_trees.proofs.Rows.{first, last, next, node_read}
 use Rattle.wgsl_form_trees.proofs.unit_nodes.StructFromForm.read_form.Goals as goal
 
 pub returns : goal.returns
@@ -21,7 +21,7 @@ returns c =
     (codes "ident", c1) ∷
     (codes "members", c2) ∷
     [])} refl
-    (first c.in_ok-expect.ensures c.in_ok-attributes.ensures
-    (next c.in_ok-expect-2.ensures c.in_ok-ident.ensures
-    (next c.in_ok-expect-3.ensures c.in_ok-members.ensures
-    (last c.in_ok-expect-4.ensures))))
+    (first c.in_ok-attributes.ensures
+    (next c.in_ok-ident.ensures
+    (next c.in_ok-members.ensures
+    (last c.in_ok-expect.ensures))))

@@ -1,11 +1,11 @@
 -- Written by tools/form_readers.py from crates/wgsl_model/nodes: a proof.
-use Rattle.std.proofs.Common.{[], codes, refl, ◌∷◌}
-use Rattle.wgsl_form_trees.proofs.Rows.{first, last, next, node_read}
 use Rattle.wgsl_tree_code.specs.Code.{fields_of, list_of}
 use Rattle.wgsl_tree_code.specs.UnitNodes.{global_declaration_node_code, global_directive_code}
 use Rattle.wgsl_tree_unit.specs.View.{global_declaration_view, global_directive_view}
 use Rattle.std.specs.Prelude.{map}
 use Rattle.wgsl_span.specs.View.{spanned_view}
+use Rattle.std.proofs.Common.{[], codes, refl, ◌∷◌}
+use Rattle.wgsl_form_trees.proofs.Rows.{first, last, next, node_read}
 use Rattle.wgsl_form_trees.proofs.unit_nodes.TranslationUnitFromForm.read_form.Goals as goal
 
 pub returns : goal.returns
@@ -18,6 +18,6 @@ returns c =
     (codes "global_directives", c0) ∷
     (codes "global_declarations", c1) ∷
     [])} refl
-    (first c.in_ok-expect.ensures c.in_ok-global_directives.ensures
-    (next c.in_ok-expect-2.ensures c.in_ok-global_declarations.ensures
-    (last c.in_ok-expect-3.ensures)))
+    (first c.in_ok-global_directives.ensures
+    (next c.in_ok-global_declarations.ensures
+    (last c.in_ok-expect.ensures)))
