@@ -3,12 +3,21 @@ as a code. For the tools that write what follows from the fields of such kinds."
 import re
 from dataclasses import dataclass
 
+from antt import source
 from node_specs import cycle
 from node_table import TREES, snake
-from plain_trees import CONSTRUCTED, OWN, RENAMED, coded, is_apart, maker
+from plain_trees import CONSTRUCTED, INLINE, OWN, RENAMED, coded, is_apart, maker
 from tree_codes import value
-from tree_nodes import views
+from tree_nodes import PLAIN, View, views
 from tree_terms import bracketed, exports
+
+# where types and functions of the library are, but for those of nodes
+LIBRARY = {"Rattle.std.specs.Option": ["option_map"],
+           "Rattle.std.specs.declared.vec.Vec": ["Vec"],
+           "Rattle.std.specs.declared.alloc.Global": ["Global"],
+           "Rattle.wgsl_span.specs.declared.Spanned": ["Spanned"]}
+# the plain trees of the kinds that contain a kind
+FILES = {"Statement": "Trees.Statements", "Expression": "Trees.Expressions"}
 
 
 @dataclass(frozen=True)
@@ -42,6 +51,10 @@ class Cycle:
         self.structs = [kind for kind in self.kinds if kind.form == "struct"]
         self.crate = at[root].crate
         self.views = {name: view for it in TREES for name, view in views(it).items()}
+        for name in names:
+            plain = root if name in INLINE else name
+            self.views[name] = View(f"{snake(name)}_view", plain, FILES[root])
+        self.trees = source(PLAIN / f"{FILES[root].replace('.', '/')}.antt")
 
     def parts(self, kind):
         """The fields of a struct, or the variants of an enum."""
@@ -86,6 +99,10 @@ class Cycle:
         """The code of a value of a type as plain data."""
         return value(self.table, held, f"({self.shown(held, place)})", True)
 
+    def made_of(self, held):
+        """The function of plain trees that makes a list or optional part that has its own type."""
+        return maker(held)
+
     def seen(self, held, place):
         """A value of a type as plain data, with a list and an optional part of the cycle as lists
         and options are; such a list is no vector."""
@@ -105,7 +122,7 @@ class Cycle:
         part = Part("", held)
         if not self.is_own(part) or part.is_list and self.table.by_name[part.item].is_spanned:
             return seen
-        return f"{maker(held)} ({seen})"
+        return f"{self.made_of(held)} ({seen})"
 
     def shown(self, held, place):
         """A value of a type as plain data."""
@@ -128,20 +145,27 @@ class Cycle:
         return f"Option {bracketed}" if part.is_optional else item
 
 
-def imports(text, at, modules, others):
-    """The lines that import the names of a text: types of the library, what modules export, and
-    the names of others, which are given by their modules."""
-    words = set(re.findall(r"(?<![.\w◌])(?:◌[^\s\w]+◌|[\w:-]+)", text))
-    words |= {f"◌{it}◌" for it in re.findall(r"(?<=\s)([^\s\w()\[\]{};,._]+)(?=\s)", text)}
-    words |= {"[]"} if "[]" in text else set()
+def imports(text, cycle, modules, others):
+    """The lines that import the names of a text: types of the library, what modules export, the
+    last ones first, and the names of others, which are given by their modules. A module passes on
+    what is in its Nodes."""
+    words = set(re.findall(r"(?<![\w.:-])[\w:-]+", text)) - set(re.findall(r"let (\w+)", text))
+    words -= set(re.findall(r"^(?:abbrev )?(?:pub )?(\w+) :", text, re.M))
+    signs = {f"◌{it}◌" for it in re.findall(r"(?<=\s)([^\s\w()\[\]{};,._]+)(?=\s)", text)}
+    signs |= {"[]"} if "[]" in text else set()
     for module, names in others.items():
-        found = [it for it in names if it in words]
-        if found:
-            yield f"use {module}.{{{', '.join(found)}}}"
-    for module in modules:
+        yield from import_of(module, [it for it in names if it in words | signs])
+    found = {}
+    for module in reversed(modules):
         names = exports(module.removeprefix("Rattle.").replace(".", "/"))
-        found = sorted(names & words - set(at))
-        if found:
-            yield f"use {module}.{{{', '.join(found)}}}"
-    for name in sorted(words & set(at)):
-        yield f"use {at[name].declared}.{name}.{{{name}}}"
+        found[module] = sorted(names & words - set(cycle.at))
+        words -= set(found[module])
+    for module in modules:
+        yield from import_of(module.removesuffix(".Nodes"), found[module])
+    for name in sorted(words & set(cycle.at)):
+        yield f"use {cycle.at[name].declared}.{name}.{{{name}}}"
+
+
+def import_of(module, names):
+    """The line that imports names of a module, if there are some."""
+    return [f"use {module}.{{{', '.join(names)}}}"] if names else []

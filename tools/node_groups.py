@@ -75,7 +75,8 @@ def by_module(table):
 def shown_by():
     """The function that gives the plain tree of each type."""
     texts = [file.read_text() for crate in (WORDS, *TREES)
-             for file in sorted(Path(f"crates/wgsl_tree_{crate}/specs").glob("View*.antt"))]
+             for pattern in ("View*.antt", "View/*.antt")
+             for file in sorted(Path(f"crates/wgsl_tree_{crate}/specs").glob(pattern))]
     head = r"^ *(?:abbrev )?pub (\w+_view) : (\w+) → "
     return {type_: view for text in texts for view, type_ in re.findall(head, text, re.M)}
 

@@ -7,14 +7,18 @@ Run it at the top of the repository, and `rt fmt` in the crates that it writes a
     tools/tree_copies.py
 
 It reads crates/wgsl_model/nodes and the views of the crates. The prover checks what it writes.
-Copies of expressions, and of statements that contain statements, are written by hand.
+Copies of expressions are written by hand. What proves copies of kinds that contain each other is
+in cycle_copies.py.
 """
+import re
 from pathlib import Path
 
+from cycle_copies import ROOTS, answers_of_cycle, own_functions
+from cycle_parts import Cycle, Part
 from node_table import TABLE, Table
 from tree_nodes import COPIED, ghost_uses, places, use_lines, views
 
-CRATES = ["attribute", "simple", "unit"]
+CRATES = ["attribute", "simple", "statement", "unit"]
 # the crates whose functions copy a list of attributes, and a list of names
 LISTS = {"clone_attributes": ("simple", "attributes"), "clone_names": ("unit", "extensions")}
 LEMMAS = "Rattle.wgsl_tree_attribute.proofs.Copies"
@@ -28,9 +32,10 @@ class Copies:
     def __init__(self, table, crate, at):
         self.table, self.crate, self.at = table, crate, at
         self.views = {name: view for it in CRATES for name, view in views(it).items()}
-        self.views |= views("expression") | views("statement")
+        self.views |= views("expression")
         self.kinds = [kind for kind in table.kinds
                       if at[kind.name].crate == crate and kind.name not in COPIED]
+        self.cycle = Cycle(table, at, ROOTS[crate]) if crate in ROOTS else None
 
     def is_plain(self, held):
         """Whether a value is copied without an allocator."""
@@ -45,6 +50,8 @@ class Copies:
             return f"String::from_str(alloc, {place}.as_str())?"
         if held in ("Attribute*", "String*"):
             return f"clone_{'names' if held == 'String*' else 'attributes'}(&{place}, alloc)?"
+        if self.cycle and self.cycle.is_own(Part("", held)):
+            return f"clone_{self.cycle.stem(held)}(&{place}, alloc)?"
         return f"{place}.clone_with(alloc)?"
 
     def variant(self, kind, name, held):
@@ -74,13 +81,25 @@ class Copies:
                 "    {\n        self.clone_with(alloc)\n    }\n}\n\n"
                 f"impl CloneWith for {kind.name} {{\n"
                 f"    ghost copies = {{ λ node copy. {view} copy ≡ {view} node }};\n\n"
-                f"    fn clone_with{made} {{\n        {self.body(kind)}\n    }}\n}}\n")
+                f"{self.marks(kind)}    fn clone_with{made} {{\n        {self.body(kind)}\n"
+                "    }\n}\n")
+
+    def marks(self, kind):
+        """What is before a function of the kinds that contain each other."""
+        if not self.cycle:
+            return ""
+        by = "    #[tactic(auto, using(crate::proofs::Views::variants))]\n"
+        return f"{by * (kind.form == 'enum')}    #[cycle(clone)]\n"
 
     def uses(self, text):
         """The lines that import what the functions name."""
         found = {"std::alloc": ["AllocError", "Global"], "wgsl_span": ["CloneWith"]}
-        for kind in self.kinds:
-            found.setdefault(f"crate::{self.at[kind.name].module}", []).append(kind.name)
+        if "Spanned::" in text:
+            found["wgsl_span"].append("Spanned")
+        names = [kind.name for kind in self.kinds]
+        names += [f"{it.name}Node" for it in self.kinds if f"{it.name}Node" in text]
+        for name in names:
+            found.setdefault(f"crate::{self.at[name].module}", []).append(name)
         for name, (crate, module) in LISTS.items():
             if f"{name}(" in text:
                 key = f"crate::{module}" if crate == self.crate else f"wgsl_tree_{crate}"
@@ -89,11 +108,16 @@ class Copies:
 
     def code(self):
         """The file of the functions."""
-        text = "\n".join(map(self.functions, self.kinds))
+        more = own_functions(self.cycle) if self.cycle else []
+        text = "\n".join([*map(self.functions, self.kinds), *more])
         names = [self.views[kind.name].name for kind in self.kinds]
+        names += sorted(set(re.findall(r"\w+_view", text)) - set(names))
+        prelude = ["ghost use Rattle.std.specs.Prelude.{◌≡◌, IfOk};"]
+        if more:
+            prelude = ["ghost use Rattle.std.specs.Option.{option_map};",
+                       "ghost use Rattle.std.specs.Prelude.{◌≡◌, IfOk, map};"]
         return "\n".join([
-            f"//! Written by tools/tree_copies.py from {TABLE}: copies of nodes.", "",
-            "ghost use Rattle.std.specs.Prelude.{◌≡◌, IfOk};",
+            f"//! Written by tools/tree_copies.py from {TABLE}: copies of nodes.", "", *prelude,
             *ghost_uses(f"wgsl_tree_{self.crate}.specs.View", names), "",
             *self.uses(text), "", text])
 
@@ -147,7 +171,9 @@ def main():
     for crate in CRATES:
         copies, folder = Copies(table, crate, at), Path(f"crates/wgsl_tree_{crate}")
         (folder / "src/copies_nodes.rt").write_text(copies.code())
-        for kind in copies.kinds:
+        if copies.cycle:
+            answers_of_cycle(copies.cycle, folder / "proofs/copies_nodes/+clone")
+        for kind in copies.kinds if not copies.cycle else []:
             answers = copies.answers(kind) if kind.form == "struct" else None
             if answers:
                 place = folder / f"proofs/copies_nodes/{kind.name}CloneWith/clone_with/Answers.antt"

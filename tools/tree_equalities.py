@@ -1,22 +1,22 @@
 #!/usr/bin/env python3
-"""Writes `==` of the kinds that contain each other, from their fields and variants, with its proofs:
+"""Writes `==` of the kinds that contain each other, from their fields and variants, with the proofs
 that it is sameness of the codes of the plain trees.
 
 Run it at the top of the repository, and `rt fmt` in the crates that it writes after it:
 
     tools/tree_equalities.py
 
-It reads crates/wgsl_model/nodes, the views, and the lemmas about `==` of the parts that are of other
-crates. The prover checks what it writes.
+It reads crates/wgsl_model/nodes, the views, and the lemmas about `==` of the parts that are of
+other crates. The prover checks what it writes.
 """
 import re
 import sys
 from dataclasses import dataclass
 from pathlib import Path
 
-from cycle_parts import Cycle, imports
+from cycle_parts import LIBRARY, Cycle, imports
 from node_table import TABLE, Table, snake
-from plain_trees import coded, is_apart, maker
+from plain_trees import coded, is_apart
 from tree_nodes import ghost_uses, places, use_lines
 from tree_terms import bracketed
 
@@ -96,7 +96,7 @@ class Code:
             body = (f"if a.len() != b.len() {{ return false; }}\n"
                     f"'items: for i in 0..a.len() {{ if !({a} == {b}) {{ return false; }} }}\ntrue")
         return (f"#[cycle(equal)]\nfn {self.cycle.stem(part.held)}_equal(a: {type_}, b: {type_}) "
-                f"-> bool\n    ensures {{ result ≡ same ({of[0]})\n        ({of[1]}) }}\n"
+                f"-> bool\n    ensures {{ result\n        ≡ same ({of[0]})\n        ({of[1]}) }}\n"
                 f"{{\n{body}\n}}\n")
 
     def text(self):
@@ -107,7 +107,7 @@ class Code:
         words = set(re.findall(r"\w+", body))
         codes = sorted(it for it in words if it.endswith("_code") and it != "attributed_code")
         seen = sorted(it for it in words if it.endswith("_view"))
-        made = sorted(maker(it.held) for it in own if maker(it.held) in words)
+        made = sorted(cycle.made_of(it.held) for it in own if cycle.made_of(it.held) in words)
         whole = [it for it in ("attributed_code", "list") if it in words]
         uses = {}
         for name in sorted(words & set(cycle.at)):
@@ -124,7 +124,8 @@ class Code:
             "ghost use Rattle.wgsl_tree_code.specs.Laws.{same_partial};",
             "ghost use Rattle.wgsl_tree_code.specs.Same.{same};",
             *ghost_uses(f"wgsl_tree_code.specs.{cycle.root.name}Nodes", codes),
-            *ghost_uses(f"wgsl_tree_{cycle.crate}.specs.View", seen), "", *use_lines(uses), "", body])
+            *ghost_uses(f"wgsl_tree_{cycle.crate}.specs.View", seen), "", *use_lines(uses), "",
+            body])
 
 
 class Lemmas:
@@ -156,7 +157,8 @@ class Lemmas:
         view = self.cycle.views[kind.name].name
         proof = f"(λ i. same ({code} ({out} n i)) ({code} ({out} m i)))"
         for at in range(2, len(parts)):
-            proof += f" ∙ and_3 {bracketed(chain(at - 1))} part_{at} {bracketed(rest(at + 1, len(parts)))}"
+            first, last = bracketed(chain(at - 1)), bracketed(rest(at + 1, len(parts)))
+            proof += f" ∙ and_3 {first} part_{at} {last}"
         return (f"abbrev pub {name}_parts : {kind.name} → {kind.name} → Bool\n"
                 f"{name}_parts n m =\n{layers}{named}    {chain(len(parts))}\n\n"
                 f"pub {name}_same : (n m : {kind.name})\n"
@@ -174,8 +176,10 @@ class Lemmas:
                 f"{stem}_listed : (xs : {type_}) → {listed} ≡ codes_of {stem}_item xs\n"
                 f"{stem}_listed [] = refl\n"
                 f"{stem}_listed (x ∷ xs) = ap (code_before ({stem}_item x)) ({stem}_listed xs)\n\n"
-                f"pub {stem}_same : (xs ys : {type_}) → {stem}_alike xs ys ≡ all_same {stem}_item xs ys\n"
-                f"{stem}_same xs ys = λ i. same (list ({stem}_listed xs i)) (list ({stem}_listed ys i))\n")
+                f"pub {stem}_same : (xs ys : {type_})\n"
+                f"    → {stem}_alike xs ys ≡ all_same {stem}_item xs ys\n"
+                f"{stem}_same xs ys =\n"
+                f"    λ i. same (list ({stem}_listed xs i)) (list ({stem}_listed ys i))\n")
 
     def text(self):
         """The file of the lemmas."""
@@ -187,23 +191,19 @@ class Lemmas:
                           *map(self.struct, cycle.structs),
                           "-- the codes of items of lists", *map(self.items, lists)])
         others = {COMMON: ["Bool", "◌&&◌", "List", "[]", "◌∷◌", "Option", "map", "◌≡◌", "refl",
-                           "◌∙◌", "ap"],
-                  "Rattle.std.specs.declared.vec.Vec": ["Vec"],
-                  "Rattle.std.specs.declared.alloc.Global": ["Global"],
-                  "Rattle.wgsl_span.specs.declared.Spanned": ["Spanned"]}
+                           "◌∙◌", "ap"], **LIBRARY}
         codes = "Rattle.wgsl_tree_code.specs"
-        modules = ["Rattle.std.specs.Option"] * 0 + [
+        modules = [
             f"Rattle.wgsl_model.specs.{cycle.views[cycle.root.name].file}",
             f"{codes}.Code", f"{codes}.Same", f"{codes}.Lists", f"{codes}.ExpressionNodes",
             f"{codes}.AttributeNodes", f"{codes}.StatementNodes",
             "Rattle.wgsl_tree_expression.specs.View", "Rattle.wgsl_tree_attribute.specs.View",
-            "Rattle.wgsl_tree_simple.specs.View", f"{crate}.specs.View", f"{crate}.proofs.Views",
-            f"{crate}.proofs.Equalities"]
+            "Rattle.wgsl_tree_simple.specs.View", f"{crate}.specs.View.Nodes",
+            f"{crate}.proofs.Views.Nodes", f"{crate}.proofs.Equalities"]
         root = cycle.root.name
         return "\n".join([
             f"-- {WRITTEN}: `==`, part by part.",
-            *imports(body, cycle.at, modules, others),
-            "use Rattle.std.specs.Option.{option_map}",
+            *imports(body, cycle, modules, others),
             f"use {cycle.at[root].declared}.{root}.TheViews as layers", "", body])
 
 
@@ -277,11 +277,12 @@ class Answers:
         eq = f"{kind.name}PartialEq::eq"
         for at in range(2, len(found)):
             test, step = found[at - 2].test, found[at - 1]
+            type_, before = f"{self.value(found, at)} ≡ {chain(at)}", f"tested_{at - 1}"
             lines += [
-                f"let tested_{at} : {self.value(found, at)} ≡ {chain(at)} = elim c.if-{test}.branch [",
-                f"  | {eq}-then-{test} w ↦ and_true w.if-{test}.true tested_{at - 1} "
+                f"let tested_{at} : {type_} = elim c.if-{test}.branch [",
+                f"  | {eq}-then-{test} w ↦ and_true w.if-{test}.true {before} "
                 f"(w.value-is ∙ {self.tested(step, test, 'w')})",
-                f"  | {eq}-else-{test} w ↦ and_false _ w.if-{test}.false tested_{at - 1} w.value-is",
+                f"  | {eq}-else-{test} w ↦ and_false _ w.if-{test}.false {before} w.value-is",
                 "] in"]
         return lines
 
@@ -325,7 +326,8 @@ class Answers:
             a, b = f"c.in-{part.name}", f"c.in-{part.name}-matches"
             alike = f"{call}.ensures"
             if part.held == "CompoundStatement":
-                alike += f" ∙ sym (blocks_same ({self.cycle.view(part.held)} {a}.a) ({self.cycle.view(part.held)} {b}.b))"
+                view = self.cycle.view(part.held)
+                alike += f" ∙ sym (blocks_same ({view} {a}.a) ({view} {b}.b))"
             elif not self.cycle.has(part):
                 alike += f" ∙ {self.same[part.held]} {a}.a {b}.b"
             is_ = f"is_{snake(part.name)}"
@@ -349,14 +351,15 @@ class Answers:
                                               "StatementNodes")]
         modules += [f"Rattle.wgsl_tree_{it}.specs.View" for it in ("expression", "simple")]
         modules += [f"Rattle.wgsl_tree_{it}.proofs.Equalities" for it in ("attribute", "simple")]
-        modules += [f"{crate}.{it}" for it in ("specs.View", "proofs.Views", "proofs.BlockStatements",
-                                               "proofs.Equalities", "proofs.EqualityNodes")]
+        modules += [f"{crate}.{it}" for it in (
+            "specs.View.Nodes", "proofs.Views.Nodes", "proofs.BlockStatements",
+            "proofs.Equalities", "proofs.EqualityNodes")]
         place = f"{crate}.proofs.equality_nodes.+equal.Goals"
         branches = [f"{kind.name}PartialEq::eq-{way}-{step.test}" for kind in cycle.structs
                     for step in steps(cycle, kind)[:-2] for way in ("then", "else")]
         root = cycle.root.name
         return "\n".join([
-            f"-- {WRITTEN}.", *imports(body, {}, modules, others),
+            f"-- {WRITTEN}.", *imports(body, cycle, modules, others),
             f"use {cycle.at[root].declared}.{root}.TheViews as layers",
             f"use {place} as goal", f"use {place}.{{{', '.join(branches)}}}", "", body])
 

@@ -1,19 +1,10 @@
--- What copies show, and copies of lists with one more at the end.
+-- Copies of lists with one more at the end.
 use Rattle.std.proofs.Common.{ℕ, ◌+◌, ◌<◌, ◌≡◌, refl, sym, ◌∙◌, ap, List, [], ◌∷◌, ◌++◌, take, length, get_or, map}
 use Rattle.std.proofs.lemmas.List.{take_more, map_push}
 use Rattle.wgsl_model.specs.Trees.Statements.{StatementNode, StatementNodes, no_statements, statement_before}
 use Rattle.wgsl_span.specs.declared.Spanned.{Spanned}
-use Rattle.wgsl_span.specs.Copies.{ListCopies}
-use Rattle.wgsl_span.proofs.Copies.{list_shown}
-use Rattle.wgsl_tree_simple.specs.declared.case_selector.CaseSelector.{CaseSelector}
 use Rattle.wgsl_tree_statement.specs.declared.statement.Statement.{Statement}
-use Rattle.wgsl_tree_simple.specs.View.{selector_view}
 use Rattle.wgsl_tree_statement.specs.View.{statement_node_view, statement_nodes_view}
-
-pub selectors_shown : (selectors copies : List CaseSelector)
-    → ListCopies (λ s copy. selector_view copy ≡ selector_view s) selectors copies
-    → map selector_view copies ≡ map selector_view selectors
-selectors_shown = list_shown (λ s copy. selector_view copy ≡ selector_view s) selector_view (λ s copy h. h)
 
 -- one more at the end
 abbrev and_then : StatementNodes → StatementNode → StatementNodes

@@ -1,5 +1,6 @@
 -- Written by tools/tree_equalities.py from crates/wgsl_model/nodes: `==`, part by part.
 use Rattle.std.proofs.Common.{Bool, ◌&&◌, List, [], ◌∷◌, Option, map, ◌≡◌, refl, ◌∙◌, ap}
+use Rattle.std.specs.Option.{option_map}
 use Rattle.std.specs.declared.vec.Vec.{Vec}
 use Rattle.std.specs.declared.alloc.Global.{Global}
 use Rattle.wgsl_span.specs.declared.Spanned.{Spanned}
@@ -32,7 +33,6 @@ use Rattle.wgsl_tree_statement.specs.declared.statement.Statement.{Statement}
 use Rattle.wgsl_tree_statement.specs.declared.switch.SwitchClause.{SwitchClause}
 use Rattle.wgsl_tree_statement.specs.declared.switch.SwitchStatement.{SwitchStatement}
 use Rattle.wgsl_tree_statement.specs.declared.while_statement.WhileStatement.{WhileStatement}
-use Rattle.std.specs.Option.{option_map}
 use Rattle.wgsl_tree_statement.specs.declared.statement.Statement.TheViews as layers
 
 -- the parts, compared
@@ -326,8 +326,10 @@ statements_listed : (xs : List (Spanned Statement))
 statements_listed [] = refl
 statements_listed (x ∷ xs) = ap (code_before (statements_item x)) (statements_listed xs)
 
-pub statements_same : (xs ys : List (Spanned Statement)) → statements_alike xs ys ≡ all_same statements_item xs ys
-statements_same xs ys = λ i. same (list (statements_listed xs i)) (list (statements_listed ys i))
+pub statements_same : (xs ys : List (Spanned Statement))
+    → statements_alike xs ys ≡ all_same statements_item xs ys
+statements_same xs ys =
+    λ i. same (list (statements_listed xs i)) (list (statements_listed ys i))
 
 abbrev pub else_ifs_item : ElseIfClause → Code
 else_ifs_item x = else_if_clause_code (else_if_clause_view x)
@@ -337,8 +339,10 @@ else_ifs_listed : (xs : List ElseIfClause)
 else_ifs_listed [] = refl
 else_ifs_listed (x ∷ xs) = ap (code_before (else_ifs_item x)) (else_ifs_listed xs)
 
-pub else_ifs_same : (xs ys : List ElseIfClause) → else_ifs_alike xs ys ≡ all_same else_ifs_item xs ys
-else_ifs_same xs ys = λ i. same (list (else_ifs_listed xs i)) (list (else_ifs_listed ys i))
+pub else_ifs_same : (xs ys : List ElseIfClause)
+    → else_ifs_alike xs ys ≡ all_same else_ifs_item xs ys
+else_ifs_same xs ys =
+    λ i. same (list (else_ifs_listed xs i)) (list (else_ifs_listed ys i))
 
 abbrev pub clauses_item : SwitchClause → Code
 clauses_item x = switch_clause_code (switch_clause_view x)
@@ -348,5 +352,7 @@ clauses_listed : (xs : List SwitchClause)
 clauses_listed [] = refl
 clauses_listed (x ∷ xs) = ap (code_before (clauses_item x)) (clauses_listed xs)
 
-pub clauses_same : (xs ys : List SwitchClause) → clauses_alike xs ys ≡ all_same clauses_item xs ys
-clauses_same xs ys = λ i. same (list (clauses_listed xs i)) (list (clauses_listed ys i))
+pub clauses_same : (xs ys : List SwitchClause)
+    → clauses_alike xs ys ≡ all_same clauses_item xs ys
+clauses_same xs ys =
+    λ i. same (list (clauses_listed xs i)) (list (clauses_listed ys i))

@@ -1,17 +1,14 @@
 //! Statements in braces.
 
-ghost use Rattle.std.specs.Prelude.{◌≡◌, IfOk, [], Some};
+ghost use Rattle.std.specs.Prelude.{◌≡◌, [], Some};
 ghost use Rattle.wgsl_tree_statement.specs.View.{compound_statement_view};
 ghost use Rattle.wgsl_model.specs.Trees.Statements.{compound_statement, no_statements};
 ghost use Rattle.wgsl_model.specs.Printed.Statements.{print_compound, print_opened};
-ghost use Rattle.wgsl_tree_code.specs.Code.{list};
-ghost use Rattle.wgsl_model.specs.Trees.EmptyItems.{full_compound};
 ghost use Rattle.wgsl_writer.specs.Writing.{WritesInto};
 
 use crate::statement::{StatementNode, write_statement};
-use std::alloc::{AllocError, Global};
+use std::alloc::Global;
 use std::fmt;
-use wgsl_span::{CloneWith, Spanned};
 use wgsl_tree_attribute::Attributes;
 use wgsl_tree_simple::{write_gap, write_open};
 use wgsl_writer::Indented;
@@ -33,44 +30,6 @@ impl CompoundStatement {
             attributes: Vec::new(alloc),
             statements: Vec::new(alloc),
         }
-    }
-
-    /// Removes the empty statements from this list and from every list of statements in it.
-    #[cycle(remove)]
-    pub fn remove_voids(&mut self)
-        ensures { compound_statement_view self.new
-            ≡ full_compound (compound_statement_view self.old) }
-    {
-        let statements = &mut self.statements;
-        'statements: for i in 0..statements.len() {
-            statements[i].node_mut().remove_voids();
-        }
-        statements.retain(|statement| !statement.node().is_void());
-    }
-
-    pub fn clone(&self, alloc: Global) -> Result<Self, AllocError>
-        ensures { IfOk result (λ copy.
-            compound_statement_view copy ≡ compound_statement_view self.now) }
-    {
-        self.clone_with(alloc)
-    }
-}
-
-impl CloneWith for CompoundStatement {
-    ghost copies = { λ original copy. compound_statement_view copy ≡ compound_statement_view original };
-
-    #[cycle(clone)]
-    fn clone_with(&self, alloc: Global) -> Result<Self, AllocError> {
-        let attributes = self.attributes.clone_with(alloc)?;
-        let mut statements = Vec::new(alloc);
-        'nodes: for node in &self.statements {
-            let copy = node.node().clone_with(alloc)?;
-            statements.push(Spanned::new(alloc, copy, node.span())?)?;
-        }
-        Ok(CompoundStatement {
-            attributes,
-            statements,
-        })
     }
 }
 

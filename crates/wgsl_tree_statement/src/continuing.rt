@@ -1,15 +1,12 @@
 //! What a loop does after each turn.
 
-ghost use Rattle.std.specs.Prelude.{◌≡◌, IfOk, Some};
-ghost use Rattle.std.specs.Option.{option_map};
+ghost use Rattle.std.specs.Prelude.{Some};
 ghost use Rattle.wgsl_tree_statement.specs.View.{continuing_statement_view};
 ghost use Rattle.wgsl_model.specs.Printed.Statements.{print_continuing};
 ghost use Rattle.wgsl_writer.specs.Writing.{WritesInto};
 
 use crate::compound::{CompoundStatement, write_opened};
-use std::alloc::{AllocError, Global};
 use std::fmt;
-use wgsl_span::CloneWith;
 use wgsl_tree_attribute::Attributes;
 use wgsl_tree_simple::{BreakIfStatement, write_break_if, write_start};
 use wgsl_writer::Indented;
@@ -23,28 +20,6 @@ pub struct ContinuingStatement {
     pub break_if: Option<BreakIfStatement>,
 }
 
-impl ContinuingStatement {
-    pub fn clone(&self, alloc: Global) -> Result<Self, AllocError>
-        ensures { IfOk result (λ copy.
-            continuing_statement_view copy ≡ continuing_statement_view self.now) }
-    {
-        self.clone_with(alloc)
-    }
-}
-
-impl CloneWith for ContinuingStatement {
-    ghost copies = { λ original copy. continuing_statement_view copy ≡ continuing_statement_view original };
-
-    #[cycle(clone)]
-    fn clone_with(&self, alloc: Global) -> Result<Self, AllocError> {
-        Ok(ContinuingStatement {
-            attributes: self.attributes.clone_with(alloc)?,
-            body: self.body.clone_with(alloc)?,
-            break_if: self.break_if.clone_with(alloc)?,
-        })
-    }
-}
-
 impl fmt::Display for ContinuingStatement {
     ghost output = { λ statement. Some (print_continuing (continuing_statement_view statement)) };
 
@@ -53,20 +28,6 @@ impl fmt::Display for ContinuingStatement {
         let outcome = write_continuing(self, &mut out);
         out.into_inner();
         outcome
-    }
-}
-
-#[cycle(clone)]
-pub(crate) fn clone_continuing(
-    continuing: &Option<ContinuingStatement>,
-    alloc: Global,
-) -> Result<Option<ContinuingStatement>, AllocError>
-    ensures { IfOk result (λ copy. option_map continuing_statement_view copy
-        ≡ option_map continuing_statement_view continuing.now) }
-{
-    match continuing {
-        None => Ok(None),
-        Some(continuing) => Ok(Some(continuing.clone_with(alloc)?)),
     }
 }
 

@@ -207,7 +207,8 @@ impl PartialEq for ContinuingStatement {
 
 #[cycle(equal)]
 fn statements_equal(a: &[StatementNode], b: &[StatementNode]) -> bool
-    ensures { result ≡ same (list (statements_code (statement_nodes_view a.now)))
+    ensures { result
+        ≡ same (list (statements_code (statement_nodes_view a.now)))
         (list (statements_code (statement_nodes_view b.now))) }
 {
     if a.len() != b.len() {
@@ -223,7 +224,8 @@ fn statements_equal(a: &[StatementNode], b: &[StatementNode]) -> bool
 
 #[cycle(equal)]
 fn else_ifs_equal(a: &[ElseIfClause], b: &[ElseIfClause]) -> bool
-    ensures { result ≡ same (list (else_ifs_code (else_ifs_of (map else_if_clause_view a.now))))
+    ensures { result
+        ≡ same (list (else_ifs_code (else_ifs_of (map else_if_clause_view a.now))))
         (list (else_ifs_code (else_ifs_of (map else_if_clause_view b.now)))) }
 {
     if a.len() != b.len() {
@@ -239,7 +241,8 @@ fn else_ifs_equal(a: &[ElseIfClause], b: &[ElseIfClause]) -> bool
 
 #[cycle(equal)]
 fn else_equal(a: &Option<ElseClause>, b: &Option<ElseClause>) -> bool
-    ensures { result ≡ same (else_code (else_of (option_map else_clause_view a.now)))
+    ensures { result
+        ≡ same (else_code (else_of (option_map else_clause_view a.now)))
         (else_code (else_of (option_map else_clause_view b.now))) }
 {
     match a {
@@ -253,7 +256,8 @@ fn else_equal(a: &Option<ElseClause>, b: &Option<ElseClause>) -> bool
 
 #[cycle(equal)]
 fn clauses_equal(a: &[SwitchClause], b: &[SwitchClause]) -> bool
-    ensures { result ≡ same (list (clauses_code (clauses_of (map switch_clause_view a.now))))
+    ensures { result
+        ≡ same (list (clauses_code (clauses_of (map switch_clause_view a.now))))
         (list (clauses_code (clauses_of (map switch_clause_view b.now)))) }
 {
     if a.len() != b.len() {
@@ -269,7 +273,8 @@ fn clauses_equal(a: &[SwitchClause], b: &[SwitchClause]) -> bool
 
 #[cycle(equal)]
 fn maybe_continuing_equal(a: &Option<ContinuingStatement>, b: &Option<ContinuingStatement>) -> bool
-    ensures { result ≡ same (maybe_continuing_code (continuing_of (option_map continuing_statement_view a.now)))
+    ensures { result
+        ≡ same (maybe_continuing_code (continuing_of (option_map continuing_statement_view a.now)))
         (maybe_continuing_code (continuing_of (option_map continuing_statement_view b.now))) }
 {
     match a {
@@ -283,7 +288,8 @@ fn maybe_continuing_equal(a: &Option<ContinuingStatement>, b: &Option<Continuing
 
 #[cycle(equal)]
 fn part_equal(a: &Option<StatementNode>, b: &Option<StatementNode>) -> bool
-    ensures { result ≡ same (part_code (maybe_statement (option_map statement_node_view a.now)))
+    ensures { result
+        ≡ same (part_code (maybe_statement (option_map statement_node_view a.now)))
         (part_code (maybe_statement (option_map statement_node_view b.now))) }
 {
     match a {

@@ -1,19 +1,16 @@
 //! `for` statements.
 
-ghost use Rattle.std.specs.Prelude.{◌≡◌, IfOk, Some};
+ghost use Rattle.std.specs.Prelude.{Some};
 ghost use Rattle.std.specs.Option.{option_map};
 ghost use Rattle.wgsl_tree_statement.specs.View.{statement_node_view, for_statement_view};
 ghost use Rattle.wgsl_model.specs.Printed.Declarations.{print_attributed};
 ghost use Rattle.wgsl_model.specs.Printed.Statements.{print_for, unended_part};
 ghost use Rattle.wgsl_model.specs.Trees.Statements.{maybe_statement};
-ghost use Rattle.wgsl_model.specs.Trees.EmptyItems.{full_part};
 ghost use Rattle.wgsl_writer.specs.Writing.{WritesInto};
 
 use crate::compound::{CompoundStatement, write_compound};
 use crate::statement::{StatementNode, write_unended};
-use std::alloc::{AllocError, Global};
 use std::fmt;
-use wgsl_span::{CloneWith, Spanned};
 use wgsl_tree_attribute::Attributes;
 use wgsl_tree_expression::ExpressionNode;
 use wgsl_tree_simple::{write_condition, write_start};
@@ -29,29 +26,6 @@ pub struct ForStatement {
     pub body: CompoundStatement,
 }
 
-impl ForStatement {
-    pub fn clone(&self, alloc: Global) -> Result<Self, AllocError>
-        ensures { IfOk result (λ copy. for_statement_view copy ≡ for_statement_view self.now) }
-    {
-        self.clone_with(alloc)
-    }
-}
-
-impl CloneWith for ForStatement {
-    ghost copies = { λ original copy. for_statement_view copy ≡ for_statement_view original };
-
-    #[cycle(clone)]
-    fn clone_with(&self, alloc: Global) -> Result<Self, AllocError> {
-        Ok(ForStatement {
-            attributes: self.attributes.clone_with(alloc)?,
-            initializer: clone_part(&self.initializer, alloc)?,
-            condition: self.condition.clone_with(alloc)?,
-            update: clone_part(&self.update, alloc)?,
-            body: self.body.clone_with(alloc)?,
-        })
-    }
-}
-
 impl fmt::Display for ForStatement {
     ghost output = { λ statement. Some (print_attributed print_for (for_statement_view statement)) };
 
@@ -60,33 +34,6 @@ impl fmt::Display for ForStatement {
         let outcome = write_for(self, &mut out);
         out.into_inner();
         outcome
-    }
-}
-
-#[cycle(clone)]
-fn clone_part(
-    part: &Option<StatementNode>,
-    alloc: Global,
-) -> Result<Option<StatementNode>, AllocError>
-    ensures { IfOk result (λ copy.
-        option_map statement_node_view copy ≡ option_map statement_node_view part.now) }
-{
-    match part {
-        None => Ok(None),
-        Some(node) => {
-            let copy = node.node().clone_with(alloc)?;
-            Ok(Some(Spanned::new(alloc, copy, node.span())?))
-        }
-    }
-}
-
-#[cycle(remove)]
-pub(crate) fn remove_from_part(part: &mut Option<StatementNode>)
-    ensures { maybe_statement (option_map statement_node_view part.new)
-        ≡ full_part (maybe_statement (option_map statement_node_view part.old)) }
-{
-    if let Some(statement) = part {
-        statement.node_mut().remove_voids();
     }
 }
 

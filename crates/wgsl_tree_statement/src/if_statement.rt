@@ -1,20 +1,14 @@
 //! `if` statements.
 
-ghost use Rattle.std.specs.Prelude.{◌≡◌, IfOk, Some};
+ghost use Rattle.std.specs.Prelude.{Some};
 ghost use Rattle.wgsl_tree_statement.specs.View.{if_statement_view, if_clause_view};
 ghost use Rattle.wgsl_model.specs.Printed.Declarations.{print_attributed};
 ghost use Rattle.wgsl_model.specs.Printed.Statements.{print_if, print_if_clause};
-ghost use Rattle.wgsl_model.specs.Trees.EmptyItems.{full_attributed, full_if};
 ghost use Rattle.wgsl_writer.specs.Writing.{WritesInto};
 
 use crate::compound::{CompoundStatement, write_compound};
-use crate::else_clause::{
-    ElseClause, ElseIfClause, clone_else, remove_from_else_ifs, write_else_clause,
-    write_else_if_clause,
-};
-use std::alloc::{AllocError, Global};
+use crate::else_clause::{ElseClause, ElseIfClause, write_else_clause, write_else_if_clause};
 use std::fmt;
-use wgsl_span::CloneWith;
 use wgsl_tree_attribute::Attributes;
 use wgsl_tree_expression::ExpressionNode;
 use wgsl_tree_simple::{write_attribute_line, write_head};
@@ -29,45 +23,7 @@ pub struct IfStatement {
     pub else_clause: Option<ElseClause>,
 }
 
-impl IfStatement {
-    pub fn clone(&self, alloc: Global) -> Result<Self, AllocError>
-        ensures { IfOk result (λ copy. if_statement_view copy ≡ if_statement_view self.now) }
-    {
-        self.clone_with(alloc)
-    }
-
-    #[cycle(remove)]
-    pub(crate) fn remove_voids(&mut self)
-        ensures { if_statement_view self.new
-            ≡ full_attributed full_if (if_statement_view self.old) }
-    {
-        self.if_clause.body.remove_voids();
-        remove_from_else_ifs(&mut self.else_if_clauses);
-        if let Some(clause) = &mut self.else_clause {
-            clause.body.remove_voids();
-        }
-    }
-}
-
-impl CloneWith for IfStatement {
-    ghost copies = { λ original copy. if_statement_view copy ≡ if_statement_view original };
-
-    #[cycle(clone)]
-    fn clone_with(&self, alloc: Global) -> Result<Self, AllocError> {
-        let attributes = self.attributes.clone_with(alloc)?;
-        let if_clause = self.if_clause.clone_with(alloc)?;
-        let mut else_if_clauses = Vec::new(alloc);
-        'clauses: for clause in &self.else_if_clauses {
-            else_if_clauses.push(clause.clone_with(alloc)?)?;
-        }
-        Ok(IfStatement {
-            attributes,
-            if_clause,
-            else_if_clauses,
-            else_clause: clone_else(&self.else_clause, alloc)?,
-        })
-    }
-}
+impl IfStatement {}
 
 impl fmt::Display for IfStatement {
     ghost output = { λ statement. Some (print_attributed print_if (if_statement_view statement)) };
@@ -85,26 +41,6 @@ impl fmt::Display for IfStatement {
 pub struct IfClause {
     pub expression: ExpressionNode,
     pub body: CompoundStatement,
-}
-
-impl IfClause {
-    pub fn clone(&self, alloc: Global) -> Result<Self, AllocError>
-        ensures { IfOk result (λ copy. if_clause_view copy ≡ if_clause_view self.now) }
-    {
-        self.clone_with(alloc)
-    }
-}
-
-impl CloneWith for IfClause {
-    ghost copies = { λ original copy. if_clause_view copy ≡ if_clause_view original };
-
-    #[cycle(clone)]
-    fn clone_with(&self, alloc: Global) -> Result<Self, AllocError> {
-        Ok(IfClause {
-            expression: self.expression.clone_with(alloc)?,
-            body: self.body.clone_with(alloc)?,
-        })
-    }
 }
 
 impl fmt::Display for IfClause {

@@ -3,6 +3,7 @@
 
 mod compound;
 mod continuing;
+mod copies_nodes;
 mod else_clause;
 mod equality_nodes;
 mod for_statement;
@@ -11,6 +12,7 @@ mod loop_statement;
 mod statement;
 mod switch;
 mod variants_nodes;
+mod voids_nodes;
 mod while_statement;
 
 pub use compound::CompoundStatement;

@@ -1,16 +1,14 @@
 //! `loop` statements.
 
-ghost use Rattle.std.specs.Prelude.{◌≡◌, IfOk, Some};
+ghost use Rattle.std.specs.Prelude.{Some};
 ghost use Rattle.wgsl_tree_statement.specs.View.{loop_statement_view};
 ghost use Rattle.wgsl_model.specs.Printed.Declarations.{print_attributed};
 ghost use Rattle.wgsl_model.specs.Printed.Statements.{print_loop};
 ghost use Rattle.wgsl_writer.specs.Writing.{WritesInto};
 
 use crate::compound::{CompoundStatement, write_opened};
-use crate::continuing::{ContinuingStatement, clone_continuing, write_continuing};
-use std::alloc::{AllocError, Global};
+use crate::continuing::{ContinuingStatement, write_continuing};
 use std::fmt;
-use wgsl_span::CloneWith;
 use wgsl_tree_attribute::Attributes;
 use wgsl_tree_simple::write_start;
 use wgsl_writer::Indented;
@@ -21,27 +19,6 @@ pub struct LoopStatement {
     pub attributes: Attributes,
     pub body: CompoundStatement,
     pub continuing: Option<ContinuingStatement>,
-}
-
-impl LoopStatement {
-    pub fn clone(&self, alloc: Global) -> Result<Self, AllocError>
-        ensures { IfOk result (λ copy. loop_statement_view copy ≡ loop_statement_view self.now) }
-    {
-        self.clone_with(alloc)
-    }
-}
-
-impl CloneWith for LoopStatement {
-    ghost copies = { λ original copy. loop_statement_view copy ≡ loop_statement_view original };
-
-    #[cycle(clone)]
-    fn clone_with(&self, alloc: Global) -> Result<Self, AllocError> {
-        Ok(LoopStatement {
-            attributes: self.attributes.clone_with(alloc)?,
-            body: self.body.clone_with(alloc)?,
-            continuing: clone_continuing(&self.continuing, alloc)?,
-        })
-    }
 }
 
 impl fmt::Display for LoopStatement {

@@ -1,21 +1,19 @@
-//! Statements: their copies, equality and prints, by their variants.
-#![tactic(auto, using(crate::proofs::Views::variants, crate::proofs::Views::whiles))]
+//! Statements, and their prints by their variants.
+#![tactic(auto, using(crate::proofs::Views::variants))]
 
-ghost use Rattle.std.specs.Prelude.{◌≡◌, IfOk, Some};
+ghost use Rattle.std.specs.Prelude.{◌≡◌, Some};
 ghost use Rattle.wgsl_tree_statement.specs.View.{statement_view};
 ghost use Rattle.wgsl_model.specs.Printed.Statements.{print_statement, terminator_of, unended};
-ghost use Rattle.wgsl_model.specs.Trees.EmptyItems.{full_statement};
 ghost use Rattle.wgsl_writer.specs.Writing.{WritesInto};
 
 use crate::compound::{CompoundStatement, write_compound};
-use crate::for_statement::{ForStatement, remove_from_part, write_for};
+use crate::for_statement::{ForStatement, write_for};
 use crate::if_statement::{IfStatement, write_if};
 use crate::loop_statement::{LoopStatement, write_loop};
 use crate::switch::{SwitchStatement, write_switch};
 use crate::while_statement::{WhileStatement, write_while};
-use std::alloc::{AllocError, Global};
 use std::fmt;
-use wgsl_span::{CloneWith, Spanned};
+use wgsl_span::Spanned;
 use wgsl_tree_simple::{
     AssignmentStatement, BreakStatement, ConstAssert, ContinueStatement, Declaration,
     DecrementStatement, DiscardStatement, FunctionCallStatement, IncrementStatement,
@@ -49,47 +47,6 @@ pub enum Statement {
 pub type StatementNode = Spanned<Statement>;
 
 impl Statement {
-    /// Removes the empty statements from every list of statements in this one.
-    #[cycle(remove)]
-    pub fn remove_voids(&mut self)
-        ensures { statement_view self.new ≡ full_statement (statement_view self.old) }
-    {
-        match self {
-            Statement::Compound(block) => block.remove_voids(),
-            Statement::If(statement) => statement.remove_voids(),
-            Statement::Switch(statement) => statement.remove_voids(),
-            Statement::Loop(statement) => {
-                statement.body.remove_voids();
-                if let Some(continuing) = &mut statement.continuing {
-                    continuing.body.remove_voids();
-                }
-            }
-            Statement::For(statement) => {
-                remove_from_part(&mut statement.initializer);
-                remove_from_part(&mut statement.update);
-                statement.body.remove_voids();
-            }
-            Statement::While(statement) => statement.body.remove_voids(),
-            Statement::Void
-            | Statement::Assignment(_)
-            | Statement::Increment(_)
-            | Statement::Decrement(_)
-            | Statement::Break(_)
-            | Statement::Continue(_)
-            | Statement::Return(_)
-            | Statement::Discard(_)
-            | Statement::FunctionCall(_)
-            | Statement::ConstAssert(_)
-            | Statement::Declaration(_) => {}
-        }
-    }
-
-    pub fn clone(&self, alloc: Global) -> Result<Self, AllocError>
-        ensures { IfOk result (λ copy. statement_view copy ≡ statement_view self.now) }
-    {
-        self.clone_with(alloc)
-    }
-
     /// The `;` that ends it, if one does.
     fn end(&self) -> &'static str
         ensures { result.now ≡ terminator_of (statement_view self.now) }
@@ -112,33 +69,6 @@ impl Statement {
             | Statement::FunctionCall(_)
             | Statement::ConstAssert(_)
             | Statement::Declaration(_) => ";",
-        }
-    }
-}
-
-impl CloneWith for Statement {
-    ghost copies = { λ original copy. statement_view copy ≡ statement_view original };
-
-    #[cycle(clone)]
-    fn clone_with(&self, alloc: Global) -> Result<Self, AllocError> {
-        match self {
-            Statement::Void => Ok(Statement::Void),
-            Statement::Compound(inner) => Ok(Statement::Compound(inner.clone_with(alloc)?)),
-            Statement::Assignment(inner) => Ok(Statement::Assignment(inner.clone_with(alloc)?)),
-            Statement::Increment(inner) => Ok(Statement::Increment(inner.clone_with(alloc)?)),
-            Statement::Decrement(inner) => Ok(Statement::Decrement(inner.clone_with(alloc)?)),
-            Statement::If(inner) => Ok(Statement::If(inner.clone_with(alloc)?)),
-            Statement::Switch(inner) => Ok(Statement::Switch(inner.clone_with(alloc)?)),
-            Statement::Loop(inner) => Ok(Statement::Loop(inner.clone_with(alloc)?)),
-            Statement::For(inner) => Ok(Statement::For(inner.clone_with(alloc)?)),
-            Statement::While(inner) => Ok(Statement::While(inner.clone_with(alloc)?)),
-            Statement::Break(inner) => Ok(Statement::Break(inner.clone_with(alloc)?)),
-            Statement::Continue(inner) => Ok(Statement::Continue(inner.clone_with(alloc)?)),
-            Statement::Return(inner) => Ok(Statement::Return(inner.clone_with(alloc)?)),
-            Statement::Discard(inner) => Ok(Statement::Discard(inner.clone_with(alloc)?)),
-            Statement::FunctionCall(inner) => Ok(Statement::FunctionCall(inner.clone_with(alloc)?)),
-            Statement::ConstAssert(inner) => Ok(Statement::ConstAssert(inner.clone_with(alloc)?)),
-            Statement::Declaration(inner) => Ok(Statement::Declaration(inner.clone_with(alloc)?)),
         }
     }
 }

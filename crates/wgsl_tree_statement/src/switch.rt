@@ -1,16 +1,13 @@
 //! `switch` statements and their clauses.
 
-ghost use Rattle.std.specs.Prelude.{◌≡◌, IfOk, Some};
+ghost use Rattle.std.specs.Prelude.{Some};
 ghost use Rattle.wgsl_tree_statement.specs.View.{switch_statement_view, switch_clause_view};
 ghost use Rattle.wgsl_model.specs.Printed.Declarations.{print_attributed};
 ghost use Rattle.wgsl_model.specs.Printed.Statements.{print_switch, print_switch_clause};
-ghost use Rattle.wgsl_model.specs.Trees.EmptyItems.{full_attributed, full_switch};
 ghost use Rattle.wgsl_writer.specs.Writing.{WritesInto};
 
 use crate::compound::{CompoundStatement, write_compound};
-use std::alloc::{AllocError, Global};
 use std::fmt;
-use wgsl_span::CloneWith;
 use wgsl_tree_attribute::Attributes;
 use wgsl_tree_expression::ExpressionNode;
 use wgsl_tree_simple::{
@@ -27,46 +24,7 @@ pub struct SwitchStatement {
     pub clauses: Vec<SwitchClause>,
 }
 
-impl SwitchStatement {
-    pub fn clone(&self, alloc: Global) -> Result<Self, AllocError>
-        ensures { IfOk result (λ copy.
-            switch_statement_view copy ≡ switch_statement_view self.now) }
-    {
-        self.clone_with(alloc)
-    }
-
-    #[cycle(remove)]
-    pub(crate) fn remove_voids(&mut self)
-        ensures { switch_statement_view self.new
-            ≡ full_attributed full_switch (switch_statement_view self.old) }
-    {
-        let clauses = &mut self.clauses;
-        'clauses: for i in 0..clauses.len() {
-            clauses[i].body.remove_voids();
-        }
-    }
-}
-
-impl CloneWith for SwitchStatement {
-    ghost copies = { λ original copy. switch_statement_view copy ≡ switch_statement_view original };
-
-    #[cycle(clone)]
-    fn clone_with(&self, alloc: Global) -> Result<Self, AllocError> {
-        let attributes = self.attributes.clone_with(alloc)?;
-        let expression = self.expression.clone_with(alloc)?;
-        let body_attributes = self.body_attributes.clone_with(alloc)?;
-        let mut clauses = Vec::new(alloc);
-        'clauses: for clause in &self.clauses {
-            clauses.push(clause.clone_with(alloc)?)?;
-        }
-        Ok(SwitchStatement {
-            attributes,
-            expression,
-            body_attributes,
-            clauses,
-        })
-    }
-}
+impl SwitchStatement {}
 
 impl fmt::Display for SwitchStatement {
     ghost output = { λ statement. Some (print_attributed print_switch (switch_statement_view statement)) };
@@ -85,27 +43,6 @@ pub struct SwitchClause {
     pub attributes: Attributes,
     pub case_selectors: Vec<CaseSelector>,
     pub body: CompoundStatement,
-}
-
-impl SwitchClause {
-    pub fn clone(&self, alloc: Global) -> Result<Self, AllocError>
-        ensures { IfOk result (λ copy. switch_clause_view copy ≡ switch_clause_view self.now) }
-    {
-        self.clone_with(alloc)
-    }
-}
-
-impl CloneWith for SwitchClause {
-    ghost copies = { λ original copy. switch_clause_view copy ≡ switch_clause_view original };
-
-    #[cycle(clone)]
-    fn clone_with(&self, alloc: Global) -> Result<Self, AllocError> {
-        Ok(SwitchClause {
-            attributes: self.attributes.clone_with(alloc)?,
-            case_selectors: self.case_selectors.clone_with(alloc)?,
-            body: self.body.clone_with(alloc)?,
-        })
-    }
 }
 
 impl fmt::Display for SwitchClause {

@@ -1,19 +1,16 @@
 //! `while` statements.
-#![tactic(auto, using(crate::proofs::Views::whiles))]
 
-ghost use Rattle.std.specs.Prelude.{◌≡◌, IfOk, Some};
+ghost use Rattle.std.specs.Prelude.{Some};
 ghost use Rattle.wgsl_tree_statement.specs.View.{while_statement_view};
 ghost use Rattle.wgsl_model.specs.Printed.Declarations.{print_attributed};
 ghost use Rattle.wgsl_model.specs.Printed.Statements.{print_while};
 ghost use Rattle.wgsl_writer.specs.Writing.{WritesInto};
 
 use crate::compound::{CompoundStatement, write_compound};
-use std::alloc::{AllocError, Global};
 use std::fmt;
-use wgsl_span::CloneWith;
 use wgsl_tree_attribute::Attributes;
 use wgsl_tree_expression::ExpressionNode;
-use wgsl_tree_simple::{clone_attributes, write_attribute_line, write_head};
+use wgsl_tree_simple::{write_attribute_line, write_head};
 use wgsl_writer::Indented;
 
 #[cycle(statement)]
@@ -22,27 +19,6 @@ pub struct WhileStatement {
     pub attributes: Attributes,
     pub condition: ExpressionNode,
     pub body: CompoundStatement,
-}
-
-impl WhileStatement {
-    pub fn clone(&self, alloc: Global) -> Result<Self, AllocError>
-        ensures { IfOk result (λ copy. while_statement_view copy ≡ while_statement_view self.now) }
-    {
-        self.clone_with(alloc)
-    }
-}
-
-impl CloneWith for WhileStatement {
-    ghost copies = { λ original copy. while_statement_view copy ≡ while_statement_view original };
-
-    #[cycle(clone)]
-    fn clone_with(&self, alloc: Global) -> Result<Self, AllocError> {
-        Ok(WhileStatement {
-            attributes: clone_attributes(&self.attributes, alloc)?,
-            condition: self.condition.clone_with(alloc)?,
-            body: self.body.clone_with(alloc)?,
-        })
-    }
 }
 
 impl fmt::Display for WhileStatement {

@@ -9,7 +9,7 @@ use Rattle.wgsl_tree_expression.specs.View.{expression_node_view}
 use Rattle.wgsl_tree_simple.specs.View.{break_if_view, selector_view}
 use Rattle.wgsl_tree_attribute.proofs.Equalities.{attribute_lists_same, lists_same, options_same}
 use Rattle.wgsl_tree_simple.proofs.Equalities.{asserts_same, assignments_same, break_ifs_same, breaks_same, call_statements_same, continues_same, declarations_same, decrements_same, discards_same, increments_same, returns_same, selectors_same}
-use Rattle.wgsl_tree_statement.specs.View.{compound_statement_view, is_assignment, is_break, is_compound, is_const_assert, is_continue, is_declaration, is_decrement, is_discard, is_for, is_function_call, is_if, is_increment, is_loop, is_return, is_switch, is_while}
+use Rattle.wgsl_tree_statement.specs.View.{compound_statement_view}
 use Rattle.wgsl_tree_statement.proofs.Views.{is_assignment, is_break, is_compound, is_const_assert, is_continue, is_declaration, is_decrement, is_discard, is_for, is_function_call, is_if, is_increment, is_loop, is_return, is_switch, is_while}
 use Rattle.wgsl_tree_statement.proofs.BlockStatements.{blocks_same}
 use Rattle.wgsl_tree_statement.proofs.Equalities.{and_false, and_true, of_one_kind}

@@ -1,8 +1,9 @@
+-- Written by tools/display_answers.py.
 use Rattle.std.proofs.Common.{rules}
 use Rattle.wgsl_writer.proofs.Within.{printed}
 use Rattle.wgsl_tree_statement.proofs.if_statement.IfClauseDisplay.fmt.Goals as goal
 
 pub returns-clause-writes : goal.returns-clause-writes
 returns-clause-writes g c = printed g.W.Write.write_str_gives _ _ _ c.into_inner.result _ _ _
-    c.new-out.ensures.to c.new-out.ensures.depth c.write_if_clause-outcome.ensures
-    c.into_inner.ensures (λ same. search rules)
+    c.new-out.ensures.to c.new-out.ensures.depth c.write_if_clause-outcome.ensures c.into_inner.ensures
+    (λ same. search rules)
