@@ -138,8 +138,8 @@ class Answers:
                   "Rattle.std.proofs.lemmas.List": ["take_all"], **LIBRARY}
         modules = ["Rattle.wgsl_model.specs.Trees.Attributed", trees,
                    *(f"Rattle.wgsl_tree_{it}.specs.View" for it in ("expression", "simple")),
-                   "Rattle.wgsl_tree_attribute.proofs.Copies", f"{crate}.specs.View.Nodes",
-                   f"{crate}.proofs.Views.Nodes", f"{crate}.proofs.Copies"]
+                   "Rattle.wgsl_tree_attribute.proofs.Copies", f"{crate}.specs.View",
+                   f"{crate}.proofs.Views", f"{crate}.proofs.Copies"]
         return "\n".join([
             WRITTEN, *imports(body, cycle, modules, others), f"use {trees} as plain",
             f"use {cycle.at[root].declared}.{root}.TheViews as layers",
@@ -156,7 +156,7 @@ class Answers:
         body = "\n".join([*lines, ""])
         common = {COMMON: ["◌≡◌", "map", "take"]}
         return "\n".join([
-            WRITTEN, *imports(body, self.cycle, [f"{crate}.specs.View.Nodes"], common),
+            WRITTEN, *imports(body, self.cycle, [f"{crate}.specs.View"], common),
             f"use {crate}.proofs.copies_nodes.+clone.Given as goal", body])
 
 

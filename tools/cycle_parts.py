@@ -3,12 +3,11 @@ as a code. For the tools that write what follows from the fields of such kinds."
 import re
 from dataclasses import dataclass
 
-from antt import source
 from node_specs import cycle
 from node_table import TREES, snake
 from plain_trees import CONSTRUCTED, INLINE, OWN, RENAMED, coded, is_apart, maker
 from tree_codes import value
-from tree_nodes import PLAIN, View, views
+from tree_nodes import Plain, View, views
 from tree_terms import bracketed, exports
 
 # where types and functions of the library are, but for those of nodes
@@ -54,7 +53,7 @@ class Cycle:
         for name in names:
             plain = root if name in INLINE else name
             self.views[name] = View(f"{snake(name)}_view", plain, FILES[root])
-        self.trees = source(PLAIN / f"{FILES[root].replace('.', '/')}.antt")
+        self.trees = Plain(FILES[root]).text
 
     def parts(self, kind):
         """The fields of a struct, or the variants of an enum."""
@@ -147,8 +146,7 @@ class Cycle:
 
 def imports(text, cycle, modules, others):
     """The lines that import the names of a text: types of the library, what modules export, the
-    last ones first, and the names of others, which are given by their modules. A module passes on
-    what is in its Nodes."""
+    last ones first, and the names of others, which are given by their modules."""
     words = set(re.findall(r"(?<![\w.:-])[\w:-]+", text)) - set(re.findall(r"let (\w+)", text))
     words -= set(re.findall(r"^(?:abbrev )?(?:pub )?(\w+) :", text, re.M))
     signs = {f"◌{it}◌" for it in re.findall(r"(?<=\s)([^\s\w()\[\]{};,._]+)(?=\s)", text)}
@@ -161,7 +159,7 @@ def imports(text, cycle, modules, others):
         found[module] = sorted(names & words - set(cycle.at))
         words -= set(found[module])
     for module in modules:
-        yield from import_of(module.removesuffix(".Nodes"), found[module])
+        yield from import_of(module, found[module])
     for name in sorted(words & set(cycle.at)):
         yield f"use {cycle.at[name].declared}.{name}.{{{name}}}"
 

@@ -16,7 +16,7 @@ from string import ascii_lowercase
 from cycle_parts import LIBRARY, Cycle, imports
 from node_specs import cycle as names_of
 from node_table import TABLE, Table, snake
-from plain_trees import CONSTRUCTED, OWN, UNATTRIBUTED, constructor, is_apart
+from plain_trees import OWN, constructor, is_apart
 from tree_nodes import ghost_uses, places
 from tree_terms import bracketed
 
@@ -320,7 +320,7 @@ class Lemmas:
         declared = f"{cycle.at[root].declared}.{root}"
         return "\n".join([
             f"{WRITTEN}: what each view is of one layer, and of each variant.",
-            *imports(text, cycle, [*SEEN, f"{crate}.specs.View.Nodes"], others),
+            *imports(text, cycle, [*SEEN, f"{crate}.specs.View"], others),
             f"use Rattle.wgsl_model.specs.{cycle.views[root].file} as plain",
             *(f"use {declared}.{it}" for it in (
                 "TheOpen as layer", "TheFolds as folds", "TheViews as layers",
@@ -338,9 +338,8 @@ def main():
     for root in ROOTS:
         cycle = Cycle(table, at, root)
         folder = Path(f"crates/wgsl_tree_{cycle.crate}")
-        for part, writer in [("specs/View", Views), ("proofs/Views", Lemmas)]:
-            (folder / part).mkdir(exist_ok=True)
-            (folder / part / "Nodes.antt").write_text(writer(cycle).text())
+        (folder / "specs/View.antt").write_text(Views(cycle).text())
+        (folder / "proofs/Views.antt").write_text(Lemmas(cycle).text())
 
 
 if __name__ == "__main__":

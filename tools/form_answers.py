@@ -1,5 +1,5 @@
-"""Proofs that parts are written as a form or read from one, for tools/form_readers.py,
-tools/statement_forms.py and tools/statement_readers.py."""
+"""Proofs that parts are written as a form or read from one, for tools/form_proofs.py,
+tools/form_readers.py, tools/statement_forms.py and tools/statement_readers.py."""
 import re
 
 from node_specs import homes, place

@@ -50,11 +50,10 @@ def cycle(table, name):
 
 
 def files(crate, folder):
-    """The modules in a folder of a crate, each with its text; one passes on its Nodes."""
+    """The modules in a folder of a crate, each with its text."""
     top = Path("crates") / crate / folder
     for file in sorted(top.rglob("*.antt")):
         parts = file.relative_to(top).with_suffix("").parts
-        parts = parts[:-1] if parts[-1] == "Nodes" else parts
         yield ".".join(["Rattle", crate, folder, *parts]), file.read_text()
 
 

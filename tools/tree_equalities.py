@@ -16,7 +16,7 @@ from pathlib import Path
 
 from cycle_parts import LIBRARY, Cycle, imports
 from node_table import TABLE, Table, snake
-from plain_trees import coded, is_apart
+from plain_trees import coded
 from tree_nodes import ghost_uses, places, use_lines
 from tree_terms import bracketed
 
@@ -198,8 +198,8 @@ class Lemmas:
             f"{codes}.Code", f"{codes}.Same", f"{codes}.Lists", f"{codes}.ExpressionNodes",
             f"{codes}.AttributeNodes", f"{codes}.StatementNodes",
             "Rattle.wgsl_tree_expression.specs.View", "Rattle.wgsl_tree_attribute.specs.View",
-            "Rattle.wgsl_tree_simple.specs.View", f"{crate}.specs.View.Nodes",
-            f"{crate}.proofs.Views.Nodes", f"{crate}.proofs.Equalities"]
+            "Rattle.wgsl_tree_simple.specs.View", f"{crate}.specs.View",
+            f"{crate}.proofs.Views", f"{crate}.proofs.Equalities"]
         root = cycle.root.name
         return "\n".join([
             f"-- {WRITTEN}: `==`, part by part.",
@@ -352,7 +352,7 @@ class Answers:
         modules += [f"Rattle.wgsl_tree_{it}.specs.View" for it in ("expression", "simple")]
         modules += [f"Rattle.wgsl_tree_{it}.proofs.Equalities" for it in ("attribute", "simple")]
         modules += [f"{crate}.{it}" for it in (
-            "specs.View.Nodes", "proofs.Views.Nodes", "proofs.BlockStatements",
+            "specs.View", "proofs.Views", "proofs.BlockStatements",
             "proofs.Equalities", "proofs.EqualityNodes")]
         place = f"{crate}.proofs.equality_nodes.+equal.Goals"
         branches = [f"{kind.name}PartialEq::eq-{way}-{step.test}" for kind in cycle.structs

@@ -59,8 +59,7 @@ def places():
 
 def views(crate):
     """The views of the types of a crate."""
-    specs = Path(f"crates/wgsl_tree_{crate}/specs")
-    files = sorted([*specs.glob("View*.antt"), *specs.glob("View/*.antt")])
+    files = sorted(Path(f"crates/wgsl_tree_{crate}/specs").glob("View*.antt"))
     text = "\n".join(file.read_text() for file in files)
     files = dict(re.findall(r"^use Rattle\.wgsl_model\.specs\.(\S+) as (plain\w*)$", text, re.M))
     files = {name: file for file, name in files.items()}

@@ -15,7 +15,7 @@ from pathlib import Path
 from cycle_parts import LIBRARY, Cycle, imports
 from node_table import TABLE, Table, snake
 from plain_trees import OWN, constructor, is_apart
-from tree_nodes import PLAIN, ghost_uses, places, use_lines
+from tree_nodes import Plain, ghost_uses, places, use_lines
 from tree_terms import bracketed
 
 CRATE = Path("crates/wgsl_tree_statement")
@@ -32,7 +32,7 @@ class Full:
 
     def __init__(self, cycle):
         self.cycle = cycle
-        self.text = (PLAIN / "Trees/EmptyItems.antt").read_text()
+        self.text = Plain("Trees.EmptyItems").text
 
     def of_type(self, plain):
         """That of a type."""
@@ -273,7 +273,7 @@ class Answers:
                       f"{self.cycle.view(part.item)} {bracketed(item)} l.part.items "
                       "l.initial.part.items l.i"]
         body = "\n".join([*lines, ""])
-        modules = [EMPTY, f"{HERE}.specs.View.Nodes", f"{HERE}.proofs.EmptyStatements"]
+        modules = [EMPTY, f"{HERE}.specs.View", f"{HERE}.proofs.EmptyStatements"]
         return "\n".join([f"-- {WRITTEN}.", *imports(body, self.cycle, modules, {}),
                           f"use {HERE}.proofs.+remove.Given as goal", body])
 
@@ -289,7 +289,7 @@ class Answers:
                        for it in ("expression", "attribute", "simple")]
         modules = ["Rattle.wgsl_model.specs.Trees.Attributed", EMPTY,
                    "Rattle.wgsl_model.specs.Trees.Statements", *others_seen,
-                   f"{HERE}.specs.View.Nodes", f"{HERE}.proofs.Views.Nodes",
+                   f"{HERE}.specs.View", f"{HERE}.proofs.Views",
                    f"{HERE}.proofs.BlockStatements", f"{HERE}.proofs.EmptyStatements"]
         declared = f"{cycle.at[cycle.root.name].declared}.{cycle.root.name}.TheViews"
         return "\n".join([
