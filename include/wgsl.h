@@ -157,7 +157,7 @@ enum wgsl_tree_kind {
     WGSL_TYPE_CONSTRAINT = 16
 };
 
-/* The kinds of tokens, written by tools/tokens.py. No call gives a comment. */
+/* The kinds of tokens, written by tools/tables/tokens.py. No call gives a comment. */
 enum wgsl_token_kind {
     WGSL_SYM_AND = 0,
     WGSL_SYM_AND_AND = 1,
@@ -407,7 +407,7 @@ static inline uint32_t wgsl_nesting(const char *text, size_t size, struct wgsl_a
 }
 
 /* The name of a kind of token, as the libraries for Rust and Rattle have it, such as "SymAnd" of
- * WGSL_SYM_AND, or null if the number is that of none. Written by tools/tokens.py. */
+ * WGSL_SYM_AND, or null if the number is that of none. Written by tools/tables/tokens.py. */
 static inline const char *wgsl_token_kind_name(size_t kind) {
     static const char *const names[] = {
         "SymAnd", "SymAndAnd", "SymArrow", "SymAttr", "SymForwardSlash", "SymBang",

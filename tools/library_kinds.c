@@ -15,7 +15,7 @@ struct kinds {
     const char *variants[32];
 };
 
-/* Written by tools/nodes.py from crates/wgsl_model/nodes. */
+/* Written by tools/tables/nodes.py from crates/wgsl_model/nodes. */
 static const struct kinds enums[] = {
     {"GlobalDirective",
      {"Diagnostic\":{\"attributes", "Enable", "Requires"}},

@@ -18,7 +18,7 @@ macro_rules! kinds {
 }
 
 kinds! {
-    // Written by tools/tokens.py from crates/wgsl_model/tokens.
+    // Written by tools/tables/tokens.py from crates/wgsl_model/tokens.
     /// The symbol `&`.
     SymAnd,
     /// The symbol `&&`.

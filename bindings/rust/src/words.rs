@@ -92,7 +92,7 @@ macro_rules! words {
 }
 
 words! {
-    // Written by tools/nodes.py from crates/wgsl_model/nodes.
+    // Written by tools/tables/nodes.py from crates/wgsl_model/nodes.
     /// How a diagnostic is reported.
     DiagnosticSeverity {
         /// `error`.

@@ -1,6 +1,6 @@
 // A module with each variant of each enum of the trees, and each kind of part.
 
-// Examples of the variants, written by tools/nodes.py from crates/wgsl_model/nodes.
+// Examples of the variants, written by tools/tables/nodes.py from crates/wgsl_model/nodes.
 diagnostic(off, a);
 enable f16;
 requires a;

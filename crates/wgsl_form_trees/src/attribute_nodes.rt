@@ -1,4 +1,4 @@
-//! Written by tools/form_readers.py from crates/wgsl_model/nodes: the attributes.
+//! Written by tools/tables/form_readers.py from crates/wgsl_model/nodes: the attributes.
 
 ghost use Rattle.wgsl_model.specs.Trees.Attributes as plain_attributes;
 ghost use Rattle.wgsl_tree_code.specs.AttributeNodes.{attribute_code, attribute_node_code, custom_code, diagnostic_code, interpolate_code, type_constraint_code, workgroup_size_code};

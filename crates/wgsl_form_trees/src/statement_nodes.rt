@@ -1,4 +1,4 @@
-//! Written by tools/statement_readers.py from crates/wgsl_model/nodes: statements.
+//! Written by tools/tables/statement_readers.py from crates/wgsl_model/nodes: statements.
 
 ghost use Rattle.wgsl_model.specs.Trees.Statements as plain;
 ghost use Rattle.std.specs.Prelude.{IfOk, map};

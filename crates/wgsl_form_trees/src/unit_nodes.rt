@@ -1,4 +1,4 @@
-//! Written by tools/form_readers.py from crates/wgsl_model/nodes: directives, declarations, modules.
+//! Written by tools/tables/form_readers.py from crates/wgsl_model/nodes: directives, declarations, modules.
 
 ghost use Rattle.wgsl_model.specs.Trees.Units as plain_units;
 ghost use Rattle.wgsl_tree_code.specs.UnitNodes.{diagnostic_directive_code, enable_directive_code, function_code, global_declaration_code, global_declaration_node_code, global_directive_code, member_code, parameter_code, requires_directive_code, struct_code, struct_member_node_code, type_alias_code, unit_code};

@@ -1,4 +1,4 @@
-//! Written by tools/node_laws.py from crates/wgsl_model/nodes: `==` of attributes and of the
+//! Written by tools/tables/node_laws.py from crates/wgsl_model/nodes: `==` of attributes and of the
 //! structs that they hold.
 
 ghost use Rattle.std.specs.Cmp.{IsEquivalence};

@@ -1,4 +1,4 @@
-//! Written by tools/node_laws.py from crates/wgsl_model/nodes: attributes of statements, of clauses
+//! Written by tools/tables/node_laws.py from crates/wgsl_model/nodes: attributes of statements, of clauses
 //! and of declarations of values.
 
 ghost use Rattle.std.specs.Prelude.{◌≡◌};

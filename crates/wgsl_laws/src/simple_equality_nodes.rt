@@ -1,4 +1,4 @@
-//! Written by tools/node_laws.py from crates/wgsl_model/nodes: `==` of declarations of values and
+//! Written by tools/tables/node_laws.py from crates/wgsl_model/nodes: `==` of declarations of values and
 //! of statements that hold no others.
 
 ghost use Rattle.std.specs.Prelude.{IsTrue, ◌↔◌, ◌≡◌};

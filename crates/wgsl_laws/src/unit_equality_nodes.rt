@@ -1,4 +1,4 @@
-//! Written by tools/node_laws.py from crates/wgsl_model/nodes: `==` of modules, of their directives
+//! Written by tools/tables/node_laws.py from crates/wgsl_model/nodes: `==` of modules, of their directives
 //! and of their declarations.
 
 ghost use Rattle.std.specs.Cmp.{IsEquivalence};

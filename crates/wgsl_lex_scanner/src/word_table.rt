@@ -1,4 +1,4 @@
-//! Keywords and reserved words, and the place of each: tables written by tools/word_table.py.
+//! Keywords and reserved words, and the place of each: tables written by tools/tables/word_table.py.
 
 ghost use Rattle.std.specs.Prelude.{◌≡◌, ◌<◌, length, Some, None, false, bytes_eq};
 ghost use Rattle.wgsl_lex_scanner.specs.WordTable.{kind_of_name, meant, moved, slot_by, EntriesHold, HoldsAllWords};
@@ -193,7 +193,7 @@ static WORDS: [(&str, Meaning); 173] = [
 ];
 
 // By the length and the first character of a word: how far the sum of its length and its other
-// characters is moved. This table and the next are written by tools/word_table.py.
+// characters is moved. This table and the next are written by tools/tables/word_table.py.
 static MOVES: [u8; 64] = [
     69, 18, 29, 38, 40, 0, 18, 0, 5, 16, 7, 0, 23, 2, 0, 0, 0, 0, 6, 0, 0, 0, 0, 0, 0, 0, 0, 21, 0,
     0, 0, 0, 0, 0, 0, 0, 0, 3, 0, 5, 7, 2, 0, 42, 25, 5, 7, 40, 91, 73, 2, 10, 3, 1, 1, 17, 38, 69,

@@ -1,4 +1,4 @@
-//! Written by tools/tokens.py from crates/wgsl_model/tokens: the kinds of tokens, and their texts.
+//! Written by tools/tables/tokens.py from crates/wgsl_model/tokens: the kinds of tokens, and their texts.
 
 ghost use Rattle.std.specs.Prelude.{◌≡◌};
 ghost use Rattle.wgsl_lex_token.specs.Groups.{word_of_class};

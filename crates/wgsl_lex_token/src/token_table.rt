@@ -1,4 +1,4 @@
-//! Written by tools/tokens.py from crates/wgsl_model/tokens: the tokens, and their kinds.
+//! Written by tools/tables/tokens.py from crates/wgsl_model/tokens: the tokens, and their kinds.
 
 ghost use Rattle.std.specs.Prelude.{◌≡◌};
 ghost use Rattle.wgsl_lex_token.specs.View.{class_of_kind, kind_view, view_of_class};

@@ -1,4 +1,4 @@
-//! Written by tools/syntax_names.py from crates/wgsl_model/nodes: the names of all nodes.
+//! Written by tools/tables/syntax_names.py from crates/wgsl_model/nodes: the names of all nodes.
 
 pub use wgsl_span::{Span, Spanned};
 pub use wgsl_tree_attribute::{

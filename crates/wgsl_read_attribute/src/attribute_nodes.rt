@@ -1,4 +1,4 @@
-//! Written by tools/attribute_code.py from crates/wgsl_model/nodes: the attribute of each name.
+//! Written by tools/tables/attribute_code.py from crates/wgsl_model/nodes: the attribute of each name.
 
 ghost use Rattle.std.specs.Prelude.{option_map};
 ghost use Rattle.wgsl_tree_attribute.specs.View.{attribute_view, expressions_view};

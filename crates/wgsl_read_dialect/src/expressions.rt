@@ -1,4 +1,4 @@
-//! The rules of names, expressions and templates, written by tools/dialect.py.
+//! The rules of names, expressions and templates, written by tools/tables/dialect.py.
 
 use crate::rules::Symbol;
 use crate::step::Step::{self, Choice, Repeat, Rule, Token};

@@ -1,4 +1,4 @@
-//! The rules of the language that is parsed where the smaller one has others, written by tools/dialect.py.
+//! The rules of the language that is parsed where the smaller one has others, written by tools/tables/dialect.py.
 
 use crate::rules::Symbol;
 use crate::step::Step::{self, Choice, Repeat, Rule, Token};

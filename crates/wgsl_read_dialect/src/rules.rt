@@ -1,5 +1,5 @@
 //! The symbols of the grammar in which one token decides, and the steps of each,
-//! written by tools/dialect.py.
+//! written by tools/tables/dialect.py.
 
 ghost use Rattle.std.specs.Prelude.{◌≡◌};
 ghost use Rattle.wgsl_model.specs.Grammar.Symbols.{Dialect.parsed, Dialect.recognized};

@@ -1,4 +1,4 @@
-//! The rules of statements and their blocks, written by tools/dialect.py.
+//! The rules of statements and their blocks, written by tools/tables/dialect.py.
 
 use crate::rules::Symbol;
 use crate::step::Step::{self, Choice, Rule, Token};

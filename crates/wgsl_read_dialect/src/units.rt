@@ -1,4 +1,4 @@
-//! The rules of attributes, declarations, directives and units, written by tools/dialect.py.
+//! The rules of attributes, declarations, directives and units, written by tools/tables/dialect.py.
 
 use crate::rules::Symbol;
 use crate::step::Step::{self, Choice, Repeat, Rule, Token};

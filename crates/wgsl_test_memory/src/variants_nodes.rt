@@ -1,4 +1,4 @@
-//! Copies of what variants hold, written by tools/nodes.py from crates/wgsl_model/nodes.
+//! Copies of what variants hold, written by tools/tables/nodes.py from crates/wgsl_model/nodes.
 
 use crate::line::Line;
 use wgsl_parse::syntax::{Attribute, Expression, GlobalDeclaration, GlobalDirective, Statement};

@@ -1,5 +1,5 @@
 -- Each symbol of expressions that is cited reads what its right side reads; written by
--- tools/rules.py.
+-- tools/tables/rules.py.
 use Rattle.std.proofs.Common.{◌≡◌}
 use Rattle.grammar.specs.States.{State}
 use Rattle.wgsl_model.specs.Grammar.Symbols.{Symbol.ident, Symbol.type_specifier, Symbol.template_list, Symbol.arguments, Symbol.literal, Symbol.component, Symbol.lhs_expression}

@@ -1,5 +1,5 @@
 -- Each symbol of attributes and statements that is cited reads what its right side reads; written
--- by tools/rules.py.
+-- by tools/tables/rules.py.
 use Rattle.std.proofs.Common.{◌≡◌}
 use Rattle.grammar.specs.States.{State}
 use Rattle.wgsl_model.specs.Grammar.Symbols.{Symbol.attribute, Symbol.compound_statement, Symbol.statement, Symbol.switch_clause, Symbol.case_selector, Symbol.for_init, Symbol.for_update, Symbol.var_template, Symbol.typed_ident}

@@ -1,5 +1,5 @@
 -- Each symbol of declarations, directives and units that is cited reads what its right side reads;
--- written by tools/rules.py.
+-- written by tools/tables/rules.py.
 use Rattle.std.proofs.Common.{◌≡◌}
 use Rattle.grammar.specs.States.{State}
 use Rattle.wgsl_model.specs.Grammar.Symbols.{Symbol.struct_member, Symbol.formal_parameter, Symbol.global_declaration, Symbol.diagnostic_severity, Symbol.global_directive, Symbol.unit}

@@ -1,5 +1,5 @@
 -- What the symbols of expressions that are cited read by their right sides, each as a word of its
--- own, which no computation opens; written by tools/rules.py.
+-- own, which no computation opens; written by tools/tables/rules.py.
 use Rattle.grammar.specs.States.{State, Read, go}
 use Rattle.wgsl_model.specs.Grammar.Symbols.{Value, Symbol.ident, Symbol.type_specifier, Symbol.template_list, Symbol.arguments, Symbol.literal, Symbol.component, Symbol.lhs_expression}
 use Rattle.wgsl_theory_grammar.specs.Factored.{FactoredSymbol.of, body}

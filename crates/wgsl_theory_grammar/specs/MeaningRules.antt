@@ -1,4 +1,4 @@
--- Written by tools/meanings.py from Written and Factored: what the further symbols mean.
+-- Written by tools/tables/meanings.py from Written and Factored: what the further symbols mean.
 use Rattle.grammar.specs.Grammar.{Grammar.symbol}
 use Rattle.grammar.specs.Notation.{list, list_or_none, many, one_token, optional, several, ◌gives◌, ◌means◌, ◌or◌, ◌then◌, ◌▹◌, ◌◃◌}
 use Rattle.std.specs.Prelude.{List, Option, Some, [], ◌∷◌}

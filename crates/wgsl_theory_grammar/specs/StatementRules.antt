@@ -1,5 +1,5 @@
 -- What the symbols of attributes and statements that are cited read by their right sides, each as a
--- word of its own, which no computation opens; written by tools/rules.py.
+-- word of its own, which no computation opens; written by tools/tables/rules.py.
 use Rattle.grammar.specs.States.{State, Read, go}
 use Rattle.wgsl_model.specs.Grammar.Symbols.{Value, Symbol.attribute, Symbol.compound_statement, Symbol.statement, Symbol.switch_clause, Symbol.case_selector, Symbol.for_init, Symbol.for_update, Symbol.var_template, Symbol.typed_ident}
 use Rattle.wgsl_theory_grammar.specs.Factored.{FactoredSymbol.of, FactoredSymbol.further, FurtherValue, Further.selectors, Further.attribute_list, Further.statement_rest, Further.loop_rest, Further.continuing_rest, Further.clause_rest, Further.else_rest, Further.init_part, Further.condition_part, Further.update_part, Further.block_part, Further.braced_part, Further.returning_part, Further.local_part, Further.value_part, Further.phony_part, Further.simple_part, Further.ended_part, Further.assert_part, Further.clause_part, Further.left_side_rest, Further.left_side_in_parentheses, Further.prefixed_left_side, Further.name_rest_statement, Further.parenthesized_statement, Further.plain_statement, body}

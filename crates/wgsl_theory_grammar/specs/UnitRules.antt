@@ -1,5 +1,5 @@
 -- What the symbols of declarations, directives and units that are cited read by their right sides,
--- each as a word of its own, which no computation opens; written by tools/rules.py.
+-- each as a word of its own, which no computation opens; written by tools/tables/rules.py.
 use Rattle.grammar.specs.States.{State, Read, go}
 use Rattle.wgsl_model.specs.Grammar.Symbols.{Value, Symbol.struct_member, Symbol.formal_parameter, Symbol.global_declaration, Symbol.diagnostic_severity, Symbol.global_directive, Symbol.unit}
 use Rattle.wgsl_theory_grammar.specs.Factored.{FactoredSymbol.of, FactoredSymbol.further, FurtherValue, Further.var_part, Further.override_part, Further.function_part, Further.const_part, Further.alias_part, Further.struct_part, Further.diagnostic_part, Further.attributed_part, Further.led_part, Further.directive_part, Further.declaration_list, Further.front, body}

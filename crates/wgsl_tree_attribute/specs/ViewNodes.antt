@@ -1,4 +1,4 @@
--- Written by tools/tree_views.py from crates/wgsl_model/nodes: attributes as plain data.
+-- Written by tools/tables/tree_views.py from crates/wgsl_model/nodes: attributes as plain data.
 use Rattle.std.specs.Prelude.{List, map, string_bytes}
 use Rattle.std.specs.Option.{option_map}
 use Rattle.std.specs.declared.vec.Vec.{Vec}

@@ -1,4 +1,4 @@
-//! Written by tools/attribute_code.py from crates/wgsl_model/nodes: attributes.
+//! Written by tools/tables/attribute_code.py from crates/wgsl_model/nodes: attributes.
 
 ghost use Rattle.std.specs.Prelude.{Some};
 ghost use Rattle.wgsl_tree_attribute.specs.View.{attribute_view};

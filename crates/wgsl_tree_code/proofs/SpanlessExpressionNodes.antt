@@ -1,4 +1,4 @@
--- Written by tools/tree_spans.py from crates/wgsl_model/nodes: expressions and types without their
+-- Written by tools/tables/tree_spans.py from crates/wgsl_model/nodes: expressions and types without their
 -- spans.
 use Rattle.std.specs.Prelude.{[], ◌∷◌, codes, true, ◌≡◌, ◌↔◌}
 use Rattle.std.proofs.Common.{refl}

@@ -1,4 +1,4 @@
--- Written by tools/tree_codes.py from crates/wgsl_model/nodes: expressions and types.
+-- Written by tools/tables/tree_codes.py from crates/wgsl_model/nodes: expressions and types.
 use Rattle.std.specs.Prelude.{[], ◌∷◌, codes}
 use Rattle.wgsl_model.specs.Trees.Expressions as plain
 use Rattle.wgsl_tree_code.specs.Code.{Code, text, natural, boolean, number, absent, list, Codes, no_codes, code_before, node_of, variant, placed}

@@ -1,4 +1,4 @@
--- Written by tools/tree_codes.py from crates/wgsl_model/nodes: operators.
+-- Written by tools/tables/tree_codes.py from crates/wgsl_model/nodes: operators.
 use Rattle.wgsl_model.specs.Printed.Operators.{assignment_operator_text, binary_operator_text, unary_operator_text}
 use Rattle.wgsl_model.specs.Trees.Operators as plain
 use Rattle.wgsl_tree_code.specs.Code.{Code, text}

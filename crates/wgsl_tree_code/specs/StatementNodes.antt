@@ -1,4 +1,4 @@
--- Written by tools/tree_codes.py from crates/wgsl_model/nodes: statements.
+-- Written by tools/tables/tree_codes.py from crates/wgsl_model/nodes: statements.
 use Rattle.std.specs.Prelude.{[], ◌∷◌, codes}
 use Rattle.wgsl_model.specs.Trees.Attributes.{Attributes}
 use Rattle.wgsl_model.specs.Trees.Statements as plain

@@ -1,4 +1,4 @@
--- Written by tools/tree_codes.py from crates/wgsl_model/nodes: modules.
+-- Written by tools/tables/tree_codes.py from crates/wgsl_model/nodes: modules.
 use Rattle.std.specs.Prelude.{[], ◌∷◌, codes}
 use Rattle.wgsl_model.specs.Trees.Spanned.{Spanned}
 use Rattle.wgsl_model.specs.Trees.Attributes.{Attributes}

@@ -1,4 +1,4 @@
--- Written by tools/tree_codes.py from crates/wgsl_model/nodes: words.
+-- Written by tools/tables/tree_codes.py from crates/wgsl_model/nodes: words.
 use Rattle.wgsl_model.specs.Trees.NamedValues.{access_mode_text, address_space_text, builtin_value_text, interpolation_sampling_text, interpolation_type_text, severity_text}
 use Rattle.wgsl_model.specs.Trees.NamedValues as plain
 use Rattle.wgsl_tree_code.specs.Code.{Code, text}

@@ -1,4 +1,4 @@
--- Written by tools/statement_forms.py from crates/wgsl_model/nodes: the codes of lists.
+-- Written by tools/tables/statement_forms.py from crates/wgsl_model/nodes: the codes of lists.
 use Rattle.std.proofs.Common.{◌≡◌, refl, ap, List, [], ◌∷◌, map}
 use Rattle.wgsl_model.specs.Trees.Statements.{clauses_of, else_ifs_of}
 use Rattle.wgsl_span.specs.declared.Spanned.{Spanned}

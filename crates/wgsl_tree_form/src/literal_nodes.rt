@@ -1,4 +1,4 @@
-//! Written by tools/tree_forms.py from crates/wgsl_model/nodes: the literals.
+//! Written by tools/tables/tree_forms.py from crates/wgsl_model/nodes: the literals.
 
 ghost use Rattle.wgsl_model.specs.Trees.Expressions as plain_expressions;
 ghost use Rattle.wgsl_tree_code.specs.ExpressionNodes.{literal_code};

@@ -1,4 +1,4 @@
-//! Written by tools/tree_forms.py from crates/wgsl_model/nodes: values, simple statements.
+//! Written by tools/tables/tree_forms.py from crates/wgsl_model/nodes: values, simple statements.
 
 ghost use Rattle.wgsl_model.specs.Trees.Statements as plain_statements;
 ghost use Rattle.wgsl_tree_code.specs.StatementNodes.{assert_code, assignment_code, break_code, break_if_code, call_statement_code, continue_code, declaration_code, declaration_kind_code, decrement_code, discard_code, increment_code, return_code, selector_code};

@@ -1,4 +1,4 @@
-//! Written by tools/statement_forms.py from crates/wgsl_model/nodes: statements.
+//! Written by tools/tables/statement_forms.py from crates/wgsl_model/nodes: statements.
 
 ghost use Rattle.std.specs.Fmt.{WritesOnOk};
 ghost use Rattle.std.specs.Option.{option_map};

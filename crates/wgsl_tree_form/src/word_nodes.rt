@@ -1,4 +1,4 @@
-//! Written by tools/tree_forms.py from crates/wgsl_model/nodes: the words.
+//! Written by tools/tables/tree_forms.py from crates/wgsl_model/nodes: the words.
 
 ghost use Rattle.wgsl_model.specs.Trees.NamedValues as plain_named_values;
 ghost use Rattle.wgsl_tree_code.specs.WordNodes.{access_mode_code, address_space_code, builtin_value_code, diagnostic_severity_code, interpolation_sampling_code, interpolation_type_code};

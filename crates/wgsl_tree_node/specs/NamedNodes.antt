@@ -1,4 +1,4 @@
--- Written by tools/node_lists.py from crates/wgsl_model/nodes: names by variants.
+-- Written by tools/tables/node_lists.py from crates/wgsl_model/nodes: names by variants.
 use Rattle.std.specs.Prelude.{ℕ, List, Option, Some, None}
 use Rattle.wgsl_tree_expression.specs.View.{ident_name}
 use Rattle.wgsl_tree_unit.specs.declared.global_declaration.GlobalDeclaration.{GlobalDeclaration}

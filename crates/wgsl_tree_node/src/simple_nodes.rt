@@ -1,4 +1,4 @@
-//! Written by tools/node_lists.py from crates/wgsl_model/nodes: the names and attributes of
+//! Written by tools/tables/node_lists.py from crates/wgsl_model/nodes: the names and attributes of
 //! declarations of values and statements that hold no others.
 
 ghost use Rattle.std.specs.Prelude.{Some};

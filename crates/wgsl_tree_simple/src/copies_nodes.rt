@@ -1,4 +1,4 @@
-//! Written by tools/tree_copies.py from crates/wgsl_model/nodes: copies of nodes.
+//! Written by tools/tables/tree_copies.py from crates/wgsl_model/nodes: copies of nodes.
 
 ghost use Rattle.std.specs.Prelude.{◌≡◌, IfOk};
 ghost use Rattle.wgsl_tree_simple.specs.View.{declaration_view, assignment_view, increment_view};

@@ -1,4 +1,4 @@
--- Written by tools/tree_equalities.py from crates/wgsl_model/nodes: `==`, part by part.
+-- Written by tools/tables/tree_equalities.py from crates/wgsl_model/nodes: `==`, part by part.
 use Rattle.std.proofs.Common.{Bool, ◌&&◌, List, [], ◌∷◌, Option, map, ◌≡◌, refl, ◌∙◌, ap}
 use Rattle.std.specs.Option.{option_map}
 use Rattle.std.specs.declared.vec.Vec.{Vec}

@@ -1,4 +1,4 @@
--- Written by tools/cycle_views.py from crates/wgsl_model/nodes: nodes as plain data.
+-- Written by tools/tables/cycle_views.py from crates/wgsl_model/nodes: nodes as plain data.
 use Rattle.std.specs.Prelude.{List, [], ◌∷◌, Option, None, Some, map}
 use Rattle.std.specs.Option.{option_map}
 use Rattle.wgsl_span.specs.declared.Spanned.{Spanned}

@@ -1,4 +1,4 @@
-//! Written by tools/tree_copies.py from crates/wgsl_model/nodes: copies of nodes.
+//! Written by tools/tables/tree_copies.py from crates/wgsl_model/nodes: copies of nodes.
 
 ghost use Rattle.std.specs.Option.{option_map};
 ghost use Rattle.std.specs.Prelude.{◌≡◌, IfOk, map};

@@ -1,4 +1,4 @@
-//! Written by tools/tree_equalities.py from crates/wgsl_model/nodes: `==` of nodes.
+//! Written by tools/tables/tree_equalities.py from crates/wgsl_model/nodes: `==` of nodes.
 
 ghost use Rattle.std.specs.Cmp.{on_per};
 ghost use Rattle.std.specs.Option.{option_map};

@@ -1,4 +1,4 @@
-//! Written by tools/tree_voids.py from crates/wgsl_model/nodes: statements without the
+//! Written by tools/tables/tree_voids.py from crates/wgsl_model/nodes: statements without the
 //! empty ones in their lists.
 
 ghost use Rattle.std.specs.Option.{option_map};

@@ -1,4 +1,4 @@
-//! Written by tools/tree_nodes.py from crates/wgsl_model/nodes: which variant a node is,
+//! Written by tools/tables/tree_nodes.py from crates/wgsl_model/nodes: which variant a node is,
 //! what it holds, and what becomes one.
 
 ghost use Rattle.std.specs.Prelude.{◌≡◌, IsTrue};

@@ -1,4 +1,4 @@
-//! Written by tools/tree_words.py from crates/wgsl_model/nodes: operators, and words.
+//! Written by tools/tables/tree_words.py from crates/wgsl_model/nodes: operators, and words.
 
 ghost use Rattle.std.specs.Prelude.{◌≡◌, Some, MatchResult};
 ghost use Rattle.wgsl_model.specs.Trees.NamedValues as plain;

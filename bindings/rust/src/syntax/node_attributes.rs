@@ -1,4 +1,4 @@
-//! The variants with attributes or a name, written by tools/nodes.py from crates/wgsl_model/nodes.
+//! The variants with attributes or a name, written by tools/tables/nodes.py from crates/wgsl_model/nodes.
 
 use super::*;
 

@@ -1,4 +1,4 @@
-//! The enums of the trees, written by tools/nodes.py from crates/wgsl_model/nodes.
+//! The enums of the trees, written by tools/tables/nodes.py from crates/wgsl_model/nodes.
 
 use super::*;
 

@@ -1,4 +1,4 @@
-//! The structs of the trees, written by tools/nodes.py from crates/wgsl_model/nodes.
+//! The structs of the trees, written by tools/tables/nodes.py from crates/wgsl_model/nodes.
 
 use super::*;
 

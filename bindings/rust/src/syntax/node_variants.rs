@@ -1,4 +1,4 @@
-//! The calls for variants, written by tools/nodes.py from crates/wgsl_model/nodes.
+//! The calls for variants, written by tools/tables/nodes.py from crates/wgsl_model/nodes.
 
 use super::*;
 

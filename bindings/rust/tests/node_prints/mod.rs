@@ -1,4 +1,4 @@
-//! What prints are read as, written by tools/nodes.py from crates/wgsl_model/nodes.
+//! What prints are read as, written by tools/tables/nodes.py from crates/wgsl_model/nodes.
 
 use super::*;
 

@@ -1,4 +1,4 @@
--- Written by tools/plain_nodes.py from crates/wgsl_model/nodes: the trees of attributes.
+-- Written by tools/tables/plain_nodes.py from crates/wgsl_model/nodes: the trees of attributes.
 use Rattle.std.specs.Prelude.{ℕ, List, [], ◌∷◌, Option, codes}
 use Rattle.wgsl_model.specs.Trees.NamedValues.{DiagnosticSeverity, BuiltinValue, InterpolationType, InterpolationSampling}
 use Rattle.wgsl_model.specs.Trees.Expressions.{ExpressionNode, TypeExpression}

@@ -1,7 +1,7 @@
 -- The trees of attributes (WGSL, "Attributes").
 use Rattle.std.specs.Prelude.{List}
 use Rattle.wgsl_model.specs.Trees.Spanned.{Spanned}
--- names of AttributeNodes, written by tools/plain_nodes.py
+-- names of AttributeNodes, written by tools/tables/plain_nodes.py
 pub use Rattle.wgsl_model.specs.Trees.AttributeNodes.{
   DiagnosticAttribute,
   InterpolateAttribute,

@@ -1,4 +1,4 @@
--- Written by tools/plain_nodes.py from crates/wgsl_model/nodes: the trees of expressions.
+-- Written by tools/tables/plain_nodes.py from crates/wgsl_model/nodes: the trees of expressions.
 use Rattle.std.specs.Prelude.{Bool, ℕ, ℤ, List, [], ◌∷◌, Option, Some, None}
 use Rattle.grammar.specs.Tokens.{Span}
 use Rattle.wgsl_model.specs.Trees.Operators.{UnaryOperator, BinaryOperator}

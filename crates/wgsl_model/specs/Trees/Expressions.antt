@@ -1,6 +1,6 @@
 -- The trees of expressions (WGSL, "Expressions", "Literals").
 use Rattle.std.specs.Prelude.{ℕ}
--- names of ExpressionNodes, written by tools/plain_nodes.py
+-- names of ExpressionNodes, written by tools/tables/plain_nodes.py
 pub use Rattle.wgsl_model.specs.Trees.ExpressionNodes.{
   LiteralExpression,
   LiteralExpression.boolean,

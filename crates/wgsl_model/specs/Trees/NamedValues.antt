@@ -1,6 +1,6 @@
 -- The values that stand for words of their own, each with its word, and the tables of these.
 pub use Rattle.wgsl_model.specs.Trees.WordTables.{WordTable, words_of, with_words}
--- names of WordNodes, written by tools/plain_words.py
+-- names of WordNodes, written by tools/tables/plain_words.py
 pub use Rattle.wgsl_model.specs.Trees.WordNodes.{
   DiagnosticSeverity,
   DiagnosticSeverity.error,

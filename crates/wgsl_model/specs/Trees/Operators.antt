@@ -1,5 +1,5 @@
 -- The operators (WGSL, "Expressions", "Assignment Statement").
--- names of WordNodes, written by tools/plain_words.py
+-- names of WordNodes, written by tools/tables/plain_words.py
 pub use Rattle.wgsl_model.specs.Trees.WordNodes.{
   UnaryOperator,
   UnaryOperator.logical_negation,

@@ -1,4 +1,4 @@
--- Written by tools/plain_nodes.py from crates/wgsl_model/nodes: the trees of statements.
+-- Written by tools/tables/plain_nodes.py from crates/wgsl_model/nodes: the trees of statements.
 use Rattle.std.specs.Prelude.{Bool, ℕ, List, [], ◌∷◌, Option, Some, None, if◌then◌else◌}
 use Rattle.grammar.specs.Tokens.{Span}
 use Rattle.wgsl_model.specs.Trees.Attributed.{Attributed}

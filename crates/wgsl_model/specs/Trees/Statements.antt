@@ -5,7 +5,7 @@ use Rattle.wgsl_model.specs.Trees.Expressions.{ExpressionNode, TypeExpression}
 use Rattle.wgsl_model.specs.Trees.Operators.{AssignmentOperator}
 use Rattle.wgsl_model.specs.Trees.Attributes.{Attributes}
 use Rattle.wgsl_model.specs.Trees.Attributed.{Attributed}
--- names of StatementNodes, written by tools/plain_nodes.py
+-- names of StatementNodes, written by tools/tables/plain_nodes.py
 pub use Rattle.wgsl_model.specs.Trees.StatementNodes.{
   DeclarationKind,
   DeclarationKind.const_kind,

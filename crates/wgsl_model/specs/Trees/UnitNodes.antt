@@ -1,4 +1,4 @@
--- Written by tools/plain_nodes.py from crates/wgsl_model/nodes: the trees of units.
+-- Written by tools/tables/plain_nodes.py from crates/wgsl_model/nodes: the trees of units.
 use Rattle.std.specs.Prelude.{ℕ, List, Option}
 use Rattle.wgsl_model.specs.Trees.Spanned.{Spanned}
 use Rattle.wgsl_model.specs.Trees.Attributed.{Attributed}

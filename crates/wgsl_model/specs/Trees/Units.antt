@@ -1,7 +1,7 @@
 -- The trees of modules, their directives and their declarations (WGSL, "Directives", "Structure
 -- Types", "Functions").
 use Rattle.wgsl_model.specs.Trees.Attributed.{Attributed, with_attributes}
--- names of UnitNodes, written by tools/plain_nodes.py
+-- names of UnitNodes, written by tools/tables/plain_nodes.py
 pub use Rattle.wgsl_model.specs.Trees.UnitNodes.{
   DiagnosticDirective,
   EnableDirective,

@@ -1,4 +1,4 @@
--- Written by tools/plain_words.py from crates/wgsl_model/nodes: operators and words.
+-- Written by tools/tables/plain_words.py from crates/wgsl_model/nodes: operators and words.
 use Rattle.std.specs.Prelude.{ℕ, List, [], ◌∷◌, codes}
 use Rattle.wgsl_model.specs.Trees.WordTables.{WordTable, with_words}
 

@@ -1,4 +1,4 @@
--- Written by tools/statement_links.py: each of a choice of statements in the other form.
+-- Written by tools/tables/statement_links.py: each of a choice of statements in the other form.
 use Rattle.grammar.proofs.Reading.Depth.{roll, unroll}
 use Rattle.grammar.specs.Grammar.{Grammar.symbol, Means, Mode, Part}
 use Rattle.grammar.specs.Notation.{◌means◌}

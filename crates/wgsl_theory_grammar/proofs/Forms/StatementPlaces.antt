@@ -1,4 +1,4 @@
--- Written by tools/statement_links.py: kinds of statements as one of a choice.
+-- Written by tools/tables/statement_links.py: kinds of statements as one of a choice.
 use Rattle.grammar.proofs.Reading.Depth.{Kept, roll}
 use Rattle.grammar.specs.Grammar.{Grammar.symbol, Means, Mode, Part}
 use Rattle.grammar.specs.Notation.{◌gives◌, ◌means◌, ◌or◌, ◌◃◌}

@@ -1,4 +1,4 @@
--- What each rule derives from a text is sound; written by tools/rule_terms.py.
+-- What each rule derives from a text is sound; written by tools/tables/rule_terms.py.
 use Rattle.wgsl_model.specs.Trees.Statements as statement_trees
 use Rattle.std.proofs.Common.{◌∷◌}
 use Rattle.std.specs.Prelude.{Some, []}

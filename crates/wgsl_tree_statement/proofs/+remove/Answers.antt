@@ -1,4 +1,4 @@
--- Written by tools/tree_voids.py from crates/wgsl_model/nodes.
+-- Written by tools/tables/tree_voids.py from crates/wgsl_model/nodes.
 use Rattle.std.proofs.Common.{rules, ◌≡◌, ◌∙◌, sym, ap, map, Option}
 use Rattle.std.proofs.lemmas.List.Elements.{filter_from_retain}
 use Rattle.std.specs.Option.{option_map}

@@ -1,4 +1,4 @@
--- Written by tools/tree_voids.py from crates/wgsl_model/nodes.
+-- Written by tools/tables/tree_voids.py from crates/wgsl_model/nodes.
 use Rattle.wgsl_model.specs.Trees.EmptyItems.{full_else_if_clause, full_switch_clause}
 use Rattle.wgsl_tree_statement.specs.View.{else_if_clause_view, statement_node_view, switch_clause_view}
 use Rattle.wgsl_tree_statement.proofs.EmptyStatements.{Done, full_node}

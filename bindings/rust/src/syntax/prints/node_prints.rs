@@ -1,4 +1,4 @@
-//! The nodes that are printed, written by tools/nodes.py from crates/wgsl_model/nodes.
+//! The nodes that are printed, written by tools/tables/nodes.py from crates/wgsl_model/nodes.
 
 use super::*;
 

@@ -1,4 +1,4 @@
-//! Where blocks are, written by tools/nodes.py from crates/wgsl_model/nodes.
+//! Where blocks are, written by tools/tables/nodes.py from crates/wgsl_model/nodes.
 
 use super::*;
 

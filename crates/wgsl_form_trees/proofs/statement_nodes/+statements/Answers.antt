@@ -1,4 +1,4 @@
--- Written by tools/statement_readers.py from crates/wgsl_model/nodes: a proof.
+-- Written by tools/tables/statement_readers.py from crates/wgsl_model/nodes: a proof.
 use Rattle.std.proofs.Common.{ap, refl, sym, ◌∙◌}
 use Rattle.wgsl_tree_code.specs.Code.{attributed_code, list}
 use Rattle.wgsl_form_trees.proofs.Lists.{all_read, one_more, shorter_still}

@@ -1,4 +1,4 @@
--- Written by tools/statement_readers.py from crates/wgsl_model/nodes: measures.
+-- Written by tools/tables/statement_readers.py from crates/wgsl_model/nodes: measures.
 use Rattle.std.proofs.Common.{◌≡◌, ◌<◌, ◌+◌, ◌*◌, length}
 use Rattle.wgsl_tree_code.specs.StatementNodes.{else_if_clause_code, statement_node_code, switch_clause_code}
 use Rattle.wgsl_tree_statement.specs.View.{else_if_clause_view, statement_node_view, switch_clause_view}

@@ -1,4 +1,4 @@
--- Written by tools/statement_readers.py from crates/wgsl_model/nodes: a proof.
+-- Written by tools/tables/statement_readers.py from crates/wgsl_model/nodes: a proof.
 use Rattle.std.proofs.Common.{ap}
 use Rattle.wgsl_form_trees.proofs.Rows.{held, node_read}
 use Rattle.wgsl_tree_statement.proofs.Views.{is_assignment, is_break, is_const_assert, is_continue, is_declaration, is_decrement, is_discard, is_function_call, is_increment, is_return}

@@ -1,4 +1,4 @@
--- Written by tools/tokens.py from crates/wgsl_model/tokens: the reserved words.
+-- Written by tools/tables/tokens.py from crates/wgsl_model/tokens: the reserved words.
 use Rattle.std.specs.Prelude.{ℕ, List, [], ◌∷◌, codes}
 
 -- the words that no name may be; the list is the library's own, close to the draft's

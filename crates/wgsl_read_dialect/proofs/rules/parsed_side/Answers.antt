@@ -1,4 +1,4 @@
--- Each rule has the steps of its symbol, written by tools/dialect.py.
+-- Each rule has the steps of its symbol, written by tools/tables/dialect.py.
 use Rattle.wgsl_read_dialect.specs.Steps.{rule_steps}
 use Rattle.wgsl_read_dialect.proofs.Views.{choice_is, repeat_is}
 use Rattle.wgsl_read_dialect.proofs.rules.parsed_side.Goals as goal

@@ -1,4 +1,4 @@
--- Written by tools/statement_forms.py from crates/wgsl_model/nodes: a proof.
+-- Written by tools/tables/statement_forms.py from crates/wgsl_model/nodes: a proof.
 use Rattle.std.proofs.Common.{codes, refl, rules, sym, take, ◌∙◌, ◌≡◌}
 use Rattle.std.proofs.lemmas.List.{take_all}
 use Rattle.std.proofs.Output.{has_written_of_eq}

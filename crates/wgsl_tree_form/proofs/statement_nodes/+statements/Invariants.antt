@@ -1,4 +1,4 @@
--- Written by tools/statement_forms.py from crates/wgsl_model/nodes: invariants.
+-- Written by tools/tables/statement_forms.py from crates/wgsl_model/nodes: invariants.
 use Rattle.std.proofs.Common.{take, codes, ◌≡◌}
 use Rattle.std.specs.Fmt.{HasWritten, IsPlainFormatter}
 use Rattle.wgsl_writer.proofs.Joins.{before}

@@ -1,4 +1,4 @@
--- Written by tools/tree_copies.py from crates/wgsl_model/nodes.
+-- Written by tools/tables/tree_copies.py from crates/wgsl_model/nodes.
 use Rattle.std.proofs.Common.{rules, ◌≡◌, ◌∙◌, sym, ap, map, Some}
 use Rattle.std.proofs.lemmas.List.{take_all}
 use Rattle.std.specs.Option.{option_map}

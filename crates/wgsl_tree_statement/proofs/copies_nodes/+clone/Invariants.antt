@@ -1,4 +1,4 @@
--- Written by tools/tree_copies.py from crates/wgsl_model/nodes.
+-- Written by tools/tables/tree_copies.py from crates/wgsl_model/nodes.
 use Rattle.std.proofs.Common.{◌≡◌, map, take}
 use Rattle.wgsl_tree_statement.specs.View.{else_if_clause_view, statement_nodes_view, switch_clause_view}
 use Rattle.wgsl_tree_statement.proofs.copies_nodes.+clone.Given as goal

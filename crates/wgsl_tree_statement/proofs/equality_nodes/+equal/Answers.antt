@@ -1,4 +1,4 @@
--- Written by tools/tree_equalities.py from crates/wgsl_model/nodes.
+-- Written by tools/tables/tree_equalities.py from crates/wgsl_model/nodes.
 use Rattle.std.proofs.Common.{rules, ◌≡◌, false, refl, sym, ◌∙◌, ◌&&◌}
 use Rattle.wgsl_tree_code.specs.Code.{attributed_code}
 use Rattle.wgsl_tree_code.specs.Same.{same}

@@ -1,4 +1,4 @@
--- Written by tools/tree_equalities.py from crates/wgsl_model/nodes.
+-- Written by tools/tables/tree_equalities.py from crates/wgsl_model/nodes.
 use Rattle.std.proofs.Common.{◌≡◌, drop}
 use Rattle.wgsl_tree_code.specs.Lists.{all_same}
 use Rattle.wgsl_tree_statement.proofs.EqualityNodes.{statements_item, else_ifs_item, clauses_item}

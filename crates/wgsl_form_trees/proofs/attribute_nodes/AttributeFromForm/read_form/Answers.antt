@@ -1,4 +1,4 @@
--- Written by tools/form_readers.py from crates/wgsl_model/nodes: a proof.
+-- Written by tools/tables/form_readers.py from crates/wgsl_model/nodes: a proof.
 use Rattle.wgsl_tree_code.specs.ExpressionNodes.{expression_node_code}
 use Rattle.wgsl_tree_expression.specs.View.{expression_node_view}
 use Rattle.std.proofs.Common.{[], codes, refl, ◌∷◌}

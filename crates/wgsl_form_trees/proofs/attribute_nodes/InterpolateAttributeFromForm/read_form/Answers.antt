@@ -1,4 +1,4 @@
--- Written by tools/form_readers.py from crates/wgsl_model/nodes: a proof.
+-- Written by tools/tables/form_readers.py from crates/wgsl_model/nodes: a proof.
 use Rattle.wgsl_tree_code.specs.Code.{fields_of, optional}
 use Rattle.wgsl_tree_code.specs.WordNodes.{interpolation_sampling_code, interpolation_type_code}
 use Rattle.wgsl_tree_words.specs.View.{interpolation_sampling_view, interpolation_type_view}

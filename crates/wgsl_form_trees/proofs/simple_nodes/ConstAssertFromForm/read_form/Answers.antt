@@ -1,4 +1,4 @@
--- Written by tools/form_readers.py from crates/wgsl_model/nodes: a proof.
+-- Written by tools/tables/form_readers.py from crates/wgsl_model/nodes: a proof.
 use Rattle.wgsl_tree_code.specs.Code.{fields_of, list_of}
 use Rattle.wgsl_tree_code.specs.AttributeNodes.{attribute_node_code}
 use Rattle.wgsl_tree_attribute.specs.View.{attribute_view}

@@ -1,4 +1,4 @@
--- Written by tools/form_readers.py from crates/wgsl_model/nodes: a proof.
+-- Written by tools/tables/form_readers.py from crates/wgsl_model/nodes: a proof.
 use Rattle.wgsl_tree_code.specs.StatementNodes.{assert_code, declaration_code}
 use Rattle.wgsl_tree_simple.specs.View.{assert_view, declaration_view}
 use Rattle.wgsl_tree_code.specs.Code.{attributed_code, field, no_fields}

@@ -1,4 +1,4 @@
--- Written by tools/form_readers.py from crates/wgsl_model/nodes: a proof.
+-- Written by tools/tables/form_readers.py from crates/wgsl_model/nodes: a proof.
 use Rattle.wgsl_tree_code.specs.UnitNodes.{diagnostic_directive_code, enable_directive_code, requires_directive_code}
 use Rattle.wgsl_tree_unit.specs.View.{diagnostic_directive_view, enable_directive_view, requires_directive_view}
 use Rattle.wgsl_tree_code.specs.Code.{attributed_code, field, no_fields}

@@ -1,4 +1,4 @@
--- Written by tools/form_proofs.py from crates/wgsl_model/nodes: a proof.
+-- Written by tools/tables/form_proofs.py from crates/wgsl_model/nodes: a proof.
 use Rattle.std.proofs.Common.{rules}
 use Rattle.wgsl_tree_form.proofs.Statements.{◌▸◌}
 use Rattle.wgsl_tree_form.proofs.unit_nodes.FunctionForm.write_form.Goals as goal

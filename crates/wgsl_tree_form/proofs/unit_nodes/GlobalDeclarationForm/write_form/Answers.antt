@@ -1,4 +1,4 @@
--- Written by tools/form_proofs.py from crates/wgsl_model/nodes: a proof.
+-- Written by tools/tables/form_proofs.py from crates/wgsl_model/nodes: a proof.
 use Rattle.std.proofs.Common.{ap, sym}
 use Rattle.std.proofs.Output.{has_written_of_eq}
 use Rattle.wgsl_tree_code.specs.UnitNodes.{global_declaration_code}

@@ -1,4 +1,4 @@
--- Written by tools/display_answers.py.
+-- Written by tools/tables/display_answers.py.
 use Rattle.std.proofs.Common.{rules}
 use Rattle.wgsl_writer.proofs.Within.{printed}
 use Rattle.wgsl_tree_statement.proofs.while_statement.WhileStatementDisplay.fmt.Goals as goal

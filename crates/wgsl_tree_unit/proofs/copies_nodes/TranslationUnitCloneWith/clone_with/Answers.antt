@@ -1,4 +1,4 @@
--- Written by tools/tree_copies.py from crates/wgsl_model/nodes.
+-- Written by tools/tables/tree_copies.py from crates/wgsl_model/nodes.
 use Rattle.std.proofs.Common.{rules}
 use Rattle.wgsl_tree_unit.specs.View.{global_declaration_view}
 use Rattle.wgsl_tree_unit.specs.View.{global_directive_view}

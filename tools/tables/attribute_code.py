@@ -1,0 +1,144 @@
+#!/usr/bin/env python3
+"""Writes the enum of attributes with its print, and what makes an attribute of its name and its
+arguments.
+
+Run it at the top of the repository, and `rt fmt` in the crates that it writes after it:
+
+    tools/tables/attribute_code.py
+
+It reads crates/wgsl_model/nodes, in which the example of a variant begins with the name of the
+attribute. What prints an attribute with a struct of its own is in the file of the struct, and what
+makes one of other arguments than one expression is in wgsl_read_attribute/src/checks.rt.
+"""
+import re
+from pathlib import Path
+
+from node_table import TABLE, Table, snake, source
+from tree_nodes import places, use_lines
+
+ENUM = Path("crates/wgsl_tree_attribute/src/attribute.rt")
+CHECKS = Path("crates/wgsl_read_attribute/src/checks.rt")
+MADE = CHECKS.with_name("attribute_nodes.rt")
+WRITTEN = f"//! Written by tools/tables/attribute_code.py from {TABLE}:"
+# the attribute that has any other name
+CUSTOM = "Custom"
+# the functions that write a struct, and those that make a variant, some with an allocator
+WRITERS = re.compile(r"fn (write_\w+)<.*?>\(\s*\w+: &(\w+),")
+MAKERS = re.compile(r"^pub\(crate\) fn (\w+)\(\s*(alloc: Global,)?\s*name: &'static str,", re.M)
+
+
+class Attributes:
+    """Writes what lists the attributes."""
+
+    def __init__(self):
+        table, self.at = Table(), places()
+        self.kind = table.by_name["Attribute"]
+        self.by_name = table.by_name
+        self.words = table.attribute_words()
+        self.writers = {held: name for name, held in WRITERS.findall(source("attribute"))}
+        self.makers = dict(MAKERS.findall(CHECKS.read_text()))
+
+    def held(self, held):
+        """The type of what a variant holds."""
+        return f"{held}Node" if self.by_name[held].is_spanned else held
+
+    def variant(self, name, held):
+        return f"    {name}({self.held(held)})," if held else f"    {name},"
+
+    def printed(self, name, held):
+        """The arm that prints a variant."""
+        front, word = f"            Attribute::{name}", self.words[name]
+        if not held:
+            return f'{front} => f.write_str("@{word}"),'
+        if held in self.writers:
+            return f"{front}(inner) => {self.writers[held]}(inner, f),"
+        return f'{front}(argument) => write!(f, "@{word}({{argument}})"),'
+
+    def made(self, name, held):
+        """The arm that makes a variant."""
+        word, maker = self.words[name], snake(name)
+        front = f'        "{word}" =>'
+        if maker in self.makers:
+            alloc = "alloc, " if self.makers[maker] else ""
+            return f'{front} {maker}({alloc}"{word}", arguments),'
+        if held:
+            return f'{front} Ok(Attribute::{name}(only_argument("{word}", arguments)?)),'
+        return f'{front} no_arguments("{word}", arguments, Attribute::{name}),'
+
+    def uses(self):
+        """The lines that import what the enum and its print name."""
+        found = {"wgsl_span": ["Spanned"]}
+        for held in dict.fromkeys(held for _, held in self.kind.parts if held):
+            place = self.at[held]
+            is_here = place.crate == "attribute"
+            names = found.setdefault(f"crate::{place.module}" if is_here else
+                                     f"wgsl_tree_{place.crate}", [])
+            names += [self.held(held), *filter(None, [self.writers.get(held)])]
+        lines = [*use_lines(found), "use std::fmt;", "use std::fmt::Write;"]
+        return sorted(lines, key=lambda it: it.rstrip(";"))
+
+    def enum(self):
+        """The file of the enum."""
+        return "\n".join([
+            f"{WRITTEN} attributes.", "",
+            "ghost use Rattle.std.specs.Prelude.{Some};",
+            "ghost use Rattle.wgsl_tree_attribute.specs.View.{attribute_view};",
+            "ghost use Rattle.wgsl_model.specs.Printed.Attributes.{print_attribute};", "",
+            *self.uses(), "", f"/// {self.kind.doc}", "#[derive(PartialEq, Debug, Drop)]",
+            "pub enum Attribute {", *(self.variant(*part) for part in self.kind.parts), "}", "",
+            "pub type AttributeNode = Spanned<Attribute>;", "",
+            "pub type Attributes = Vec<AttributeNode>;", "",
+            "impl fmt::Display for Attribute {",
+            "    ghost output = "
+            "{ λ attribute. Some (print_attribute (attribute_view attribute)) };", "",
+            "    fn fmt<W: fmt::Write>(&self, f: &mut fmt::Formatter<W>) -> fmt::Result {",
+            "        match self {", *(self.printed(*part) for part in self.kind.parts),
+            "        }", "    }", "}", ""])
+
+    def making(self):
+        """The file of what makes attributes."""
+        arms = [self.made(*part) for part in self.kind.parts if part[0] != CUSTOM]
+        return f"{WRITTEN} the attribute of each name.\n{head(sorted(self.makers))}" + "\n".join([
+            "    match name.as_str() {", *arms,
+            f"        _ => Ok(Attribute::{CUSTOM}(CustomAttribute {{",
+            "            name: name.into_string(alloc)?,", "            arguments,",
+            "        })),", "    }", "}", ""])
+
+
+def head(makers):
+    """What is before the body of the function that makes attributes."""
+    return f"""
+ghost use Rattle.std.specs.Prelude.{{option_map}};
+ghost use Rattle.wgsl_tree_attribute.specs.View.{{attribute_view, expressions_view}};
+ghost use Rattle.wgsl_read_cursor.specs.Words.{{word_text}};
+ghost use Rattle.wgsl_read_attribute.specs.Known.{{checked_attribute}};
+ghost use Rattle.wgsl_read_attribute.specs.Makes.{{Makes}};
+
+use crate::arguments::{{Refusal, no_arguments, only_argument}};
+use crate::checks::{{{', '.join(makers)}}};
+use std::alloc::Global;
+use wgsl_read_cursor::Word;
+use wgsl_tree_attribute::{{Attribute, CustomAttribute}};
+use wgsl_tree_expression::ExpressionNode;
+
+/// The attribute that a name makes of its arguments. One that is not known keeps them as they are.
+#[tactic(auto, unfolding(crate::proofs::Hints::making), using(crate::proofs::Hints::lemmas))]
+pub(crate) fn make_attribute(
+    alloc: Global,
+    name: Word,
+    arguments: Option<Vec<ExpressionNode>>,
+) -> Result<Attribute, Refusal>
+    ensures {{ Makes (word_text name) attribute_view result
+        (checked_attribute (word_text name) (option_map expressions_view arguments)) }}
+{{
+"""
+
+
+def main():
+    attributes = Attributes()
+    ENUM.write_text(attributes.enum())
+    MADE.write_text(attributes.making())
+
+
+if __name__ == "__main__":
+    main()

@@ -1,0 +1,168 @@
+"""Copies of the kinds that contain each other, for tools/tables/tree_copies.py: of lists and of parts that
+may be left out, and the proofs that a copy is seen as its node is."""
+from cycle_parts import LIBRARY, imports
+from node_table import TABLE, snake
+from tree_terms import bracketed
+
+# the kinds that contain each other, by their crates
+ROOTS = {"statement": "Statement"}
+WRITTEN = f"-- Written by tools/tables/tree_copies.py from {TABLE}."
+COMMON = "Rattle.std.proofs.Common"
+
+
+def own_functions(cycle):
+    """The functions that copy the lists and the optional parts of a cycle."""
+    for part in cycle.own_parts():
+        is_spanned = cycle.table.by_name[part.item].is_spanned
+        item = f"{part.item}Node" if is_spanned else part.item
+        given, made = (f"&[{item}]", f"Vec<{item}>") if part.is_list else (
+            f"&Option<{item}>", f"Option<{item}>")
+        first = "let copy = node.node().clone_with(alloc)?;" if is_spanned else ""
+        copy = "node.clone_with(alloc)?"
+        copy = "Spanned::new(alloc, copy, node.span())?" if is_spanned else copy
+        body = f"match part {{ None => Ok(None), Some(node) => {{ {first} Ok(Some({copy})) }} }}"
+        if part.is_list:
+            body = (f"let mut copies = Vec::new(alloc); 'nodes: for node in part {{ {first} "
+                    f"copies.push({copy})?; }} Ok(copies)")
+        seen = cycle.seen(part.held, "copy.items" if part.is_list else "copy")
+        yield (f"#[cycle(clone)]\nfn clone_{cycle.stem(part.held)}(part: {given}, alloc: Global)"
+               f" -> Result<{made}, AllocError>\n    ensures {{ IfOk result (λ copy.\n"
+               f"        {seen} ≡ {cycle.seen(part.held, 'part.now')}) }}\n{{ {body} }}\n")
+
+
+class Answers:
+    """The proofs of a cycle."""
+
+    def __init__(self, cycle):
+        self.cycle = cycle
+
+    def call(self, part):
+        """What is called to copy a part of a struct."""
+        if part.held == "Attribute*":
+            return "clone_attributes"
+        return f"clone_{self.cycle.stem(part.held)}" if self.cycle.is_own(part) else "clone_with"
+
+    def copied(self, part, call):
+        """That the copy of a part is seen as the part is, from what its call ensures."""
+        ensured, place = f"c.in_ok-{call}.ensures", f"original.{part.name}"
+        seen = self.cycle.seen(part.held, place)
+        if part.held == "Attribute*" or self.cycle.is_own(part):
+            more = ""
+            if part.is_list and self.cycle.is_own(part):
+                more = f" ∙ ap (λ xs. {self.cycle.seen(part.held, 'xs')}) c.deref.ensures.value"
+            return f"let {part.name} = {ensured}{more} in"
+        if self.cycle.has(part):
+            return f"let {part.name} = {ensured}.copy in"
+        if part.held == "Expression?":
+            return f"let {part.name} = maybe_expression_copied {place} _ {ensured}.copy in"
+        if part.held == "Expression":
+            copy = f"c.in_ok-{call}.field-0"
+            return (f"let {part.name} : {self.cycle.seen(part.held, copy)} ≡ {seen}"
+                    f" = search rules in")
+        view = self.cycle.view(part.item)
+        kind = "items" if part.is_list else "option"
+        place += ".items" * part.is_list
+        return f"let {part.name} = {kind}_copied {view} {place} _ {ensured}.copy in"
+
+    def struct(self, kind):
+        """That the copy of a struct is seen as it is."""
+        parts, counts, lets, values = self.cycle.parts(kind), {}, "", {}
+        for part in parts:
+            base = self.call(part)
+            counts[base] = counts.get(base, 0) + 1
+            call = base if counts[base] == 1 else f"{base}-{counts[base]}"
+            lets += f"    {self.copied(part, call)}\n"
+            values[part.name] = self.cycle.as_own(part.held, f"{part.name} i")
+        goal, name = f"{kind.name}CloneWith::clone_with-returns", snake(kind.name)
+        split = any(self.cycle.is_own(part) and part.is_optional for part in parts)
+        rolled = f"{name}_roll{' _' * (len(parts) if split else 1)}"
+        if "original." in lets:
+            lets = f"    let original = layers.out-{kind.name} c.args.self.now in\n{lets}"
+        return (f"pub {goal} : goal.{goal}\n{goal} t c =\n{lets}"
+                f"    record {{ copy = {rolled} ∙ (λ i. {self.cycle.made(kind, values)})"
+                f" ∙ sym ({name}_out c.args.self.now) }}\n")
+
+    def listed(self, part):
+        """That a list is copied: one item more, and all."""
+        seen, name = self.cycle.seen(part.held, ""), f"clone_{self.cycle.stem(part.held)}"
+        view = bracketed(seen.strip())
+        is_spanned = self.cycle.table.by_name[part.item].is_spanned
+        item = self.cycle.view(part.item)
+        items = "c.args.part.now"
+        goal = f"{name}-nodes-preserved"
+        if is_spanned:
+            copy = "c.in_ok-new.field-0"
+            same = f"    let same : {item} {copy} ≡ {item} c.node-item.result = search rules in\n"
+            more = f"node_more {items}"
+        else:
+            copy, same, more = "c.in_ok-clone_with.field-0", "", f"item_more {item} {items}"
+        last = "same" if same else "c.in_ok-clone_with.ensures.copy"
+        yield (f"pub {goal} : goal.{goal}\n{goal} t c =\n{same}"
+               f"    ap {view} c.in_ok-push.ensures.items ∙ {more} c.nodes.copies.items "
+               f"c.nodes.node-index c.node-item.result {copy} (search rules) c.node-item.is "
+               f"c.nodes.invariant {last}\n")
+        goal = f"{name}-returns"
+        yield (f"pub {goal} : goal.{goal}\n{goal} t c = c.nodes.invariant ∙ ap {view} "
+               f"(take_all _ {items} c.nodes-test.false)\n")
+
+    def optional(self, part):
+        """That an optional part is copied: where it is absent, and where it is there."""
+        name, view = f"clone_{self.cycle.stem(part.held)}", self.cycle.view(part.item)
+        goal = f"{name}-returns-in-None"
+        yield f"pub {goal} : goal.{goal}\n{goal} t c = sym (ap (option_map {view}) c.in-None.is)\n"
+        if not self.cycle.table.by_name[part.item].is_spanned:
+            goal = f"{name}-returns-in_ok-clone_with-in-Some"
+            yield (f"pub {goal} : goal.{goal}\n{goal} t c = ap Some "
+                   "c.in_ok-clone_with-in-Some.ensures.copy ∙ "
+                   f"sym (ap (option_map {view}) c.in-Some.is)\n")
+
+    def blocks(self):
+        """That a block as a statement is copied: its plain tree has the parts of the block."""
+        root, name = self.cycle.root, "in_ok-clone_with-in-Compound"
+        goal = f"{root.name}CloneWith::clone_with-returns-{name}"
+        if "Compound" in dict(root.parts):
+            yield (f"pub {goal} : goal.{goal}\n{goal} t c = record {{ copy = is_compound _ ∙ "
+                   f"ap block_statement c.{name}.ensures.copy ∙ sym (ap (λ (s : {root.name}). "
+                   f"{snake(root.name)}_view s) c.in-Compound.is ∙ is_compound _) }}\n")
+
+    def text(self):
+        """The file of the proofs."""
+        cycle, own = self.cycle, self.cycle.own_parts()
+        lists = [part for part in own if part.is_list]
+        texts = [it for part in lists for it in self.listed(part)]
+        texts += [it for part in own if part.is_optional for it in self.optional(part)]
+        body = "\n".join([*map(self.struct, cycle.structs), *texts, *self.blocks()])
+        root, crate = cycle.root.name, f"Rattle.wgsl_tree_{cycle.crate}"
+        trees = f"Rattle.wgsl_model.specs.{cycle.views[root].file}"
+        others = {COMMON: ["rules", "◌≡◌", "◌∙◌", "sym", "ap", "map", "Some"],
+                  "Rattle.std.proofs.lemmas.List": ["take_all"], **LIBRARY}
+        modules = ["Rattle.wgsl_model.specs.Trees.Attributed", trees,
+                   *(f"Rattle.wgsl_tree_{it}.specs.View" for it in ("expression", "simple")),
+                   "Rattle.wgsl_tree_attribute.proofs.Copies", f"{crate}.specs.View",
+                   f"{crate}.proofs.Views", f"{crate}.proofs.Copies"]
+        return "\n".join([
+            WRITTEN, *imports(body, cycle, modules, others), f"use {trees} as plain",
+            f"use {cycle.at[root].declared}.{root}.TheViews as layers",
+            f"use {crate}.proofs.copies_nodes.+clone.Goals as goal", "", body])
+
+    def invariants(self):
+        """The invariants of the loops: what is copied so far."""
+        crate, lines = f"Rattle.wgsl_tree_{self.cycle.crate}", []
+        for part in filter(lambda it: it.is_list, self.cycle.own_parts()):
+            name = f"invariant-clone_{self.cycle.stem(part.held)}-nodes"
+            seen = [self.cycle.seen(part.held, it)
+                    for it in ("l.copies.items", "(take l.node-index l.part)")]
+            lines += ["", f"abbrev pub {name} : goal.{name}", f"{name} l = {' ≡ '.join(seen)}"]
+        body = "\n".join([*lines, ""])
+        common = {COMMON: ["◌≡◌", "map", "take"]}
+        return "\n".join([
+            WRITTEN, *imports(body, self.cycle, [f"{crate}.specs.View"], common),
+            f"use {crate}.proofs.copies_nodes.+clone.Given as goal", body])
+
+
+def answers_of_cycle(cycle, folder):
+    """Writes the proofs of a cycle."""
+    answers = Answers(cycle)
+    folder.mkdir(parents=True, exist_ok=True)
+    (folder / "Answers.antt").write_text(answers.text())
+    (folder / "Invariants.antt").write_text(answers.invariants())

@@ -1,0 +1,311 @@
+#!/usr/bin/env python3
+"""Writes the rules of the languages that are recognised, each in the form in which one token
+decides, as steps over tokens: the language that is parsed, without its checks, and the smaller one
+of `recognize_str`. The rules that are the same in both stand once.
+
+Run it at the top of the repository, and lay out what it wrote by `rt fmt`:
+
+    tools/tables/dialect.py crates/wgsl_read_dialect
+
+It reads the rules from the definitions. Nothing rests on it: the prover checks every rule.
+"""
+import re
+import sys
+from pathlib import Path
+
+import token_table
+from tables import DIALECTS, Tables, rules
+
+THEORY = Path("crates/wgsl_theory_grammar")
+
+
+class Steps:
+    """The steps of right sides, each a tuple, with the sets of the tables in their order."""
+
+    def __init__(self, tables, place):
+        self.tables = tables
+        self.place = place
+
+    def begins(self, g):
+        if g.kind == "symbol":
+            return sorted(self.tables.first[g.data], key=self.place.get)
+        if g.kind in ("empty", "token"):
+            return list(g.data or ())
+        sets = list(map(self.begins, g.parts))
+        if g.kind == "choice":
+            return sets[0] + sets[1]
+        if g.kind in ("sequence", "left_chain") and self.tables.nullable(g.parts[0]):
+            return sets[0] + sets[1]
+        return sets[0]
+
+    def of(self, g):
+        if g.kind == "empty":
+            return []
+        if g.kind == "token":
+            return [("Token", list(g.data))]
+        if g.kind == "symbol":
+            return [("Symbol", g.data)]
+        if g.kind == "sequence":
+            return self.of(g.parts[0]) + self.of(g.parts[1])
+        if g.kind == "choice":
+            return [("Choice", self.begins(g.parts[0]), self.of(g.parts[0]), self.of(g.parts[1]))]
+        if g.kind == "left_chain":
+            return self.of(g.parts[0]) + [("Repeat", self.begins(g.parts[1]), self.of(g.parts[1]))]
+        return self.of(g.parts[0])
+
+
+def symbols_in(steps):
+    for step in steps:
+        if step[0] == "Symbol":
+            yield step[1]
+        if step[0] in ("Choice", "Repeat"):
+            for part in step[2:]:
+                yield from symbols_in(part)
+
+
+def kinds_in(steps):
+    for step in steps:
+        yield step[0]
+        if step[0] in ("Choice", "Repeat"):
+            for part in step[2:]:
+                yield from kinds_in(part)
+
+
+def reached(found, start):
+    """The symbols that the steps of a symbol lead to."""
+    seen, waiting = set(), [start]
+    while waiting:
+        n = waiting.pop()
+        if n not in seen:
+            seen.add(n)
+            waiting += symbols_in(found[n])
+    return seen
+
+
+# the symbol in whose steps stand those of each symbol in it: the statements that end with a block
+OPENED = ("further", "braced_part")
+
+
+def opened(steps, found):
+    """Steps, with those of each symbol in its place; in items the symbols stay."""
+    made = []
+    for step in steps:
+        if step[0] == "Symbol":
+            made += found[step[1]]
+        elif step[0] == "Choice":
+            made.append((*step[:2], *[opened(part, found) for part in step[2:]]))
+        else:
+            made.append(step)
+    return made
+
+
+def camel(n):
+    return "".join(word.capitalize() for word in n[1].split("_"))
+
+
+def capitals(n):
+    return n[1].upper()
+
+
+# the last written symbol of the first two parts of the grammar, and the further symbols of all but the units
+LAST = {"expressions": "lhs_expression", "statements": "for_update"}
+FURTHER = {
+    "expressions": ["template_", "argument_", "components", "factors", "summands", "sum_rest", "relation_rest", "and_rest",
+                    "or_rest", "bitwise_", "expression_rest", "left_side_in_parentheses", "prefixed_left_side"],
+    "statements": ["selectors", "statement_rest", "loop_", "continuing_", "clause_", "else_rest", "init_part",
+                   "condition_part", "update_part", "braced_part", "ended_part"],
+    "simple": ["returning_part", "local_part", "value_part", "phony_part", "simple_part", "assert_part",
+               "left_side_rest", "name_rest_statement", "parenthesized_statement", "plain_statement"],
+}
+SAYS = {"expressions": "The rules of names, expressions and templates", "statements": "The rules of statements and their blocks",
+        "units": "The rules of attributes, declarations, directives and units", "simple": "The rules of statements that hold no others"}
+# the part with the rules of the language that is parsed that are others in the smaller one
+OWN = "parsed"
+OWN_SAYS = "The rules of the language that is parsed where the smaller one has others"
+
+
+def in_parts(order, needed):
+    """The symbols that are needed, by the part of the grammar that they belong to."""
+    parts = {part: [] for part in SAYS}
+    names = list(parts)
+    at = 0
+    for n in order:
+        if n[0] == "of":
+            parts[names[at]].append(n)
+            if n[1] == LAST.get(names[at]):
+                at += 1
+        else:
+            home = [part for part, starts in FURTHER.items() if n[1].startswith(tuple(starts))]
+            parts[home[0] if home else "units"].append(n)
+    parts["statements"] = [n for n in parts["statements"] if n[1] != "attribute"]
+    parts["units"].insert(0, ("of", "attribute"))
+    return {part: [n for n in symbols if n in needed] for part, symbols in parts.items()}
+
+
+class Writer:
+    """Writes the rules; sets of more than two classes that stand in several places get a name."""
+
+    def __init__(self, found, parts, empty):
+        self.found = found
+        self.parts = parts
+        self.empty = empty
+        users = {}
+        for n, steps in found.items():
+            for classes in self.sets(steps):
+                users.setdefault(tuple(classes), []).append(n)
+        shared = [classes for classes, symbols in users.items() if len(classes) > 2 and len(symbols) > 1]
+        self.names = {classes: self.name(classes, users) for classes in shared}
+        home = {n: part for part, symbols in reversed(parts.items()) for n in symbols}
+        self.homes = {self.names[classes]: min((home[n] for n in users[classes]), key=list(parts).index) for classes in shared}
+
+    def name(self, classes, users):
+        """The name of a set: by the first symbols before which it is asked for, else by the rule that goes on with it."""
+        for steps in self.found.values():
+            for step in self.choices(steps):
+                symbols = self.first_symbols(step[2])
+                if tuple(step[1]) == classes and symbols:
+                    return f"BEGINS_{'_'.join(map(capitals, symbols))}"
+        return f"CONTINUES_{capitals(users[classes][0])}"
+
+    def first_symbols(self, steps):
+        """The symbols at the front of some steps, up to the first that cannot be empty."""
+        symbols = []
+        for step in steps:
+            if step[0] != "Symbol":
+                break
+            symbols.append(step[1])
+            if not self.empty[step[1]]:
+                break
+        return symbols
+
+    def choices(self, steps):
+        for step in steps:
+            if step[0] in ("Choice", "Repeat"):
+                yield step
+                for part in step[2:]:
+                    yield from self.choices(part)
+
+    def sets(self, steps):
+        for step in self.choices(steps):
+            yield step[1]
+
+    def kinds(self, classes):
+        name = self.names.get(tuple(classes))
+        return name or "&[" + ", ".join(f"TokenKind::{c}" for c in classes) + "]"
+
+    def steps(self, steps):
+        return "&[" + ", ".join(map(self.step, steps)) + "]"
+
+    def step(self, step):
+        if step[0] == "Token":
+            return f"Token({self.kinds(step[1])})"
+        if step[0] == "Symbol":
+            return f"Rule(Symbol::{camel(step[1])})"
+        return f"{step[0]}({', '.join([self.kinds(step[1])] + list(map(self.steps, step[2:])))})"
+
+    def rules(self, part):
+        consts = [f"pub const {capitals(n)}: &[Step] = {self.steps(self.found[n])};" for n in self.parts[part]]
+        body = "\n\n".join(consts)
+        used = [v for v in ("Choice", "Repeat", "Rule", "Token") if v + "(" in body]
+        lines = [f"//! {SAYS.get(part, OWN_SAYS)}, written by tools/tables/dialect.py.", ""]
+        lines += [f"use crate::{home}::{name};" for name, home in self.homes.items() if home != part and re.search(rf"\b{name}\b", body)]
+        lines += ["use crate::rules::Symbol;", f"use crate::step::Step::{{self, {', '.join(used)}}};", "use wgsl_lex_token::kind::TokenKind;", ""]
+        for classes, name in self.names.items():
+            if self.homes[name] == part:
+                kinds = ", ".join(f"TokenKind::{c}" for c in classes)
+                lines += [f"pub const {name}: &[TokenKind] = &[{kinds}];", ""]
+        return "\n".join(lines + [body, ""])
+
+
+def symbols_text(order):
+    lines = ["/// A symbol: those of the written grammar, and behind them those that stand for a part of a rule.",
+             "#[derive(Clone, Copy)]", "pub enum Symbol {"]
+    return lines + [f"    {camel(n)}," for n in order] + ["}", ""]
+
+
+def view_text(order):
+    lines = ["-- The symbols of the code as those of the grammar, written by tools/tables/dialect.py."]
+    lines += [f"use Rattle.wgsl_model.specs.Grammar.Symbols.{{{', '.join('Symbol.' + n[1] for n in order if n[0] == 'of')}}}"]
+    lines += [f"use Rattle.wgsl_theory_grammar.specs.Factored.{{FactoredSymbol, FactoredSymbol.of, FactoredSymbol.further, {', '.join('Further.' + n[1] for n in order if n[0] == 'further')}}}"]
+    lines += ["use Rattle.wgsl_read_dialect.specs.declared.rules.Symbol.{Symbol}",
+              "use Rattle.wgsl_read_dialect.specs.declared.rules.Symbol.TheVariants as variant", "",
+              "-- which symbol it is", "abbrev pub symbol_view : Symbol → FactoredSymbol"]
+    lines += [f"symbol_view variant.{camel(n)} = {n[0]} {n[1]}" for n in order]
+    return "\n".join(lines + [""])
+
+
+def side_text(name, language, homes):
+    """The function that has the steps of each symbol in a language, by the part with its rule."""
+    lines = [f"/// The steps of a symbol in {language}.", f"fn {name}_side(symbol: Symbol) -> &'static [Step]",
+             f"    ensures {{ steps_view result.now ≡ rule_steps {name} (symbol_view symbol) }}", "{", "    match symbol {"]
+    lines += [f"        Symbol::{camel(n)} => {part}::{capitals(n)}," for n, part in homes.items()]
+    return lines + ["    }", "}", ""]
+
+
+def rules_text(order, homes, own):
+    lines = ["//! The symbols of the grammar in which one token decides, and the steps of each,",
+             "//! written by tools/tables/dialect.py.", "",
+             "ghost use Rattle.std.specs.Prelude.{◌≡◌};",
+             "ghost use Rattle.wgsl_model.specs.Grammar.Symbols.{Dialect.parsed, Dialect.recognized};",
+             "ghost use Rattle.wgsl_read_dialect.specs.Dialects.{dialect_view};",
+             "ghost use Rattle.wgsl_read_dialect.specs.Steps.{rule_steps};",
+             "ghost use Rattle.wgsl_read_dialect.specs.Symbols.{symbol_view};",
+             "ghost use Rattle.wgsl_read_dialect.specs.View.{steps_view};", "",
+             "use crate::dialect::Dialect;"]
+    lines += [f"use crate::{part};" for part in [*SAYS, OWN]]
+    lines += ["use crate::step::Step;", "", *symbols_text(order),
+              "/// The steps of a symbol.", "pub fn right_side(dialect: Dialect, symbol: Symbol) -> &'static [Step]",
+              "    ensures { steps_view result.now ≡ rule_steps (dialect_view dialect) (symbol_view symbol) }", "{",
+              "    match dialect {", "        Dialect::Parsed => parsed_side(symbol),",
+              "        Dialect::Recognized => recognized_side(symbol),", "    }", "}", ""]
+    lines += side_text("parsed", "the language that is parsed", {n: OWN if n in own else part for n, part in homes.items()})
+    return "\n".join(lines + side_text("recognized", "the smaller language", homes))
+
+
+def answers(name, found):
+    lines = ["-- Each rule has the steps of its symbol, written by tools/tables/dialect.py.", "use Rattle.wgsl_read_dialect.specs.Steps.{rule_steps}",
+             "use Rattle.wgsl_read_dialect.proofs.Views.{choice_is, repeat_is}", f"use Rattle.wgsl_read_dialect.proofs.rules.{name}_side.Goals as goal"]
+    for n, steps in found.items():
+        goal = f"returns-in-{camel(n)}"
+        kinds = set(kinds_in(steps))
+        laws = [f"c.in-{camel(n)}.is"] + [law for kind, law in (("Choice", "choice_is"), ("Repeat", "repeat_is")) if kind in kinds]
+        choices = [step for step in steps if step[0] == "Choice"]
+        tactic = "simp"
+        if len(choices) > 1:
+            tactic, laws = "rw", laws[:1] + ["choice_is"] * len(choices)
+        lines += ["", f"pub {goal} : goal.{goal}", "unfolding rule_steps", f"{goal} c = {tactic} {laws[0] if len(laws) == 1 else '(' + ', '.join(laws) + ')'}"]
+    return "\n".join(lines + [""])
+
+
+def steps_in(language, steps):
+    """The steps of every symbol in a language."""
+    every = {n: steps.of(g) for n, g in rules(THEORY, language).items()}
+    every[OPENED] = opened(every[OPENED], every)
+    return every
+
+
+def main(crate):
+    classes = token_table.Table().classes
+    tables = Tables(rules(THEORY, "parsed"))
+    steps = Steps(tables, {c: i for i, c in enumerate(classes)})
+    found = {language: steps_in(language, steps) for language in DIALECTS}
+    needed = set.union(*(reached(every, ("of", "unit")) for every in found.values()))
+    found = {language: {n: s for n, s in every.items() if n in needed} for language, every in found.items()}
+    parsed, smaller = found["parsed"], found["recognized"]
+    own = {n: s for n, s in parsed.items() if s != smaller[n]}
+    parts = in_parts(smaller, needed)
+    writers = {part: Writer(smaller, parts, tables.empty) for part in parts}
+    writers[OWN] = Writer(own, {OWN: list(own)}, tables.empty)
+    for part, writer in writers.items():
+        (crate / f"src/{part}.rt").write_text(writer.rules(part))
+    homes = {n: part for part, symbols in parts.items() for n in symbols}
+    (crate / "src/rules.rt").write_text(rules_text(smaller, homes, own))
+    (crate / "specs/Symbols.antt").write_text(view_text(smaller))
+    for language, every in found.items():
+        proofs = crate / f"proofs/rules/{language}_side"
+        proofs.mkdir(parents=True, exist_ok=True)
+        (proofs / "Answers.antt").write_text(answers(language, {n: every[n] for n in homes}))
+
+
+if __name__ == "__main__":
+    main(Path(sys.argv[1]))

@@ -1,0 +1,228 @@
+#!/usr/bin/env python3
+"""Writes what follows from the tokens alone: their classes and the lists of these, their kinds in
+the library, in the Rust crate and in include/wgsl.h, and the reserved words.
+
+Run it at the top of the repository, and then `rt fmt` in crates/wgsl_lex_token:
+
+    tools/tables/tokens.py
+
+It reads crates/wgsl_model/tokens. The prover checks what it writes for the library.
+"""
+import textwrap
+from itertools import groupby
+from pathlib import Path
+
+from node_table import snake
+from nodes import fill
+from token_table import TABLE, Table
+
+MODEL = Path("crates/wgsl_model/specs/Tokens")
+CRATE = Path("crates/wgsl_lex_token")
+RUST_KINDS = Path("bindings/rust/src/kind.rs")
+HEADER = Path("include/wgsl.h")
+WRITTEN = f"Written by tools/tables/tokens.py from {TABLE}"
+
+# by the type of what a token holds: that with nothing in it, and how the definitions have it
+EMPTY = {"String": "String::new(alloc)", "i64": "0", "i32": "0", "u32": "0"}
+PAYLOADS = {"String": "name (string_bytes held)", "i64": "number held", "i32": "number held",
+            "u32": "number (pos held)"}
+
+
+def defined(doc, name, kind, items):
+    """A definition of a list, some items a line."""
+    items = " ".join([f"{item} ∷".replace(" ", "\0") for item in items] + ["[]"])
+    lines = textwrap.fill(items, 100, initial_indent="    ", subsequent_indent="    ",
+                          break_long_words=False, break_on_hyphens=False)
+    return f"-- {doc}\nabbrev pub {name} : {kind}\n{name} =\n" + lines.replace("\0", " ") + "\n"
+
+
+def entries(doc, name, tokens):
+    """A list of texts with their classes."""
+    items = [f'(codes "{token.text}", {token.name})' for token in tokens]
+    return defined(doc, name, "List (List ℕ × ℕ)", items)
+
+
+def class_table(table):
+    """The classes and their lists."""
+    first, last = table.keywords[0], table.keywords[-1]
+    classes = [f"-- {token.doc}\nabbrev pub {token.name} : ℕ\n{token.name} = {number}\n"
+               for number, token in enumerate(table.tokens)]
+    return "\n".join([
+        f"-- {WRITTEN}: the classes of tokens, and their texts.\n"
+        "-- A class is a number; symbols come first, then keywords, then other tokens "
+        '(WGSL, "Tokens").\n'
+        "use Rattle.std.specs.Prelude.{ℕ, Bool, ◌&&◌, nat_le, nat_lt, List, [], ◌∷◌, codes}\n",
+        *classes,
+        f"-- a keyword: the classes from that of `{first.text}` to that of `{last.text}`\n"
+        "abbrev pub is_keyword : ℕ → Bool\n"
+        f"is_keyword class = nat_le {first.name} class && nat_lt class {table.others[0].name}\n",
+        entries("the symbols with their classes", "symbols", table.symbols),
+        entries("the keywords with their classes", "keywords", table.keywords),
+        entries("how messages name the tokens that have no spelling of their own", "special_texts",
+                [token for token in table.others if token.text]),
+        defined("the classes of the keywords", "keyword_classes", "List ℕ",
+                [token.name for token in table.keywords]),
+    ])
+
+
+def reserved_table(table):
+    """The reserved words."""
+    words = [f'codes "{word}"' for word in table.reserved]
+    return (f"-- {WRITTEN}: the reserved words.\n"
+            "use Rattle.std.specs.Prelude.{ℕ, List, [], ◌∷◌, codes}\n\n"
+            + defined("the words that no name may be; the list is the library's own, close to the "
+                      "draft's", "reserved_words", "List (List ℕ)", words))
+
+
+def token_view(table):
+    """Tokens by their kinds and what they hold, for the definitions."""
+    def pattern(token):
+        return f"(token.{token.name} held)" if token.held else f"token.{token.name}"
+
+    held = [token for token in table.tokens if token.held]
+    declared = "use Rattle.wgsl_lex_token.specs.declared"
+    return "\n".join([
+        f"-- {WRITTEN}: which token it is, and what it holds.",
+        "use Rattle.std.specs.Prelude.{pos, string_bytes}",
+        "use Rattle.grammar.specs.Tokens.{Payload, Payload.nothing, Payload.name, Payload.number}",
+        f"{declared}.kind_table.TokenKind.{{TokenKind}}",
+        f"{declared}.kind_table.TokenKind.TheVariants as kind",
+        f"{declared}.token_table.Token.{{Token}}",
+        f"{declared}.token_table.Token.TheVariants as token",
+        "",
+        "-- which token it is",
+        "abbrev pub kind_of : Token → TokenKind",
+        *(f"kind_of {pattern(token)} = kind.{token.name}" for token in table.tokens),
+        "",
+        "-- what a token holds: a text by its bytes, or a number",
+        "abbrev pub payload_of : Token → Payload",
+        *(f"payload_of {pattern(token)} = {PAYLOADS[token.held]}" for token in held),
+        "payload_of _ = nothing",
+        "",
+    ])
+
+
+def arms(table, arm):
+    """The arms of a match over all tokens; those with the same right side that follow one another
+    are one."""
+    sides = [arm(token) for token in table.tokens]
+    for right, group in groupby(sides, key=lambda side: side[1]):
+        yield f"            {' | '.join(left for left, _ in group)} => {right},\n"
+
+
+KIND_TABLE = """\
+//! {written}: the kinds of tokens, and their texts.
+
+ghost use Rattle.std.specs.Prelude.{{◌≡◌}};
+ghost use Rattle.wgsl_lex_token.specs.Groups.{{word_of_class}};
+ghost use Rattle.wgsl_lex_token.specs.View.{{class_of_kind}};
+
+/// Which token it is, without what it holds: a [`crate::token::Token`] without its fields.
+#[derive(Clone, Copy, Debug, PartialEq, Eq)]
+pub enum TokenKind {{
+{variants}}}
+
+impl TokenKind {{
+    /// The kinds of words: the keywords, identifiers and reserved words.
+    pub const WORDS: &'static [TokenKind] = &[
+{words}    ];
+
+    /// The text of a kind that holds nothing, and the empty text for the others.
+    pub fn text(self) -> &'static str
+        ensures {{ result.now ≡ word_of_class (class_of_kind self) }}
+    {{
+        match self {{
+{texts}        }}
+    }}
+}}
+"""
+
+
+def kind_table(table):
+    """The kinds of tokens of the library."""
+    return KIND_TABLE.format(
+        written=WRITTEN,
+        variants="".join(f"    {name},\n" for name in table.classes),
+        words="".join(f"        TokenKind::{token.name},\n" for token in table.words),
+        texts="".join(arms(table, lambda it: (f"TokenKind::{it.name}", f'"{it.text}"'))),
+    )
+
+
+TOKEN_TABLE = """\
+//! {written}: the tokens, and their kinds.
+
+ghost use Rattle.std.specs.Prelude.{{◌≡◌}};
+ghost use Rattle.wgsl_lex_token.specs.View.{{class_of_kind, kind_view, view_of_class}};
+
+use crate::kind::TokenKind;
+use std::alloc::Global;
+
+/// A token, with its name or number where it has one; a float by its spelling without suffix.
+#[derive(Debug, PartialEq, Drop)]
+pub enum Token {{
+{variants}}}
+
+impl Token {{
+    /// The token of a kind, with an empty text or the number 0 where it holds one.
+    pub fn from_kind(alloc: Global, kind: TokenKind) -> Token
+        ensures {{ kind_view result ≡ view_of_class (class_of_kind kind) }}
+    {{
+        match kind {{
+{from_kind}        }}
+    }}
+
+    /// Which token it is.
+    pub fn kind(&self) -> TokenKind
+        ensures {{ class_of_kind result ≡ (kind_view self.now).class }}
+    {{
+        match self {{
+{kind}        }}
+    }}
+}}
+"""
+
+
+def token_table(table):
+    """The tokens of the library."""
+    def with_held(token, held):
+        return f"Token::{token.name}({held})" if token.held else f"Token::{token.name}"
+
+    return TOKEN_TABLE.format(
+        written=WRITTEN,
+        variants="".join(f"    {with_held(it, it.held)[7:]},\n" for it in table.tokens),
+        from_kind="".join(arms(table, lambda it: (
+            f"TokenKind::{it.name}", with_held(it, EMPTY.get(it.held))))),
+        kind="".join(arms(table, lambda it: (with_held(it, "_"), f"TokenKind::{it.name}"))),
+    )
+
+
+def write_bindings(table):
+    """The kinds of tokens of the Rust crate and of the header, there with their names."""
+    kinds = [f"    /// {token.doc[0].upper()}{token.doc[1:]}.\n    {token.name},"
+             for token in table.tokens]
+    numbers = [f"    WGSL_{snake(name).upper()} = {number}"
+               for number, name in enumerate(table.classes)]
+    fill(RUST_KINDS, "\nkinds! {\n", "\n".join([f"    // {WRITTEN}.", *kinds]), "\n}\n")
+    fill(HEADER, "\nenum wgsl_token_kind {\n", ",\n".join(numbers), "\n};\n")
+    names = textwrap.fill(", ".join(f'"{name}"' for name in table.classes), 92)
+    names = textwrap.indent(names, " " * 8)
+    fill(HEADER, "\n    static const char *const names[] = {\n", names, "\n    };\n")
+
+
+def main():
+    table = Table()
+    written = {
+        MODEL / "ClassTable.antt": class_table(table),
+        MODEL / "Words/ReservedTable.antt": reserved_table(table),
+        CRATE / "specs/TokenTable.antt": token_view(table),
+        CRATE / "src/kind_table.rt": kind_table(table),
+        CRATE / "src/token_table.rt": token_table(table),
+    }
+    for path, text in written.items():
+        path.parent.mkdir(exist_ok=True)
+        path.write_text(text)
+    write_bindings(table)
+
+
+if __name__ == "__main__":
+    main()

@@ -1,0 +1,395 @@
+#!/usr/bin/env python3
+"""Writes `==` of the kinds that contain each other, from their fields and variants, with the proofs
+that it is sameness of the codes of the plain trees.
+
+Run it at the top of the repository, and `rt fmt` in the crates that it writes after it:
+
+    tools/tables/tree_equalities.py
+
+It reads crates/wgsl_model/nodes, the views, and the lemmas about `==` of the parts that are of
+other crates. The prover checks what it writes.
+"""
+import re
+import sys
+from dataclasses import dataclass
+from pathlib import Path
+
+from cycle_parts import LIBRARY, Cycle, imports
+from node_table import TABLE, Table, snake
+from plain_trees import coded
+from tree_nodes import ghost_uses, places, use_lines
+from tree_terms import bracketed
+
+ROOTS = ["Statement"]
+WRITTEN = f"Written by tools/tables/tree_equalities.py from {TABLE}"
+COMMON = "Rattle.std.proofs.Common"
+SIMPLE = "Rattle.wgsl_tree_simple.proofs.Equalities"
+ATTRIBUTE = "Rattle.wgsl_tree_attribute.proofs.Equalities"
+SAME = re.compile(r"^pub (\w+_same) : \(a b : (\w+)\)", re.M)
+
+
+@dataclass(frozen=True)
+class Step:
+    """A part of a struct that `==` compares: its call, and the test of it and of those before."""
+
+    part: object
+    base: str
+    call: str
+    test: str
+
+
+def steps(cycle, kind):
+    """The parts of a struct, with the names that their calls and tests have in a proof."""
+    found, counts = [], {}
+    for part in cycle.parts(kind):
+        base = f"{cycle.stem(part.held)}_equal" if cycle.is_own(part) else "eq"
+        counts[base] = counts.get(base, 0) + 1
+        number = counts[base]
+        call = base if number == 1 else f"{base}-then-{found[-1].test}"
+        found.append(Step(part, base, call, base if number == 1 else f"{base}-{number}"))
+    return found
+
+
+class Code:
+    """Writes the functions."""
+
+    def __init__(self, cycle):
+        self.cycle = cycle
+
+    def compared(self, part):
+        """The test of a part of a struct."""
+        if self.cycle.is_own(part):
+            return f"{self.cycle.stem(part.held)}_equal(&self.{part.name}, &other.{part.name})"
+        return f"self.{part.name} == other.{part.name}"
+
+    def body(self, kind):
+        """What tests a node."""
+        if kind.form == "struct":
+            return " && ".join(map(self.compared, self.cycle.parts(kind)))
+        arms = [f"{kind.name}::{name}(a) => matches!(other, {kind.name}::{name}(b) if *a == *b),"
+                if held else f"{kind.name}::{name} => matches!(other, {kind.name}::{name}),"
+                for name, held in kind.parts]
+        return f"match self {{ {' '.join(arms)} }}"
+
+    def impl(self, kind):
+        """`==` of a kind."""
+        code, view = self.cycle.whole_code(kind.name), self.cycle.views[kind.name].name
+        by = (f"    #[tactic(auto, using(crate::proofs::Views::variants))]\n"
+              if kind.form == "enum" else "")
+        return (f"impl PartialEq for {kind.name} {{\n"
+                f"    ghost eq = {{ λ a b. same ({code} ({view} a)) ({code} ({view} b)) }};\n\n"
+                f"    ghost laws = {{ on_per (λ e. {code} ({view} e)) same_partial }};\n\n"
+                f"{by}    #[cycle(equal)]\n    fn eq(&self, other: &{kind.name}) -> bool {{\n"
+                f"        {self.body(kind)}\n    }}\n}}\n")
+
+    def function(self, part):
+        """The test of a list or of a part that may be left out."""
+        kind = self.cycle.table.by_name[part.item]
+        item = f"{part.item}Node" if kind.is_spanned else part.item
+        node = ".node()" if kind.is_spanned else ""
+        of = [self.cycle.code(part.held, f"{it}.now") for it in "ab"]
+        type_ = f"&[{item}]" if part.is_list else f"&Option<{item}>"
+        body = (f"match a {{ None => b.is_none(), Some(a) => match b {{ None => false, "
+                f"Some(b) => *a{node} == *b{node}, }}, }}")
+        if part.is_list:
+            a, b = (f"*{it}[i].node()" if node else f"{it}[i]" for it in "ab")
+            body = (f"if a.len() != b.len() {{ return false; }}\n"
+                    f"'items: for i in 0..a.len() {{ if !({a} == {b}) {{ return false; }} }}\ntrue")
+        return (f"#[cycle(equal)]\nfn {self.cycle.stem(part.held)}_equal(a: {type_}, b: {type_}) "
+                f"-> bool\n    ensures {{ result\n        ≡ same ({of[0]})\n        ({of[1]}) }}\n"
+                f"{{\n{body}\n}}\n")
+
+    def text(self):
+        """The file of the functions."""
+        cycle = self.cycle
+        kinds, own = cycle.kinds, cycle.own_parts()
+        body = "\n".join([*map(self.impl, kinds), *map(self.function, own)])
+        words = set(re.findall(r"\w+", body))
+        codes = sorted(it for it in words if it.endswith("_code") and it != "attributed_code")
+        seen = sorted(it for it in words if it.endswith("_view"))
+        made = sorted(cycle.made_of(it.held) for it in own if cycle.made_of(it.held) in words)
+        whole = [it for it in ("attributed_code", "list") if it in words]
+        uses = {}
+        for name in sorted(words & set(cycle.at)):
+            place = cycle.at[name]
+            if place.crate == cycle.crate and "." not in name:
+                uses.setdefault(f"crate::{place.module}", []).append(name)
+        return "\n".join([
+            f"//! {WRITTEN}: `==` of nodes.", "",
+            "ghost use Rattle.std.specs.Cmp.{on_per};", 
+            "ghost use Rattle.std.specs.Option.{option_map};",
+            "ghost use Rattle.std.specs.Prelude.{◌≡◌, map};",
+            *ghost_uses(f"wgsl_model.specs.{cycle.views[cycle.root.name].file}", made),
+            *ghost_uses("wgsl_tree_code.specs.Code", whole),
+            "ghost use Rattle.wgsl_tree_code.specs.Laws.{same_partial};",
+            "ghost use Rattle.wgsl_tree_code.specs.Same.{same};",
+            *ghost_uses(f"wgsl_tree_code.specs.{cycle.root.name}Nodes", codes),
+            *ghost_uses(f"wgsl_tree_{cycle.crate}.specs.View", seen), "", *use_lines(uses), "",
+            body])
+
+
+class Lemmas:
+    """Writes what `==` of each struct is, part by part."""
+
+    def __init__(self, cycle):
+        self.cycle = cycle
+
+    def part(self, held):
+        """The test of a part as plain data."""
+        name, type_ = f"{self.cycle.stem(held)}_alike", self.cycle.type(held)
+        x, y = (self.cycle.code(held, it) for it in "xy")
+        return (f"abbrev pub {name} : {type_} → {type_} → Bool\n"
+                f"{name} x y = same ({x}) ({y})\n")
+
+    def compared(self, part):
+        """The test of a part of two layers."""
+        items = ".items" if self.cycle.is_own(part) and part.is_list else ""
+        return (f"{self.cycle.stem(part.held)}_alike a.{part.name}{items} b.{part.name}{items}")
+
+    def struct(self, kind):
+        """The tests of a struct, and that they are that of its codes."""
+        name, parts = snake(kind.name), self.cycle.parts(kind)
+        layers = "".join(f"    let {it} = layers.out-{kind.name} {whole} in\n"
+                         for it, whole in [("a", "n"), ("b", "m")])
+        named = "".join(f"    let part_{at} = {self.compared(part)} in\n"
+                        for at, part in enumerate(parts, 1))
+        code, out = self.cycle.whole_code(kind.name), f"{name}_out"
+        view = self.cycle.views[kind.name].name
+        proof = f"(λ i. same ({code} ({out} n i)) ({code} ({out} m i)))"
+        for at in range(2, len(parts)):
+            first, last = bracketed(chain(at - 1)), bracketed(rest(at + 1, len(parts)))
+            proof += f" ∙ and_3 {first} part_{at} {last}"
+        return (f"abbrev pub {name}_parts : {kind.name} → {kind.name} → Bool\n"
+                f"{name}_parts n m =\n{layers}{named}    {chain(len(parts))}\n\n"
+                f"pub {name}_same : (n m : {kind.name})\n"
+                f"    → same ({code} ({view} n)) ({code} ({view} m)) ≡ {name}_parts n m\n"
+                f"{name}_same n m =\n{layers}{named}    {proof}\n")
+
+    def items(self, part):
+        """The codes of the items of a list, and that they are compared."""
+        stem, view = self.cycle.stem(part.held), self.cycle.view(part.item)
+        type_, item = self.cycle.type(part.held), self.cycle.type(part.item)
+        spanned = self.cycle.table.by_name[part.item].is_spanned
+        code = coded(f"{part.item}Node") if spanned else self.cycle.whole_code(part.item)
+        listed = f"{stem}_code ({self.cycle.shown(part.held, 'xs')})"
+        return (f"abbrev pub {stem}_item : {item} → Code\n{stem}_item x = {code} ({view} x)\n\n"
+                f"{stem}_listed : (xs : {type_}) → {listed} ≡ codes_of {stem}_item xs\n"
+                f"{stem}_listed [] = refl\n"
+                f"{stem}_listed (x ∷ xs) = ap (code_before ({stem}_item x)) ({stem}_listed xs)\n\n"
+                f"pub {stem}_same : (xs ys : {type_})\n"
+                f"    → {stem}_alike xs ys ≡ all_same {stem}_item xs ys\n"
+                f"{stem}_same xs ys =\n"
+                f"    λ i. same (list ({stem}_listed xs i)) (list ({stem}_listed ys i))\n")
+
+    def text(self):
+        """The file of the lemmas."""
+        cycle = self.cycle
+        crate = f"Rattle.wgsl_tree_{cycle.crate}"
+        helds = {part.held: 0 for kind in cycle.structs for part in cycle.parts(kind)}
+        lists = [part for part in cycle.own_parts() if part.is_list]
+        body = "\n".join(["-- the parts, compared", *map(self.part, helds),
+                          *map(self.struct, cycle.structs),
+                          "-- the codes of items of lists", *map(self.items, lists)])
+        others = {COMMON: ["Bool", "◌&&◌", "List", "[]", "◌∷◌", "Option", "map", "◌≡◌", "refl",
+                           "◌∙◌", "ap"], **LIBRARY}
+        codes = "Rattle.wgsl_tree_code.specs"
+        modules = [
+            f"Rattle.wgsl_model.specs.{cycle.views[cycle.root.name].file}",
+            f"{codes}.Code", f"{codes}.Same", f"{codes}.Lists", f"{codes}.ExpressionNodes",
+            f"{codes}.AttributeNodes", f"{codes}.StatementNodes",
+            "Rattle.wgsl_tree_expression.specs.View", "Rattle.wgsl_tree_attribute.specs.View",
+            "Rattle.wgsl_tree_simple.specs.View", f"{crate}.specs.View",
+            f"{crate}.proofs.Views", f"{crate}.proofs.Equalities"]
+        root = cycle.root.name
+        return "\n".join([
+            f"-- {WRITTEN}: `==`, part by part.",
+            *imports(body, cycle, modules, others),
+            f"use {cycle.at[root].declared}.{root}.TheViews as layers", "", body])
+
+
+def chain(count):
+    """The first parts in the order in which they are tested."""
+    text = "part_1"
+    for at in range(2, count + 1):
+        text = f"{bracketed(text)} && part_{at}"
+    return text
+
+
+def rest(first, last):
+    """The last parts as the code of a struct has them."""
+    return f"part_{last}" if first == last else f"part_{first} && ({rest(first + 1, last)})" \
+        if first + 1 < last else f"part_{first} && part_{last}"
+
+
+class Answers:
+    """Writes the proofs of the goals."""
+
+    def __init__(self, cycle):
+        self.cycle = cycle
+        text = "".join(Path(f"crates/wgsl_tree_{it}/proofs/Equalities.antt").read_text()
+                       for it in ("attribute", "simple"))
+        self.same = {kind: lemma for lemma, kind in SAME.findall(text)}
+
+    def by_code(self, held):
+        """The view and the code of a kind of another crate, and that its test is that of codes."""
+        if held in ("Expression", "TypeExpression", "FunctionCall"):
+            return self.cycle.view(held), coded(f"{held}Node" if held == "Expression" else held), \
+                "(λ x y. refl)"
+        if held not in self.same:
+            sys.exit(f"tools/tables/tree_equalities.py: no lemma about == of {held}")
+        return self.cycle.view(held), bracketed(self.cycle.whole_code(held)), self.same[held]
+
+    def alike(self, part):
+        """What leads from the test of a part to that of its codes, if that is another."""
+        name = part.name
+        if part.held == "Attribute*":
+            return f" ∙ attribute_lists_same a.{name}.items b.{name}.items"
+        if self.cycle.has(part):
+            return ""
+        view, code, same = self.by_code(part.item)
+        if part.is_list:
+            return f" ∙ lists_same {view} {code} _ {same} a.{name}.items b.{name}.items"
+        if part.is_optional:
+            return f" ∙ options_same {view} {code} _ {same} (λ x. refl) a.{name} b.{name}"
+        return f" ∙ {same} a.{name} b.{name}" if same in self.same.values() else ""
+
+    def tested(self, step, before, c):
+        """That a call tests a part, where the call is a field of c."""
+        proof = f"{c}.{step.call}.ensures{self.alike(step.part)}"
+        if self.cycle.is_own(step.part) and step.part.is_list:
+            first, second = f"{c}.deref.ensures.value", f"{c}.deref-then-{before}.ensures.value"
+            proof += f" ∙ (λ i. {self.cycle.stem(step.part.held)}_alike ({first} i) ({second} i))"
+        return proof
+
+    def value(self, found, count):
+        """The value of the tests of the first parts."""
+        return "c.eq.result" if count == 1 else f"c.if-{found[count - 2].test}.value"
+
+    def tests(self, kind, found):
+        """The parts of a node, and that the tests of all but the last are those of their codes."""
+        lemmas = Lemmas(self.cycle)
+        lines = [f"let {it} = layers.out-{kind.name} c.args.{whole}.now in"
+                 for it, whole in [("a", "self"), ("b", "other")]]
+        lines += [f"let part_{at} = {lemmas.compared(step.part)} in"
+                  for at, step in enumerate(found, 1)]
+        first = self.tested(found[0], "", "c")
+        lines.append(f"let tested_1 : {self.value(found, 1)} ≡ part_1 = {first} in")
+        eq = f"{kind.name}PartialEq::eq"
+        for at in range(2, len(found)):
+            test, step = found[at - 2].test, found[at - 1]
+            type_, before = f"{self.value(found, at)} ≡ {chain(at)}", f"tested_{at - 1}"
+            lines += [
+                f"let tested_{at} : {type_} = elim c.if-{test}.branch [",
+                f"  | {eq}-then-{test} w ↦ and_true w.if-{test}.true {before} "
+                f"(w.value-is ∙ {self.tested(step, test, 'w')})",
+                f"  | {eq}-else-{test} w ↦ and_false _ w.if-{test}.false {before} w.value-is",
+                "] in"]
+        return lines
+
+    def struct(self, kind):
+        """The two goals of a struct: the last part is tested, or is not."""
+        found = steps(self.cycle, kind)
+        lines = "".join(f"    {line}\n" for line in self.tests(kind, found))
+        test, count = found[-2].test, len(found) - 1
+        same = f"sym ({snake(kind.name)}_same c.args.self.now c.args.other.now)"
+        last = self.tested(found[-1], test, "c")
+        for name, proof in [
+                ("then", f"and_true c.if-{test}.true tested_{count} {bracketed(last)}"),
+                ("else", f"and_false _ c.if-{test}.false tested_{count} refl")]:
+            goal = f"{kind.name}PartialEq::eq-returns-{name}-{test}"
+            yield f"pub {goal} : goal.{goal}\n{goal} t c =\n{lines}    {proof} ∙ {same}\n"
+
+    def listed(self, part):
+        """The goals of the test of a list."""
+        stem = self.cycle.stem(part.held)
+        lets = "    let xs = c.args.a.now in\n    let ys = c.args.b.now in\n"
+        item = f"{stem}_item"
+        index = "c.index-a-i.is c.index-b-i.is c.items.invariant"
+        differ = (f"    let differ : same ({item} c.index-a-i.result) ({item} c.index-b-i.result) "
+                  "≡ false = search rules in\n")
+        found = "(search rules) (search rules)"
+        for goal, more, proof in [
+                ("-then-a-b", "", f"unlike {item} xs ys (λ e. search rules)"),
+                ("-then-not-eq", differ,
+                 f"next_differs {item} xs ys c.items.i _ _ {found} {index} differ"),
+                ("", "", f"none_left {item} xs ys c.items.i {found} c.items.invariant")]:
+            name = f"{stem}_equal-returns{goal}"
+            yield (f"pub {name} : goal.{name}\n{name} t c =\n{lets}{more}"
+                   f"    sym ({stem}_same xs ys ∙ {proof})\n")
+
+    def variants(self):
+        """The goals of the variants of the enum that hold something: they are equal, or are not."""
+        root, number = self.cycle.root, 0
+        for part in filter(lambda it: it.held, self.cycle.parts(root)):
+            number += 1
+            call = "c.eq" if number == 1 else f"c.eq-in-{part.name}"
+            a, b = f"c.in-{part.name}", f"c.in-{part.name}-matches"
+            alike = f"{call}.ensures"
+            if part.held == "CompoundStatement":
+                view = self.cycle.view(part.held)
+                alike += f" ∙ sym (blocks_same ({view} {a}.a) ({view} {b}.b))"
+            elif not self.cycle.has(part):
+                alike += f" ∙ {self.same[part.held]} {a}.a {b}.b"
+            is_ = f"is_{snake(part.name)}"
+            default = "in_default-matches" + (f"-{number}" if number > 1 else "")
+            for name in (f"in-{part.name}-matches", default):
+                goal = f"{root.name}PartialEq::eq-returns-{name}"
+                yield (f"pub {goal} : goal.{goal}\n{goal} t c = of_one_kind {a}.is ({is_} {a}.a) "
+                       f"{b}.is ({is_} {b}.b)\n    {bracketed(alike)} (search rules)\n")
+
+    def text(self):
+        """The file of the proofs."""
+        cycle = self.cycle
+        crate = f"Rattle.wgsl_tree_{cycle.crate}"
+        lists = [part for part in cycle.own_parts() if part.is_list]
+        texts = [it for kind in cycle.structs for it in self.struct(kind)]
+        texts += [it for part in lists for it in self.listed(part)]
+        body = "\n".join([*texts, "-- the kinds of statements", *self.variants()])
+        others = {COMMON: ["rules", "◌≡◌", "true", "false", "refl", "sym", "◌∙◌", "◌&&◌"]}
+        codes = "Rattle.wgsl_tree_code.specs"
+        modules = [f"{codes}.{it}" for it in ("Code", "Same", "Lists", "ExpressionNodes",
+                                              "StatementNodes")]
+        modules += [f"Rattle.wgsl_tree_{it}.specs.View" for it in ("expression", "simple")]
+        modules += [f"Rattle.wgsl_tree_{it}.proofs.Equalities" for it in ("attribute", "simple")]
+        modules += [f"{crate}.{it}" for it in (
+            "specs.View", "proofs.Views", "proofs.BlockStatements",
+            "proofs.Equalities", "proofs.EqualityNodes")]
+        place = f"{crate}.proofs.equality_nodes.+equal.Goals"
+        branches = [f"{kind.name}PartialEq::eq-{way}-{step.test}" for kind in cycle.structs
+                    for step in steps(cycle, kind)[:-2] for way in ("then", "else")]
+        root = cycle.root.name
+        return "\n".join([
+            f"-- {WRITTEN}.", *imports(body, cycle, modules, others),
+            f"use {cycle.at[root].declared}.{root}.TheViews as layers",
+            f"use {place} as goal", f"use {place}.{{{', '.join(branches)}}}", "", body])
+
+    def invariants(self):
+        """The invariants of the loops: what is left to compare."""
+        crate = f"Rattle.wgsl_tree_{self.cycle.crate}.proofs"
+        stems = [self.cycle.stem(it.held) for it in self.cycle.own_parts() if it.is_list]
+        lines = [f"-- {WRITTEN}.", f"use {COMMON}.{{◌≡◌, drop}}",
+                 "use Rattle.wgsl_tree_code.specs.Lists.{all_same}",
+                 f"use {crate}.EqualityNodes.{{{', '.join(f'{it}_item' for it in stems)}}}",
+                 f"use {crate}.equality_nodes.+equal.Given as goal"]
+        for stem in stems:
+            name, same = f"invariant-{stem}_equal-items", f"all_same {stem}_item"
+            lines += ["", f"abbrev pub {name} : goal.{name}",
+                      f"{name} l = {same} l.a l.b ≡ {same} (drop l.i l.a) (drop l.i l.b)"]
+        return "\n".join([*lines, ""])
+
+
+def main():
+    table, at = Table(), places()
+    for root in ROOTS:
+        cycle = Cycle(table, at, root)
+        folder, answers = Path(f"crates/wgsl_tree_{cycle.crate}"), Answers(cycle)
+        proofs = folder / "proofs/equality_nodes/+equal"
+        proofs.mkdir(parents=True, exist_ok=True)
+        (folder / "src/equality_nodes.rt").write_text(Code(cycle).text())
+        (folder / "proofs/EqualityNodes.antt").write_text(Lemmas(cycle).text())
+        (proofs / "Answers.antt").write_text(answers.text())
+        (proofs / "Invariants.antt").write_text(answers.invariants())
+
+
+if __name__ == "__main__":
+    main()

@@ -1,0 +1,314 @@
+#!/usr/bin/env python3
+"""Writes the functions that remove the empty statements from every list of statements, each from
+the fields and variants of its node, and their proofs.
+
+Run it at the top of the repository, and `rt fmt` in crates/wgsl_tree_statement after it:
+
+    tools/tables/tree_voids.py
+
+It reads crates/wgsl_model/nodes and the plain trees of wgsl_model. The prover checks what it
+writes.
+"""
+import re
+from pathlib import Path
+
+from cycle_parts import LIBRARY, Cycle, imports
+from node_table import TABLE, Table, snake
+from plain_trees import OWN, constructor, is_apart
+from tree_nodes import Plain, ghost_uses, places, use_lines
+from tree_terms import bracketed
+
+CRATE = Path("crates/wgsl_tree_statement")
+WRITTEN = f"Written by tools/tables/tree_voids.py from {TABLE}"
+# the kinds from which others remove empty statements
+PUBLIC = ["Statement", "CompoundStatement"]
+COMMON = "Rattle.std.proofs.Common"
+EMPTY = "Rattle.wgsl_model.specs.Trees.EmptyItems"
+HERE = "Rattle.wgsl_tree_statement"
+
+
+class Full:
+    """The functions of plain trees that leave the empty items out."""
+
+    def __init__(self, cycle):
+        self.cycle = cycle
+        self.text = Plain("Trees.EmptyItems").text
+
+    def of_type(self, plain):
+        """That of a type."""
+        full = re.search(rf"pub (full_\w+) : {plain} → {plain}$", self.text, re.M)
+        if full:
+            return full[1]
+        stated = rf"pub (changed_\w+) : Change → {plain} → {plain}$"
+        change = re.search(stated, self.cycle.trees, re.M)
+        return f"{change[1]} without_empty"
+
+    def of(self, held):
+        """That of a type of the table."""
+        if held in OWN:
+            return self.of_type(OWN[held][0])
+        full = self.of_type(held)
+        apart = is_apart(self.cycle.table.by_name[held])
+        return f"full_attributed {bracketed(full)}" if apart else full
+
+
+class Code:
+    """Writes the functions."""
+
+    def __init__(self, cycle, full):
+        self.cycle, self.full = cycle, full
+        self.structs, self.own = cycle.structs, cycle.own_parts()
+
+    def call(self, part):
+        """What removes the empty statements from a part of a struct, if it has some."""
+        if self.cycle.is_own(part):
+            return f"remove_from_{self.cycle.stem(part.held)}(&mut self.{part.name});"
+        return f"self.{part.name}.remove_voids();" if self.cycle.has(part) else ""
+
+    def method(self, kind):
+        """The function of a kind."""
+        view, full = self.cycle.views[kind.name].name, self.full.of(kind.name)
+        body = " ".join(map(self.call, self.cycle.parts(kind)))
+        mark = "pub" if kind.name in PUBLIC else "pub(crate)"
+        doc = "    /// Removes the empty statements from every list of statements in it.\n"
+        doc = doc if kind.name in PUBLIC else ""
+        if kind.form == "enum":
+            held = [part for part in self.cycle.parts(kind) if self.cycle.has(part)]
+            others = [part for part in self.cycle.parts(kind) if part not in held]
+            arms = [f"{kind.name}::{part.name}(inner) => inner.remove_voids()," for part in held]
+            left = " | ".join(f"{kind.name}::{part.name}{'(_)' if part.held else ''}"
+                              for part in others)
+            body = f"match self {{ {' '.join(arms)} {left} => {{}} }}"
+        return (f"impl {kind.name} {{\n{doc}    #[cycle(remove)]\n"
+                f"    {mark} fn remove_voids(&mut self)\n"
+                f"        ensures {{ {view} self.new\n            ≡ {full} ({view} self.old) }}\n"
+                f"    {{ {body} }}\n}}\n")
+
+    def function(self, part):
+        """The function of a list or of a part that may be left out."""
+        is_spanned = self.cycle.table.by_name[part.item].is_spanned
+        item = f"{part.item}Node" if is_spanned else part.item
+        node = ".node_mut()" if is_spanned else ""
+        type_ = f"&mut {'Vec' if part.is_list else 'Option'}<{item}>"
+        body = f"if let Some(node) = part {{ node{node}.remove_voids(); }}"
+        if part.is_list:
+            body = f"'items: for i in 0..part.len() {{ part[i]{node}.remove_voids(); }}"
+            body += " part.retain(|node| !node.node().is_void());" if is_spanned else ""
+        items = ".items" if part.is_list else ""
+        seen = [self.cycle.shown(part.held, f"part.{it}{items}") for it in ("new", "old")]
+        return (f"#[cycle(remove)]\nfn remove_from_{self.cycle.stem(part.held)}(part: {type_})\n"
+                f"    ensures {{ {seen[0]}\n        ≡ {self.full.of(part.held)} ({seen[1]}) }}\n"
+                f"{{ {body} }}\n")
+
+    def text(self):
+        """The file of the functions."""
+        cycle = self.cycle
+        body = "\n".join([*map(self.method, [cycle.root, *self.structs]),
+                          *map(self.function, self.own)])
+        words = set(re.findall(r"\w+", body))
+        uses = {}
+        for name in sorted(words & set(cycle.at)):
+            if cycle.at[name].crate == cycle.crate:
+                uses.setdefault(f"crate::{cycle.at[name].module}", []).append(name)
+        trees = [it for it in words if it.startswith("changed_") or it.endswith("_of")
+                 or it.startswith("maybe_")]
+        full = [it for it in words if it.startswith("full_") or it == "without_empty"]
+        seen = [it for it in words if it.endswith("_view")]
+        return "\n".join([
+            f"//! {WRITTEN}: statements without the", "//! empty ones in their lists.", "",
+            "ghost use Rattle.std.specs.Option.{option_map};",
+            "ghost use Rattle.std.specs.Prelude.{◌≡◌, map};",
+            *ghost_uses("wgsl_model.specs.Trees.EmptyItems", sorted(full)),
+            *ghost_uses("wgsl_model.specs.Trees.Statements", sorted(trees)),
+            *ghost_uses("wgsl_tree_statement.specs.View", sorted(seen)), "",
+            *use_lines(uses), "", body])
+
+
+class Answers:
+    """Writes the proofs."""
+
+    def __init__(self, code):
+        self.code, self.cycle, self.full = code, code.cycle, code.full
+
+    def method(self, kind):
+        """The path of the function of a kind, which is by the module of that."""
+        return f"{self.cycle.at[kind.name].module}::{kind.name}::remove_voids"
+
+    def calls(self, kind):
+        """The parts of a struct that are changed, each with its call and its value after it."""
+        counts = {}
+        for part in filter(self.cycle.has, self.cycle.parts(kind)):
+            is_own = self.cycle.is_own(part)
+            base = f"remove_from_{self.cycle.stem(part.held)}" if is_own else "remove_voids"
+            counts[base] = counts.get(base, 0) + 1
+            call = base if counts[base] == 1 else f"{base}-{counts[base]}"
+            yield part, f"c.{call}", f"c.{call}.new.{'part' if is_own else 'self'}"
+
+    def changes(self, kind):
+        """What is shown of the parts that are changed one after another: the layer after each, and
+        that it is the one before but for its part."""
+        layer, reread = f"(r : Opened layer.{kind.name}-F)", f"layers.out-roll-{kind.name}"
+        state, same = "original", ""
+        for at, (part, call, new) in enumerate(self.calls(kind), 1):
+            items = ".items" if part.is_list and self.cycle.is_own(part) else ""
+            full = bracketed(self.full.of(part.held))
+            seen = f"{full} ({self.cycle.shown(part.held, f'r.{part.name}{items}')})"
+            more = f" ∙ ap (λ {layer}. {seen}) same_{at - 1}" if same else ""
+            yield f"let {part.name} = {call}.ensures{more} in"
+            change = f"{{ {part.name} = {new} }}"
+            again = f"layers.out-{kind.name} (layers.roll-{kind.name}"
+            before = f"({again} {state}))" if same else state
+            yield f"let changed_{at} = record {before} {change} in"
+            clean = f"record clean_{at - 1} {change}" if same else f"changed_{at}"
+            yield f"let clean_{at} : Opened layer.{kind.name}-F = {clean} in"
+            after = f" ∙ ap (λ {layer}. record r {change}) same_{at - 1}" if same else ""
+            same = f"{reread} changed_{at}{after}"
+            yield f"let same_{at} : {again} changed_{at}) ≡ clean_{at} = {same} in"
+            state = f"changed_{at}"
+
+    def struct(self, kind):
+        """That a struct is without its empty statements where its parts are."""
+        parts, name = self.cycle.parts(kind), snake(kind.name)
+        goal, calls = f"{self.method(kind)}-returns", list(self.calls(kind))
+        lines = list(self.changes(kind)) if len(calls) > 1 else [
+            f"let {part.name} = {call}.ensures in" for part, call, _ in calls]
+        values = {part.name: f"{part.name} i" if self.cycle.has(part)
+                  else self.cycle.shown(part.held, f"original.{part.name}") for part in parts}
+        split = any(self.cycle.is_own(part) and part.is_optional for part in parts)
+        roll = f"{name}_roll{' _' * (len(parts) if split else 1)}"
+        view = self.cycle.views[kind.name].name
+        if len(calls) > 1:
+            del lines[-3:]
+            roll = (f"ap (λ (r : Opened layer.{kind.name}-F). {view} (layers.roll-{kind.name} r)) "
+                    f"(ap (λ (r : Opened layer.{kind.name}-F). record r "
+                    f"{{ {calls[-1][0].name} = {calls[-1][2]} }}) same_{len(calls) - 1}) ∙ {roll}")
+        lets = "".join(f"    {line}\n" for line in [
+            f"let original = layers.out-{kind.name} c.args.self.now in", *lines])
+        full = bracketed(self.full.of(kind.name))
+        return (f"pub {goal} : goal.{goal}\n{goal} t c =\n{lets}    {roll} ∙ "
+                f"(λ i. {self.cycle.made(kind, values)}) ∙ "
+                f"sym (ap {full} ({name}_out c.args.self.now))\n")
+
+    def variants(self):
+        """That a variant of a statement is without its empty statements where what it holds is."""
+        root = self.cycle.root
+        held = [part for part in self.cycle.parts(root) if self.cycle.has(part)]
+        for at, part in enumerate(held):
+            kind, view = self.cycle.table.by_name[part.held], self.cycle.view(part.held)
+            full, is_ = self.full.of(part.held), f"is_{snake(part.name)}"
+            call = f"c.remove_voids-in-{part.name}" if at else "c.remove_voids"
+            made = (f"(plain.as_statement plain.{constructor(root, part.name)})" if is_apart(kind)
+                    else "plain.block_statement")
+            block = ("" if is_apart(kind)
+                     else f" ∙ sym (block_full ({view} c.in-{part.name}.inner))")
+            goal = f"{self.method(root)}-returns-in-{part.name}"
+            yield (f"pub {goal} : goal.{goal}\nunfolding roll-{root.name} Carrier.roll\n"
+                   f"{goal} t c =\n    let seen = {call}.ensures ∙ "
+                   f"ap (λ (b : {part.held}). {full} ({view} b)) "
+                   f"c.in-{part.name}.inner-is in\n"
+                   f"    let whole = {is_} {call}.new.self ∙ ap {made} seen{block} ∙ "
+                   f"sym (ap full_statement ({is_} c.in-{part.name}.inner)) in\n"
+                   f"    rw c.in-{part.name}.is (search (rules, whole))\n")
+
+    def function(self, part):
+        """That a list, or a part that may be left out, is without its empty statements."""
+        cycle, stem = self.cycle, self.cycle.stem(part.held)
+        view, full = cycle.view(part.item), self.full.of(part.held)
+        name = f"voids_nodes::remove_from_{stem}"
+        if part.is_list:
+            yield from self.listed(part, name, view)
+            return
+        whole = f"λ (o : {cycle.type(part.held)}). {cycle.shown(part.held, 'o')}"
+        done = f"λ (o : {cycle.type(part.held)}). {full} ({cycle.shown(part.held, 'o')})"
+        one = f"plain.{OWN[part.held][2]}"
+        lets, seen = "", "c.remove_voids.ensures"
+        if cycle.table.by_name[part.item].is_spanned:
+            lets = ("    let x = c.in-Some.node in\n    let y = record x { node = record x.node "
+                    "{ value = c.remove_voids.new.self } } in\n"
+                    f"    let full : {view} y ≡ full_node ({view} x) = search rules in\n")
+            seen = "full"
+        goal = f"{name}-returns-in-Some"
+        yield (f"pub {goal} : goal.{goal}\n{goal} t c =\n{lets}    ap {one} {seen} ∙ "
+               f"sym (ap ({done}) c.in-Some.is)\n")
+        goal = f"{name}-returns-in_default"
+        yield (f"pub {goal} : goal.{goal}\n{goal} t c = ap ({whole}) c.in_default.is ∙ "
+               f"sym (ap ({done}) c.in_default.is)\n")
+
+    def listed(self, part, name, view):
+        """That a list is without its empty statements: one item more, and all."""
+        is_spanned = self.cycle.table.by_name[part.item].is_spanned
+        item = "full_node" if is_spanned else self.full.of(part.item)
+        given, x, y = "c.args.part.now.items", "c.index_mut.result.now", "c.remove_voids.new.self"
+        lets, seen = "", "c.remove_voids.ensures"
+        if is_spanned:
+            y = f"(record {x} {{ node = record {x}.node {{ value = {y} }} }})"
+            lets = f"    let seen : {view} {y} ≡ {item} ({view} {x}) = search rules in\n"
+            seen = "seen"
+        goal = f"{name}-items-preserved"
+        yield (f"pub {goal} : goal.{goal}\n{goal} t c =\n{lets}"
+               f"    next_done {view} {bracketed(item)} c.items.part.items {given} c.items.i "
+               f"{x} {y} (search rules) c.index_mut.ensures.value {seen} c.items.invariant\n")
+        all_done = (f"all_done {view} {bracketed(item)} c.items.part.items {given} "
+                    "c.items.invariant.0.0 (λ k d lt. c.items.invariant.1 k d (search rules))")
+        if is_spanned:
+            kept = ("filter_from_retain _ _ (λ p x b q called. search rules) _ _ _ "
+                    "c.retain.ensures.filtered")
+            proof = (f"ap {self.cycle.seen(part.held, '').strip()} ({kept}) ∙ "
+                     f"list_full c.items.part.items {given} ({all_done})")
+        else:
+            proof = (f"ap {self.cycle.made_of(part.held)} ({all_done}) ∙ "
+                     f"{self.cycle.stem(part.held)}_full (map {view} {given})")
+        goal = f"{name}-returns"
+        yield f"pub {goal} : goal.{goal}\n{goal} t c =\n    {proof}\n"
+
+    def invariants(self):
+        """The invariants of the loops: what is done so far."""
+        lines = []
+        for part in filter(lambda it: it.is_list, self.code.own):
+            name = f"voids_nodes::remove_from_{self.cycle.stem(part.held)}-items"
+            is_spanned = self.cycle.table.by_name[part.item].is_spanned
+            item = "full_node" if is_spanned else self.full.of(part.item)
+            lines += ["", f"abbrev pub invariant-{name} : goal.invariant-{name}",
+                      f"invariant-{name} l = goal.unvisited-{name} l × Done "
+                      f"{self.cycle.view(part.item)} {bracketed(item)} l.part.items "
+                      "l.initial.part.items l.i"]
+        body = "\n".join([*lines, ""])
+        modules = [EMPTY, f"{HERE}.specs.View", f"{HERE}.proofs.EmptyStatements"]
+        return "\n".join([f"-- {WRITTEN}.", *imports(body, self.cycle, modules, {}),
+                          f"use {HERE}.proofs.+remove.Given as goal", body])
+
+    def text(self):
+        """The file of the proofs."""
+        cycle = self.cycle
+        texts = [it for part in self.code.own for it in self.function(part)]
+        body = "\n".join([*map(self.struct, self.code.structs), *texts, *self.variants()])
+        others = {COMMON: ["rules", "◌≡◌", "◌∙◌", "sym", "ap", "map", "Option"],
+                  "Rattle.std.proofs.lemmas.List.Elements": ["filter_from_retain"],
+                  **LIBRARY}
+        others_seen = [f"Rattle.wgsl_tree_{it}.specs.View"
+                       for it in ("expression", "attribute", "simple")]
+        modules = ["Rattle.wgsl_model.specs.Trees.Attributed", EMPTY,
+                   "Rattle.wgsl_model.specs.Trees.Statements", *others_seen,
+                   f"{HERE}.specs.View", f"{HERE}.proofs.Views",
+                   f"{HERE}.proofs.BlockStatements", f"{HERE}.proofs.EmptyStatements"]
+        declared = f"{cycle.at[cycle.root.name].declared}.{cycle.root.name}.TheViews"
+        return "\n".join([
+            f"-- {WRITTEN}.", *imports(body, cycle, modules, others),
+            "use Rattle.wgsl_model.specs.Trees.Statements as plain", f"use {declared} as layers",
+            f"use {declared.removesuffix('TheViews')}TheOpen as layer",
+            f"use {declared}.{{roll-{cycle.root.name}}}", "use denote.Hole.Carrier as Carrier",
+            f"use {HERE}.proofs.+remove.Goals as goal", "", body])
+
+
+def main():
+    cycle = Cycle(Table(), places(), "Statement")
+    code = Code(cycle, Full(cycle))
+    answers, proofs = Answers(code), CRATE / "proofs/+remove"
+    proofs.mkdir(parents=True, exist_ok=True)
+    (CRATE / "src/voids_nodes.rt").write_text(code.text())
+    (proofs / "Answers.antt").write_text(answers.text())
+    (proofs / "Invariants.antt").write_text(answers.invariants())
+
+
+if __name__ == "__main__":
+    main()

@@ -1,0 +1,105 @@
+#!/usr/bin/env python3
+"""Writes the enums of words of wgsl_tree_words, with the words that they are read from and printed
+as, and what they are as plain data.
+
+Run it at the top of the repository, and `rt fmt` in crates/wgsl_tree_words after it:
+
+    tools/tables/tree_words.py
+
+It reads crates/wgsl_model/nodes. The prover checks that the words are those of the definitions.
+"""
+from pathlib import Path
+
+from node_table import TABLE, Table, snake
+
+CRATE = Path("crates/wgsl_tree_words")
+MODULE = "words_nodes"
+# enums whose definitions have shorter names
+SHORT = {"DiagnosticSeverity": "severity"}
+
+
+def stem(kind):
+    """How the names of the definitions of an enum begin."""
+    return SHORT.get(kind.name) or snake(kind.name)
+
+
+def is_operator(kind):
+    """Whether an enum is one of operators, whose texts are not read here."""
+    return kind.name.endswith("Operator")
+
+
+def enum(kind):
+    """The enum with its variants."""
+    variants = [f"    {name}," for name, _ in kind.parts]
+    return [f"/// {kind.doc}", "#[derive(Clone, Copy, PartialEq, Eq, Debug)]",
+            f"pub enum {kind.name} {{", *variants, "}", ""]
+
+
+def from_str(kind):
+    """What reads a word; operators are read as tokens."""
+    words = [f'            "{word}" => Ok({kind.name}::{name}),' for name, word in kind.parts]
+    text, view = f"{stem(kind)}_text", f"{stem(kind)}_view"
+    return [
+        f"impl {kind.name} {{",
+        "    /// The value whose word the text is.",
+        "    pub fn from_str(text: &str) -> Result<Self, ()>",
+        "        ensures { MatchResult result",
+        f"            (λ value. text.now ≡ {text} ({view} value))",
+        f"            (λ _. (value : plain.{kind.name}) → ¬ (text.now ≡ {text} value)) }}",
+        "    {", "        match text {", *words, "            _ => Err(()),",
+        "        }", "    }", "}", "",
+    ]
+
+
+def display(kind):
+    """What prints a word."""
+    words = [f'            {kind.name}::{name} => "{word}",' for name, word in kind.parts]
+    return [
+        f"impl fmt::Display for {kind.name} {{",
+        f"    ghost output = {{ λ value. Some ({stem(kind)}_text ({stem(kind)}_view value)) }};",
+        "",
+        "    fn fmt<W: fmt::Write>(&self, f: &mut fmt::Formatter<W>) -> fmt::Result {",
+        "        f.write_str(match self {", *words, "        })", "    }", "}", "",
+    ]
+
+
+def code(kinds):
+    """The file of the enums."""
+    lines = [f"//! Written by tools/tables/tree_words.py from {TABLE}: operators, and words.",
+             "",
+             "ghost use Rattle.std.specs.Prelude.{◌≡◌, Some, MatchResult};",
+             "ghost use Rattle.wgsl_model.specs.Trees.NamedValues as plain;"]
+    for kind in kinds:
+        file = "Printed.Operators" if is_operator(kind) else "Trees.NamedValues"
+        lines += [f"ghost use Rattle.wgsl_model.specs.{file}.{{{stem(kind)}_text}};",
+                  f"ghost use Rattle.wgsl_tree_words.specs.ViewNodes.{{{stem(kind)}_view}};"]
+    lines += ["", "use std::fmt;", ""]
+    for kind in kinds:
+        lines += enum(kind) + ([] if is_operator(kind) else from_str(kind)) + display(kind)
+    return "\n".join(lines)
+
+
+def views(kinds):
+    """The file that maps the enums to plain data."""
+    uses, lines = [], []
+    for kind in kinds:
+        declared = f"use Rattle.wgsl_tree_words.specs.declared.{MODULE}.{kind.name}"
+        uses += [f"{declared}.{{{kind.name}}}", f"{declared}.TheVariants as {stem(kind)}"]
+        plain = "plain_operator" if is_operator(kind) else "plain"
+        view = f"{stem(kind)}_view"
+        lines += ["", f"abbrev pub {view} : {kind.name} → {plain}.{kind.name}"]
+        lines += [f"{view} {stem(kind)}.{name} = {plain}.{snake(name)}" for name, _ in kind.parts]
+    return "\n".join([
+        f"-- Written by tools/tables/tree_words.py from {TABLE}: operators and values as plain data.",
+        "use Rattle.wgsl_model.specs.Trees.NamedValues as plain",
+        "use Rattle.wgsl_model.specs.Trees.Operators as plain_operator", *uses, *lines, ""])
+
+
+def main():
+    kinds = Table().of_form("words")
+    (CRATE / f"src/{MODULE}.rt").write_text(code(kinds))
+    (CRATE / "specs/ViewNodes.antt").write_text(views(kinds))
+
+
+if __name__ == "__main__":
+    main()
